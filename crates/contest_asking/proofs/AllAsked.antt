@@ -14,7 +14,7 @@ use Rattle.contest_machine.specs.declared.stages.Stage.TheVariants.{Ask, Claim, 
 use Rattle.contest_machine.specs.Machine.{Walker, State, fresh, asked, wants_at, wants_with, wants}
 use Rattle.contest_machine.specs.Contest.{AreOwnWrites, IsMine}
 use Rattle.contest_machine.specs.Laws.{IsNew}
-use Rattle.contest_machine.specs.Turns.{Both, turned, turn_of, after_turns}
+use Rattle.contest_machine.specs.Turns.{Both, walker_turned, turn_of, after_turns}
 use Rattle.contest_machine.proofs.Apart.{turned_by}
 use Rattle.contest_law.specs.Locks.{walker_of}
 use Rattle.contest_law.proofs.Led.{IsLedAt}
@@ -139,7 +139,7 @@ ready_short before w o now ask ready guided on wanted = come ready.come
 abbrev Guides : State → Type 0
 Guides state = IsGuided state.walker
 
-turned_guided : (w : Walker) (old : Registers) → IsGuided w → Guides (turned w old)
+turned_guided : (w : Walker) (old : Registers) → IsGuided w → Guides (walker_turned w old)
 turned_guided w old guided = turned_by Guides step_guided w old guided guided
 
 pub turn_guided : (both : Both) (side turn : Side) → IsGuided (walker_of both side)

@@ -20,10 +20,10 @@ use Rattle.contest_machine.specs.declared.stages.Pending.{Pending}
 use Rattle.contest_machine.specs.declared.stages.Tried.{Tried}
 use Rattle.contest_machine.specs.declared.stages.Stage.{Stage}
 use Rattle.contest_machine.specs.declared.stages.Stage.TheVariants.{Ask, Claim, Check, Test, Features, Information, Status, Free, Done, Lost}
-use Rattle.contest_machine.specs.Machine.{Walker, State, fresh, kept, asked, last_path, status_of, wants_at, wants_with, wants, stepped}
+use Rattle.contest_machine.specs.Machine.{Walker, State, fresh, kept, asked, last_path, status_asked, wants_at, wants_with, wants, stepped}
 use Rattle.contest_machine.specs.Contest.{Keeps, AreOwnWrites, IsMine, IsContest}
 use Rattle.contest_machine.specs.Laws.{IsNew}
-use Rattle.contest_machine.specs.Turns.{is_locking, locked_on, turned, Both, turn_of, after_turns}
+use Rattle.contest_machine.specs.Turns.{is_locking, locked_on, walker_turned, Both, turn_of, after_turns}
 use Rattle.contest_machine.proofs.Apart.{swap, turn_leaves_kept}
 use Rattle.contest_machine.proofs.Lists.{Leads}
 use Rattle.contest_law.specs.Going.{AreBegun}
@@ -92,9 +92,9 @@ opening_stays w old new mine same opening = record {
     on one listed = Contains-append_left (paths_of w.devices) _ one listed
 
 their_opening : (w : Walker) (before old : Registers) (o : Walker) → IsContest w o before old
-    → IsOpening w old → IsOpening w (turned o old).registers
+    → IsOpening w old → IsOpening w (walker_turned o old).registers
 their_opening w before old o contest opening =
-    opening_stays w old (turned o old).registers contest.first
+    opening_stays w old (walker_turned o old).registers contest.first
     (turn_leaves_kept w before old o (swap w o before old contest)) opening
 
 -- ---- the walker's own turn
@@ -126,7 +126,7 @@ module _ (before : Registers) (o : Walker) where
 
 module _ (before : Registers) (w o : Walker) (old : Registers) (ready : IsReady before w o old)
     (guided : IsGuided w) (opening : IsOpening w old) where
-  own_opening : IsOpening (turned w old).walker (turned w old).registers
+  own_opening : IsOpening (walker_turned w old).walker (walker_turned w old).registers
   own_opening = go w.begun refl
     where
       go : (b : Bool) → w.begun ≡ b
@@ -217,7 +217,7 @@ module _ (w : Walker) (now : Registers) (opening : IsOpening w now) where
   stage_asked Status way ask wanted = top w.tried way wanted
     where
       top : (tried : List Tried) → IsOpenTop w.view w.devices w.id now tried
-          → status_of tried ≡ Some ask → IsOpened w.view now w.id ask.path
+          → status_asked tried ≡ Some ask → IsOpened w.view now w.id ask.path
       top [] way none = nothing ask none
       top (first ∷ rest) way some =
           one_opened (asked first.path (Read (0x158 + 0x20 * first.port))) ask some way.opened

@@ -1,8 +1,9 @@
 -- An access along an open path is answered, and leaves it open.
 use Rattle.std.proofs.Common.{◌≡◌, ◌≢◌, ℕ, ◌-◌, ◌≤◌, List, [], ◌∷◌, ◌++◌, length, Some, Contains, arith, inr, inl, ◌⊎◌, subst, sym, refl, ap, ◌∙◌, length-append}
 use Rattle.fabric_script.specs.declared.ports.PortRef.{PortRef}
+use Rattle.fabric_script.specs.Ports.{port_at}
 use Rattle.fabric_map.specs.declared.map.Device.{Device}
-use Rattle.fabric_map.specs.Topology.{Topology, IsTopology, port_at, entered, node_at}
+use Rattle.fabric_map.specs.Topology.{Topology, IsTopology, entered, node_at}
 use Rattle.fabric_map.specs.Walked.{Walked}
 use Rattle.fabric_map.specs.Routes.{Registers, walk}
 use Rattle.fabric_map.specs.Numbered.{paths_of}

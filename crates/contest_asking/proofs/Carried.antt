@@ -19,10 +19,10 @@ use Rattle.contest_machine.specs.declared.stages.Pending.{Pending}
 use Rattle.contest_machine.specs.declared.stages.Tried.{Tried}
 use Rattle.contest_machine.specs.declared.stages.Stage.{Stage}
 use Rattle.contest_machine.specs.declared.stages.Stage.TheVariants.{Ask, Claim, Check, Test, Features, Information, Status, Free, Done, Lost}
-use Rattle.contest_machine.specs.Machine.{Walker, kept, fresh, asked, status_of, wants_at, wants_with, wants}
+use Rattle.contest_machine.specs.Machine.{Walker, kept, fresh, asked, status_asked, wants_at, wants_with, wants}
 use Rattle.contest_machine.specs.declared.stages.Stage.TheVariants as stages
 use Rattle.contest_machine.specs.Contest.{AreOwnWrites, Knows, IsMine}
-use Rattle.contest_machine.specs.Within.{IsBounded, IsBoundedAt, IsWithin}
+use Rattle.contest_machine.specs.Within.{WalkIsBounded, IsBoundedAt, WalkerIsWithin}
 use Rattle.contest_law.proofs.Spending.{few_kept, few_devices}
 use Rattle.contest_numbering.proofs.OnWay.{bound_at, IsApart}
 use Rattle.contest_numbering.proofs.Chained.{AreChained}
@@ -41,7 +41,7 @@ record IsFree (w : Walker) (now : Registers) (path : List ℕ) (access : Access)
   later : (at : PortRef) → entered w.view path ≡ Some at → IsOpened w.view now w.id path
       → IsOpened w.view (after_access now at access) w.id path
 
-module _ (w : Walker) (now : Registers) (within : IsWithin w) (mine : IsMine w now)
+module _ (w : Walker) (now : Registers) (within : WalkerIsWithin w) (mine : IsMine w now)
     (along : IsAlong w now) (guided : IsGuided w) where
   abbrev paths : List (List ℕ)
   paths = paths_of w.devices
@@ -101,7 +101,7 @@ module _ (w : Walker) (now : Registers) (within : IsWithin w) (mine : IsMine w n
   bounded stage is =
       subst (λ s. IsBoundedAt s w.devices w.id w.next w.path w.tried) is within.bounded
 
-  short_path : IsBounded w.devices w.id w.next w.path w.tried → length w.path ≤ 64
+  short_path : WalkIsBounded w.devices w.id w.next w.path w.tried → length w.path ≤ 64
   short_path bound =
       let less = bound.path_is in
       let most = few in
@@ -142,7 +142,7 @@ module _ (w : Walker) (now : Registers) (within : IsWithin w) (mine : IsMine w n
   kept_free path found = go (Contains-append_cases paths (fresh w.stage w.path) path found)
     where
       new_one : (stage : Stage) → w.stage ≡ stage → Walked w.view paths w.path
-          → IsHere w.path w.tried → IsBounded w.devices w.id w.next w.path w.tried
+          → IsHere w.path w.tried → WalkIsBounded w.devices w.id w.next w.path w.tried
           → ((node : ℕ) → node_at w.view w.path ≡ Some node → IsApart w stage node)
           → w.path ≡ path → (length path ≤ 64) × ((at : PortRef) → entered w.view path ≡ Some at
           → PassesOthers w.view path at.node)
@@ -259,7 +259,7 @@ module _ (w : Walker) (now : Registers) (within : IsWithin w) (mine : IsMine w n
   read_at Status is ask on wanted = top_of w.tried along.chained wanted
     where
       top_of : (tried : List Tried) → AreChained w.view w.devices tried
-          → status_of tried ≡ Some ask → CanBe ask
+          → status_asked tried ≡ Some ask → CanBe ask
       top_of [] chained none = nothing ask none
       top_of (top ∷ rest) chained some =
           found (asked top.path (Read (0x158 + 0x20 * top.port))) ask some

@@ -18,7 +18,7 @@ use Rattle.contest_machine.specs.declared.stages.Pending.{Pending}
 use Rattle.contest_machine.specs.declared.stages.Tried.{Tried}
 use Rattle.contest_machine.specs.declared.stages.Stage.{Stage}
 use Rattle.contest_machine.specs.declared.stages.Stage.TheVariants.{Ask, Claim, Check, Test, Features, Information, Status, Free, Done, Lost}
-use Rattle.contest_machine.specs.Machine.{Walker, write, entry_set, route_of, route_at, routes_to, cleared_below, last_path, but_last, freeing, port_after, gone_on, taken, judged, numbered, set_up, outward, wants, settled, told, told_at, reached, reaches, stepped}
+use Rattle.contest_machine.specs.Machine.{Walker, write, entry_set, route_of, route_pending, routes_to, cleared_below, last_path, but_last, freeing, port_after, gone_on, taken, judged, numbered, switch_set_up, outward, wants, settled, walker_told, told_at, reached, reaches, stepped}
 
 -- the port that is tried is not that of entry, and the switch is not the host
 abbrev pub AreOut : List Tried → Type 0
@@ -85,7 +85,7 @@ routes_outside : (devices : List Device) (path : List ℕ) (id : ℕ) → AreBeh
     → AreOutside (routes_to devices path id)
 routes_outside [] path id all = tt
 routes_outside (device ∷ rest) path id all =
-    outside-append (route_at path id device) (routes_to rest path id)
+    outside-append (route_pending path id device) (routes_to rest path id)
     (route_outside device.path id device.kind (toward device.path path) all.0)
     (routes_outside rest path id all.1)
 
@@ -183,7 +183,7 @@ numbered_guided w (x ∷ rest) stage out all =
     (inr (λ same. cc))
 
 set_guided : (w : Walker) (ports entry : ℕ) → w.path ≢ [] → AreOut w.tried
-    → AreBehindHost w.devices → IsGuided (set_up (record w { todo = [] }) ports entry)
+    → AreBehindHost w.devices → IsGuided (switch_set_up (record w { todo = [] }) ports entry)
 set_guided w ports entry some out all = (
   (first (eqb entry 0) refl, some, out),
   behind-append w.devices (met_as w.devices (Switch ports entry) w.path) all some,
@@ -305,7 +305,7 @@ settled_guided w (q ∷ rest) Lost path out all todo known past =
     (out, all, todo, tt, past)
 
 -- whatever it is told
-told_guided : (w : Walker) (value : ℕ) → IsGuided w → IsGuided (told w value)
+told_guided : (w : Walker) (value : ℕ) → IsGuided w → IsGuided (walker_told w value)
 told_guided w value guided = go w.todo guided.2 guided.3
   where
     first : (p : Pending) (rest : List Pending) → (w.path ≡ []) ⊎ AreOutside (p ∷ rest)
@@ -318,7 +318,8 @@ told_guided w value guided = go w.todo guided.2 guided.3
     informed stage todo known is = subst (PathIs (record w { todo = todo })) is known
 
     go : (todo : List Pending) → (w.path ≡ []) ⊎ AreOutside todo
-        → PathIs (record w { todo = todo }) w.stage → IsGuided (told (record w { todo = todo })
+        → PathIs (record w { todo = todo }) w.stage
+        → IsGuided (walker_told (record w { todo = todo })
         value)
     go [] outside known = told_guided_at w value guided.0 guided.1 guided.4 w.stage known
     go (p ∷ rest) outside known =

@@ -20,13 +20,13 @@ use Rattle.fabric_map.proofs.Few.{entered-inside}
 use Rattle.fabric_map.proofs.Growing.{device_on, node_at-entered}
 use Rattle.fabric_map.proofs.Lists.{Contains-first, Contains-rest, Contains-cases}
 use Rattle.fabric_map.proofs.Order.{further-not_less}
-use Rattle.host_enumerate.specs.Accesses.{with_device}
+use Rattle.host_enumerate.specs.Accesses.{registers_with}
 use Rattle.host_enumerate.specs.Setting.{with_entry}
 use Rattle.host_enumerate.proofs.Frames.{with_device-at, with_device-other}
 use Rattle.host_enumerate.proofs.Keeping.{next-with_entry}
 use Rattle.host_enumerate.proofs.Routing.{entry_sends}
 use Rattle.contest_machine.specs.declared.stages.Pending.{Pending}
-use Rattle.contest_machine.specs.Machine.{entry_set, route_of, route_at, routes_to}
+use Rattle.contest_machine.specs.Machine.{entry_set, route_of, route_pending, routes_to}
 use Rattle.contest_numbering.proofs.OnWay.{performed}
 use Rattle.contest_numbering.proofs.Leading.{performed-append}
 use Rattle.contest_numbering.proofs.Settling.{performed-one, after-entry}
@@ -122,10 +122,10 @@ module _ (view : Topology) (proper : IsTopology view) (id : ℕ) (fits : id < 25
     abbrev held : registers.Device
     held = with_entry (now at.node) 255 port
 
-    new_is : (node : ℕ) → new node ≡ with_device now at.node held node
+    new_is : (node : ℕ) → new node ≡ registers_with now at.node held node
     new_is node =
         performed-one view here at todo now leads (refl, (refl, tt)) node
-        ∙ ap (λ d. with_device now at.node d node)
+        ∙ ap (λ d. registers_with now at.node d node)
         (after-entry (now at.node) at.port here 255 port is_one (omega arith)
         (let below = switch.below in omega (arith, below, ports_are, few)))
 
@@ -259,8 +259,8 @@ module _ (view : Topology) (proper : IsTopology view) (id : ℕ) (fits : id < 25
       → Contains devices device → IsBehindHost device.path device.kind
       → ((other : List ℕ) → Contains (paths_of rest) other → Before device.path other)
       → Stands now (device ∷ rest)
-      → AreOpen view devices id now (route_at path 255 device)
-      × Stands (performed view now (route_at path 255 device)) rest
+      → AreOpen view devices id now (route_pending path 255 device)
+      × Stands (performed view now (route_pending path 255 device)) rest
   one_device device rest now in_list some behind stands =
       go device.kind refl some (toward device.path path) refl
     where
@@ -317,13 +317,15 @@ module _ (view : Topology) (proper : IsTopology view) (id : ℕ) (fits : id < 25
   chain (device ∷ rest) now of_list some later stands =
       let one = one_device device rest now (of_list device (Contains-first device rest)) some.0
       later.0 stands in
-      let on = chain rest (performed view now (route_at path 255 device))
+      let on = chain rest (performed view now (route_pending path 255 device))
       (λ other found. of_list other (Contains-rest device rest other found)) some.1 later.1
       one.1 in (
-        open-append view id devices now (route_at path 255 device) (routes_to rest path 255) one.0
+        open-append view id devices now (route_pending path 255 device) (routes_to rest path 255)
+            one.0
             on.0,
         subst (λ r. Stands r [])
-            (sym (performed-append view now (route_at path 255 device) (routes_to rest path 255)))
+            (sym (performed-append view now (route_pending path 255 device)
+            (routes_to rest path 255)))
             on.1,
       )
 

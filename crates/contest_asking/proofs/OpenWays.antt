@@ -13,7 +13,7 @@ use Rattle.fabric_map.specs.Numbered.{paths_of}
 use Rattle.fabric_map.specs.Ways.{IsOpened}
 use Rattle.fabric_map.proofs.Growing.{node_at-entered}
 use Rattle.host_enumerate.specs.declared.maint.Access.TheVariants.{Write}
-use Rattle.host_enumerate.specs.Accesses.{after_write, after_access, answered, with_device}
+use Rattle.host_enumerate.specs.Accesses.{after_write, after_access, answered, registers_with}
 use Rattle.host_enumerate.proofs.Askable.{opened-empty, opened-first, never_empty, never_single}
 use Rattle.host_enumerate.proofs.Frames.{with_device-at, with_device-other}
 use Rattle.host_enumerate.proofs.Routing.{opened-front}
@@ -171,15 +171,15 @@ module _ (view : Topology) (id : ℕ) where
   -- one device becomes another that sends as it did
   pub one_sends : (now : Registers) (node : ℕ) (held : Device)
       → next_port held 255 ≡ next_port (now node) 255 → next_port held id ≡ next_port (now node) id
-      → SendAs id now (with_device now node held)
+      → SendAs id now (registers_with now node held)
   one_sends now node held onwards home other = go (cases_eq other node)
     where
       go : (other ≡ node) ⊎ (other ≢ node)
-          → (next_port (with_device now node held other) 255 ≡ next_port (now other) 255)
-          × (next_port (with_device now node held other) id ≡ next_port (now other) id)
+          → (next_port (registers_with now node held other) 255 ≡ next_port (now other) 255)
+          × (next_port (registers_with now node held other) id ≡ next_port (now other) id)
       go (inl same) =
-          subst (λ n. (next_port (with_device now node held n) 255 ≡ next_port (now n) 255)
-          × (next_port (with_device now node held n) id ≡ next_port (now n) id)) (sym same) (
+          subst (λ n. (next_port (registers_with now node held n) 255 ≡ next_port (now n) 255)
+          × (next_port (registers_with now node held n) id ≡ next_port (now n) id)) (sym same) (
             ap (λ d. next_port d 255) (with_device-at now node held) ∙ onwards,
             ap (λ d. next_port d id) (with_device-at now node held) ∙ home,
           )

@@ -11,9 +11,9 @@ use Rattle.contest_machine.specs.declared.stages.Pending.{Pending}
 use Rattle.contest_machine.specs.declared.stages.Tried.{Tried}
 use Rattle.contest_machine.specs.declared.stages.Stage.{Stage}
 use Rattle.contest_machine.specs.declared.stages.Stage.TheVariants.{Ask, Claim, Check, Test, Features, Information, Status, Free, Done, Lost}
-use Rattle.contest_machine.specs.Machine.{Walker, kept, asked, last_path, status_of, wants_at, wants_with, wants}
+use Rattle.contest_machine.specs.Machine.{Walker, kept, asked, last_path, status_asked, wants_at, wants_with, wants}
 use Rattle.contest_machine.specs.Contest.{AreOwnWrites, IsMine}
-use Rattle.contest_machine.specs.Within.{IsWithin}
+use Rattle.contest_machine.specs.Within.{WalkerIsWithin}
 use Rattle.contest_law.proofs.Led.{AreAtSwitches, IsLedAt, IsLed}
 use Rattle.contest_numbering.proofs.Whole.{IsReady}
 use Rattle.contest_asking.specs.Laws.{IsCarried}
@@ -32,7 +32,7 @@ some_at : (o : Option PortRef) → IsSome o → (at : PortRef) × (o ≡ Some at
 some_at None some = absurd (cc)
 some_at (Some at) some = (at, refl)
 
-module _ (w : Walker) (now : Registers) (within : IsWithin w) (mine : IsMine w now)
+module _ (w : Walker) (now : Registers) (within : WalkerIsWithin w) (mine : IsMine w now)
     (led : IsLed w) where
   abbrev Leads : Asked → Type 0
   Leads ask = (at : PortRef) × (entered w.view ask.path ≡ Some at)
@@ -60,7 +60,7 @@ module _ (w : Walker) (now : Registers) (within : IsWithin w) (mine : IsMine w n
       one (asked w.path (Read 0x14)) ask wanted (at.0.0, at.0.2)
   stage_leads Status some ask wanted = top w.tried led.0 wanted
     where
-      top : (tried : List Tried) → AreAtSwitches w.view tried → status_of tried ≡ Some ask
+      top : (tried : List Tried) → AreAtSwitches w.view tried → status_asked tried ≡ Some ask
           → Leads ask
       top [] all none = absurd (cc)
       top (first ∷ rest) all wanted =

@@ -3,12 +3,13 @@ use Rattle.std.proofs.Common.{◌≡◌, ◌≢◌, ℕ, ◌+◌, ◌*◌, ◌/�
 use Rattle.std.proofs.lemmas.Bool.{cases_eq, eqb-true, eqb-false}
 use Rattle.std.proofs.lemmas.Option.{same_Some}
 use Rattle.fabric_script.specs.declared.ports.PortRef.{PortRef}
+use Rattle.fabric_script.specs.Ports.{port_at}
 use Rattle.maint_registers.specs.Devices as registers
 use Rattle.maint_registers.specs.Devices.{IsDevice, is_switch}
 use Rattle.maint_registers.specs.Routes.{next_port}
 use Rattle.maint_registers.proofs.AccessLaws.{lock-written}
 use Rattle.maint_registers.proofs.SameLaws.{same_device}
-use Rattle.fabric_map.specs.Topology.{IsTopology, port_at, ports_of, entered}
+use Rattle.fabric_map.specs.Topology.{IsTopology, device_ports, entered}
 use Rattle.fabric_map.specs.Routes.{Registers}
 use Rattle.fabric_map.specs.Fitting.{Fits}
 use Rattle.fabric_map.proofs.Few.{entered-inside}
@@ -23,7 +24,7 @@ use Rattle.contest_machine.specs.declared.stages.Pending.{Pending}
 use Rattle.contest_machine.specs.declared.stages.Tried.{Tried}
 use Rattle.contest_machine.specs.declared.stages.Stage.{Stage}
 use Rattle.contest_machine.specs.declared.stages.Stage.TheVariants.{Ask, Claim, Check, Test, Features, Information, Status, Free, Done, Lost}
-use Rattle.contest_machine.specs.Machine.{Walker, asked, last_path, but_last, freeing, gone_on, taken, judged, numbered, set_up, outward, settled, told, told_at, reached, stepped}
+use Rattle.contest_machine.specs.Machine.{Walker, asked, last_path, but_last, freeing, gone_on, taken, judged, numbered, switch_set_up, outward, settled, walker_told, told_at, reached, stepped}
 use Rattle.contest_machine.proofs.Reading.{read-same, lock_told}
 use Rattle.contest_machine.proofs.Stepped.{at_stage}
 use Rattle.contest_law.proofs.Led.{IsLed}
@@ -67,14 +68,14 @@ module _ (w : Walker) (old : Registers) (fits : w.id < 0xff) (proper : IsTopolog
 
   reached_opening : (w0 : Walker) (ask : Asked) → IsOpening w0 old
       → ((at : PortRef) → entered w0.view ask.path ≡ Some at
-      → IsOpening (told w0 (answered (old at.node) at.port ask.access).answer.value)
+      → IsOpening (walker_told w0 (answered (old at.node) at.port ask.access).answer.value)
       (after_access old at ask.access))
       → IsOpening (reached w0 old ask (entered w0.view ask.path)).walker
       (reached w0 old ask (entered w0.view ask.path)).registers
   reached_opening w0 ask opening some = go (entered w0.view ask.path) some
     where
       go : (o : Option PortRef) → ((at : PortRef) → o ≡ Some at
-          → IsOpening (told w0 (answered (old at.node) at.port ask.access).answer.value)
+          → IsOpening (walker_told w0 (answered (old at.node) at.port ask.access).answer.value)
           (after_access old at ask.access))
           → IsOpening (reached w0 old ask o).walker (reached w0 old ask o).registers
       go None some = opening
@@ -170,7 +171,7 @@ module _ (w : Walker) (old : Registers) (fits : w.id < 0xff) (proper : IsTopolog
 
   information_told : (ports entry : ℕ) → IsComing (between Information) old → (at : PortRef)
       → entered w.view w.path ≡ Some at → IsWay w.view w.devices w.id old w.path
-      → IsOpening (set_up (between Information) ports entry) old
+      → IsOpening (switch_set_up (between Information) ports entry) old
   information_told ports entry (inl over) at enters way = absurd over
   information_told ports entry (inr (inl starting)) at enters way = absurd starting.knows
   information_told ports entry (inr (inr along)) at enters way =
@@ -180,7 +181,7 @@ module _ (w : Walker) (old : Registers) (fits : w.id < 0xff) (proper : IsTopolog
 
   status_told : (top : Tried) (rest : List Tried)
       → IsAlong (record w { todo = []; stage = Status; tried = top ∷ rest }) old → (at : PortRef)
-      → entered w.view top.path ≡ Some at → top.port < ports_of w.view at.node
+      → entered w.view top.path ≡ Some at → top.port < device_ports w.view at.node
       → IsWay w.view w.devices w.id old top.path
       → IsOpening (outward (record w { todo = []; stage = Status; tried = top ∷ rest })
       (top ∷ rest)) old

@@ -15,7 +15,7 @@ use Rattle.fabric_map.specs.Numbered.{paths_of, toward}
 use Rattle.fabric_map.proofs.Branches.{further_from_toward}
 use Rattle.fabric_map.proofs.Growing.{paths_of-push}
 use Rattle.host_enumerate.specs.declared.maint.Access.TheVariants.{Write}
-use Rattle.host_enumerate.specs.Accesses.{after_write, after_access, answered, with_device}
+use Rattle.host_enumerate.specs.Accesses.{after_write, after_access, answered, registers_with}
 use Rattle.host_enumerate.specs.Setting.{with_entry}
 use Rattle.host_enumerate.specs.Underway.{id_after, met_as}
 use Rattle.host_enumerate.proofs.Askable.{split-onward, opened-onward}
@@ -26,7 +26,7 @@ use Rattle.contest_machine.specs.declared.stages.Pending.{Pending}
 use Rattle.contest_machine.specs.declared.stages.Tried.{Tried}
 use Rattle.contest_machine.specs.declared.stages.Stage.{Stage}
 use Rattle.contest_machine.specs.declared.stages.Stage.TheVariants.{Information, Status}
-use Rattle.contest_machine.specs.Machine.{Walker, write, entry_set, route_of, route_at, routes_to, home_set, numbered, set_up, outward}
+use Rattle.contest_machine.specs.Machine.{Walker, write, entry_set, route_of, route_pending, routes_to, home_set, numbered, switch_set_up, outward}
 use Rattle.contest_numbering.proofs.OnWay.{one_performed, performed}
 use Rattle.contest_numbering.proofs.Along.{IsHere}
 use Rattle.contest_numbering.proofs.Joining.{at-home}
@@ -71,11 +71,12 @@ module _ (view : Topology) (devices : List Device) (id given : ℕ) (path : List
           (way.opened.onwards first front later port there.0 is there.1)
 
       new_is : (node : ℕ) → performed view now (entry_set (first ∷ front) given port) node
-          ≡ with_device now there.0.node (with_entry (now there.0.node) given (port % 0x100)) node
+          ≡ registers_with now there.0.node (with_entry (now there.0.node) given (port % 0x100))
+          node
       new_is node =
           performed-one view (first ∷ front) there.0 (entry_set (first ∷ front) given port) now
           there.1 (refl, (refl, tt)) node
-          ∙ ap (λ d. with_device now there.0.node d node)
+          ∙ ap (λ d. registers_with now there.0.node d node)
           (entry_after (now there.0.node) there.0.port (first ∷ front) given port is_one few)
 
       opened : IsWay view devices id
@@ -113,11 +114,12 @@ module _ (view : Topology) (devices : List Device) (id given : ℕ) (path : List
   routed [] now some way = (tt, way)
   routed (device ∷ rest) now some way =
       let one = go device.kind some.0 (toward device.path path) refl device.path refl in
-      let on = routed rest (performed view now (route_at path given device)) some.1 one.1 in (
-        open-append view id devices now (route_at path given device) (routes_to rest path given)
+      let on = routed rest (performed view now (route_pending path given device)) some.1 one.1 in (
+        open-append view id devices now (route_pending path given device)
+            (routes_to rest path given)
             one.0 on.0,
         subst (λ r. IsWay view devices id r path)
-            (sym (performed-append view now (route_at path given device)
+            (sym (performed-append view now (route_pending path given device)
             (routes_to rest path given))) on.1,
       )
     where
@@ -224,7 +226,7 @@ module _ (w : Walker) (now : Registers) where
   -- a switch is set up
   pub switch_opening : (ports entry : ℕ) (at : PortRef) → entered w.view w.path ≡ Some at
       → PassesOthers w.view w.path at.node → IsWay w.view w.devices w.id now w.path
-      → IsOpening (set_up (record w { todo = []; stage = Information }) ports entry) now
+      → IsOpening (switch_set_up (record w { todo = []; stage = Information }) ports entry) now
   switch_opening ports entry at leads others way =
       let done = at_one w.view w.id w.devices w.path at (home_set w.path w.id entry) now leads
       (at-home w.path w.id entry) others way in

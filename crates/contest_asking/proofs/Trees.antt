@@ -4,11 +4,12 @@ use Rattle.std.specs.Option.{option_and_then}
 use Rattle.std.proofs.lemmas.List.Elements.{All-contains, Contains-append_right, Contains-append_cases}
 use Rattle.std.proofs.lemmas.Option.{same_Some}
 use Rattle.fabric_script.specs.declared.ports.PortRef.{PortRef}
+use Rattle.fabric_script.specs.Ports.{port_at}
 use Rattle.maint_registers.specs.Routes.{next_port}
 use Rattle.fabric_map.specs.declared.map.Kind.{Kind}
 use Rattle.fabric_map.specs.declared.map.Kind.TheVariants.{Endpoint, Switch}
 use Rattle.fabric_map.specs.declared.map.Device.{Device}
-use Rattle.fabric_map.specs.Topology.{Topology, port_at, behind, along, followed, entered, node_at}
+use Rattle.fabric_map.specs.Topology.{Topology, behind_port, along, ports_followed, entered, node_at}
 use Rattle.fabric_map.specs.Walked.{Before}
 use Rattle.fabric_map.specs.Routes.{Registers}
 use Rattle.fabric_map.specs.Fitting.{Fits}
@@ -100,14 +101,14 @@ module _ (view : Topology) (before now : Registers) (id next : ℕ) (devices : L
 
   -- a port by which a listed path goes on
   goes_on : (front rest : List ℕ) (port : ℕ) (at end : PortRef) → entered view front ≡ Some at
-      → entered view (front ++ port ∷ rest) ≡ Some end → port < followed view at.node
+      → entered view (front ++ port ∷ rest) ≡ Some end → port < ports_followed view at.node
   goes_on front rest port at end leads ends =
-      go (behind view at.node port) refl
+      go (behind_port view at.node port) refl
       (sym (along-append view (port_at view.host 0) front (port ∷ rest) at leads) ∙ ends)
     where
-      go : (o : Option PortRef) → behind view at.node port ≡ o
+      go : (o : Option PortRef) → behind_port view at.node port ≡ o
           → option_and_then (λ next. along view next rest) o ≡ Some end
-          → port < followed view at.node
+          → port < ports_followed view at.node
       go None none reaches = absurd (cc)
       go (Some next) link reaches = (behind-link view at.node port next link).1
 
@@ -135,7 +136,7 @@ module _ (view : Topology) (before now : Registers) (id next : ℕ) (devices : L
       let there = leads_at (device.path ++ port ∷ rest) further in
       let below = goes_on device.path rest port at there.0 leads there.1 in
       let switch = followed-switch view at.node port other below in
-      let ports : followed view at.node ≡ switch.0 =
+      let ports : ports_followed view at.node ≡ switch.0 =
       ap (λ b. if b then 1 else unwrap_or (view.switch_ports at.node) 0)
       (ne_eqb at.node view.host other) ∙ ap (λ o. unwrap_or o 0) switch.1 in
       record {

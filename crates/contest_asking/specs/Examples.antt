@@ -9,11 +9,11 @@ use Rattle.contest_law.specs.Locks.{walker_of}
 use Rattle.contest_law.specs.Examples.{two_hosts, till_waiting}
 
 -- the host 7 has taken in itself
-abbrev pub waiting : Both
-waiting = after_turns (two_hosts 0xffff) till_waiting
+abbrev pub host_waiting : Both
+host_waiting = after_turns (two_hosts 0xffff) till_waiting
 
 abbrev pub waiting_host : Walker
-waiting_host = walker_of waiting B
+waiting_host = walker_of host_waiting B
 
 -- it reads the lock of its neighbour
 abbrev pub lock_asked : Asked

@@ -9,9 +9,9 @@ use Rattle.contest_machine.specs.declared.stages.Turn.TheVariants as Turns
 use Rattle.contest_machine.specs.declared.stages.Stage.{Stage}
 use Rattle.contest_machine.specs.declared.stages.Stage.TheVariants.{Ask, Claim, Check, Test, Features, Information, Status, Free, Done, Lost}
 use Rattle.contest_machine.specs.Machine.{Walker}
-use Rattle.contest_machine.specs.Turns.{waits, ends, came_at, Both, turn_of, after_turns}
+use Rattle.contest_machine.specs.Turns.{waits_or_goes, ends, came_at, Both, turn_of, after_turns}
 use Rattle.contest_machine.specs.Laws.{HoldsOn}
-use Rattle.contest_law.specs.Locks.{walker_of, answer_of, locks_in_turn}
+use Rattle.contest_law.specs.Locks.{walker_of, side_answer, locks_in_turn}
 use Rattle.contest_law.specs.Laws.{HasLesser}
 use Rattle.contest_law.specs.Going.{going_one, going_in_turn, turns_of, HasNumbered, IsLeftAlone, AloneIsNoWait, AloneIsDone}
 use Rattle.contest_law.proofs.Steps.{after_more}
@@ -73,7 +73,7 @@ done_stage : (w after : Walker) (stage : Stage) → came_at w after stage ≡ Tu
     → (stage ≡ Done) × (after.todo ≡ [])
 done_stage w after Ask is = absurd (waiting w.todo after.todo is)
   where
-    waiting : (todo left : List Pending) → waits todo left ≢ Turns.Done
+    waiting : (todo left : List Pending) → waits_or_goes todo left ≢ Turns.Done
     waiting [] [] = λ e. cc
     waiting (p ∷ rest) left = λ e. cc
     waiting [] (p ∷ rest) = λ e. cc
@@ -99,7 +99,7 @@ done_stage w after Lost is = absurd (lost after.todo is)
 
 -- whatever turns come, no turn of the host waits or is lost
 abbrev GoesOn : Both → Side → Type 0
-GoesOn both side = (turns : List Side) → (answer_of (after_turns both turns) side ≢ Turns.Waiting)
+GoesOn both side = (turns : List Side) → (side_answer (after_turns both turns) side ≢ Turns.Waiting)
     × HoldsOn (walker_of (after_turns both turns) side).stage
 
 abbrev IsDoneOrLess : Both → Side → List Side → ℕ → Type 0
@@ -107,11 +107,11 @@ IsDoneOrLess both side turns most = HasNumbered (walker_of (after_turns both tur
     ⊎ (left_for (after_turns both turns) side + turns_of side turns ≤ most)
 
 own_counts : (both : Both) (side : Side)
-    → going_in_turn both side side ≡ going_one (answer_of both side)
+    → going_in_turn both side side ≡ going_one (side_answer both side)
 own_counts both A = refl
 own_counts both B = refl
 
-answers : (both : Both) (side : Side) (answer : Turn) → answer_of both side ≡ answer
+answers : (both : Both) (side : Side) (answer : Turn) → side_answer both side ≡ answer
     → GoesOn both side
     → HasNumbered (walker_of (turn_of both side) side) ⊎ (going_in_turn both side side ≡ 1)
 answers both side Turns.Going is goes = inr (own_counts both side ∙ ap going_one is)
@@ -130,7 +130,7 @@ module _ (before : Registers) (side : Side) where
       → HasNumbered (walker_of (after_turns (turn_of both side) turns) side)
       ⊎ (left_for (after_turns (turn_of both side) turns) side + (turns_of side turns + 1)
       ≤ left_for both side)
-  own_runs both turns fair goes on = go (answers both side (answer_of both side) refl goes) on
+  own_runs both turns fair goes on = go (answers both side (side_answer both side) refl goes) on
     where
       go : HasNumbered (walker_of (turn_of both side) side) ⊎ (going_in_turn both side side ≡ 1)
           → IsDoneOrLess (turn_of both side) side turns (left_for (turn_of both side) side)
@@ -171,7 +171,7 @@ runs before both side (turn ∷ turns) fair goes =
 alone_goes : (both : Both) (earlier : List Side) (side : Side) → IsLeftAlone both earlier side
     → GoesOn (after_turns both earlier) side
 alone_goes both earlier side alone later = (
-  subst (λ b. answer_of b side ≢ Turns.Waiting) (after_more both earlier later)
+  subst (λ b. side_answer b side ≢ Turns.Waiting) (after_more both earlier later)
       (alone_waits_not both earlier later side alone),
   subst (λ b. HoldsOn (walker_of b side).stage) (after_more both earlier later)
       (alone_holds both earlier (earlier ++ later) side alone),

@@ -13,7 +13,7 @@ use Rattle.contest_machine.specs.declared.stages.Turn.{Turn}
 use Rattle.contest_machine.specs.declared.stages.Turn.TheVariants as Turns
 use Rattle.contest_machine.specs.declared.stages.Stage.{Stage}
 use Rattle.contest_machine.specs.declared.stages.Stage.TheVariants.{Ask, Claim, Check, Test, Features, Information, Status, Free, Done, Lost}
-use Rattle.contest_machine.specs.Machine.{Walker, entry_set, route_of, route_at, routes_to, cleared_below, home_set, own_id, write, last_path, but_last, freeing, port_after, gone_on, taken}
+use Rattle.contest_machine.specs.Machine.{Walker, entry_set, route_of, route_pending, routes_to, cleared_below, home_set, own_id, write, last_path, but_last, freeing, port_after, gone_on, taken}
 use Rattle.contest_law.specs.Going.{going_one}
 
 -- ---- how much is left
@@ -97,7 +97,7 @@ routes_most [] path id = omega arith
 routes_most (device ∷ rest) path id =
     let one = route_most device.path id device.kind (toward device.path path) in
     let more = routes_most rest path id in
-    let all = length-append (route_at path id device) (routes_to rest path id) in
+    let all = length-append (route_pending path id device) (routes_to rest path id) in
     omega (arith, one, more, all)
 
 cleared_most : (path : List ℕ) (host_id n : ℕ) → length (cleared_below path host_id n) ≤ 2 * n

@@ -9,9 +9,9 @@ use Rattle.link_watch.specs.declared.side.Side.TheVariants.{A, B}
 use Rattle.contest_machine.specs.declared.stages.Stage.{Stage}
 use Rattle.contest_machine.specs.declared.stages.Stage.TheVariants.{Ask, Claim, Check, Test, Features, Information, Status, Free, Done, Lost}
 use Rattle.contest_machine.specs.Machine.{Walker, State, kept, fresh, stepped}
-use Rattle.contest_machine.specs.Turns.{is_locking, locked_on, turned, came_at, came_of, Both, turn_of, after_turns}
+use Rattle.contest_machine.specs.Turns.{is_locking, locked_on, walker_turned, came_at, came_of, Both, turn_of, after_turns}
 use Rattle.contest_machine.specs.Laws.{IsNew}
-use Rattle.contest_machine.specs.Within.{AreShort, IsBoundedAt, IsWithin}
+use Rattle.contest_machine.specs.Within.{AreShort, IsBoundedAt, WalkerIsWithin}
 use Rattle.contest_machine.proofs.Apart.{begun_holds, turned_by}
 use Rattle.contest_law.specs.Locks.{walker_of}
 use Rattle.contest_law.specs.Going.{going_one, going_in_turn, going_over, AreBegun, GoingIsBounded}
@@ -88,7 +88,8 @@ module _ (before : Registers) (o : Walker) where
       go Lost = refl
 
   own_turn : (w : Walker) (old : Registers) → AreFair before w o old
-      → left_in (turned w old) + going_one (came_of w (turned w old).walker) ≤ left_of w o old
+      → left_in (walker_turned w old) + going_one (came_of w (walker_turned w old).walker)
+      ≤ left_of w o old
   own_turn w old fair = go w.begun
     where
       begun : Walker
@@ -130,14 +131,14 @@ module _ (before : Registers) (o : Walker) where
           (subst (λ c. left_in last + going_one c ≤ left_of (record w { begun = true }) o old)
           (came_same (record w { begun = true }) w last.walker last.walker.stage refl) paid)
 
-  fair_turn : (w : Walker) (old : Registers) → AreFair before w o old → FairTo (turned w old)
+  fair_turn : (w : Walker) (old : Registers) → AreFair before w o old → FairTo (walker_turned w old)
   fair_turn w old fair =
       turned_by FairTo (λ v r f. step_fair before v o r f) w old fair
       (begun_fair before w o old fair)
 
   -- the other has no more left after a turn of the walker
   their_turn : (w : Walker) (old : Registers) → AreFair before w o old
-      → left_of o (turned w old).walker (turned w old).registers ≤ left_of o w old
+      → left_of o (walker_turned w old).walker (walker_turned w old).registers ≤ left_of o w old
   their_turn w old fair =
       (turned_by (λ (state : State). FairTo state
       × (left_of o state.walker state.registers ≤ left_of o w old))
@@ -182,11 +183,11 @@ pub turn_fair : (before : Registers) (both : Both) (side turn : Side) → FairFo
     → FairFor before (turn_of both turn) side
 turn_fair before both A A fair = fair_turn before both.second both.first both.registers fair
 turn_fair before both A B fair =
-    swap_fair before (turned both.second both.registers).walker both.first _
+    swap_fair before (walker_turned both.second both.registers).walker both.first _
     (fair_turn before both.first both.second both.registers
     (swap_fair before both.first both.second both.registers fair))
 turn_fair before both B A fair =
-    swap_fair before (turned both.first both.registers).walker both.second _
+    swap_fair before (walker_turned both.first both.registers).walker both.second _
     (fair_turn before both.second both.first both.registers
     (swap_fair before both.second both.first both.registers fair))
 turn_fair before both B B fair = fair_turn before both.first both.second both.registers fair
@@ -222,7 +223,7 @@ turns_counted before both side (turn ∷ turns) fair =
 
 -- ---- from the start
 
-new_within : (both : Both) (side : Side) → AreBegun both → IsWithin (walker_of both side)
+new_within : (both : Both) (side : Side) → AreBegun both → WalkerIsWithin (walker_of both side)
 new_within both side begun = record {
   proper = begun.proper side;
   leading = λ path listed. absurd (not_in_empty path (subst (λ l. Contains l path) none listed));

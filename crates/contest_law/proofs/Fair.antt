@@ -12,7 +12,7 @@ use Rattle.contest_machine.specs.declared.stages.Stage.TheVariants.{Ask, Claim, 
 use Rattle.contest_machine.specs.Machine.{Walker, stepped}
 use Rattle.contest_machine.specs.Turns.{came_of}
 use Rattle.contest_machine.specs.Contest.{IsMine, IsContest}
-use Rattle.contest_machine.specs.Within.{IsWithin}
+use Rattle.contest_machine.specs.Within.{WalkerIsWithin}
 use Rattle.contest_machine.proofs.Frame.{Does, Nothing, Writes, Takes, Frees, IsTurn, untouched}
 use Rattle.contest_machine.proofs.Apart.{swap, step_leaves, step_holds, begun_contest}
 use Rattle.contest_machine.proofs.Bounding.{stepped_within}
@@ -26,7 +26,7 @@ use Rattle.contest_law.proofs.Paying.{step_spends}
 -- ---- what stands of two walkers
 
 pub record IsFit (before : Registers) (w : Walker) (now : Registers) : Type 0 where
-  pub within : IsWithin w
+  pub within : WalkerIsWithin w
   pub shown : Fits w.view before
   pub led : IsLed w
   pub same : AreSameDevices before now

@@ -8,7 +8,7 @@ use Rattle.link_watch.specs.declared.side.Side.TheVariants.{A, B}
 use Rattle.contest_machine.specs.declared.stages.Stage.{Stage}
 use Rattle.contest_machine.specs.declared.stages.Stage.TheVariants.{Lost}
 use Rattle.contest_machine.specs.Machine.{Walker, State, wants, wants_at, wants_with, reaches, stepped}
-use Rattle.contest_machine.specs.Turns.{is_locking, locked_on, turned, Both, turn_of, after_turns}
+use Rattle.contest_machine.specs.Turns.{is_locking, locked_on, walker_turned, Both, turn_of, after_turns}
 use Rattle.contest_machine.specs.Laws.{HoldsOn}
 use Rattle.contest_machine.proofs.Greater.{greater_holds_on}
 use Rattle.contest_law.specs.Locks.{walker_of, state_of}
@@ -93,7 +93,7 @@ none_wanted w stage is clear none =
 
 pub ended_turn : (w : Walker) (old : Registers) (stage : Stage) → w.stage ≡ stage → w.todo ≡ []
     → ((v : Walker) → wants_at v stage ≡ None) → is_locking stage ≡ false
-    → ((turned w old).walker.stage ≡ stage) × ((turned w old).walker.todo ≡ [])
+    → ((walker_turned w old).walker.stage ≡ stage) × ((walker_turned w old).walker.todo ≡ [])
 ended_turn w old stage is clear none no_lock = go w.begun
   where
     once : stepped w old ≡ state_of w old

@@ -19,8 +19,8 @@ use Rattle.contest_machine.specs.declared.stages.Tried.{Tried}
 use Rattle.contest_machine.specs.declared.stages.Turn.TheVariants as Turns
 use Rattle.contest_machine.specs.declared.stages.Stage.{Stage}
 use Rattle.contest_machine.specs.declared.stages.Stage.TheVariants.{Ask, Claim, Check, Test, Features, Information, Status, Free, Done, Lost}
-use Rattle.contest_machine.specs.Machine.{Walker, asked, write, routes_to, fresh, kept, last_path, but_last, freeing, gone_on, taken, judged, numbered, outward, settled, told, told_at, reached, stepped}
-use Rattle.contest_machine.specs.Turns.{waits, ends, came_at, came_of, after_turns}
+use Rattle.contest_machine.specs.Machine.{Walker, asked, write, routes_to, fresh, kept, last_path, but_last, freeing, gone_on, taken, judged, numbered, outward, settled, walker_told, told_at, reached, stepped}
+use Rattle.contest_machine.specs.Turns.{waits_or_goes, ends, came_at, came_of, after_turns}
 use Rattle.contest_machine.specs.Laws.{IsNew}
 use Rattle.contest_machine.proofs.Reading.{lock_told}
 use Rattle.contest_machine.proofs.Stepped.{some_left}
@@ -167,18 +167,19 @@ module _ (id : ℕ) (locks : List ℕ) (w : Walker) (old : Registers) where
   -- another register is read or written
   beside_lock : (w0 : Walker) (ask : Asked) → IsJudged id locks w0
       → ((at : PortRef) → IsJudged id locks
-      (told w0 (answered (old at.node) at.port ask.access).answer.value))
+      (walker_told w0 (answered (old at.node) at.port ask.access).answer.value))
       → After (reached w0 old ask (entered w0.view ask.path)).walker
   beside_lock w0 ask holds some = go (entered w0.view ask.path)
     where
       go : (o : Option PortRef) → After (reached w0 old ask o).walker
       go None = none_read w0 holds
       go (Some at) =
-          none_read (told w0 (answered (old at.node) at.port ask.access).answer.value) (some at)
+          none_read (walker_told w0 (answered (old at.node) at.port ask.access).answer.value)
+          (some at)
 
   -- the lock is read
   at_lock : (w0 : Walker) → IsJudged id locks w0
-      → ((lock : ℕ) → IsJudged id (locks ++ lock ∷ []) (told w0 lock))
+      → ((lock : ℕ) → IsJudged id (locks ++ lock ∷ []) (walker_told w0 lock))
       → IsJudged id (locks ++ lock_at old (entered w0.view w0.path))
       (reached w0 old (asked w0.path (Read 0x68)) (entered w0.view w0.path)).walker
   at_lock w0 holds some = go (entered w0.view w0.path)
@@ -187,7 +188,7 @@ module _ (id : ℕ) (locks : List ℕ) (w : Walker) (old : Registers) where
           (reached w0 old (asked w0.path (Read 0x68)) o).walker
       go None = none_read w0 holds
       go (Some at) =
-          subst (λ n. IsJudged id (locks ++ (old at.node).lock ∷ []) (told w0 n))
+          subst (λ n. IsJudged id (locks ++ (old at.node).lock ∷ []) (walker_told w0 n))
           (sym (lock_told (old at.node) at.port)) (some (old at.node).lock)
 
   abbrev between : Stage → Walker
@@ -286,7 +287,7 @@ pub lost_stage : (w after : Walker) (stage : Stage) → came_at w after stage �
     → stage ≡ Lost
 lost_stage w after Ask is = absurd (waiting w.todo after.todo is)
   where
-    waiting : (todo left : List Pending) → waits todo left ≢ Turns.Lost
+    waiting : (todo left : List Pending) → waits_or_goes todo left ≢ Turns.Lost
     waiting [] [] e = cc
     waiting (p ∷ rest) left e = cc
     waiting [] (p ∷ rest) e = cc

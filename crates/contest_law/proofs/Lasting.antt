@@ -20,7 +20,7 @@ use Rattle.contest_machine.specs.declared.stages.Pending.{Pending}
 use Rattle.contest_machine.specs.declared.stages.Tried.{Tried}
 use Rattle.contest_machine.specs.declared.stages.Stage.{Stage}
 use Rattle.contest_machine.specs.declared.stages.Stage.TheVariants.{Ask, Claim, Check, Test, Features, Information, Status, Free, Done, Lost}
-use Rattle.contest_machine.specs.Machine.{Walker, write, routes_to, but_last, freeing, gone_on, taken, judged, numbered, outward, settled, told, told_at, wants, reached, reaches, stepped}
+use Rattle.contest_machine.specs.Machine.{Walker, write, routes_to, but_last, freeing, gone_on, taken, judged, numbered, outward, settled, walker_told, told_at, wants, reached, reaches, stepped}
 use Rattle.contest_law.proofs.Steps.{gone_by}
 
 -- ---- the walker
@@ -153,12 +153,12 @@ module _ (w0 : Walker) where
 same_walker : (w : Walker) → IsSameWalker w w
 same_walker w = record { view = refl; id = refl; begun = refl }
 
-told_keeps : (w : Walker) (value : ℕ) → IsSameWalker w (told w value)
+told_keeps : (w : Walker) (value : ℕ) → IsSameWalker w (walker_told w value)
 told_keeps w value = go w.todo w.stage w.path
   where
     go : (todo : List Pending) (stage : Stage) (path : List ℕ)
         → IsSameWalker (record w { todo = todo; stage = stage; path = path })
-        (told (record w { todo = todo; stage = stage; path = path }) value)
+        (walker_told (record w { todo = todo; stage = stage; path = path }) value)
     go [] stage path =
         told_same (record w { todo = []; stage = stage; path = path })
         (record w { todo = []; path = path }) value stage

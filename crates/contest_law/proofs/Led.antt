@@ -16,7 +16,7 @@ use Rattle.contest_machine.specs.declared.stages.Pending.{Pending}
 use Rattle.contest_machine.specs.declared.stages.Tried.{Tried}
 use Rattle.contest_machine.specs.declared.stages.Stage.{Stage}
 use Rattle.contest_machine.specs.declared.stages.Stage.TheVariants.{Ask, Claim, Check, Test, Features, Information, Status, Free, Done, Lost}
-use Rattle.contest_machine.specs.Machine.{Walker, asked, write, routes_to, own_id, last_path, but_last, freeing, port_after, gone_on, taken, judged, numbered, outward, settled, told, reached, stepped}
+use Rattle.contest_machine.specs.Machine.{Walker, asked, write, routes_to, own_id, last_path, but_last, freeing, port_after, gone_on, taken, judged, numbered, outward, settled, walker_told, reached, stepped}
 use Rattle.contest_machine.specs.Laws.{IsNew}
 use Rattle.contest_machine.proofs.Stepped.{some_left}
 use Rattle.contest_law.proofs.Lasting.{AreSameDevices}
@@ -112,12 +112,12 @@ module _ (w : Walker) (before old : Registers) (proper : IsTopology w.view)
     (fits : Fits w.view before) (same : AreSameDevices before old) where
   reached_led : (w0 : Walker) (ask : Asked) → IsLed w0
       → ((at : PortRef) → entered w0.view ask.path ≡ Some at
-      → IsLed (told w0 (answered (old at.node) at.port ask.access).answer.value))
+      → IsLed (walker_told w0 (answered (old at.node) at.port ask.access).answer.value))
       → IsLed (reached w0 old ask (entered w0.view ask.path)).walker
   reached_led w0 ask led some = go (entered w0.view ask.path) some
     where
       go : (o : Option PortRef) → ((at : PortRef) → o ≡ Some at
-          → IsLed (told w0 (answered (old at.node) at.port ask.access).answer.value))
+          → IsLed (walker_told w0 (answered (old at.node) at.port ask.access).answer.value))
           → IsLed (reached w0 old ask o).walker
       go None some = led
       go (Some at) some = some at refl

@@ -7,7 +7,7 @@ use Rattle.maint_registers.proofs.AccessLaws.{port_information-read}
 use Rattle.maint_registers.proofs.SameLaws.{same_kind}
 use Rattle.fabric_map.specs.declared.map.Kind.TheVariants.{Endpoint}
 use Rattle.fabric_map.specs.declared.map.Device.{Device}
-use Rattle.fabric_map.specs.Topology.{Topology, IsTopology, ports_of, entered, node_at}
+use Rattle.fabric_map.specs.Topology.{Topology, IsTopology, device_ports, entered, node_at}
 use Rattle.fabric_map.specs.Routes.{Registers}
 use Rattle.fabric_map.specs.Fitting.{Fits}
 use Rattle.fabric_map.specs.Numbered.{paths_of}
@@ -23,11 +23,11 @@ use Rattle.contest_machine.specs.declared.stages.Pending.{Pending}
 use Rattle.contest_machine.specs.declared.stages.Tried.{Tried}
 use Rattle.contest_machine.specs.declared.stages.Stage.{Stage}
 use Rattle.contest_machine.specs.declared.stages.Stage.TheVariants.{Ask, Claim, Check, Test, Features, Information, Status, Free, Done, Lost}
-use Rattle.contest_machine.specs.Machine.{Walker, asked, kept, last_path, but_last, numbered, settled, told, told_at, reached, stepped}
+use Rattle.contest_machine.specs.Machine.{Walker, asked, kept, last_path, but_last, numbered, settled, walker_told, told_at, reached, stepped}
 use Rattle.contest_machine.specs.Contest.{AreOnce, IsMine}
 use Rattle.contest_machine.specs.Turns.{came_of}
 use Rattle.contest_law.specs.Going.{going_one}
-use Rattle.contest_machine.specs.Within.{IsWithin}
+use Rattle.contest_machine.specs.Within.{WalkerIsWithin}
 use Rattle.contest_machine.proofs.Few.{once_few}
 use Rattle.contest_machine.proofs.Between.{with_fresh}
 use Rattle.contest_machine.proofs.Lists.{once-push, split_last}
@@ -72,13 +72,13 @@ ports_few view before now proper shown same path at enters (there, ports, leads,
     value = ap (λ o. (after_read (now at.node) o).answer.value)
         (port_information-read (now at.node) at.port is)
 
-    few : (now at.node).ports ≡ ports_of view at.node
+    few : (now at.node).ports ≡ device_ports view at.node
     few = (same at.node).ports ∙ shown.ports at.node inside
 
-    small : at.port < ports_of view at.node
+    small : at.port < device_ports view at.node
     small = (entered-port view path at proper enters).port
 
-    most : ports_of view at.node ≤ 16
+    most : device_ports view at.node ≤ 16
     most = proper.most_ports at.node
 
 module _ (w : Walker) (before old : Registers) (fits : w.id < 0xff) (shown : Fits w.view before)
@@ -91,28 +91,28 @@ module _ (w : Walker) (before old : Registers) (fits : w.id < 0xff) (shown : Fit
 
   reached_spends : (w0 : Walker) (ask : Asked) → IsSome (entered w0.view ask.path)
       → ((at : PortRef) → entered w0.view ask.path ≡ Some at
-      → Spends w0 old (told w0 (answered (old at.node) at.port ask.access).answer.value)
+      → Spends w0 old (walker_told w0 (answered (old at.node) at.port ask.access).answer.value)
       (after_access old at ask.access))
       → Spends w0 old (reached w0 old ask (entered w0.view ask.path)).walker
       (reached w0 old ask (entered w0.view ask.path)).registers
   reached_spends w0 ask leads some = go (entered w0.view ask.path) leads some
     where
       go : (o : Option PortRef) → IsSome o → ((at : PortRef) → o ≡ Some at
-          → Spends w0 old (told w0 (answered (old at.node) at.port ask.access).answer.value)
+          → Spends w0 old (walker_told w0 (answered (old at.node) at.port ask.access).answer.value)
           (after_access old at ask.access))
           → Spends w0 old (reached w0 old ask o).walker (reached w0 old ask o).registers
       go None leads some = absurd (cc)
       go (Some at) leads some = some at refl
 
   few_listed : (stage : Stage) → kept (between stage) ≡ paths_of w.devices ++ []
-      → IsWithin (between stage) → IsMine (between stage) old → length w.devices ≤ 64
+      → WalkerIsWithin (between stage) → IsMine (between stage) old → length w.devices ≤ 64
   few_listed stage is within mine =
       let few = few_devices w.devices [] (subst (λ l. length l ≤ 64) is
       (few_kept (between stage) old within mine)) in
       omega (arith, few)
 
   -- the device that is claimed is one more
-  few_claimed : IsWithin (between Claim) → IsMine (between Claim) old
+  few_claimed : WalkerIsWithin (between Claim) → IsMine (between Claim) old
       → IsSome (entered w.view w.path)
       → length w.devices + 1 ≤ 64
   few_claimed within mine leads =
@@ -142,7 +142,7 @@ module _ (w : Walker) (before old : Registers) (fits : w.id < 0xff) (shown : Fit
           (path, Contains-append_left (paths_of w.devices) [] path listed, is ∙ here))
 
   few_fresh : (stage : Stage) → kept (between stage) ≡ paths_of w.devices ++ w.path ∷ []
-      → IsWithin (between stage) → IsMine (between stage) old → length w.devices + 1 ≤ 64
+      → WalkerIsWithin (between stage) → IsMine (between stage) old → length w.devices + 1 ≤ 64
   few_fresh stage is within mine =
       let few = few_devices w.devices (w.path ∷ []) (subst (λ l. length l ≤ 64) is
       (few_kept (between stage) old within mine)) in
@@ -168,7 +168,7 @@ module _ (w : Walker) (before old : Registers) (fits : w.id < 0xff) (shown : Fit
       (Contains-append_right (paths_of (but_last devices)) (last_path devices ∷ [])
       (last_path devices) (Contains-first (last_path devices) [])))))
 
-  stage_pays : (stage : Stage) → IsMine (between stage) old → IsWithin (between stage)
+  stage_pays : (stage : Stage) → IsMine (between stage) old → WalkerIsWithin (between stage)
       → IsLed (between stage) → Pays (between stage)
   stage_pays Ask mine within led =
       reached_spends (between Ask) (asked w.path (Read 0x68)) led.1
@@ -225,7 +225,7 @@ module _ (w : Walker) (before old : Registers) (fits : w.id < 0xff) (shown : Fit
 -- a write is left less
 settled_spends : (w : Walker) (old new : Registers) (p : Pending) (rest : List Pending)
     (stage : Stage) (path : List ℕ)
-    → IsWithin (record w { todo = p ∷ rest; stage = stage; path = path })
+    → WalkerIsWithin (record w { todo = p ∷ rest; stage = stage; path = path })
     → IsMine (record w { todo = p ∷ rest; stage = stage; path = path }) old
     → IsLedAt (record w { todo = p ∷ rest; path = path }) stage
     → Spends (record w { todo = p ∷ rest; stage = stage; path = path }) old
@@ -239,7 +239,7 @@ settled_spends w old new p rest stage path within mine led = go rest stage path 
         one_less before after (turns_left after new) (turns_left before old) less
 
     go : (rest : List Pending) (stage : Stage) (path : List ℕ)
-        → IsWithin (record w { todo = p ∷ rest; stage = stage; path = path })
+        → WalkerIsWithin (record w { todo = p ∷ rest; stage = stage; path = path })
         → IsMine (record w { todo = p ∷ rest; stage = stage; path = path }) old
         → IsLedAt (record w { todo = p ∷ rest; path = path }) stage
         → Spends (record w { todo = p ∷ rest; stage = stage; path = path }) old
@@ -323,14 +323,14 @@ settled_spends w old new p rest stage path within mine led = go rest stage path 
 
 -- One access: fewer turns are left, if it goes on.
 pub step_spends : (w : Walker) (before old : Registers) → w.id < 0xff → Fits w.view before
-    → AreSameDevices before old → IsMine w old → IsWithin w → IsLed w
+    → AreSameDevices before old → IsMine w old → WalkerIsWithin w → IsLed w
     → Spends w old (stepped w old).walker (stepped w old).registers
 step_spends w before old fits shown same mine within led =
     go w.todo w.stage w.path mine within led
   where
     go : (todo : List Pending) (stage : Stage) (path : List ℕ)
         → IsMine (record w { todo = todo; stage = stage; path = path }) old
-        → IsWithin (record w { todo = todo; stage = stage; path = path })
+        → WalkerIsWithin (record w { todo = todo; stage = stage; path = path })
         → IsLed (record w { todo = todo; stage = stage; path = path })
         → Spends (record w { todo = todo; stage = stage; path = path }) old
         (stepped (record w { todo = todo; stage = stage; path = path }) old).walker

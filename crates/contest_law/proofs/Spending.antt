@@ -20,10 +20,10 @@ use Rattle.contest_machine.specs.declared.stages.Asked.{Asked}
 use Rattle.contest_machine.specs.declared.stages.Tried.{Tried}
 use Rattle.contest_machine.specs.declared.stages.Stage.{Stage}
 use Rattle.contest_machine.specs.declared.stages.Stage.TheVariants.{Ask, Claim, Check, Test, Features, Information, Status, Free}
-use Rattle.contest_machine.specs.Machine.{Walker, write, routes_to, kept, but_last, freeing, gone_on, taken, judged, numbered, set_up, outward, told, told_at}
+use Rattle.contest_machine.specs.Machine.{Walker, write, routes_to, kept, but_last, freeing, gone_on, taken, judged, numbered, switch_set_up, outward, walker_told, told_at}
 use Rattle.contest_machine.specs.Turns.{came_of}
 use Rattle.contest_machine.specs.Contest.{IsMine, HasClaimed}
-use Rattle.contest_machine.specs.Within.{IsWithin}
+use Rattle.contest_machine.specs.Within.{WalkerIsWithin}
 use Rattle.contest_machine.proofs.Few.{once_few}
 use Rattle.contest_machine.proofs.Reading.{read-same, lock_left, locked-free, locked-other}
 use Rattle.contest_machine.proofs.Stepped.{one_node}
@@ -70,7 +70,8 @@ not_lock now lock at o is other =
     ap (λ p. lock_is now lock p) is ∙ ne_eqb (now at.node).lock lock other
 
 -- no more devices are kept than there are
-pub few_kept : (w : Walker) (old : Registers) → IsWithin w → IsMine w old → length (kept w) ≤ 64
+pub few_kept : (w : Walker) (old : Registers) → WalkerIsWithin w → IsMine w old
+    → length (kept w) ≤ 64
 few_kept w old within mine =
     let few = once_few w.view within.proper (kept w) within.leading mine.once in
     let most = within.proper.most in
@@ -151,7 +152,7 @@ module _ (w : Walker) (before old : Registers) (fits : w.id < 0xff) (shown : Fit
 
   abbrev Spent : Stage → PortRef → Asked → Type 0
   Spent stage at ask = Spends (between stage) old
-      (told (between stage) (answered (old at.node) at.port ask.access).answer.value)
+      (walker_told (between stage) (answered (old at.node) at.port ask.access).answer.value)
       (after_access old at ask.access)
 
   -- the lock is read
@@ -320,15 +321,16 @@ module _ (w : Walker) (before old : Registers) (fits : w.id < 0xff) (shown : Fit
 
     -- the ports of a switch are read
     pub information_spends : (at : PortRef) (ports entry : ℕ) → ports ≤ 16
-        → Spends (between Information) old (set_up (between Information) ports entry)
+        → Spends (between Information) old (switch_set_up (between Information) ports entry)
         (after_access old at (Read 0x14))
     information_spends at ports entry most =
         let less = room_less w.devices (met_as w.devices (Switch ports entry) w.path) few in
         let long = home_most w.path w.id entry in
-        read_spends (between Information) (set_up (between Information) ports entry) old at 0x14
+        read_spends (between Information) (switch_set_up (between Information) ports entry) old at
+        0x14
         fits
-        (one_less (between Information) (set_up (between Information) ports entry)
-        (turns_left (set_up (between Information) ports entry) old)
+        (one_less (between Information) (switch_set_up (between Information) ports entry)
+        (turns_left (switch_set_up (between Information) ports entry) old)
         (turns_left (between Information) old)
         (omega (arith, less, long, most)))
         (omega (arith, less))

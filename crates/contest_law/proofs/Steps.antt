@@ -8,7 +8,7 @@ use Rattle.link_watch.specs.declared.side.Side.TheVariants.{A, B}
 use Rattle.contest_machine.specs.declared.stages.Tried.{Tried}
 use Rattle.contest_machine.specs.declared.stages.Stage.TheVariants.{Status, Done}
 use Rattle.contest_machine.specs.Machine.{Walker, State, port_after, gone_on, stepped}
-use Rattle.contest_machine.specs.Turns.{is_locking, locked_on, turned, Both, turn_of, after_turns}
+use Rattle.contest_machine.specs.Turns.{is_locking, locked_on, walker_turned, Both, turn_of, after_turns}
 use Rattle.contest_law.specs.Locks.{walker_of, lock_at, lock_next, lock_next_on, state_of, locks_at_first, locks_in, locks_in_turn, locks_over}
 
 -- The walker after a port was tried has another stage, and else is the same.
@@ -66,7 +66,7 @@ module _ (P : List ℕ → Walker → Type 0)
 
   pub turned_with : (locks : List ℕ) (w : Walker) (old : Registers) → P locks w
       → P locks (record w { begun = true })
-      → P (locks ++ locks_in w old) (turned w old).walker
+      → P (locks ++ locks_in w old) (walker_turned w old).walker
   turned_with locks w old holds begun = go w.begun
     where
       go : (b : Bool) → P (locks ++ (if b then lock_next (state_of w old)

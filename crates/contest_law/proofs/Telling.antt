@@ -3,13 +3,14 @@ use Rattle.std.proofs.Common.{◌≡◌, ◌≢◌, ℕ, ◌+◌, ◌*◌, ◌/�
 use Rattle.std.specs.Option.{option_and_then}
 use Rattle.std.proofs.lemmas.Bool.{cases_lt, lt-ltb}
 use Rattle.fabric_script.specs.declared.ports.PortRef.{PortRef}
+use Rattle.fabric_script.specs.Ports.{port_at}
 use Rattle.maint_registers.specs.Devices.{Device, is_switch}
 use Rattle.maint_registers.specs.Table.{status_offset}
 use Rattle.maint_registers.specs.Access.{value_at}
 use Rattle.maint_registers.proofs.AccessLaws.{features-read, status-read}
 use Rattle.maint_registers.proofs.StatusLaws.{status_port-none}
 use Rattle.maint_registers.proofs.SameLaws.{same_kind}
-use Rattle.fabric_map.specs.Topology.{Topology, IsTopology, port_at, followed, behind, entered}
+use Rattle.fabric_map.specs.Topology.{Topology, IsTopology, ports_followed, behind_port, entered}
 use Rattle.fabric_map.specs.Walked.{onward}
 use Rattle.fabric_map.specs.Routes.{Registers}
 use Rattle.fabric_map.specs.Fitting.{Fits}
@@ -130,9 +131,9 @@ pub leads_on : (view : Topology) (path : List ℕ) (at next : PortRef) (ports po
 leads_on view path at next ports port proper enters switch link =
     subst IsSome
     (sym (along-onward view (port_at view.host 0) path port
-    ∙ (ap (λ o. option_and_then (λ (p : PortRef). behind view p.node port) o) enters
+    ∙ (ap (λ o. option_and_then (λ (p : PortRef). behind_port view p.node port) o) enters
     ∙ (ap (λ b. if b then view.peer (port_at at.node port) else None)
-    (lt-ltb port (followed view at.node) below) ∙ link)))) refl
+    (lt-ltb port (ports_followed view at.node) below) ∙ link)))) refl
   where
     other : at.node ≢ view.host
     other is = clash (sym (ap view.switch_ports is ∙ proper.host_is_endpoint) ∙ switch)
@@ -140,7 +141,7 @@ leads_on view path at next ports port proper enters switch link =
         clash : None ≡ Some ports → ⊥
         clash e = absurd (cc)
 
-    all : followed view at.node ≡ ports
+    all : ports_followed view at.node ≡ ports
     all = ap (λ b. if b then 1 else unwrap_or (view.switch_ports at.node) 0)
         (ne_eqb at.node view.host other) ∙ ap (λ o. unwrap_or o 0) switch
 
@@ -148,7 +149,7 @@ leads_on view path at next ports port proper enters switch link =
     inside = subst (λ o. port < unwrap_or o 1) switch
         (proper.ports (port_at at.node port) next link).port
 
-    below : port < followed view at.node
+    below : port < ports_followed view at.node
     below = subst (λ n. port < n) (sym all) inside
 
 -- and so does the host's port
@@ -157,7 +158,7 @@ host_leads_on view proper =
     subst IsSome (sym (ap (λ o. option_and_then (λ (p : PortRef). Some p) o) way ∙ whole
     (view.peer (port_at view.host 0)))) proper.host_is_linked
   where
-    way : behind view view.host 0 ≡ view.peer (port_at view.host 0)
+    way : behind_port view view.host 0 ≡ view.peer (port_at view.host 0)
     way = ap (λ n. if nat_lt 0 n then view.peer (port_at view.host 0) else None)
         (followed-host view)
 

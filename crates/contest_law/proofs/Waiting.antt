@@ -18,7 +18,7 @@ use Rattle.contest_machine.specs.declared.stages.Turn.TheVariants as Turns
 use Rattle.contest_machine.specs.declared.stages.Stage.{Stage}
 use Rattle.contest_machine.specs.declared.stages.Stage.TheVariants.{Ask, Claim, Check, Test, Features, Information, Status, Free, Done, Lost}
 use Rattle.contest_machine.specs.Machine.{Walker, asked, write, routes_to, last_path, but_last, freeing, gone_on, taken, judged, numbered, outward, told_at, told_with, reached, stepped}
-use Rattle.contest_machine.specs.Turns.{waits, ends, came_at, came_of}
+use Rattle.contest_machine.specs.Turns.{waits_or_goes, ends, came_at, came_of}
 use Rattle.contest_machine.proofs.Reading.{lock_told}
 use Rattle.contest_law.specs.Locks.{lock_at, lock_next, state_of}
 use Rattle.contest_law.specs.Laws.{HasLesser}
@@ -51,7 +51,7 @@ no_wait_at w after Lost other = ends_no_wait after.todo Turns.Lost (λ e. cc)
 writes_no_wait : (w after : Walker) (p : Pending) (rest : List Pending) (stage : Stage)
     → w.todo ≡ p ∷ rest → came_at w after stage ≢ Turns.Waiting
 writes_no_wait w after p rest Ask is =
-    subst (λ t. waits t after.todo ≢ Turns.Waiting) (sym is) (λ e. cc)
+    subst (λ t. waits_or_goes t after.todo ≢ Turns.Waiting) (sym is) (λ e. cc)
 writes_no_wait w after p rest Claim is = λ e. cc
 writes_no_wait w after p rest Check is = λ e. cc
 writes_no_wait w after p rest Test is = λ e. cc

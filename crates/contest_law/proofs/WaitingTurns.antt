@@ -11,10 +11,10 @@ use Rattle.contest_machine.specs.declared.stages.Turn.TheVariants as Turns
 use Rattle.contest_machine.specs.declared.stages.Stage.{Stage}
 use Rattle.contest_machine.specs.declared.stages.Stage.TheVariants.{Ask, Claim, Check, Test, Features, Information, Status, Free, Done, Lost}
 use Rattle.contest_machine.specs.Machine.{Walker, State, stepped}
-use Rattle.contest_machine.specs.Turns.{waits, came_at, came_of, is_locking, locked_on, turned, Both, turn_of, after_turns}
+use Rattle.contest_machine.specs.Turns.{waits_or_goes, came_at, came_of, is_locking, locked_on, walker_turned, Both, turn_of, after_turns}
 use Rattle.contest_machine.specs.Laws.{IsNew}
 use Rattle.contest_machine.proofs.Apart.{turned_by}
-use Rattle.contest_law.specs.Locks.{walker_of, answer_of, lock_next, lock_next_on, state_of, locks_at_first, locks_in, locks_in_turn}
+use Rattle.contest_law.specs.Locks.{walker_of, side_answer, lock_next, lock_next_on, state_of, locks_at_first, locks_in, locks_in_turn}
 use Rattle.contest_law.specs.Laws.{HasLesser, WaitingIsForALesser}
 use Rattle.contest_law.proofs.Lasting.{AreSameDevices, step_lasts, step_same}
 use Rattle.contest_law.proofs.Led.{IsLedAt, IsLed, step_led, new_led, begun_led}
@@ -25,7 +25,7 @@ use Rattle.contest_law.proofs.Waiting.{Waits, no_wait_at, step_waits}
 
 pub came_same : (w v after : Walker) (stage : Stage) → w.todo ≡ v.todo
     → came_at w after stage ≡ came_at v after stage
-came_same w v after Ask same = ap (λ t. waits t after.todo) same
+came_same w v after Ask same = ap (λ t. waits_or_goes t after.todo) same
 came_same w v after Claim same = refl
 came_same w v after Check same = refl
 came_same w v after Test same = refl
@@ -155,7 +155,7 @@ module _ (before : Registers) (view : Topology) (id : ℕ) (proper : IsTopology 
   }
 
   turned_waits : (w : Walker) (old : Registers) → (w.begun ≡ false → w.todo ≡ [])
-      → Stands (state_of w old) → Waits id w (turned w old).walker (locks_in w old)
+      → Stands (state_of w old) → Waits id w (walker_turned w old).walker (locks_in w old)
   turned_waits w old clear stands = go w.begun refl
     where
       begun : Walker
@@ -177,7 +177,7 @@ module _ (before : Registers) (view : Topology) (id : ℕ) (proper : IsTopology 
 
   -- ---- over all turns
 
-  turned_begun : (w : Walker) (old : Registers) → (turned w old).walker.begun ≡ true
+  turned_begun : (w : Walker) (old : Registers) → (walker_turned w old).walker.begun ≡ true
   turned_begun w old = go w.begun refl
     where
       begun : Walker
@@ -203,7 +203,7 @@ module _ (before : Registers) (view : Topology) (id : ℕ) (proper : IsTopology 
     pub clear : w.begun ≡ false → w.todo ≡ []
 
   own_turn : (w : Walker) (old : Registers) → IsBetweenTurns w old
-      → IsBetweenTurns (turned w old).walker (turned w old).registers
+      → IsBetweenTurns (walker_turned w old).walker (walker_turned w old).registers
   own_turn w old between = record {
     stands = turned_by Stands step_stands w old between.stands (begun_stands w old between.stands);
     clear = λ not. absurd (clash (sym not ∙ turned_begun w old));
@@ -213,7 +213,7 @@ module _ (before : Registers) (view : Topology) (id : ℕ) (proper : IsTopology 
       clash e = absurd (cc)
 
   their_turn : (w o : Walker) (old : Registers) → IsBetweenTurns w old
-      → IsBetweenTurns w (turned o old).registers
+      → IsBetweenTurns w (walker_turned o old).registers
   their_turn w o old between = record {
     stands = record {
       led = between.stands.led;
@@ -241,7 +241,7 @@ module _ (before : Registers) (view : Topology) (id : ℕ) (proper : IsTopology 
 
   pub turn_waits : (both : Both) (side : Side)
       → IsBetweenTurns (walker_of both side) both.registers
-      → (answer_of both side ≡ Turns.Waiting) ↔ HasLesser id (locks_in_turn both side side)
+      → (side_answer both side ≡ Turns.Waiting) ↔ HasLesser id (locks_in_turn both side side)
   turn_waits both A between =
       turned_waits both.first both.registers between.clear between.stands
   turn_waits both B between =

@@ -12,7 +12,7 @@ use Rattle.contest_machine.specs.declared.stages.Stage.TheVariants as stages
 use Rattle.contest_machine.specs.Machine.{Walker}
 use Rattle.contest_machine.specs.Turns.{Both, turn_of, after_turns}
 use Rattle.contest_machine.specs.Laws.{IsNew}
-use Rattle.contest_law.specs.Locks.{walker_of, answer_of}
+use Rattle.contest_law.specs.Locks.{walker_of, side_answer}
 
 -- a turn that answers Going is counted
 abbrev pub going_one : Turn → ℕ
@@ -23,10 +23,10 @@ going_one Lost = 0
 
 -- the same of a turn of the second side, if the turns of the first are counted
 abbrev pub going_in_turn : Both → Side → Side → ℕ
-going_in_turn both A A = going_one (answer_of both A)
+going_in_turn both A A = going_one (side_answer both A)
 going_in_turn both A B = 0
 going_in_turn both B A = 0
-going_in_turn both B B = going_one (answer_of both B)
+going_in_turn both B B = going_one (side_answer both B)
 
 -- how many turns of a side answer Going
 abbrev pub going_over : Both → Side → List Side → ℕ
@@ -77,7 +77,7 @@ pub record IsLeftAlone (both : Both) (earlier : List Side) (side : Side) : Type 
 abbrev pub AloneIsNoWait : Type 0
 AloneIsNoWait = (both : Both) (earlier later : List Side) (side : Side)
     → IsLeftAlone both earlier side
-    → answer_of (after_turns both (earlier ++ later)) side ≢ Waiting
+    → side_answer (after_turns both (earlier ++ later)) side ≢ Waiting
 
 -- It has numbered the fabric after 40,000 turns of its own, at the latest.
 abbrev pub AloneIsDone : Type 0

@@ -7,7 +7,7 @@ use Rattle.contest_machine.specs.declared.stages.Turn.TheVariants.{Waiting, Lost
 use Rattle.contest_machine.specs.Machine.{kept}
 use Rattle.contest_machine.specs.Turns.{Both, after_turns}
 use Rattle.contest_machine.specs.Laws.{IsNew}
-use Rattle.contest_law.specs.Locks.{walker_of, answer_of, locks_in_turn, locks_over}
+use Rattle.contest_law.specs.Locks.{walker_of, side_answer, locks_in_turn, locks_over}
 
 -- one of these locks is that of a host with a greater ID; FFFF is that of none
 abbrev pub HasGreater : ℕ → List ℕ → Type 0
@@ -18,7 +18,7 @@ HasGreater id locks = (lock : ℕ) × Contains locks lock × (id < lock) × (loc
 abbrev pub LostIsForAGreater : Type 0
 LostIsForAGreater = (both : Both) (turns : List Side) (side : Side)
     → IsNew (walker_of both side)
-    → (answer_of (after_turns both turns) side ≡ Lost)
+    → (side_answer (after_turns both turns) side ≡ Lost)
     ↔ (HasGreater (walker_of both side).id (locks_over both side (turns ++ side ∷ []))
     × (kept (walker_of (after_turns both (turns ++ side ∷ [])) side) ≡ []))
 
@@ -31,5 +31,5 @@ abbrev pub WaitingIsForALesser : Type 0
 WaitingIsForALesser = (both : Both) (turns : List Side) (side : Side)
     → IsNew (walker_of both side) → (walker_of both side).id < 0xff
     → IsTopology (walker_of both side).view → Fits (walker_of both side).view both.registers
-    → (answer_of (after_turns both turns) side ≡ Waiting)
+    → (side_answer (after_turns both turns) side ≡ Waiting)
     ↔ HasLesser (walker_of both side).id (locks_in_turn (after_turns both turns) side side)

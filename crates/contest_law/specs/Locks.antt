@@ -18,8 +18,8 @@ walker_of both A = both.first
 walker_of both B = both.second
 
 -- what a turn of a side answers
-abbrev pub answer_of : Both → Side → Turn
-answer_of both side = came_of (walker_of both side) (walker_of (turn_of both side) side)
+abbrev pub side_answer : Both → Side → Turn
+side_answer both side = came_of (walker_of both side) (walker_of (turn_of both side) side)
 
 -- ---- the locks that are read
 

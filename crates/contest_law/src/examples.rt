@@ -2,7 +2,7 @@
 ghost use Rattle.std.specs.Prelude.{◌≡◌, ◌∷◌, []};
 ghost use Rattle.link_watch.specs.declared.side.Side.TheVariants.{A, B};
 ghost use Rattle.contest_machine.specs.declared.stages.Turn.TheVariants.{Going, Waiting, Lost};
-ghost use Rattle.contest_law.specs.Locks.{answer_of, locks_in_turn, walker_of};
+ghost use Rattle.contest_law.specs.Locks.{side_answer, locks_in_turn, walker_of};
 ghost use Rattle.contest_machine.specs.declared.stages.Stage.TheVariants as stages;
 ghost use Rattle.contest_machine.specs.Turns.{after_turns};
 ghost use Rattle.contest_law.specs.Going.{going_over, HasNumbered};
@@ -11,11 +11,11 @@ ghost use Rattle.contest_law.specs.Examples.{two_hosts, till_waiting, five_each,
 /// A host of ID 5 that is free reads its lock twice and goes on. Behind the lock of a host of ID 3
 /// it waits, and behind that of a host of ID 9 it is lost. The other host reads nothing meanwhile.
 pub fn a_first_turn_reads_its_own_lock()
-    ensures free { answer_of (two_hosts 0xffff) A ≡ Going }
+    ensures free { side_answer (two_hosts 0xffff) A ≡ Going }
     ensures twice { locks_in_turn (two_hosts 0xffff) A A ≡ 0xffff ∷ 5 ∷ [] }
-    ensures lesser { answer_of (two_hosts 3) A ≡ Waiting }
+    ensures lesser { side_answer (two_hosts 3) A ≡ Waiting }
     ensures once { locks_in_turn (two_hosts 3) A A ≡ 3 ∷ [] }
-    ensures greater { answer_of (two_hosts 9) A ≡ Lost }
+    ensures greater { side_answer (two_hosts 9) A ≡ Lost }
     ensures also { locks_in_turn (two_hosts 9) A A ≡ 9 ∷ [] }
     ensures other { locks_in_turn (two_hosts 9) B A ≡ [] }
 {}
@@ -30,7 +30,7 @@ pub fn turns_that_go_on_are_counted()
 /// The host 5 meets the host 7, frees itself and is lost. The host 7 waits for it, and then numbers
 /// both.
 pub fn the_greater_of_a_pair_is_done()
-    ensures waits { answer_of (after_turns (two_hosts 0xffff) till_waiting) B ≡ Waiting }
+    ensures waits { side_answer (after_turns (two_hosts 0xffff) till_waiting) B ≡ Waiting }
     ensures lost { (walker_of (after_turns (two_hosts 0xffff) five_each) A).stage ≡ stages.Lost }
     ensures done { HasNumbered (walker_of (after_turns (two_hosts 0xffff) till_done) B) }
 {}

@@ -15,7 +15,7 @@ use Rattle.contest_machine.specs.Machine.{Walker, State, asked, kept, fresh, las
 use Rattle.contest_machine.specs.Contest.{Keeps, Knows, AreOnce, AreOwnWrites, AreListed, IsMine, IsLockOfNone, IsContest}
 use Rattle.link_watch.specs.declared.side.Side.{Side}
 use Rattle.link_watch.specs.declared.side.Side.TheVariants.{A, B}
-use Rattle.contest_machine.specs.Turns.{is_locking, locked_on, turned, Both, turn_of, after_turns}
+use Rattle.contest_machine.specs.Turns.{is_locking, locked_on, walker_turned, Both, turn_of, after_turns}
 use Rattle.contest_machine.specs.Laws.{IsNew, TurnsKeepApart}
 use Rattle.contest_machine.proofs.Frame.{Nothing, turn_and_quiet, contest-stays, kept_stays}
 use Rattle.contest_machine.proofs.Reading.{read-same, lock_told, tag_told}
@@ -195,7 +195,7 @@ module _ (P : State → Type 0)
       go false = holds
 
   pub turned_by : (w : Walker) (old : Registers) → P (state_of w old)
-      → P (state_of (record w { begun = true }) old) → P (turned w old)
+      → P (state_of (record w { begun = true }) old) → P (walker_turned w old)
   turned_by w old holds begun = go w.begun
     where
       first : State
@@ -255,7 +255,7 @@ begun_contest w o before now contest = record {
 }
 
 pub turned_holds : (o : Walker) (before : Registers) (w : Walker) (old : Registers)
-    → IsContest w o before old → HoldsFor o before (turned w old)
+    → IsContest w o before old → HoldsFor o before (walker_turned w old)
 turned_holds o before w old contest =
     turned_by (HoldsFor o before) (step_holds o before) w old contest
     (begun_contest w o before old contest)
@@ -280,7 +280,7 @@ module _ (w : Walker) (before old : Registers) where
 
   -- a turn of the other leaves what this one keeps
   pub turn_leaves_kept : (o : Walker) → IsContest o w before old → (node : ℕ) → Keeps w node
-      → (turned o old).registers node ≡ old node
+      → (walker_turned o old).registers node ≡ old node
   turn_leaves_kept o contest =
       (turned_by (LeavesKept w before old) step_leaves_kept o old
       (contest, λ node keeps. refl)
@@ -293,7 +293,7 @@ pub turn_holds : (before : Registers) (both : Both) (side : Side) → Holds befo
 turn_holds before both A contest =
     turned_holds both.second before both.first both.registers contest
 turn_holds before both B contest =
-    swap (turned both.second both.registers).walker both.first before _
+    swap (walker_turned both.second both.registers).walker both.first before _
     (turned_holds both.first before both.second both.registers
     (swap both.first both.second before both.registers contest))
 

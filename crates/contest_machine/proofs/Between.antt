@@ -13,15 +13,15 @@ use Rattle.host_enumerate.specs.Underway.{id_after, met_as}
 use Rattle.contest_machine.specs.declared.stages.Tried.{Tried}
 use Rattle.contest_machine.specs.declared.stages.Stage.{Stage}
 use Rattle.contest_machine.specs.declared.stages.Stage.TheVariants.{Ask, Claim, Check, Test, Status}
-use Rattle.contest_machine.specs.Machine.{Walker, write, routes_to, freeing, port_after, gone_on, taken, judged, numbered, set_up, outward}
-use Rattle.contest_machine.specs.Within.{AreShort, IsBounded, IsWithin}
+use Rattle.contest_machine.specs.Machine.{Walker, write, routes_to, freeing, port_after, gone_on, taken, judged, numbered, switch_set_up, outward}
+use Rattle.contest_machine.specs.Within.{AreShort, WalkIsBounded, WalkerIsWithin}
 
 -- ---- what stands between two devices
 
 pub record IsBetween (w : Walker) : Type 0 where
   pub proper : IsTopology w.view
   pub leading : (path : List ℕ) → Contains (paths_of w.devices) path → IsSome (node_at w.view path)
-  pub bounded : IsBounded w.devices w.id w.next w.path w.tried
+  pub bounded : WalkIsBounded w.devices w.id w.next w.path w.tried
 
 pub no_fresh : (view : Topology) (paths : List (List ℕ))
     → ((path : List ℕ) → Contains paths path → IsSome (node_at view path))
@@ -54,7 +54,7 @@ module _ (w : Walker) (proper : IsTopology w.view) where
       (path : List ℕ) → Contains (paths_of devices) path → IsSome (node_at w.view path)
 
   pub freeing_within : (stage : Stage) (devices : List Device) → Leading devices
-      → IsWithin (freeing (record w { todo = []; stage = stage }) devices)
+      → WalkerIsWithin (freeing (record w { todo = []; stage = stage }) devices)
   freeing_within stage [] leading = record {
     proper = proper;
     leading = no_fresh w.view [] leading;
@@ -68,7 +68,7 @@ module _ (w : Walker) (proper : IsTopology w.view) where
 
   pub gone_within : (tried : List Tried) → Leading w.devices → length w.path ≤ length w.devices
       → w.next ≤ length w.devices + 1 → (w.next ≤ w.id → w.next ≤ length w.devices)
-      → AreShort (length w.devices) tried → IsWithin (gone_on w tried)
+      → AreShort (length w.devices) tried → WalkerIsWithin (gone_on w tried)
   gone_within [] leading path next before short = record {
     proper = proper;
     leading = no_fresh w.view (paths_of w.devices) leading;
@@ -78,8 +78,8 @@ module _ (w : Walker) (proper : IsTopology w.view) where
       go (nat_lt (port_after top.entry top.port) top.ports)
       (gone_within rest leading path next before short.1)
     where
-      go : (b : Bool) → IsWithin (gone_on w rest)
-          → IsWithin (if b then record w {
+      go : (b : Bool) → WalkerIsWithin (gone_on w rest)
+          → WalkerIsWithin (if b then record w {
             tried = record top { port = port_after top.entry top.port } ∷ rest;
             stage = Status;
           }
@@ -99,58 +99,58 @@ module _ (w : Walker) (between : IsBetween w) where
       ≡ length w.devices + 1
   longer kind = length-append w.devices (met_as w.devices kind w.path ∷ [])
 
-  pub asks : IsWithin (at_stage Ask)
+  pub asks : WalkerIsWithin (at_stage Ask)
   asks = record {
     proper = between.proper;
     leading = no_fresh w.view (paths_of w.devices) between.leading;
     bounded = between.bounded;
   }
 
-  pub claims : IsWithin (at_stage Claim)
+  pub claims : WalkerIsWithin (at_stage Claim)
   claims = record {
     proper = between.proper;
     leading = no_fresh w.view (paths_of w.devices) between.leading;
     bounded = between.bounded;
   }
 
-  pub checks : IsWithin (at_stage Check)
+  pub checks : WalkerIsWithin (at_stage Check)
   checks = record {
     proper = between.proper;
     leading = no_fresh w.view (paths_of w.devices) between.leading;
     bounded = between.bounded;
   }
 
-  pub tests : IsWithin (at_stage Test)
+  pub tests : WalkerIsWithin (at_stage Test)
   tests = record {
     proper = between.proper;
     leading = no_fresh w.view (paths_of w.devices) between.leading;
     bounded = between.bounded;
   }
 
-  pub judged_within : (stage : Stage) (lock : ℕ) → IsWithin (judged (at_stage stage) lock)
+  pub judged_within : (stage : Stage) (lock : ℕ) → WalkerIsWithin (judged (at_stage stage) lock)
   judged_within stage lock = go (eqb lock 0xffff) (nat_lt w.id lock)
     where
-      go : (b c : Bool) → IsWithin (if b then at_stage Claim
+      go : (b c : Bool) → WalkerIsWithin (if b then at_stage Claim
           else (if c then freeing (at_stage stage) w.devices else at_stage Ask))
       go true c = claims
       go false true = freeing_within w between.proper stage w.devices between.leading
       go false false = asks
 
   pub taken_within : (stage : Stage) → IsSome (node_at w.view w.path)
-      → IsWithin (taken (at_stage stage))
+      → WalkerIsWithin (taken (at_stage stage))
   taken_within stage some = record {
     proper = between.proper;
     leading = with_fresh w.view (paths_of w.devices) w.path between.leading some;
     bounded = between.bounded;
   }
 
-  pub gone : (stage : Stage) → IsWithin (gone_on (at_stage stage) w.tried)
+  pub gone : (stage : Stage) → WalkerIsWithin (gone_on (at_stage stage) w.tried)
   gone stage =
       gone_within (at_stage stage) between.proper w.tried between.leading between.bounded.path_is
       between.bounded.next_is between.bounded.before between.bounded.short
 
   pub outward_within : (stage : Stage) (tried : List Tried) → AreShort (length w.devices) tried
-      → IsWithin (outward (record (at_stage stage) { tried = tried }) tried)
+      → WalkerIsWithin (outward (record (at_stage stage) { tried = tried }) tried)
   outward_within stage [] short = record {
     proper = between.proper;
     leading = no_fresh w.view (paths_of w.devices) between.leading;
@@ -193,7 +193,7 @@ module _ (w : Walker) (between : IsBetween w) where
         let path = between.bounded.path_is in
         omega (arith, long, path)
 
-    pub numbered_within : (stage : Stage) (path : List ℕ) → IsWithin
+    pub numbered_within : (stage : Stage) (path : List ℕ) → WalkerIsWithin
         (numbered (at_stage stage) path)
     numbered_within stage [] = record {
       proper = between.proper;
@@ -267,7 +267,7 @@ module _ (w : Walker) (between : IsBetween w) where
                 omega (arith, long, is, most)
 
     pub set_up_within : (stage : Stage) (ports entry : ℕ)
-        → IsWithin (set_up (at_stage stage) ports entry)
+        → WalkerIsWithin (switch_set_up (at_stage stage) ports entry)
     set_up_within stage ports entry = record {
       proper = between.proper;
       leading = no_fresh w.view _ (leading_more (Switch ports entry));

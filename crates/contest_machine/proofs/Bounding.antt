@@ -15,8 +15,8 @@ use Rattle.contest_machine.specs.declared.stages.Tried.{Tried}
 use Rattle.contest_machine.specs.declared.stages.Stage.{Stage}
 use Rattle.contest_machine.specs.declared.stages.Stage.TheVariants.{Ask, Claim, Check, Test, Features, Information, Status, Free, Done, Lost}
 use Rattle.contest_machine.specs.declared.stages.Asked.{Asked}
-use Rattle.contest_machine.specs.Machine.{Walker, asked, last_path, but_last, gone_on, taken, judged, numbered, outward, settled, told, reached, stepped}
-use Rattle.contest_machine.specs.Within.{IsBounded, IsWithin}
+use Rattle.contest_machine.specs.Machine.{Walker, asked, last_path, but_last, gone_on, taken, judged, numbered, outward, settled, walker_told, reached, stepped}
+use Rattle.contest_machine.specs.Within.{WalkIsBounded, WalkerIsWithin}
 use Rattle.contest_machine.proofs.Lists.{split_last}
 use Rattle.contest_machine.proofs.Between.{IsBetween, freeing_within, checks, tests, judged_within, taken_within, gone, outward_within, numbered_within, set_up_within}
 
@@ -24,7 +24,7 @@ use Rattle.contest_machine.proofs.Between.{IsBetween, freeing_within, checks, te
 
 between : (w : Walker) (stage : Stage) → IsTopology w.view
     → ((path : List ℕ) → Contains (paths_of w.devices ++ []) path → IsSome (node_at w.view path))
-    → IsBounded w.devices w.id w.next w.path w.tried → IsBetween w
+    → WalkIsBounded w.devices w.id w.next w.path w.tried → IsBetween w
 between w stage proper leading bounded = record {
   proper = proper;
   leading = λ path listed.
@@ -33,15 +33,16 @@ between w stage proper leading bounded = record {
 }
 
 module _ (w : Walker) (old : Registers) where
-  reached_within : (w0 : Walker) (ask : Asked) → IsWithin w0
+  reached_within : (w0 : Walker) (ask : Asked) → WalkerIsWithin w0
       → ((at : PortRef) → entered w0.view ask.path ≡ Some at
-      → IsWithin (told w0 (answered (old at.node) at.port ask.access).answer.value))
-      → IsWithin (reached w0 old ask (entered w0.view ask.path)).walker
+      → WalkerIsWithin (walker_told w0 (answered (old at.node) at.port ask.access).answer.value))
+      → WalkerIsWithin (reached w0 old ask (entered w0.view ask.path)).walker
   reached_within w0 ask within some = go (entered w0.view ask.path) some
     where
       go : (o : Option PortRef) → ((at : PortRef) → o ≡ Some at
-          → IsWithin (told w0 (answered (old at.node) at.port ask.access).answer.value))
-          → IsWithin (reached w0 old ask o).walker
+          → WalkerIsWithin
+          (walker_told w0 (answered (old at.node) at.port ask.access).answer.value))
+          → WalkerIsWithin (reached w0 old ask o).walker
       go None some = within
       go (Some at) some = some at refl
 
@@ -60,9 +61,9 @@ module _ (w : Walker) (old : Registers) where
       (Contains-append_left (paths_of (but_last (device ∷ rest)))
       (last_path (device ∷ rest) ∷ []) path listed)))
 
-  status_within : (tried : List Tried) → IsWithin (record w
+  status_within : (tried : List Tried) → WalkerIsWithin (record w
       { todo = []; stage = Status; tried = tried })
-      → IsWithin (stepped (record w { todo = []; stage = Status; tried = tried }) old).walker
+      → WalkerIsWithin (stepped (record w { todo = []; stage = Status; tried = tried }) old).walker
   status_within [] within = within
   status_within (top ∷ rest) within =
       reached_within (record w { todo = []; stage = Status; tried = top ∷ rest })
@@ -74,7 +75,7 @@ module _ (w : Walker) (old : Registers) where
       stands = between (record w { tried = top ∷ rest }) Status within.proper within.leading
           within.bounded
 
-      go : (b : Bool) → IsWithin (if b
+      go : (b : Bool) → WalkerIsWithin (if b
           then outward (record w { todo = []; stage = Status; tried = top ∷ rest }) (top ∷ rest)
           else gone_on (record w { todo = []; stage = Status; tried = top ∷ rest }) (top ∷ rest))
       go true =
@@ -82,8 +83,8 @@ module _ (w : Walker) (old : Registers) where
           within.bounded.short
       go false = gone (record w { tried = top ∷ rest }) stands Status
 
-  stage_within : (stage : Stage) → IsWithin (record w { todo = []; stage = stage })
-      → IsWithin (stepped (record w { todo = []; stage = stage }) old).walker
+  stage_within : (stage : Stage) → WalkerIsWithin (record w { todo = []; stage = stage })
+      → WalkerIsWithin (stepped (record w { todo = []; stage = stage }) old).walker
   stage_within Ask within =
       reached_within (record w { todo = []; stage = Ask }) (asked w.path (Read 0x68)) within
       (λ at enters. go (answered (old at.node) at.port (Read 0x68)).answer.value
@@ -92,7 +93,7 @@ module _ (w : Walker) (old : Registers) where
       stands : IsBetween w
       stands = between w Ask within.proper within.leading within.bounded
 
-      go : (value : ℕ) (b : Bool) → IsWithin (if b then record w { todo = []; stage = Test }
+      go : (value : ℕ) (b : Bool) → WalkerIsWithin (if b then record w { todo = []; stage = Test }
           else judged (record w { todo = []; stage = Ask }) value)
       go value true = tests w stands
       go value false = judged_within w stands Ask value
@@ -108,7 +109,7 @@ module _ (w : Walker) (old : Registers) where
       stands = between w Check within.proper within.leading within.bounded
 
       go : (at : PortRef) → entered w.view w.path ≡ Some at → (value : ℕ) (b : Bool)
-          → IsWithin (if b then taken (record w { todo = []; stage = Check })
+          → WalkerIsWithin (if b then taken (record w { todo = []; stage = Check })
           else judged (record w { todo = []; stage = Check }) value)
       go at enters value true = taken_within w stands Check (at_path at enters)
       go at enters value false = judged_within w stands Check value
@@ -120,7 +121,7 @@ module _ (w : Walker) (old : Registers) where
       stands = between w Test within.proper within.leading within.bounded
 
       go : (at : PortRef) → entered w.view w.path ≡ Some at → (b : Bool)
-          → IsWithin (if b then taken (record w { todo = []; stage = Test })
+          → WalkerIsWithin (if b then taken (record w { todo = []; stage = Test })
           else gone_on (record w { todo = []; stage = Test }) w.tried)
       go at enters true = taken_within w stands Test (at_path at enters)
       go at enters false = gone w stands Test
@@ -139,7 +140,7 @@ module _ (w : Walker) (old : Registers) where
       }
 
       go : (at : PortRef) → entered w.view w.path ≡ Some at → (b : Bool)
-          → IsWithin (if b then record w { todo = []; stage = Information }
+          → WalkerIsWithin (if b then record w { todo = []; stage = Information }
           else numbered (record w { todo = []; stage = Features }) w.path)
       go at enters true = record {
         proper = within.proper;
@@ -173,13 +174,14 @@ module _ (w : Walker) (old : Registers) where
 
 -- what was written does not matter, but that the host is taken in
 settled_within : (w : Walker) (p : Pending) (rest : List Pending) (stage : Stage) (path : List ℕ)
-    → IsWithin (record w { todo = p ∷ rest; stage = stage; path = path })
-    → IsWithin (settled (record w { todo = p ∷ rest; stage = stage; path = path }) rest stage path)
+    → WalkerIsWithin (record w { todo = p ∷ rest; stage = stage; path = path })
+    → WalkerIsWithin
+    (settled (record w { todo = p ∷ rest; stage = stage; path = path }) rest stage path)
 settled_within w p rest stage path within = go rest stage path within
   where
     same : (rest : List Pending) (stage : Stage) (path : List ℕ)
-        → IsWithin (record w { todo = p ∷ rest; stage = stage; path = path })
-        → IsWithin (record w { todo = rest; stage = stage; path = path })
+        → WalkerIsWithin (record w { todo = p ∷ rest; stage = stage; path = path })
+        → WalkerIsWithin (record w { todo = rest; stage = stage; path = path })
     same rest stage path within = record {
       proper = within.proper;
       leading = within.leading;
@@ -187,8 +189,9 @@ settled_within w p rest stage path within = go rest stage path within
     }
 
     go : (rest : List Pending) (stage : Stage) (path : List ℕ)
-        → IsWithin (record w { todo = p ∷ rest; stage = stage; path = path })
-        → IsWithin (settled (record w { todo = p ∷ rest; stage = stage; path = path }) rest stage
+        → WalkerIsWithin (record w { todo = p ∷ rest; stage = stage; path = path })
+        → WalkerIsWithin
+        (settled (record w { todo = p ∷ rest; stage = stage; path = path }) rest stage
         path)
     go (q ∷ rest) stage path within = same (q ∷ rest) stage path within
     go [] Ask path within = same [] Ask path within
@@ -209,13 +212,13 @@ settled_within w p rest stage path within = go rest stage path within
     go [] Done path within = same [] Done path within
     go [] Lost path within = same [] Lost path within
 
-pub stepped_within : (w : Walker) (old : Registers) → IsWithin w
-    → IsWithin (stepped w old).walker
+pub stepped_within : (w : Walker) (old : Registers) → WalkerIsWithin w
+    → WalkerIsWithin (stepped w old).walker
 stepped_within w old within = go w.todo w.stage w.path within
   where
     go : (todo : List Pending) (stage : Stage) (path : List ℕ)
-        → IsWithin (record w { todo = todo; stage = stage; path = path })
-        → IsWithin (stepped (record w { todo = todo; stage = stage; path = path }) old).walker
+        → WalkerIsWithin (record w { todo = todo; stage = stage; path = path })
+        → WalkerIsWithin (stepped (record w { todo = todo; stage = stage; path = path }) old).walker
     go [] stage path within = stage_within (record w { path = path }) old stage within
     go (p ∷ rest) stage path within =
         reached_within w old (record w { todo = p ∷ rest; stage = stage; path = path })

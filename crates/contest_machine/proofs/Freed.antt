@@ -12,7 +12,7 @@ use Rattle.fabric_map.specs.Numbered.{paths_of}
 use Rattle.fabric_map.proofs.Growing.{node_at-entered}
 use Rattle.fabric_map.proofs.Lists.{Contains-first, Contains-cases}
 use Rattle.host_enumerate.specs.declared.maint.Access.TheVariants.{Write}
-use Rattle.host_enumerate.specs.Accesses.{with_device, after_access}
+use Rattle.host_enumerate.specs.Accesses.{registers_with, after_access}
 use Rattle.host_enumerate.proofs.Frames.{with_device-at, with_device-other}
 use Rattle.contest_machine.specs.declared.stages.Stage.TheVariants.{Free}
 use Rattle.contest_machine.specs.Machine.{Walker, last_path, but_last, freeing}

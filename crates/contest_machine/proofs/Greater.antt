@@ -13,11 +13,11 @@ use Rattle.contest_machine.specs.declared.stages.Tried.{Tried}
 use Rattle.contest_machine.specs.declared.stages.Stage.{Stage}
 use Rattle.contest_machine.specs.declared.stages.Stage.TheVariants.{Ask, Claim, Check, Test, Features, Information, Status, Free, Done, Lost}
 use Rattle.contest_machine.specs.declared.stages.Asked.{Asked}
-use Rattle.contest_machine.specs.Machine.{write, routes_to, Walker, State, asked, freeing, port_after, gone_on, taken, judged, numbered, set_up, outward, settled, told, told_at, reached, stepped}
+use Rattle.contest_machine.specs.Machine.{write, routes_to, Walker, State, asked, freeing, port_after, gone_on, taken, judged, numbered, switch_set_up, outward, settled, walker_told, told_at, reached, stepped}
 use Rattle.contest_machine.specs.Contest.{Keeps, HasClaimed, IsLockOfNone, IsContest}
 use Rattle.link_watch.specs.declared.side.Side.{Side}
 use Rattle.link_watch.specs.declared.side.Side.TheVariants.{A, B}
-use Rattle.contest_machine.specs.Turns.{turned, Both, turn_of, after_turns}
+use Rattle.contest_machine.specs.Turns.{walker_turned, Both, turn_of, after_turns}
 use Rattle.contest_machine.specs.Laws.{IsNew, HoldsOn, GreaterHoldsOn}
 use Rattle.contest_machine.proofs.Frame.{keeps_or_not}
 use Rattle.contest_machine.proofs.Reading.{lock_told}
@@ -119,7 +119,7 @@ module _ (w : Walker) (value : ℕ) where
 module _ (w : Walker) (old : Registers) (small : (node : ℕ) → IsNoGreater w.id (old node).lock)
   where
     reached_holds : (w0 : Walker) (ask : Asked) → HoldsOn w0.stage
-        → ((at : PortRef) → HoldsOn (told w0
+        → ((at : PortRef) → HoldsOn (walker_told w0
         (answered (old at.node) at.port ask.access).answer.value).stage)
         → HoldsOn (reached w0 old ask (entered w0.view ask.path)).walker.stage
     reached_holds w0 ask on some = go (entered w0.view ask.path)
@@ -229,7 +229,7 @@ module _ (o : Walker) (before : Registers) (free : (node : ℕ) → (before node
 
     turn_on : (w : Walker) (old : Registers)
         → IsGreater o before (record { walker = w; registers = old })
-        → IsGreater o before (turned w old)
+        → IsGreater o before (walker_turned w old)
     turn_on w old (contest, less, on) =
         turned_by (IsGreater o before) step_on w old (contest, less, on)
         (begun_contest w o before old contest, less, on)
@@ -237,7 +237,7 @@ module _ (o : Walker) (before : Registers) (free : (node : ℕ) → (before node
 -- the other's ID is the same after its turn
 other_id : (w : Walker) (before : Registers) (o : Walker) (old : Registers) → IsContest o w before
     old
-    → (turned o old).walker.id ≡ o.id
+    → (walker_turned o old).walker.id ≡ o.id
 other_id w before o old contest =
     (turned_by (λ state. IsContest state.walker w before state.registers
     × (state.walker.id ≡ o.id))

@@ -8,7 +8,7 @@ use Rattle.maint_registers.proofs.AccessLaws.{lock-read, tag-read, lock-written,
 use Rattle.maint_registers.proofs.BesideLaws.{lock-stays, tag-stays}
 use Rattle.fabric_map.specs.Routes.{Registers}
 use Rattle.host_enumerate.specs.declared.maint.Access.TheVariants.{Read, Write}
-use Rattle.host_enumerate.specs.Accesses.{after_read, after_write, answered, with_device, after_access}
+use Rattle.host_enumerate.specs.Accesses.{after_read, after_write, answered, registers_with, after_access}
 use Rattle.host_enumerate.proofs.Frames.{with_device-itself}
 
 read_leaves : (device : Device) (o : Option ℕ) → (after_read device o).device ≡ device
@@ -18,7 +18,7 @@ read_leaves device None = refl
 pub read-same : (old : Registers) (at : PortRef) (offset : ℕ)
     → after_access old at (Read offset) ≡ old
 read-same old at offset =
-    ap (λ d. with_device old at.node d)
+    ap (λ d. registers_with old at.node d)
     (read_leaves (old at.node) (value_at (old at.node) offset at.port))
     ∙ with_device-itself old at.node
 

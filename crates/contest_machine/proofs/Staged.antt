@@ -14,7 +14,7 @@ use Rattle.contest_machine.specs.declared.stages.Pending.{Pending}
 use Rattle.contest_machine.specs.declared.stages.Tried.{Tried}
 use Rattle.contest_machine.specs.declared.stages.Stage.{Stage}
 use Rattle.contest_machine.specs.declared.stages.Stage.TheVariants.{Features, Information, Status}
-use Rattle.contest_machine.specs.Machine.{Walker, write, routes_to, home_set, gone_on, taken, numbered, set_up, outward, told_at}
+use Rattle.contest_machine.specs.Machine.{Walker, write, routes_to, home_set, gone_on, taken, numbered, switch_set_up, outward, told_at}
 use Rattle.contest_machine.specs.Contest.{Keeps, AreOwnWrites, AreListed, AreOnce, IsMine, HasClaimed}
 use Rattle.contest_machine.proofs.Lists.{Leads, writes-more, listed-more}
 use Rattle.contest_machine.proofs.Turning.{Leaves, quiet, routes_own, entry_own, home_own}
@@ -179,9 +179,9 @@ module _ (w : Walker) (old : Registers) (fits : w.id < 0xff) where
 
   -- the ports of a switch are read
   pub information_leaves : (ports entry : ℕ) → IsMine (at_stage w Information) old
-      → Leaves (at_stage w Information) old (set_up (at_stage w Information) ports entry) old
+      → Leaves (at_stage w Information) old (switch_set_up (at_stage w Information) ports entry) old
   information_leaves ports entry mine = (
-    quiet (at_stage w Information) old (set_up (at_stage w Information) ports entry) refl
+    quiet (at_stage w Information) old (switch_set_up (at_stage w Information) ports entry) refl
         (to_kept Information (λ node k. k) (λ node k. k) mine mine.once mine.knows.1
         (Switch ports entry))
         (from_kept Information (λ node k. k) (λ node k. k) mine mine.once mine.knows.1

@@ -19,7 +19,7 @@ use Rattle.contest_machine.specs.declared.stages.Pending.{Pending}
 use Rattle.contest_machine.specs.declared.stages.Tried.{Tried}
 use Rattle.contest_machine.specs.declared.stages.Stage.{Stage}
 use Rattle.contest_machine.specs.declared.stages.Stage.TheVariants.{Ask, Claim, Check, Test, Features, Information, Status, Free, Done, Lost}
-use Rattle.contest_machine.specs.Machine.{Walker, State, fresh, kept, write, entry_set, route_of, route_at, routes_to, cleared_below, home_set, own_id, freeing, port_after, gone_on, taken, judged, numbered, set_up, outward}
+use Rattle.contest_machine.specs.Machine.{Walker, State, fresh, kept, write, entry_set, route_of, route_pending, routes_to, cleared_below, home_set, own_id, freeing, port_after, gone_on, taken, judged, numbered, switch_set_up, outward}
 use Rattle.contest_machine.specs.Contest.{Keeps, IsAtPath, TagComes, Knows, IsOwnWrite, AreOwnWrites, AreListed, AreOnce, IsMine, HasClaimed}
 use Rattle.contest_machine.proofs.Lists.{Leads, once-push, writes-more, writes-append, listed-more}
 use Rattle.contest_machine.proofs.Frame.{Does, Nothing, IsTurn}
@@ -47,7 +47,7 @@ pub routes_own : (all : List (List ℕ)) (devices : List Device) (path : List �
     → AreOwnWrites all (routes_to devices path id)
 routes_own all [] path id on = tt
 routes_own all (device ∷ rest) path id on =
-    writes-append all (route_at path id device) (routes_to rest path id)
+    writes-append all (route_pending path id device) (routes_to rest path id)
     (route_own all device.path id device.kind (toward device.path path)
     (on device.path (Contains-first device.path (paths_of rest))))
     (routes_own all rest path id

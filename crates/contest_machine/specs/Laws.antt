@@ -7,7 +7,7 @@ use Rattle.contest_machine.specs.declared.stages.Stage.TheVariants.{Ask, Claim, 
 use Rattle.contest_machine.specs.Machine.{Walker, kept, stepped}
 use Rattle.contest_machine.specs.Turns.{Both, after_turns}
 use Rattle.contest_machine.specs.Contest.{Keeps, AreOnce, IsLockOfNone}
-use Rattle.contest_machine.specs.Within.{IsWithin}
+use Rattle.contest_machine.specs.Within.{WalkerIsWithin}
 
 -- a walker at its start
 pub record IsNew (w : Walker) : Type 0 where
@@ -57,8 +57,10 @@ GreaterHoldsOn = (both : Both) (turns : List Side)
 
 -- An access leaves a walker within its bounds.
 abbrev pub StaysWithin : Type 0
-StaysWithin = (w : Walker) (old : Registers) → IsWithin w → IsWithin (stepped w old).walker
+StaysWithin =
+    (w : Walker) (old : Registers) → WalkerIsWithin w → WalkerIsWithin (stepped w old).walker
 
 -- No more devices are kept than there are.
 abbrev pub KeepsFew : Type 0
-KeepsFew = (w : Walker) → IsWithin w → AreOnce w.view (kept w) → length (kept w) ≤ w.view.nodes
+KeepsFew =
+    (w : Walker) → WalkerIsWithin w → AreOnce w.view (kept w) → length (kept w) ≤ w.view.nodes

@@ -65,11 +65,11 @@ route_of at id (Endpoint given) port = []
 route_of at id (Switch ports entry) None = []
 route_of at id (Switch ports entry) (Some port) = entry_set at id port
 
-abbrev pub route_at : List ℕ → ℕ → Device → List Pending
-route_at path id device = route_of device.path id device.kind (toward device.path path)
+abbrev pub route_pending : List ℕ → ℕ → Device → List Pending
+route_pending path id device = route_of device.path id device.kind (toward device.path path)
 
 abbrev pub routes_to : List Device → List ℕ → ℕ → List Pending
-routes_to devices path id = flat_map (route_at path id) devices
+routes_to devices path id = flat_map (route_pending path id) devices
 
 -- the entries of the IDs below a number, but the host's, are cleared
 abbrev pub cleared_below : List ℕ → ℕ → ℕ → List Pending
@@ -152,8 +152,8 @@ numbered w (first ∷ rest) =
     }) w.tried
 
 -- a switch is taken in
-abbrev pub set_up : Walker → ℕ → ℕ → Walker
-set_up w ports entry =
+abbrev pub switch_set_up : Walker → ℕ → ℕ → Walker
+switch_set_up w ports entry =
     record w {
       devices = w.devices ++ met_as w.devices (Switch ports entry) w.path ∷ [];
       todo = home_set w.path w.id entry;
@@ -180,9 +180,9 @@ outward w (top ∷ rest) =
 abbrev pub asked : List ℕ → Access → Asked
 asked path access = record { path = path; access = access }
 
-abbrev pub status_of : List Tried → Option Asked
-status_of [] = None
-status_of (top ∷ rest) = Some (asked top.path (Read (0x158 + 0x20 * top.port)))
+abbrev pub status_asked : List Tried → Option Asked
+status_asked [] = None
+status_asked (top ∷ rest) = Some (asked top.path (Read (0x158 + 0x20 * top.port)))
 
 abbrev pub wants_at : Walker → Stage → Option Asked
 wants_at w Ask = Some (asked w.path (Read 0x68))
@@ -191,7 +191,7 @@ wants_at w Check = Some (asked w.path (Read 0x68))
 wants_at w Test = Some (asked w.path (Read 0x6c))
 wants_at w Features = Some (asked w.path (Read 0x10))
 wants_at w Information = Some (asked w.path (Read 0x14))
-wants_at w Status = status_of w.tried
+wants_at w Status = status_asked w.tried
 wants_at w Free = Some (asked (last_path w.devices) (Write 0x68 w.id))
 wants_at w Done = None
 wants_at w Lost = None
@@ -211,7 +211,7 @@ told_at w value Check = if value == w.id then taken w else judged w value
 told_at w value Test = if value == 0 then taken w else gone_on w w.tried
 told_at w value Features =
     if value / 0x10000000 % 2 == 1 then record w { stage = Information } else numbered w w.path
-told_at w value Information = set_up w (value / 0x100 % 0x100) (value % 0x100)
+told_at w value Information = switch_set_up w (value / 0x100 % 0x100) (value % 0x100)
 told_at w value Status = if value == 2 then outward w w.tried else gone_on w w.tried
 told_at w value Free = freeing w (but_last w.devices)
 told_at w value Done = w
@@ -227,8 +227,8 @@ told_with w value [] = told_at w value w.stage
 told_with w value (p ∷ rest) = settled w rest w.stage w.path
 
 -- the walker after this answer
-abbrev pub told : Walker → ℕ → Walker
-told w value = told_with w value w.todo
+abbrev pub walker_told : Walker → ℕ → Walker
+walker_told w value = told_with w value w.todo
 
 -- a walker, and the registers of all devices
 pub record State : Type 0 where
@@ -239,7 +239,7 @@ pub record State : Type 0 where
 abbrev pub reached : Walker → Registers → Asked → Option PortRef → State
 reached w registers ask None = record { walker = w; registers = registers }
 reached w registers ask (Some at) = record {
-  walker = told w (answered (registers at.node) at.port ask.access).answer.value;
+  walker = walker_told w (answered (registers at.node) at.port ask.access).answer.value;
   registers = after_access registers at ask.access;
 }
 

@@ -33,18 +33,18 @@ locked_on state =
 -- A turn is one access. But in its first turn a walker makes all accesses that lock its host: at
 -- most
 -- three, since nobody is between.
-abbrev pub turned : Walker → Registers → State
-turned w registers =
+abbrev pub walker_turned : Walker → Registers → State
+walker_turned w registers =
     if w.begun then stepped w registers
     else locked_on (locked_on (stepped (record w { begun = true }) registers))
 
 -- ---- what came of it
 
 -- it waits, if it asks for a lock again and has nothing to write
-abbrev pub waits : List Pending → List Pending → Turn
-waits [] [] = Turns.Waiting
-waits (p ∷ rest) after = Turns.Going
-waits [] (p ∷ rest) = Turns.Going
+abbrev pub waits_or_goes : List Pending → List Pending → Turn
+waits_or_goes [] [] = Turns.Waiting
+waits_or_goes (p ∷ rest) after = Turns.Going
+waits_or_goes [] (p ∷ rest) = Turns.Going
 
 -- it has ended once nothing is left to be written
 abbrev pub ends : List Pending → Turn → Turn
@@ -52,7 +52,7 @@ ends [] turn = turn
 ends (p ∷ rest) turn = Turns.Going
 
 abbrev pub came_at : Walker → Walker → Stage → Turn
-came_at w after Ask = waits w.todo after.todo
+came_at w after Ask = waits_or_goes w.todo after.todo
 came_at w after Claim = Turns.Going
 came_at w after Check = Turns.Going
 came_at w after Test = Turns.Going
@@ -78,14 +78,14 @@ pub record Both : Type 0 where
 -- side A is the first
 abbrev pub turn_of : Both → Side → Both
 turn_of both A = record {
-  first = (turned both.first both.registers).walker;
+  first = (walker_turned both.first both.registers).walker;
   second = both.second;
-  registers = (turned both.first both.registers).registers;
+  registers = (walker_turned both.first both.registers).registers;
 }
 turn_of both B = record {
   first = both.first;
-  second = (turned both.second both.registers).walker;
-  registers = (turned both.second both.registers).registers;
+  second = (walker_turned both.second both.registers).walker;
+  registers = (walker_turned both.second both.registers).registers;
 }
 
 abbrev pub after_turns : Both → List Side → Both

@@ -15,7 +15,7 @@ AreShort most (top ∷ rest) = (length top.path < most) × AreShort most rest
 -- No path is longer than the list of devices. An ID is given for each device at most, and the
 -- host's
 -- is left out once.
-pub record IsBounded (devices : List Device) (id next : ℕ) (path : List ℕ)
+pub record WalkIsBounded (devices : List Device) (id next : ℕ) (path : List ℕ)
     (tried : List Tried) : Type 0 where
   pub path_is : length path ≤ length devices
   pub next_is : next ≤ length devices + 1
@@ -24,19 +24,19 @@ pub record IsBounded (devices : List Device) (id next : ℕ) (path : List ℕ)
 
 -- A walker that frees its devices, or has ended, gives no IDs and tries no paths.
 abbrev pub IsBoundedAt : Stage → List Device → ℕ → ℕ → List ℕ → List Tried → Type 0
-IsBoundedAt Ask devices id next path tried = IsBounded devices id next path tried
-IsBoundedAt Claim devices id next path tried = IsBounded devices id next path tried
-IsBoundedAt Check devices id next path tried = IsBounded devices id next path tried
-IsBoundedAt Test devices id next path tried = IsBounded devices id next path tried
-IsBoundedAt Features devices id next path tried = IsBounded devices id next path tried
-IsBoundedAt Information devices id next path tried = IsBounded devices id next path tried
-IsBoundedAt Status devices id next path tried = IsBounded devices id next path tried
+IsBoundedAt Ask devices id next path tried = WalkIsBounded devices id next path tried
+IsBoundedAt Claim devices id next path tried = WalkIsBounded devices id next path tried
+IsBoundedAt Check devices id next path tried = WalkIsBounded devices id next path tried
+IsBoundedAt Test devices id next path tried = WalkIsBounded devices id next path tried
+IsBoundedAt Features devices id next path tried = WalkIsBounded devices id next path tried
+IsBoundedAt Information devices id next path tried = WalkIsBounded devices id next path tried
+IsBoundedAt Status devices id next path tried = WalkIsBounded devices id next path tried
 IsBoundedAt Free devices id next path tried = Unit {0}
 IsBoundedAt Done devices id next path tried = Unit {0}
 IsBoundedAt Lost devices id next path tried = Unit {0}
 
 -- each path of a device that is kept leads to a device
-pub record IsWithin (w : Walker) : Type 0 where
+pub record WalkerIsWithin (w : Walker) : Type 0 where
   pub proper : IsTopology w.view
   pub leading : (path : List ℕ) → Contains (kept w) path → IsSome (node_at w.view path)
   pub bounded : IsBoundedAt w.stage w.devices w.id w.next w.path w.tried

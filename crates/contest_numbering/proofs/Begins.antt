@@ -2,14 +2,15 @@
 use Rattle.std.proofs.Common.{◌≡◌, ◌≢◌, ℕ, ◌*◌, ◌<◌, Bool, List, [], ◌∷◌, ◌++◌, Some, arith, ◌⊎◌, inl, inr, subst, sym, refl, ap, ◌∙◌}
 use Rattle.std.proofs.lemmas.Bool.{cases_eq}
 use Rattle.std.proofs.lemmas.Option.{same_Some}
+use Rattle.fabric_script.specs.Ports.{port_at}
 use Rattle.maint_registers.specs.Devices as registers
 use Rattle.fabric_map.specs.declared.map.Kind.TheVariants.{Endpoint}
-use Rattle.fabric_map.specs.Topology.{Topology, IsTopology, port_at}
+use Rattle.fabric_map.specs.Topology.{Topology, IsTopology}
 use Rattle.fabric_map.specs.Routes.{Registers}
 use Rattle.fabric_map.specs.Fitting.{Fits}
 use Rattle.fabric_map.proofs.Lists.{Contains-first}
 use Rattle.host_enumerate.specs.declared.maint.Access.TheVariants.{Write}
-use Rattle.host_enumerate.specs.Accesses.{answered, with_device}
+use Rattle.host_enumerate.specs.Accesses.{answered, registers_with}
 use Rattle.host_enumerate.specs.Holding.{IsTakable}
 use Rattle.host_enumerate.specs.Underway.{met_as}
 use Rattle.host_enumerate.proofs.Meeting.{IsMember}
@@ -74,7 +75,7 @@ module _ (view : Topology) (id : ℕ) (begun : Bool) (now : Registers) (proper :
   was lock = record (now view.host) { base_id = id; lock = lock }
 
   abbrev before_it : ℕ → Registers
-  before_it lock = with_device now view.host (was lock)
+  before_it lock = registers_with now view.host (was lock)
 
   at_host : (lock : ℕ) → before_it lock view.host ≡ was lock
   at_host lock = with_device-at now view.host (was lock)

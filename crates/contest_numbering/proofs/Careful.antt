@@ -16,14 +16,14 @@ use Rattle.contest_machine.specs.declared.stages.Pending.{Pending}
 use Rattle.contest_machine.specs.declared.stages.Tried.{Tried}
 use Rattle.contest_machine.specs.declared.stages.Stage.{Stage}
 use Rattle.contest_machine.specs.declared.stages.Stage.TheVariants.{Ask, Claim, Check, Test, Features, Information, Status, Free, Done, Lost}
-use Rattle.contest_machine.specs.Machine.{Walker, write, routes_to, gone_on, taken, numbered, set_up, outward}
+use Rattle.contest_machine.specs.Machine.{Walker, write, routes_to, gone_on, taken, numbered, switch_set_up, outward}
 use Rattle.maint_registers.specs.Routes.{entry_of}
 use Rattle.maint_registers.proofs.AccessLaws.{select-written}
 use Rattle.maint_registers.proofs.SameLaws.{same_kind}
 use Rattle.host_enumerate.proofs.Frames.{with_device-at, with_device-other}
 use Rattle.host_enumerate.specs.Accesses.{after_write}
 use Rattle.contest_machine.specs.declared.stages.Asked.{Asked}
-use Rattle.contest_machine.specs.Machine.{asked, last_path, but_last, freeing, judged, told, reached, stepped}
+use Rattle.contest_machine.specs.Machine.{asked, last_path, but_last, freeing, judged, walker_told, reached, stepped}
 use Rattle.contest_machine.proofs.Reading.{read-same}
 use Rattle.contest_law.proofs.Steps.{gone_by}
 use Rattle.contest_law.proofs.Lasting.{access_is}
@@ -93,14 +93,15 @@ module _ (dest : ℕ) (far : 62 < dest) (not_all : dest ≢ 255) where
 
     pub reached_keeping : (w0 : Walker) (ask : Asked) → IsCareful w0 old
         → ((at : PortRef) → entered w0.view ask.path ≡ Some at
-        → IsKeeping w old (told w0 (answered (old at.node) at.port ask.access).answer.value)
+        → IsKeeping w old (walker_told w0 (answered (old at.node) at.port ask.access).answer.value)
         (after_access old at ask.access))
         → IsKeeping w old (reached w0 old ask (entered w0.view ask.path)).walker
         (reached w0 old ask (entered w0.view ask.path)).registers
     reached_keeping w0 ask careful some = go (entered w0.view ask.path) some
       where
         go : (o : Option PortRef) → ((at : PortRef) → o ≡ Some at
-            → IsKeeping w old (told w0 (answered (old at.node) at.port ask.access).answer.value)
+            → IsKeeping w old
+            (walker_told w0 (answered (old at.node) at.port ask.access).answer.value)
             (after_access old at ask.access))
             → IsKeeping w old (reached w0 old ask o).walker (reached w0 old ask o).registers
         go None some = record { careful = careful; left = λ node. refl }
@@ -212,7 +213,8 @@ module _ (dest : ℕ) (far : 62 < dest) (not_all : dest ≢ 255) where
         (λ at enters.
         let value = (answered (old at.node) at.port (Read 0x14)).answer.value in
         read_keeping _ at 0x14
-        (orderly_is (set_up (between Information) (value / 0x100 % 0x100) (value % 0x100)) old
+        (orderly_is (switch_set_up (between Information) (value / 0x100 % 0x100) (value % 0x100))
+        old
         (home_orderly dest w.path w.id (value % 0x100) far own_other)))
     stage_keeping Status small = status_keeping w.tried
     stage_keeping Free small =

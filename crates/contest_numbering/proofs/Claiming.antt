@@ -11,7 +11,7 @@ use Rattle.fabric_map.specs.Routes.{Registers}
 use Rattle.fabric_map.specs.Numbered.{paths_of}
 use Rattle.fabric_map.proofs.Growing.{path_listed, node_at-entered}
 use Rattle.host_enumerate.specs.declared.maint.Access.TheVariants.{Write}
-use Rattle.host_enumerate.specs.Accesses.{after_write, with_device, after_access}
+use Rattle.host_enumerate.specs.Accesses.{after_write, registers_with, after_access}
 use Rattle.host_enumerate.specs.Holding.{IsTakable}
 use Rattle.host_enumerate.specs.Underway.{IsUnmet, IsUnderway}
 use Rattle.host_enumerate.proofs.Frames.{with_device-at, with_device-other}
@@ -146,7 +146,7 @@ module _ (w : Walker) (old : Registers) (fits : w.id < 0xff) (at : PortRef)
           go (x ∷ p) same = refl
 
       todo_leaves : (node : ℕ) → performed w.view old (taken w).todo node
-          ≡ with_device old at.node (device_after (old at.node) at.port one) node
+          ≡ registers_with old at.node (device_after (old at.node) at.port one) node
       todo_leaves node =
           ap (λ t. performed w.view old t node) is_one
           ∙ performed-one w.view w.path at one old enters (refl, tt) node

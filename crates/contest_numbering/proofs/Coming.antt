@@ -3,10 +3,11 @@ use Rattle.std.proofs.Common.{◌≡◌, ◌≢◌, ℕ, ◌+◌, ◌*◌, ◌/�
 use Rattle.std.proofs.lemmas.Bool.{eqb-true, eqb-false}
 use Rattle.std.proofs.lemmas.Option.{same_Some}
 use Rattle.fabric_script.specs.declared.ports.PortRef.{PortRef}
+use Rattle.fabric_script.specs.Ports.{port_at}
 use Rattle.maint_registers.specs.Devices as registers
 use Rattle.maint_registers.specs.Devices.{IsDevice, is_switch}
 use Rattle.fabric_map.specs.declared.map.Device.{Device}
-use Rattle.fabric_map.specs.Topology.{IsTopology, port_at, along, entered}
+use Rattle.fabric_map.specs.Topology.{IsTopology, along, entered}
 use Rattle.fabric_map.specs.Routes.{Registers}
 use Rattle.fabric_map.specs.Fitting.{Fits}
 use Rattle.fabric_map.proofs.Growing.{node_at-entered}
@@ -23,7 +24,7 @@ use Rattle.contest_law.proofs.Telling.{features_told}
 use Rattle.contest_numbering.proofs.Along.{IsHereAt, IsAlong, not_empty, front_of, port_of, here_is}
 use Rattle.maint_registers.proofs.SameLaws.{same_device}
 use Rattle.contest_machine.specs.declared.stages.Asked.{Asked}
-use Rattle.contest_machine.specs.Machine.{asked, last_path, but_last, freeing, judged, settled, told, told_at, reached, stepped}
+use Rattle.contest_machine.specs.Machine.{asked, last_path, but_last, freeing, judged, settled, walker_told, told_at, reached, stepped}
 use Rattle.contest_machine.proofs.Reading.{read-same, lock_told, tag_told}
 use Rattle.contest_law.proofs.Telling.{is_linked}
 use Rattle.contest_law.proofs.Led.{IsLed}
@@ -79,14 +80,14 @@ module _ (w : Walker) (old : Registers) (fits : w.id < 0xff) (proper : IsTopolog
 
   pub reached_coming : (w0 : Walker) (ask : Asked) → IsComing w0 old
       → ((at : PortRef) → entered w0.view ask.path ≡ Some at
-      → IsComing (told w0 (answered (old at.node) at.port ask.access).answer.value)
+      → IsComing (walker_told w0 (answered (old at.node) at.port ask.access).answer.value)
       (after_access old at ask.access))
       → IsComing (reached w0 old ask (entered w0.view ask.path)).walker
       (reached w0 old ask (entered w0.view ask.path)).registers
   reached_coming w0 ask coming some = go (entered w0.view ask.path) some
     where
       go : (o : Option PortRef) → ((at : PortRef) → o ≡ Some at
-          → IsComing (told w0 (answered (old at.node) at.port ask.access).answer.value)
+          → IsComing (walker_told w0 (answered (old at.node) at.port ask.access).answer.value)
           (after_access old at ask.access))
           → IsComing (reached w0 old ask o).walker (reached w0 old ask o).registers
       go None some = coming

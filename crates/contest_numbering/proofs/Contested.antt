@@ -30,7 +30,7 @@ use Rattle.fabric_map.proofs.Lists.{Contains-rest}
 use Rattle.host_enumerate.specs.Underway.{given_below}
 use Rattle.host_enumerate.proofs.Counting.{id_after-few}
 use Rattle.contest_machine.specs.Machine.{asked, settled, stepped}
-use Rattle.contest_machine.specs.Within.{IsWithin}
+use Rattle.contest_machine.specs.Within.{WalkerIsWithin}
 use Rattle.contest_law.proofs.Led.{IsLed}
 use Rattle.contest_law.proofs.Spending.{few_kept, few_devices}
 use Rattle.contest_numbering.proofs.Coming.{IsComing}
@@ -109,7 +109,7 @@ module _ (w : Walker) (now : Registers) (along : IsAlong (at_stage w Features) n
           let less = below_switch (top ∷ rest) chained (λ e. cc) in
           omega (arith, most, less, few)
 
-small_at : (w : Walker) (now : Registers) → IsWithin (at_stage w Features)
+small_at : (w : Walker) (now : Registers) → WalkerIsWithin (at_stage w Features)
     → IsMine (at_stage w Features) now → IsLed (at_stage w Features)
     → IsComing (at_stage w Features) now → id_after w.id w.next < 63
 small_at w now within mine led (inl over) = absurd over
@@ -162,14 +162,14 @@ module _ (dest : ℕ) (far : 62 < dest) (not_all : dest ≢ 255) where
       go [] Done path careful = (tt, tt)
       go [] Lost path careful = (tt, tt)
 
-  pub step_keeping : (w : Walker) (old : Registers) → w.id < 0xff → dest ≢ w.id → IsWithin w
+  pub step_keeping : (w : Walker) (old : Registers) → w.id < 0xff → dest ≢ w.id → WalkerIsWithin w
       → IsMine w old → IsLed w → IsComing w old → IsCareful dest far not_all w old
       → IsKeeping dest far not_all w old (stepped w old).walker (stepped w old).registers
   step_keeping w old fits own within mine led coming careful =
       go w.todo w.stage w.path within mine led coming careful
     where
       go : (todo : List Pending) (stage : Stage) (path : List ℕ)
-          → IsWithin (record w { todo = todo; stage = stage; path = path })
+          → WalkerIsWithin (record w { todo = todo; stage = stage; path = path })
           → IsMine (record w { todo = todo; stage = stage; path = path }) old
           → IsLed (record w { todo = todo; stage = stage; path = path })
           → IsComing (record w { todo = todo; stage = stage; path = path }) old
@@ -188,7 +188,7 @@ module _ (dest : ℕ) (far : 62 < dest) (not_all : dest ≢ 255) where
           keeping k = record { careful = k.careful; left = k.left }
 
           small : (stage : Stage)
-              → IsWithin (record w { todo = []; stage = stage; path = path })
+              → WalkerIsWithin (record w { todo = []; stage = stage; path = path })
               → IsMine (record w { todo = []; stage = stage; path = path }) old
               → IsLed (record w { todo = []; stage = stage; path = path })
               → IsComing (record w { todo = []; stage = stage; path = path }) old

@@ -4,12 +4,13 @@ use Rattle.std.proofs.lemmas.Bool.{cases_eq}
 use Rattle.std.proofs.lemmas.Option.{same_Some}
 use Rattle.std.proofs.lemmas.List.Elements.{Contains-append_left, Contains-append_right}
 use Rattle.fabric_script.specs.declared.ports.PortRef.{PortRef}
+use Rattle.fabric_script.specs.Ports.{port_at}
 use Rattle.maint_registers.specs.Devices as registers
 use Rattle.maint_registers.specs.Devices.{IsDevice, is_switch}
 use Rattle.maint_registers.proofs.AccessLaws.{port_information-read, status-read}
 use Rattle.fabric_map.specs.declared.map.Kind.TheVariants.{Switch}
 use Rattle.fabric_map.specs.declared.map.Device.{Device}
-use Rattle.fabric_map.specs.Topology.{IsTopology, port_at, entered, node_at}
+use Rattle.fabric_map.specs.Topology.{IsTopology, entered, node_at}
 use Rattle.fabric_map.specs.Walked.{onward}
 use Rattle.fabric_map.specs.Routes.{Registers}
 use Rattle.fabric_map.specs.Fitting.{Fits}
@@ -18,7 +19,7 @@ use Rattle.fabric_map.proofs.Few.{entered-inside, entered-port}
 use Rattle.fabric_map.proofs.Growing.{device_on, paths_of-push, node_at-entered}
 use Rattle.fabric_map.proofs.Lists.{Contains-first}
 use Rattle.host_enumerate.specs.declared.maint.Access.TheVariants.{Read}
-use Rattle.host_enumerate.specs.Accesses.{after_read, answered, with_device}
+use Rattle.host_enumerate.specs.Accesses.{after_read, answered, registers_with}
 use Rattle.host_enumerate.proofs.Frames.{with_device-at, with_device-other}
 use Rattle.host_enumerate.specs.Asking.{Becomes}
 use Rattle.host_enumerate.specs.Setting.{with_entry}
@@ -26,7 +27,7 @@ use Rattle.host_enumerate.specs.Underway.{met_as}
 use Rattle.host_enumerate.proofs.Keeping.{underway-255}
 use Rattle.contest_machine.specs.declared.stages.Tried.{Tried}
 use Rattle.contest_machine.specs.declared.stages.Stage.TheVariants.{Information, Status}
-use Rattle.contest_machine.specs.Machine.{Walker, entry_set, gone_on, set_up, outward}
+use Rattle.contest_machine.specs.Machine.{Walker, entry_set, gone_on, switch_set_up, outward}
 use Rattle.contest_machine.proofs.Stepped.{at_stage}
 use Rattle.contest_numbering.proofs.OnWay.{performed}
 use Rattle.contest_numbering.proofs.Settling.{performed-one, after-entry}
@@ -99,7 +100,7 @@ module _ (w : Walker) (now : Registers) (at : PortRef) (ports : ℕ)
     port = (if at.port == 0 then 1 else 0);
   }
 
-  set_up_along : IsAlong (set_up (at_stage w Information) ports at.port) now
+  set_up_along : IsAlong (switch_set_up (at_stage w Information) ports at.port) now
   set_up_along = record {
     way = set_up_way w now at ports along.way fits along.way.underway.host_has_id enters switch
         (inr (
@@ -139,12 +140,12 @@ module _ (w : Walker) (now : Registers) (at : PortRef) (ports : ℕ)
   }
 
   -- by what the device tells
-  pub told_along : IsAlong (set_up (at_stage w Information) (value / 0x100 % 0x100)
+  pub told_along : IsAlong (switch_set_up (at_stage w Information) (value / 0x100 % 0x100)
       (value % 0x100)) now
   told_along =
-      subst (λ n. IsAlong (set_up (at_stage w Information) n (value % 0x100)) now)
+      subst (λ n. IsAlong (switch_set_up (at_stage w Information) n (value % 0x100)) now)
       (sym ports_told)
-      (subst (λ n. IsAlong (set_up (at_stage w Information) ports n) now) (sym entry_told)
+      (subst (λ n. IsAlong (switch_set_up (at_stage w Information) ports n) now) (sym entry_told)
       set_up_along)
 
 -- ---- the status of a port
@@ -214,7 +215,7 @@ module _ (w : Walker) (now : Registers) (top : Tried) (rest : List Tried) (at : 
   few_ports small node =
       performed-one w.view top.path at (entry_set top.path 255 top.port) now enters
       (refl, (refl, tt)) node
-      ∙ (ap (λ d. with_device now at.node d node)
+      ∙ (ap (λ d. registers_with now at.node d node)
       (after-entry (now at.node) at.port top.path 255 top.port
       (fits.switches at.node top.ports there is_ports) (omega arith) small
       ∙ ap (λ d. with_entry d 255 top.port) (sym (along.way.seen_is at.node (λ a. a))))
@@ -224,14 +225,14 @@ module _ (w : Walker) (now : Registers) (top : Tried) (rest : List Tried) (at : 
       d = with_entry (along.way.seen at.node) 255 top.port
 
       go : (node ≡ at.node) ⊎ (node ≢ at.node)
-          → with_device now at.node (with_entry (along.way.seen at.node) 255 top.port) node
-          ≡ with_device along.way.seen at.node (with_entry (along.way.seen at.node) 255 top.port)
+          → registers_with now at.node (with_entry (along.way.seen at.node) 255 top.port) node
+          ≡ registers_with along.way.seen at.node (with_entry (along.way.seen at.node) 255 top.port)
           node
       go (inl same) =
-          ap (λ n. with_device now at.node (with_entry (along.way.seen at.node) 255 top.port) n)
+          ap (λ n. registers_with now at.node (with_entry (along.way.seen at.node) 255 top.port) n)
           same
           ∙ (with_device-at now at.node _ ∙ (sym (with_device-at along.way.seen at.node _)
-          ∙ ap (λ n. with_device along.way.seen at.node
+          ∙ ap (λ n. registers_with along.way.seen at.node
           (with_entry (along.way.seen at.node) 255 top.port) n) (sym same)))
       go (inr apart) =
           with_device-other now at.node node _ apart

@@ -2,9 +2,10 @@
 use Rattle.std.proofs.Common.{◌≡◌, ◌≢◌, ℕ, ◌≤◌, ◌<◌, nat_lt, Bool, true, false, eqb, List, [], ◌∷◌, Option, Some, None, ◌⊎◌, inl, inr, subst, sym, refl, ap, ◌∙◌, if◌then◌else◌}
 use Rattle.std.proofs.lemmas.Bool.{cases_eq, eqb-true, eqb-false}
 use Rattle.fabric_script.specs.declared.ports.PortRef.{PortRef}
+use Rattle.fabric_script.specs.Ports.{port_at}
 use Rattle.maint_registers.specs.Devices as registers
 use Rattle.maint_registers.specs.Devices.{IsDevice, is_switch}
-use Rattle.fabric_map.specs.Topology.{Topology, IsTopology, port_at, along, entered}
+use Rattle.fabric_map.specs.Topology.{Topology, IsTopology, along, entered}
 use Rattle.fabric_map.specs.Routes.{Registers}
 use Rattle.fabric_map.specs.Fitting.{Fits}
 use Rattle.host_enumerate.specs.declared.maint.Access.TheVariants.{Write}
@@ -19,7 +20,7 @@ use Rattle.contest_numbering.proofs.OnWay.{IsOnWay}
 use Rattle.host_enumerate.proofs.Frames.{with_device-other}
 use Rattle.host_enumerate.specs.Underway.{AreOwnUntagged}
 use Rattle.contest_machine.specs.declared.stages.Asked.{Asked}
-use Rattle.contest_machine.specs.Machine.{asked, last_path, but_last, freeing, judged, settled, told, told_at, reached, stepped}
+use Rattle.contest_machine.specs.Machine.{asked, last_path, but_last, freeing, judged, settled, walker_told, told_at, reached, stepped}
 use Rattle.contest_machine.proofs.Reading.{lock_told, tag_told}
 use Rattle.contest_machine.proofs.Frame.{IsTurn, unchanged}
 use Rattle.contest_law.proofs.Led.{IsLed}
@@ -32,7 +33,7 @@ use Rattle.contest_numbering.proofs.Coming.{IsOver, IsComing, freeing_over, reac
 
 over_at : (w : Walker) (old : Registers) (o : Option PortRef) (ask : Asked)
     → IsOver w.stage
-    → ((at : PortRef) → IsOver (told w
+    → ((at : PortRef) → IsOver (walker_told w
     (answered (old at.node) at.port ask.access).answer.value).stage)
     → IsOver (reached w old ask o).walker.stage
 over_at w old None ask over some = over

@@ -17,15 +17,15 @@ use Rattle.fabric_map.proofs.Few.{entered-inside, entered-port}
 use Rattle.fabric_map.proofs.Growing.{paths_of-push, node_at-entered}
 use Rattle.fabric_map.proofs.Lists.{Contains-first}
 use Rattle.host_enumerate.specs.Underway.{met_as, IsUnmet, IsUnderway}
-use Rattle.host_enumerate.specs.Accesses.{with_device}
-use Rattle.host_enumerate.specs.Setting.{IsSetUp}
+use Rattle.host_enumerate.specs.Accesses.{registers_with}
+use Rattle.host_enumerate.specs.Setting.{SwitchIsSetUp}
 use Rattle.std.proofs.lemmas.Option.{same_Some}
 use Rattle.host_enumerate.proofs.Frames.{with_device-at, with_device-other}
 use Rattle.host_enumerate.proofs.Stepping.{underway-entry}
 use Rattle.host_enumerate.proofs.TakingSwitch.{IsTaken, underway-switch}
 use Rattle.contest_machine.specs.declared.stages.Pending.{Pending}
 use Rattle.contest_machine.specs.declared.stages.Stage.TheVariants.{Information}
-use Rattle.contest_machine.specs.Machine.{Walker, home_set, entry_set, cleared_below, set_up}
+use Rattle.contest_machine.specs.Machine.{Walker, home_set, entry_set, cleared_below, switch_set_up}
 use Rattle.contest_numbering.proofs.OnWay.{performed, taken_as, IsListed, IsApart, IsOnWay, not_foreign}
 use Rattle.contest_machine.proofs.Stepped.{at_stage}
 use Rattle.contest_numbering.proofs.Settling.{AreAt, performed-one, after-home, device_after}
@@ -90,7 +90,7 @@ module _ (w : Walker) (now : Registers) (at : PortRef) (ports : ℕ)
   devices = w.devices ++ met_as w.devices (Switch ports at.port) w.path ∷ []
 
   is_after : (node : ℕ) → performed w.view now (home_set w.path w.id at.port) node
-      ≡ with_device now at.node
+      ≡ registers_with now at.node
       (device_after (now at.node) at.port (home_set w.path w.id at.port)) node
   is_after node = performed-one w.view w.path at (home_set w.path w.id at.port) now enters
       (at-home w.path w.id at.port) node
@@ -106,7 +106,7 @@ module _ (w : Walker) (now : Registers) (at : PortRef) (ports : ℕ)
       underway-switch w.view way.before way.seen
       (performed w.view now (home_set w.path w.id at.port)) w.id w.next w.devices w.path at
       way.underway is_next enters unmet ports (now at.node) kind taken
-      (subst (λ d. IsSetUp w.id at.port (now at.node) d)
+      (subst (λ d. SwitchIsSetUp w.id at.port (now at.node) d)
       (sym (is_after at.node ∙ with_device-at now at.node _))
       (after-home (now at.node) at.port w.path w.id at.port
       (fits.switches at.node ports inside kind)
@@ -117,7 +117,7 @@ module _ (w : Walker) (now : Registers) (at : PortRef) (ports : ℕ)
       apart (same_Some node at.node (sym at_path ∙ node_at-entered w.view w.path at enters))))))
 
   -- the first port that is tried is not the port of entry
-  pub set_up_way : IsOnWay (set_up (at_stage w Information) ports at.port) now
+  pub set_up_way : IsOnWay (switch_set_up (at_stage w Information) ports at.port) now
   set_up_way = record {
     before = way.before;
     seen = performed w.view now (home_set w.path w.id at.port);

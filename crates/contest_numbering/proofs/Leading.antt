@@ -13,7 +13,7 @@ use Rattle.maint_registers.specs.Routes.{next_port}
 use Rattle.host_enumerate.specs.Setting.{with_entry}
 use Rattle.host_enumerate.proofs.Frames.{with_device-at}
 use Rattle.contest_machine.specs.declared.stages.Pending.{Pending}
-use Rattle.contest_machine.specs.Machine.{entry_set, route_at, routes_to}
+use Rattle.contest_machine.specs.Machine.{entry_set, route_pending, routes_to}
 use Rattle.contest_machine.specs.Contest.{AreOnce}
 use Rattle.contest_numbering.proofs.OnWay.{one_performed, performed}
 use Rattle.contest_machine.proofs.Lists.{Leads}
@@ -54,9 +54,9 @@ module _ (view : Topology) (path : List ℕ) (id : ℕ) where
 
   pub one-beside : (device : Device) (now : Registers) (node : ℕ)
       → node_at view device.path ≢ Some node
-      → performed view now (route_at path id device) node ≡ now node
+      → performed view now (route_pending path id device) node ≡ now node
   one-beside device now node other =
-      performed-beside view (device.path ∷ []) (route_at path id device) now
+      performed-beside view (device.path ∷ []) (route_pending path id device) now
       (route_own (device.path ∷ []) device.path id device.kind (toward device.path path)
       (Contains-first device.path [])) node
       (λ found. at found.0 found.2 (Contains-cases device.path [] found.0 found.1))
@@ -68,19 +68,20 @@ module _ (view : Topology) (path : List ℕ) (id : ℕ) where
   -- the device that has them
   pub routes-passed : (devices : List Device) (device : Device) (at : PortRef) (port : ℕ)
       (now : Registers) → AreOnce view (paths_of devices) → Contains devices device
-      → entered view device.path ≡ Some at → route_at path id device ≡ entry_set device.path id port
+      → entered view device.path ≡ Some at
+      → route_pending path id device ≡ entry_set device.path id port
       → is_switch (now at.node) ≡ true → id < 256 → port < 256
       → performed view now (routes_to devices path id) at.node ≡ with_entry (now at.node) id port
   routes-passed [] device at port now once listed enters is switch few small =
       absurd (omega (arith, listed.1))
   routes-passed (first ∷ rest) device at port now once listed enters is switch few small =
       ap (λ r. r at.node)
-      (performed-append view now (route_at path id first) (routes_to rest path id))
+      (performed-append view now (route_pending path id first) (routes_to rest path id))
       ∙ go (Contains-cases first rest device listed)
       (λ now later. routes-passed rest device at port now once.1 later enters is)
     where
       middle : Registers
-      middle = performed view now (route_at path id first)
+      middle = performed view now (route_pending path id first)
 
       leads : node_at view device.path ≡ Some at.node
       leads = node_at-entered view device.path at enters
@@ -95,7 +96,7 @@ module _ (view : Topology) (path : List ℕ) (id : ℕ) where
           routes-beside rest middle at.node
           (λ found. once.0 found.0 found.1
           (ap (λ (d : Device). node_at view d.path) same ∙ (leads ∙ sym found.2)))
-          ∙ (ap (λ (d : Device). performed view now (route_at path id d) at.node) same
+          ∙ (ap (λ (d : Device). performed view now (route_pending path id d) at.node) same
           ∙ (ap (λ t. performed view now t at.node) is
           ∙ (performed-one view device.path at (entry_set device.path id port) now enters
           (refl, (refl, tt)) at.node

@@ -10,7 +10,7 @@ use Rattle.link_watch.specs.declared.side.Side.{Side}
 use Rattle.link_watch.specs.declared.side.Side.TheVariants.{A, B}
 use Rattle.contest_machine.specs.declared.stages.Asked.{Asked}
 use Rattle.contest_machine.specs.Machine.{Walker, State, wants, reached, reaches, stepped}
-use Rattle.contest_machine.specs.Turns.{turned, Both, turn_of, after_turns}
+use Rattle.contest_machine.specs.Turns.{walker_turned, Both, turn_of, after_turns}
 use Rattle.contest_machine.proofs.Apart.{turned_by}
 use Rattle.contest_law.specs.Locks.{state_of}
 use Rattle.contest_law.proofs.Lasting.{AreSameDevices, step_lasts, step_same}
@@ -51,7 +51,7 @@ step_left before view w old left = record {
   same = step_same before w old left.same;
 }
 
-turned_left : (w : Walker) (old : Registers) → IsLeft old w.view (turned w old)
+turned_left : (w : Walker) (old : Registers) → IsLeft old w.view (walker_turned w old)
 turned_left w old =
     turned_by (IsLeft old w.view) (step_left old w.view) w old start (record {
       view_is = refl;

@@ -9,7 +9,7 @@ use Rattle.fabric_map.specs.Topology.{Topology, entered}
 use Rattle.fabric_map.specs.Routes.{Registers}
 use Rattle.fabric_map.specs.Numbered.{toward}
 use Rattle.contest_machine.specs.declared.stages.Pending.{Pending}
-use Rattle.contest_machine.specs.Machine.{Walker, write, entry_set, route_of, route_at, routes_to, cleared_below, home_set, own_id, taken}
+use Rattle.contest_machine.specs.Machine.{Walker, write, entry_set, route_of, route_pending, routes_to, cleared_below, home_set, own_id, taken}
 
 -- the first write is not that of an entry
 abbrev pub StartsOk : List Pending → Type 0
@@ -87,7 +87,7 @@ pub routes_orderly : (dest : ℕ) (devices : List Device) (path : List ℕ) (id 
     → dest ≢ id % 0x400 → IsOrderly dest (routes_to devices path id)
 routes_orderly dest [] path id other = (tt, tt)
 routes_orderly dest (device ∷ rest) path id other =
-    orderly_append dest (route_at path id device) (routes_to rest path id)
+    orderly_append dest (route_pending path id device) (routes_to rest path id)
     (route_orderly dest device.path id device.kind (toward device.path path) other)
     (routes_orderly dest rest path id other)
 

@@ -17,9 +17,9 @@ use Rattle.fabric_map.proofs.Fronts.{passed_listed}
 use Rattle.fabric_map.proofs.Growing.{device_on, described-listed}
 use Rattle.fabric_map.proofs.Leading.{port_of_entry}
 use Rattle.fabric_map.proofs.Lists.{Contains-first, Contains-rest}
-use Rattle.host_enumerate.specs.Setting.{with_entry, Passes, AreRouted}
+use Rattle.host_enumerate.specs.Setting.{with_entry, PathPasses, AreRouted}
 use Rattle.host_enumerate.proofs.TakingEndpoint.{passed_switch}
-use Rattle.contest_machine.specs.Machine.{entry_set, route_of, route_at, routes_to}
+use Rattle.contest_machine.specs.Machine.{entry_set, route_of, route_pending, routes_to}
 use Rattle.contest_machine.specs.Contest.{AreOnce}
 use Rattle.contest_numbering.proofs.OnWay.{performed}
 use Rattle.contest_numbering.proofs.Leading.{performed-append, one-beside, routes-passed}
@@ -28,18 +28,18 @@ use Rattle.contest_numbering.proofs.Leading.{performed-append, one-beside, route
 routes-none : (view : Topology) (path : List ℕ) (id : ℕ) (devices : List Device) (now : Registers)
     (node : ℕ)
     → ((device : Device) → Contains devices device → node_at view device.path ≡ Some node
-    → route_at path id device ≡ [])
+    → route_pending path id device ≡ [])
     → performed view now (routes_to devices path id) node ≡ now node
 routes-none view path id [] now node none = refl
 routes-none view path id (first ∷ rest) now node none =
     ap (λ r. r node)
-    (performed-append view now (route_at path id first) (routes_to rest path id))
-    ∙ (routes-none view path id rest (performed view now (route_at path id first)) node
+    (performed-append view now (route_pending path id first) (routes_to rest path id))
+    ∙ (routes-none view path id rest (performed view now (route_pending path id first)) node
     (λ device listed leads. none device (Contains-rest first rest device listed) leads)
     ∙ go (node_at view first.path) refl)
   where
     at : (n : ℕ) → node_at view first.path ≡ Some n → (n ≡ node) ⊎ (n ≢ node)
-        → performed view now (route_at path id first) node ≡ now node
+        → performed view now (route_pending path id first) node ≡ now node
     at n is (inl same) =
         ap (λ t. performed view now t node)
         (none first (Contains-first first rest) (is ∙ ap (λ k. Some k) same))
@@ -47,7 +47,7 @@ routes-none view path id (first ∷ rest) now node none =
         one-beside view path id first now node (λ leads. other (same_Some n node (sym is ∙ leads)))
 
     go : (o : Option ℕ) → node_at view first.path ≡ o
-        → performed view now (route_at path id first) node ≡ now node
+        → performed view now (route_pending path id first) node ≡ now node
     go None is = one-beside view path id first now node (λ leads. clash (sym is ∙ leads))
       where
         clash : None ≡ Some node → ⊥
@@ -72,12 +72,12 @@ module _ (view : Topology) (host_id id first : ℕ) (rest : List ℕ) (devices :
 
   kind_routes : (device : Device) (port ports entry : ℕ) → device.kind ≡ Switch ports entry
       → toward device.path path ≡ Some port
-      → route_at path id device ≡ entry_set device.path id port
+      → route_pending path id device ≡ entry_set device.path id port
   kind_routes device port ports entry kind leads =
       ap (λ k. route_of device.path id k (toward device.path path)) kind
       ∙ ap (λ o. route_of device.path id (Switch ports entry) o) leads
 
-  passed : (node port : ℕ) → Passes view (first ∷ []) rest node port
+  passed : (node port : ℕ) → PathPasses view (first ∷ []) rest node port
       → performed view mid (routes_to devices path id) node ≡ with_entry (mid node) id port
   passed node port (middle, later, at, is, leads, same) =
       let front : List ℕ = first ∷ middle in
@@ -101,7 +101,7 @@ module _ (view : Topology) (host_id id first : ℕ) (rest : List ℕ) (devices :
       (routes-passed view path id devices member at port mid once found.1 enters_member
       (kind_routes member port kind.0 kind.1 kind.2 goes) known.0 few known.1)
 
-  others : (node : ℕ) → ((port : ℕ) → ¬ Passes view (first ∷ []) rest node port)
+  others : (node : ℕ) → ((port : ℕ) → ¬ PathPasses view (first ∷ []) rest node port)
       → performed view mid (routes_to devices path id) node ≡ mid node
   others node none =
       routes-none view path id devices mid node
@@ -119,7 +119,7 @@ module _ (view : Topology) (host_id id first : ℕ) (rest : List ℕ) (devices :
 
       passes : (device : Device) (port : ℕ) (p : List ℕ) → node_at view device.path ≡ Some node
           → device.path ≡ p → p ≢ [] → toward p path ≡ Some port
-          → Passes view (first ∷ []) rest node port
+          → PathPasses view (first ∷ []) rest node port
       passes device port [] leads is some goes = absurd (some refl)
       passes device port (x ∷ p) leads is some goes =
           let further = further_from_toward (x ∷ p) path port goes in
@@ -139,7 +139,7 @@ module _ (view : Topology) (host_id id first : ℕ) (rest : List ℕ) (devices :
           → (device.path ≡ [] → (given : ℕ) × (device.kind ≡ Endpoint given))
           → (p : List ℕ) → device.path ≡ p
           → (kind : Kind) → device.kind ≡ kind
-          → (o : Option ℕ) → toward device.path path ≡ o → route_at path id device ≡ []
+          → (o : Option ℕ) → toward device.path path ≡ o → route_pending path id device ≡ []
       go device leads host p at (Endpoint given) is o goes =
           ap (λ k. route_of device.path id k (toward device.path path)) is
       go device leads host p at (Switch ports entry) is None goes =

@@ -8,8 +8,8 @@ use Rattle.maint_registers.proofs.RouteLaws.{entry-set_same, entry-set_other}
 use Rattle.fabric_map.specs.Topology.{Topology, entered}
 use Rattle.fabric_map.specs.Routes.{Registers}
 use Rattle.host_enumerate.specs.declared.maint.Access.TheVariants.{Write}
-use Rattle.host_enumerate.specs.Accesses.{after_write, answered, with_device, after_access}
-use Rattle.host_enumerate.specs.Setting.{with_entry, IsCleared, IsSetUp}
+use Rattle.host_enumerate.specs.Accesses.{after_write, answered, registers_with, after_access}
+use Rattle.host_enumerate.specs.Setting.{with_entry, IsCleared, SwitchIsSetUp}
 use Rattle.host_enumerate.proofs.Frames.{with_device-at, with_device-other, with_device-itself}
 use Rattle.host_enumerate.proofs.Clearing.{same_but-entry, cleared-none, cleared-next, cleared-past, is_switch-kind}
 use Rattle.contest_machine.specs.declared.stages.Pending.{Pending}
@@ -29,7 +29,7 @@ AreAt path (p ∷ rest) = (p.path ≡ path) × AreAt path rest
 pub performed-one : (view : Topology) (path : List ℕ) (at : PortRef) (todo : List Pending)
     (now : Registers) → entered view path ≡ Some at → AreAt path todo
     → (node : ℕ) → performed view now todo node
-    ≡ with_device now at.node (device_after (now at.node) at.port todo) node
+    ≡ registers_with now at.node (device_after (now at.node) at.port todo) node
 performed-one view path at [] now enters are node =
     ap (λ r. r node) (sym (with_device-itself now at.node))
 performed-one view path at (p ∷ rest) now enters are node =
@@ -45,14 +45,14 @@ performed-one view path at (p ∷ rest) now enters are node =
     here = with_device-at now at.node _
 
     go : (node ≡ at.node) ⊎ (node ≢ at.node)
-        → with_device next at.node (device_after (next at.node) at.port rest) node
-        ≡ with_device now at.node (device_after (now at.node) at.port (p ∷ rest)) node
+        → registers_with next at.node (device_after (next at.node) at.port rest) node
+        ≡ registers_with now at.node (device_after (now at.node) at.port (p ∷ rest)) node
     go (inl same) =
-        ap (λ n. with_device next at.node (device_after (next at.node) at.port rest) n) same
+        ap (λ n. registers_with next at.node (device_after (next at.node) at.port rest) n) same
         ∙ (with_device-at next at.node _
         ∙ (ap (λ d. device_after d at.port rest) here
         ∙ (sym (with_device-at now at.node _)
-        ∙ ap (λ n. with_device now at.node (device_after (now at.node) at.port (p ∷ rest)) n)
+        ∙ ap (λ n. registers_with now at.node (device_after (now at.node) at.port (p ∷ rest)) n)
         (sym same))))
     go (inr apart) =
         with_device-other next at.node node _ apart
@@ -120,9 +120,9 @@ module _ (device : Device) (port : ℕ) (path : List ℕ) (host_id : ℕ)
 -- a switch is set up
 pub after-home : (device : Device) (port : ℕ) (path : List ℕ) (host_id entry : ℕ)
     → is_switch device ≡ true → length device.routes ≡ 1024 → host_id < 255 → entry < 256
-    → IsSetUp host_id entry device (device_after device port (home_set path host_id entry))
+    → SwitchIsSetUp host_id entry device (device_after device port (home_set path host_id entry))
 after-home device port path host_id entry is destinations fits small =
-    subst (λ d. IsSetUp host_id entry device d) (sym whole) (record {
+    subst (λ d. SwitchIsSetUp host_id entry device d) (sym whole) (record {
       same = same_but-entry device cleared host_id entry (record {
         rest = clear.same.rest;
       });

@@ -5,11 +5,12 @@ use Rattle.std.proofs.lemmas.Bool.{cases_eq}
 use Rattle.std.proofs.lemmas.Option.{same_Some}
 use Rattle.std.proofs.lemmas.List.Elements.{Contains-append_left}
 use Rattle.fabric_script.specs.declared.ports.PortRef.{PortRef}
+use Rattle.fabric_script.specs.Ports.{port_at}
 use Rattle.maint_registers.specs.Devices as registers
 use Rattle.maint_registers.specs.Devices.{IsDevice, is_switch}
 use Rattle.fabric_map.specs.declared.map.Kind.TheVariants.{Endpoint}
 use Rattle.fabric_map.specs.declared.map.Device.{Device}
-use Rattle.fabric_map.specs.Topology.{Topology, IsTopology, port_at, ports_of, behind, along, followed, entered, node_at}
+use Rattle.fabric_map.specs.Topology.{Topology, IsTopology, device_ports, behind_port, along, ports_followed, entered, node_at}
 use Rattle.fabric_map.specs.Walked.{Walked}
 use Rattle.fabric_map.specs.Routes.{Registers}
 use Rattle.fabric_map.specs.Fitting.{Fits}
@@ -115,7 +116,7 @@ module _ (w : Walker) (now : Registers) (first : ℕ) (rest : List ℕ) (at : Po
         node (fits.endpoints node inside none);
     switches = λ node ports inside some. either (λ d. is_switch d ≡ true)
         (λ d lock tag same. same) node (fits.switches node ports inside some);
-    ports = λ node inside. either (λ d. d.ports ≡ ports_of w.view node)
+    ports = λ node inside. either (λ d. d.ports ≡ device_ports w.view node)
         (λ d lock tag same. same) node (fits.ports node inside);
     linked = λ node port inside below. either (λ d. d.linked / 2 ^ port % 2
         ≡ (if is_some (w.view.peer (port_at node port)) then 1 else 0))
@@ -170,23 +171,23 @@ module _ (view : Topology) (devices : List Device) (now : Registers) (first : �
           unmet found.0 found.1 (ap (λ l. node_at view l) found.2
           ∙ (node_at-entered view front on leads ∙ ap (λ n. Some n) same))
 
-      goes : (o : Option PortRef) → behind view on.node port ≡ o
+      goes : (o : Option PortRef) → behind_port view on.node port ≡ o
           → option_and_then (λ next. along view next later) o ≡ Some at
-          → port < followed view on.node
+          → port < ports_followed view on.node
       goes None none reaches = absurd (cc)
       goes (Some next) link reaches = (behind-link view on.node port next link).1
 
-      below : port < followed view on.node
-      below = goes (behind view on.node port) refl
+      below : port < ports_followed view on.node
+      below = goes (behind_port view on.node port) refl
           (sym (along-append view (port_at view.host 0) front (port ∷ later) on leads)
           ∙ (ap (λ l. entered view l) (sym whole) ∙ enters))
 
-      of_ports : (o : Option ℕ) → followed view on.node ≡ unwrap_or o 0
+      of_ports : (o : Option ℕ) → ports_followed view on.node ≡ unwrap_or o 0
           → view.switch_ports on.node ≡ o → port < 256
       of_ports None all is = absurd (omega (arith, below, all))
       of_ports (Some ports) all is =
           let most = proper.most_ports on.node in
-          let same : ports_of view on.node ≡ ports = ap (λ o. unwrap_or o 1) is in
+          let same : device_ports view on.node ≡ ports = ap (λ o. unwrap_or o 1) is in
           omega (arith, below, all, most, same)
 
       switch : ((ports : ℕ) × (view.switch_ports on.node ≡ Some ports)) × (port < 256)

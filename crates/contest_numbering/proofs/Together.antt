@@ -11,7 +11,7 @@ use Rattle.link_watch.specs.declared.side.Side.{Side}
 use Rattle.link_watch.specs.declared.side.Side.TheVariants.{A, B}
 use Rattle.contest_machine.specs.declared.stages.Pending.{Pending}
 use Rattle.contest_machine.specs.Machine.{Walker, State, kept, stepped}
-use Rattle.contest_machine.specs.Turns.{is_locking, locked_on, turned, Both, turn_of, after_turns}
+use Rattle.contest_machine.specs.Turns.{is_locking, locked_on, walker_turned, Both, turn_of, after_turns}
 use Rattle.contest_machine.specs.Contest.{AreOwnWrites, IsMine}
 use Rattle.contest_machine.specs.Laws.{IsNew}
 use Rattle.contest_machine.proofs.Frame.{IsTurn, kept_stays}
@@ -82,7 +82,7 @@ module _ (dest : ℕ) (far : 62 < dest) (not_all : dest ≢ 255) (before : Regis
 
   turned_aside : (w o : Walker) (old : Registers) → IsReady before w o old → Careful w old
       → Careful o old → LeavesEntry dest far not_all before old → dest ≢ w.id
-      → IsAside o (turned w old)
+      → IsAside o (walker_turned w old)
   turned_aside w o old ready careful theirs left own = go w.begun refl
     where
       go : (b : Bool) → w.begun ≡ b → IsAside o (if b then stepped w old

@@ -10,10 +10,10 @@ use Rattle.link_watch.specs.declared.side.Side.TheVariants.{A, B}
 use Rattle.contest_machine.specs.declared.stages.Asked.{Asked}
 use Rattle.contest_machine.specs.declared.stages.Stage.TheVariants.{Ask, Features, Done}
 use Rattle.contest_machine.specs.Machine.{Walker, State, fresh, wants, reached, reaches, stepped}
-use Rattle.contest_machine.specs.Turns.{is_locking, locked_on, turned, Both, turn_of, after_turns}
+use Rattle.contest_machine.specs.Turns.{is_locking, locked_on, walker_turned, Both, turn_of, after_turns}
 use Rattle.contest_machine.specs.Contest.{IsMine}
 use Rattle.contest_machine.specs.Laws.{IsNew}
-use Rattle.contest_machine.specs.Within.{IsBoundedAt, IsWithin}
+use Rattle.contest_machine.specs.Within.{IsBoundedAt, WalkerIsWithin}
 use Rattle.contest_machine.proofs.Apart.{step_leaves, turned_by, turns_keep_apart}
 use Rattle.contest_machine.proofs.Frame.{IsTurn}
 use Rattle.contest_law.specs.Locks.{walker_of, state_of}
@@ -44,7 +44,7 @@ step_shown view w old shown = go (wants w)
     go (Some ask) = at ask (entered w.view ask.path)
 
 -- the ID that is given next is small
-pub few_next : (w : Walker) (old : Registers) → IsWithin w → IsMine w old → w.stage ≡ Features
+pub few_next : (w : Walker) (old : Registers) → WalkerIsWithin w → IsMine w old → w.stage ≡ Features
     → w.next ≤ 65
 few_next w old within mine is =
     let bounded = subst (λ s. IsBoundedAt s w.devices w.id w.next w.path w.tried) is
@@ -140,7 +140,7 @@ module _ (before : Registers) (w o : Walker) (old : Registers) (ready : IsReady 
           begun = refl;
         }
 
-    own_ready : IsReady before (turned w old).walker o (turned w old).registers
+    own_ready : IsReady before (walker_turned w old).walker o (walker_turned w old).registers
     own_ready = go w.begun refl
       where
         go : (b : Bool) → w.begun ≡ b
@@ -192,7 +192,8 @@ module _ (before : Registers) (w : Walker) where
                 ready.fair.contest.first_id untagged,
           )
 
-  their_ready : (o : Walker) (old : Registers) → Waits (state_of o old) → Waits (turned o old)
+  their_ready : (o : Walker) (old : Registers) → Waits (state_of o old)
+      → Waits (walker_turned o old)
   their_ready o old ready =
       turned_by Waits their_step o old ready (record {
         fair = swap_fair before (record o { begun = true }) w old

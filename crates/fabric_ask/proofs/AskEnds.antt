@@ -10,7 +10,7 @@ use Rattle.maint_packets.specs.declared.request.Request.{Request}
 use Rattle.maint_packets.specs.declared.response.Response.{Response}
 use Rattle.maint_packets.specs.Requests.{request_of, request_body}
 use Rattle.maint_packets.specs.Responses.{response_of, response_bytes}
-use Rattle.maint_packets.specs.Answers.{answered}
+use Rattle.maint_packets.specs.Answers.{request_answered}
 use Rattle.maint_packets.proofs.AnswerLaws.{responses_pass}
 use Rattle.switch_core.specs.EndpointSteps.{collected}
 use Rattle.link_wires.specs.declared.edits.Edit.{Edit}
@@ -26,7 +26,7 @@ use Rattle.fabric_trace.specs.Blocks.{Asks}
 use Rattle.fabric_trace.specs.Fold.{seen_line, seen}
 use Rattle.fabric_trace.specs.Known.{Seen}
 use Rattle.fabric_trace.specs.Lines.{TraceLine, Stepped, Lacked, Full}
-use Rattle.fabric_trace.specs.Parts.{Made, Steps}
+use Rattle.fabric_trace.specs.Parts.{Made, PartSteps}
 use Rattle.fabric_trace.specs.Served.{face_in, IsCollect}
 use Rattle.fabric_trace.proofs.Folding.{seen-append}
 use Rattle.fabric_trace.proofs.Keeping.{IsGood, good_by_priority, made_keeps}
@@ -90,7 +90,7 @@ module _ (host : ℕ) (request : Request) (noise : List Edit) (s : Seen) (lines 
 
   made_first : Made s parts.first
   made_first = made_by first_is (one_part
-      (Steps (Take host parts.own.packet) (parts.own.endpoint, passes, room)
+      (PartSteps (Take host parts.own.packet) (parts.own.endpoint, passes, room)
       (few_prio parts.own.packet passes) refl))
 
   abbrev t : Seen
@@ -231,7 +231,7 @@ module _ (host : ℕ) (request : Request) (noise : List Edit) (s : Seen) (lines 
         heard_laid = laid_heard s.network.registers s.network.links host at request laid
 
         abbrev response : Response
-        response = (answered device request at.port).response
+        response = (request_answered device request at.port).response
 
         back : IsBack request response
         back = is_back device request at.port
@@ -358,7 +358,7 @@ module _ (host : ℕ) (request : Request) (noise : List Edit) (s : Seen) (lines 
               moved_response response home.item.now home.moves left response_passes response_low
               back.formed (subst (λ p. IsAfterMoves p home.moves home.item.now) h.response
               home.same_packet) home.on.hop
-              ∙ ap (λ (d : Device). Some (record (answered d request at.port).response
+              ∙ ap (λ (d : Device). Some (record (request_answered d request at.port).response
               { hop = left }))
               (sym device_is)
 

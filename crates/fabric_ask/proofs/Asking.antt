@@ -6,7 +6,7 @@ use Rattle.maint_packets.specs.declared.request.Request.{Request}
 use Rattle.maint_packets.specs.declared.next_hop.Next.TheVariants.{Nowhere, RegisterUnit}
 use Rattle.maint_packets.specs.Requests.{request_of}
 use Rattle.maint_packets.specs.Responses.{response_bytes}
-use Rattle.maint_packets.specs.Answers.{Answered, answered}
+use Rattle.maint_packets.specs.Answers.{RequestAnswered, request_answered}
 use Rattle.link_wires.specs.declared.edits.Edit.{Edit}
 use Rattle.fabric_script.specs.declared.ports.PortRef.{PortRef}
 use Rattle.fabric_map.specs.Routes.{walk}
@@ -53,7 +53,7 @@ pub record IsHeard (host rounds : ℕ) (s : Seen) (lines : List TraceLine) (at :
   pub still : (seen s front).unfaithful ≡ None
   pub links : (seen s front).network.links ≡ s.network.links
   pub item : Item
-  pub response : item.now ≡ response_bytes (answered device request at.port).response
+  pub response : item.now ≡ response_bytes (request_answered device request at.port).response
   pub only : IsOnly (seen s front).network (Waits at) item
   pub registers : (seen s front).network.registers ≡ after_request s.network.registers at request
   pub rounds_left : ℕ
@@ -69,15 +69,17 @@ some_back (Some other) request is = (other, (refl, cc))
 response_there : (net : Network) (q : PortRef) (packet response : List ℕ) (device : Device)
     (request : Request) → slice_get net.registers q.node ≡ Some device
     → request_of packet ≡ Some request → response_at net q packet ≡ Some response
-    → response ≡ response_bytes (answered device request q.port).response
+    → response ≡ response_bytes (request_answered device request q.port).response
 response_there net q packet response device request stands is answer =
     let own : response_at net q packet ≡ Some
-    (response_bytes (answered device request q.port).response) =
+    (response_bytes (request_answered device request q.port).response) =
     ap (option_and_then (λ (d : Device). option_map
-    (λ (r : Request). response_bytes (answered d r q.port).response) (request_of packet)))
+    (λ (r : Request). response_bytes (request_answered d r q.port).response) (request_of packet)))
     stands
-    ∙ ap (option_map (λ (r : Request). response_bytes (answered device r q.port).response)) is in
-    let both : Some response ≡ Some (response_bytes (answered device request q.port).response) =
+    ∙ ap (option_map (λ (r : Request). response_bytes (request_answered device r q.port).response))
+    is in
+    let both : Some response
+    ≡ Some (response_bytes (request_answered device request q.port).response) =
     sym answer ∙ own in
     cc
 
@@ -119,7 +121,8 @@ module _ (host rounds : ℕ) (s : Seen) (lines : List TraceLine) (at : PortRef) 
   by_final (WasHeard response answer only regs) =
       let known : slice_get a.mid.registers at.node ≡ Some device =
       ap (λ (r : List Device). slice_get r at.node) a.registers ∙ stands in
-      let alike : answered device other.0 at.port ≡ answered device request at.port =
+      let alike : request_answered device other.0 at.port
+      ≡ request_answered device request at.port =
       answered_alike device other.0 request at.port other.1.1 in
       record {
         front = a.front;
@@ -131,13 +134,13 @@ module _ (host rounds : ℕ) (s : Seen) (lines : List TraceLine) (at : PortRef) 
         links = a.links;
         item = item_of a.mid at response;
         response = response_there a.mid at a.passed.now response device other.0 known other.1.0
-            answer ∙ ap (λ (x : Answered). response_bytes x.response) alike;
+            answer ∙ ap (λ (x : RequestAnswered). response_bytes x.response) alike;
         only = only;
         registers = regs ∙ ap (λ (r : List Device). with_device r at.node
             (device_after at.port (request_of a.passed.now))) a.registers
             ∙ same_change s.network.registers at.node _ _
             (λ d. ap (λ (o : Option Request). device_after at.port o d) other.1.0
-            ∙ ap (λ (x : Answered). x.device)
+            ∙ ap (λ (x : RequestAnswered). x.device)
             (answered_alike d other.0 request at.port other.1.1));
         rounds_left = a.rounds_left;
         noise_left = a.noise_left;
@@ -166,11 +169,13 @@ none_answers net q packet is = by_device (slice_get net.registers q.node)
     none = rw is refl
 
     by_device : (o : Option Device) → option_and_then (λ (d : Device). option_map
-        (λ (r : Request). response_bytes (answered d r q.port).response) (request_of packet)) o
+        (λ (r : Request). response_bytes (request_answered d r q.port).response)
+        (request_of packet)) o
         ≡ None
     by_device None = refl
     by_device (Some device) =
-        ap (option_map (λ (r : Request). response_bytes (answered device r q.port).response)) none
+        ap (option_map
+        (λ (r : Request). response_bytes (request_answered device r q.port).response)) none
 
 -- The response came to the host, and only the host's collecting is left.
 pub record IsHome (host dest left : ℕ) (s : Seen) (lines : List TraceLine) (packet : List ℕ)

@@ -13,11 +13,11 @@ use Rattle.fabric_model.specs.Steps.{Take, AtNode}
 use Rattle.fabric_model.proofs.Peers.{ArePeers, link_peers}
 use Rattle.fabric_model.proofs.Nodes.{few_prio}
 use Rattle.fabric_trace.proofs.Walks.{peers_round}
-use Rattle.fabric_trace.specs.Blocks.{takes, Asks, pumps}
+use Rattle.fabric_trace.specs.Blocks.{take_lines, Asks, pumps}
 use Rattle.fabric_trace.specs.Fold.{seen}
 use Rattle.fabric_trace.specs.Known.{Found, Seen}
 use Rattle.fabric_trace.specs.Lines.{Full, TraceLine, Stepped, Lacked, steps_of}
-use Rattle.fabric_trace.specs.Parts.{Done, Steps, Lacks}
+use Rattle.fabric_trace.specs.Parts.{Done, PartSteps, PartLacks}
 use Rattle.fabric_trace.specs.Ready.{IsReady}
 use Rattle.fabric_trace.specs.Rounds.{Follows, NamesNothing, ServeNodes}
 use Rattle.fabric_trace.specs.Served.{face_in, collect_lines, IsCollect}
@@ -214,7 +214,7 @@ takes_exist s host request packet endpoint form =
     passes : Passes packet
     passes = Passes-from_form (request_body request) packet form
 
-    is : (lines : List TraceLine) → lines ≡ takes s host packet → Asks s host request lines
+    is : (lines : List TraceLine) → lines ≡ take_lines s host packet → Asks s host request lines
     is lines same = record { packet = packet; endpoint = endpoint; form = form; lines = same }
 
     by_room : (room : Bool) → room_out s.network (port_of host) (prio_of packet) ≡ room
@@ -224,7 +224,8 @@ takes_exist s host request packet endpoint form =
       is = is (Stepped (AtNode (Take host packet)) ∷ [])
           (ap (λ r. if r then Stepped (AtNode (Take host packet)) ∷ [] else Lacked Full ∷ [])
           (sym room));
-      made = one_part (Steps (Take host packet) (endpoint, passes, room) (few_prio packet passes)
+      made = one_part
+          (PartSteps (Take host packet) (endpoint, passes, room) (few_prio packet passes)
           refl);
     }
     by_room false room = record {
@@ -232,7 +233,7 @@ takes_exist s host request packet endpoint form =
       is = is (Lacked Full ∷ [])
           (ap (λ r. if r then Stepped (AtNode (Take host packet)) ∷ [] else Lacked Full ∷ [])
           (sym room));
-      made = one_part (Lacks Full refl);
+      made = one_part (PartLacks Full refl);
     }
 
 pub ask_exists : (host : ℕ) (request : Request) (noise : List Edit) (s : Seen) (packet : List ℕ)

@@ -22,7 +22,7 @@ use Rattle.switch_core.specs.declared.endpoint.Collected.{Collected}
 use Rattle.switch_core.specs.declared.endpoint.Collected.TheVariants as Collects
 use Rattle.switch_core.specs.EndpointSteps.{collected}
 use Rattle.maint_registers.specs.Devices.{Device, is_switch}
-use Rattle.fabric_trace.specs.Rounds.{Follows, NamesNothing, Joined, ServesAll, Rests, Goes, ServeNodes}
+use Rattle.fabric_trace.specs.Rounds.{Follows, NamesNothing, Joined, ServesAll, ServeRests, ServeGoes, ServeNodes}
 use Rattle.fabric_trace.proofs.Folding.{seen-append}
 use Rattle.fabric_trace.proofs.Keeping.{IsGood, made_keeps, legal_links}
 use Rattle.fabric_trace.proofs.Making.{AreOthers, Reaches, pump_reaches, made-append, made_by}
@@ -30,7 +30,7 @@ use Rattle.fabric_trace.proofs.Rounds.{AreFound, all_found, by_test, serves_made
 use Rattle.fabric_trace.proofs.Running.{acts_reach, move_made}
 use Rattle.fabric_trace.proofs.Walks.{peers_round}
 use Rattle.fabric_ask.specs.Noise.{stirred, IsCarry}
-use Rattle.fabric_ask.specs.Asks.{CarryAll, CollectsAll, CollectNodes, Handles, AskRound, holds_some, AskRounds}
+use Rattle.fabric_ask.specs.Asks.{CarryAll, CollectsAll, CollectNodes, Handles, AskRound, holds_some, AskRounds, CollectRests, CollectStops, CollectGoes}
 use Rattle.fabric_ask.specs.Travel.{GoesOn}
 use Rattle.fabric_ask.proofs.Collecting.{collect_lines_made}
 use Rattle.link_rest.specs.Calm.{IsCalm}
@@ -258,10 +258,10 @@ steps_still s (Undetected n q e ∷ lines) only = absurd only
 
 pub collects_made : {s : Seen} {node : ℕ} {lines : List TraceLine} → IsGood s → s.unfaithful ≡ None
     → CollectsAll s node lines → Made s lines
-collects_made {s} {node} {lines} good none (CollectsAll.Rests move is) = Done is
-collects_made {s} {node} {lines} good none (CollectsAll.Stops move is) =
+collects_made {s} {node} {lines} good none (CollectRests move is) = Done is
+collects_made {s} {node} {lines} good none (CollectStops move is) =
     made_by is (collect_lines_made s node (Lacked Full ∷ []) good none move)
-collects_made {s} {node} {lines} good none (CollectsAll.Goes step rest move is more) =
+collects_made {s} {node} {lines} good none (CollectGoes step rest move is more) =
     let one = collect_lines_made s node (Stepped step ∷ []) good none move in
     made_by is (made-append one (collects_made (made_keeps good one).good none more))
 

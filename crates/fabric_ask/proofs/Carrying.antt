@@ -20,7 +20,7 @@ use Rattle.fabric_trace.specs.Blocks.{port_at_side, lines_of, pumps, IsSettle}
 use Rattle.fabric_trace.specs.Fold.{changed, edit_of, edited_by, seen}
 use Rattle.fabric_trace.specs.Known.{Seen, link_at}
 use Rattle.fabric_trace.specs.Lines.{TraceLine, Begun, steps_of}
-use Rattle.fabric_trace.specs.Parts.{Made, Done, Begins}
+use Rattle.fabric_trace.specs.Parts.{Made, Done, PartBegins}
 use Rattle.fabric_trace.proofs.Folding.{seen-append}
 use Rattle.fabric_trace.proofs.Keeping.{IsGood, made_keeps, steps_of-append}
 use Rattle.fabric_trace.proofs.Making.{AreOthers, others_here, others_on, others_round, one_part, made-append, pump_reaches}
@@ -166,7 +166,7 @@ edit_goes : (s : Seen) (a b : PortRef) (edit : Edit) → IsGood s → s.unfaithf
 edit_goes s a b edit good none peers =
     let is = edit_is a edit in
     goes_on s a b (Begun (edit_line a edit) ∷ []) good peers (record {
-      made = one_part (Begins (edit_line a edit) refl);
+      made = one_part (PartBegins (edit_line a edit) refl);
       at = tt;
       others = subst (λ o. AreOthers s (edited_by s o) a b) (sym is) (edit_others s a b edit);
     }) (ap (λ o. (edited_by s o).unfaithful) is ∙ none)

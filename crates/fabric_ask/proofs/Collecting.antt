@@ -7,7 +7,7 @@ use Rattle.maint_registers.specs.Devices.{Device, is_switch}
 use Rattle.maint_packets.specs.declared.request.Request.{Request}
 use Rattle.maint_packets.specs.Requests.{request_of}
 use Rattle.maint_packets.specs.Responses.{response_bytes}
-use Rattle.maint_packets.specs.Answers.{answered}
+use Rattle.maint_packets.specs.Answers.{request_answered}
 use Rattle.switch_core.specs.declared.endpoint.Collected.{Collected}
 use Rattle.switch_core.specs.declared.endpoint.Collected.TheVariants as Collects
 use Rattle.switch_core.specs.Faces.{Face, head_of, has_room}
@@ -31,8 +31,8 @@ use Rattle.fabric_trace.proofs.Keeping.{IsGood, good_by_priority, made_keeps}
 use Rattle.fabric_trace.proofs.Rounds.{by_test}
 use Rattle.fabric_trace.proofs.Running.{block_made}
 use Rattle.fabric_ask.specs.Only.{Held, IsOnly, IsClear}
-use Rattle.fabric_ask.specs.Course.{HandledAs, Goes}
-use Rattle.fabric_ask.specs.Asks.{CollectsAll, CollectNodes}
+use Rattle.fabric_ask.specs.Course.{HandledAs, GoesOut}
+use Rattle.fabric_ask.specs.Asks.{CollectsAll, CollectNodes, CollectRests, CollectStops, CollectGoes}
 use Rattle.fabric_ask.proofs.Alone.{none_first}
 use Rattle.fabric_ask.proofs.Crossing.{split, HasRun}
 use Rattle.fabric_ask.proofs.Serving.{is_one, cleared, becomes_answer, head_is, greatest-none}
@@ -80,7 +80,7 @@ becomes_leave net node packet q item only needs =
     subst (λ (p : PortRef). IsClear (without_first net p (prio_of packet))) (sym one.0)
     (subst (λ p. IsClear (without_first net q (prio_of p))) (sym one.1)
     (cleared net q item only)) in
-    Goes endpoint other clear refl
+    GoesOut endpoint other clear refl
 
 pub makes_becomes : (net : Network) (node : ℕ) (step : Step) (q : PortRef) (item : Item)
     → IsOnly net (Held q) item → Makes net node step → HandledAs net q item (after net step)
@@ -118,8 +118,9 @@ none_first_held device face is = by_head (first_held face) refl is
         → collected_of device face packet asks ≡ Collects.Empty → ⊥
     by_request packet None is = absurd cc
     by_request packet (Some request) is =
-        by_room (has_room face (prio_of (response_bytes (answered device request 0).response)))
-        packet (response_bytes (answered device request 0).response) is
+        by_room (has_room face
+        (prio_of (response_bytes (request_answered device request 0).response)))
+        packet (response_bytes (request_answered device request 0).response) is
 
     by_head : (head : Option (List ℕ)) → first_held face ≡ head
         → collected_head device face head ≡ Collects.Empty → first_held face ≡ None
@@ -169,7 +170,7 @@ full_held device face is = by_head (first_held face) refl is
         → collected_of device face packet asks ≡ Collects.Full → IsFull face
     by_request packet None held is = absurd cc
     by_request packet (Some request) held is =
-        let response = response_bytes (answered device request 0).response in
+        let response = response_bytes (request_answered device request 0).response in
         by_room packet (prio_of response) (has_room face (prio_of response)) packet response held
         refl is
 
@@ -222,34 +223,34 @@ collect_lines_made s node block good none is = block_made (Collect node) s block
 
 pub collects_none : (s : Seen) (node : ℕ) (lines : List TraceLine) → IsGood s → NoneHeld s.network
     → CollectsAll s node lines → lines ≡ []
-collects_none s node lines good none (CollectsAll.Rests move is) = is
-collects_none s node lines good none (CollectsAll.Stops move is) =
+collects_none s node lines good none (CollectRests move is) = is
+collects_none s node lines good none (CollectStops move is) =
     let first = full_first s node good move in
     absurd (none_first _ first.0 (none (port_of node) (prio_of first.0)) first.1)
-collects_none s node lines good none (CollectsAll.Goes step rest move is more) =
+collects_none s node lines good none (CollectGoes step rest move is more) =
     let first = makes_first s.network node step (collect_makes s node step good move) in
     absurd (none_first _ first.0 (none (port_of node) (prio_of first.0)) first.1)
 
 pub collects_other : (s : Seen) (node : ℕ) (lines : List TraceLine) (q : PortRef) (item : Item)
     → IsGood s → IsOnly s.network (Held q) item → (q ≡ port_of node → ⊥) → CollectsAll s node lines
     → lines ≡ []
-collects_other s node lines q item good only other (CollectsAll.Rests move is) = is
-collects_other s node lines q item good only other (CollectsAll.Stops move is) =
+collects_other s node lines q item good only other (CollectRests move is) = is
+collects_other s node lines q item good only other (CollectStops move is) =
     let first = full_first s node good move in
     absurd (other (sym (is_one s.network q (port_of node) item first.0 only first.1).0))
-collects_other s node lines q item good only other (CollectsAll.Goes step rest move is more) =
+collects_other s node lines q item good only other (CollectGoes step rest move is more) =
     let first = makes_first s.network node step (collect_makes s node step good move) in
     absurd (other (sym (is_one s.network q (port_of node) item first.0 only first.1).0))
 
 collects_own : (s : Seen) (node : ℕ) (lines : List TraceLine) (q : PortRef) (item : Item) → IsGood s
     → s.unfaithful ≡ None → IsOnly s.network (Held q) item → Passes item.now → q ≡ port_of node
     → CollectsAll s node lines → HasRun s lines (HandledAs s.network q item)
-collects_own s node lines q item good still only passes here (CollectsAll.Rests move is) =
+collects_own s node lines q item good still only passes here (CollectRests move is) =
     absurd (endpoint_rests s.network node q item only (few_prio item.now passes) here move)
-collects_own s node lines q item good still only passes here (CollectsAll.Stops move is) =
+collects_own s node lines q item good still only passes here (CollectStops move is) =
     absurd (not_full s.network node (only.waiting (port_of node)) (only.lent (port_of node)) move)
 collects_own s node lines q item good still only passes here
-    (CollectsAll.Goes step rest move is more) =
+    (CollectGoes step rest move is more) =
     let one = collect_lines_made s node (Stepped step ∷ []) good still move in
     let kept = made_keeps good one in
     let t = seen_line s (Stepped step) in

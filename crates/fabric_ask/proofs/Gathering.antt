@@ -22,7 +22,7 @@ use Rattle.fabric_trace.proofs.Existing.{Exists, good_of, ready_on, AreKinds, al
 use Rattle.fabric_trace.proofs.Keeping.{IsGood, passes_first}
 use Rattle.fabric_trace.proofs.Making.{made-append}
 use Rattle.fabric_trace.proofs.Tracing.{collect_form}
-use Rattle.fabric_ask.specs.Asks.{CollectsAll, CollectNodes}
+use Rattle.fabric_ask.specs.Asks.{CollectsAll, CollectNodes, CollectGoes, CollectRests, CollectStops}
 use Rattle.fabric_ask.proofs.Collecting.{Makes, Leaving, Answering, collect_makes, collect_lines_made}
 
 -- ---- lines, and more behind them
@@ -83,7 +83,7 @@ collects_on s node n step ready none endpoint fewer below later move =
     (stays_endpoint s node (Stepped step ∷ []) endpoint) (omega (arith, fewer, below)) in
     record {
       lines = Stepped step ∷ rest.lines;
-      is = CollectsAll.Goes step rest.lines move refl rest.is;
+      is = CollectGoes step rest.lines move refl rest.is;
       made = made-append own rest.made;
     }
 
@@ -127,10 +127,10 @@ collects_below node (suc n) s ready none endpoint below =
         (collected_fewer s node (ByDevice (Answer (port_of node) request response)) (good_of ready)
         is) below later is
     by_made Collects.Empty is later =
-        record { lines = []; is = CollectsAll.Rests is refl; made = Done refl }
+        record { lines = []; is = CollectRests is refl; made = Done refl }
     by_made Collects.Full is later = record {
       lines = Lacked Full ∷ [];
-      is = CollectsAll.Stops is refl;
+      is = CollectStops is refl;
       made = collect_lines_made s node (Lacked Full ∷ []) (good_of ready) none is;
     }
 

@@ -13,13 +13,13 @@ use Rattle.fabric_trace.specs.Fold.{seen_line, seen}
 use Rattle.fabric_trace.specs.Known.{Seen}
 use Rattle.fabric_trace.specs.Lines.{TraceLine, Stepped, steps_of}
 use Rattle.fabric_trace.specs.Parts.{Made}
-use Rattle.fabric_trace.specs.Rounds.{Joined, ServesAll, Rests, Goes, ServeNodes}
+use Rattle.fabric_trace.specs.Rounds.{Joined, ServesAll, ServeRests, ServeGoes, ServeNodes}
 use Rattle.fabric_trace.specs.Served.{IsMove}
 use Rattle.fabric_trace.proofs.Keeping.{IsGood, made_keeps, legal_links}
 use Rattle.fabric_trace.proofs.Rounds.{by_test}
 use Rattle.fabric_trace.proofs.Running.{move_made}
 use Rattle.fabric_ask.specs.Only.{Held, IsOnly}
-use Rattle.fabric_ask.specs.Course.{IsDevicePort, HandledAs, Moves, Falls, Heard, Goes as Leaves}
+use Rattle.fabric_ask.specs.Course.{IsDevicePort, HandledAs, Moves, Falls, IsHeard, GoesOut}
 use Rattle.fabric_ask.proofs.Alone.{none_first}
 use Rattle.fabric_ask.proofs.Crossing.{split, HasRun}
 use Rattle.fabric_ask.proofs.Serving.{is_one, device_becomes, step_first, move_is, switch_rests}
@@ -32,8 +32,8 @@ pub none_held : (net end : Network) (q : PortRef) (item : Item) → HandledAs ne
     → NoneHeld end
 none_held net end q item (Moves to next only same) = only.received
 none_held net end q item (Falls next clear same) = clear.received
-none_held net end q item (Heard response own answer only same) = only.received
-none_held net end q item (Leaves endpoint other clear same) = clear.received
+none_held net end q item (IsHeard response own answer only same) = only.received
+none_held net end q item (GoesOut endpoint other clear same) = clear.received
 
 -- what is made of parts goes on
 pub run_of : (s : Seen) (lines : List TraceLine) (Is : Network → Type 0) → IsGood s → Made s lines
@@ -52,8 +52,8 @@ run_of s lines Is good made is =
 
 pub serves_none : (s : Seen) (node : ℕ) (lines : List TraceLine) → IsGood s → NoneHeld s.network
     → ServesAll s node lines → lines ≡ []
-serves_none s node lines good none (Rests move is) = is
-serves_none s node lines good none (Goes step rest move is more) =
+serves_none s node lines good none (ServeRests move is) = is
+serves_none s node lines good none (ServeGoes step rest move is more) =
     let made = move_is s node step good move in
     let first = step_first s.network step made.needs in
     absurd (none_first _ first.0 (none (port_by step) (prio_of first.0)) first.1)
@@ -70,16 +70,16 @@ at_node s node step q item good only move =
 serves_other : (s : Seen) (node : ℕ) (lines : List TraceLine) (q : PortRef) (item : Item) → IsGood s
     → IsOnly s.network (Held q) item → (IsSwitch s.network node → q.node ≡ node → ⊥)
     → ServesAll s node lines → lines ≡ []
-serves_other s node lines q item good only other (Rests move is) = is
-serves_other s node lines q item good only other (Goes step rest move is more) =
+serves_other s node lines q item good only other (ServeRests move is) = is
+serves_other s node lines q item good only other (ServeGoes step rest move is more) =
     absurd (other move.switch (at_node s node step q item good only move))
 
 serves_own : (s : Seen) (node : ℕ) (lines : List TraceLine) (q : PortRef) (item : Item) → IsGood s
     → IsOnly s.network (Held q) item → Passes item.now → IsDevicePort s.network.registers q
     → q.node ≡ node → ServesAll s node lines → HasRun s lines (HandledAs s.network q item)
-serves_own s node lines q item good only passes port here (Rests move is) =
+serves_own s node lines q item good only passes port here (ServeRests move is) =
     absurd (switch_rests s.network node q item only (few_prio item.now passes) port here move)
-serves_own s node lines q item good only passes port here (Goes step rest move is more) =
+serves_own s node lines q item good only passes port here (ServeGoes step rest move is more) =
     let one = move_made s node (Stepped (ByDevice step) ∷ []) good move in
     let made = move_is s node step good move in
     let t = seen_line s (Stepped (ByDevice step)) in

@@ -3,7 +3,7 @@ use Rattle.std.proofs.Common.{◌≡◌, ℕ, zero, suc, ◌<◌, List, [], ◌�
 use Rattle.maint_registers.specs.Devices.{Device, is_switch}
 use Rattle.maint_registers.proofs.SameLaws.{same_kind}
 use Rattle.maint_packets.specs.declared.request.Request.{Request}
-use Rattle.maint_packets.specs.Answers.{answered}
+use Rattle.maint_packets.specs.Answers.{request_answered}
 use Rattle.maint_packets.proofs.AnswerLaws.{answered_same}
 use Rattle.fabric_script.specs.declared.ports.PortRef.{PortRef}
 use Rattle.fabric_model.specs.Network.{with_device}
@@ -34,7 +34,7 @@ laid_heard registers links host at request laid = record {
   ports = λ q p peer.
       let port = laid.ports q p peer in
       let own = ports_at registers at.node q.node
-      (λ device. (answered device request at.port).device) port.device
+      (λ device. (request_answered device request at.port).device) port.device
       (λ d. (answered_same d request at.port).ports) port.stands in
       record {
         device = own.0;
@@ -49,6 +49,7 @@ laid_heard registers links host at request laid = record {
     kinds : (n : ℕ) → option_map is_switch
         (slice_get (after_request registers at request) n) ≡ option_map
         is_switch (slice_get registers n)
-    kinds n = kinds_stay registers at.node n (λ device. (answered device request at.port).device)
-        (λ device. same_kind device (answered device request at.port).device
+    kinds n = kinds_stay registers at.node n
+        (λ device. (request_answered device request at.port).device)
+        (λ device. same_kind device (request_answered device request at.port).device
         (answered_same device request at.port))

@@ -3,6 +3,7 @@ use Rattle.std.proofs.Common.{◌≡◌, ℕ, zero, suc, false, List, ◌++◌, 
 use Rattle.maint_registers.specs.Devices.{Device}
 use Rattle.link_wires.specs.declared.edits.Edit.{Edit}
 use Rattle.fabric_script.specs.declared.ports.PortRef.{PortRef}
+use Rattle.fabric_script.specs.Ports.{port_at}
 use Rattle.fabric_map.specs.Routes.{walk}
 use Rattle.fabric_model.specs.Network.{Item, Network, peer_in, IsEndpoint}
 use Rattle.fabric_model.specs.Steps.{moved_item}
@@ -15,7 +16,6 @@ use Rattle.fabric_trace.proofs.Keeping.{IsGood}
 use Rattle.fabric_trace.proofs.Making.{made_by}
 use Rattle.fabric_trace.proofs.Rounds.{all_found}
 use Rattle.fabric_ask.specs.Only.{Waits, IsOnly, IsClear}
-use Rattle.fabric_map.specs.Topology.{port_at}
 use Rattle.fabric_ask.specs.Course.{IsEndpointIn, IsLaid, Handled, Home, Away, Rounded, Waited, Handed}
 use Rattle.fabric_ask.specs.Asks.{CarryAll, Handles, AskRound, holds_some, AskRounds}
 use Rattle.fabric_map.specs.Plain.{topology_of, registers_of}

@@ -5,11 +5,12 @@ use Rattle.std.proofs.lemmas.Bool.{and_parts}
 use Rattle.std.proofs.lemmas.Option.{same_Some}
 use Rattle.rio_packets.specs.Fields.{prio_of, tt_of, ttype_of, dest_of, source_of, hop_of, ids_end, hop_place, crc_place, is_maintenance, is_request, Lowered}
 use Rattle.rio_packets.specs.Hops.{is_large}
+use Rattle.rio_packets.specs.Words.{word_at}
 use Rattle.rio_packets.proofs.PlaceLaws.{Places, places}
 use Rattle.maint_packets.specs.declared.request.Op.TheVariants.{Read, Write, BadRead, BadWrite}
 use Rattle.maint_packets.specs.declared.request.Request.{Request}
 use Rattle.maint_packets.specs.declared.response.Response.{Response}
-use Rattle.maint_packets.specs.Layout.{word_at, offset_of, tid_of, low_half_of, short_length, long_length}
+use Rattle.maint_packets.specs.Layout.{offset_of, tid_of, low_half_of, short_length, long_length}
 use Rattle.maint_packets.specs.Requests.{names_second, value_in, has_form, op_of, request_of}
 use Rattle.maint_packets.specs.Responses.{is_with_data, is_without_data, with_words, response_of}
 use Rattle.fabric_model.specs.Laws.Leaving.{IsAfterMoves, MovesTo}

@@ -6,12 +6,13 @@ use Rattle.std.proofs.lemmas.Option.{same_Some}
 use Rattle.rio_packets.specs.Fields.{tt_of, ftype_of, ttype_of, dest_of, hop_of, half_word_at, ids_end, hop_place, is_maintenance, is_maintenance_length, is_padded_form, is_request}
 use Rattle.rio_packets.specs.Hops.{is_large}
 use Rattle.rio_packets.specs.LinkForm.{Passes}
+use Rattle.rio_packets.specs.Words.{word_at, is_status}
 use Rattle.rio_packets.proofs.PlaceLaws.{places}
 use Rattle.maint_packets.specs.declared.request.Request.{Request}
 use Rattle.maint_packets.specs.declared.response.Response.{Response}
-use Rattle.maint_packets.specs.Layout.{word_at, low_half_of, short_length, long_length}
+use Rattle.maint_packets.specs.Layout.{low_half_of, short_length, long_length}
 use Rattle.maint_packets.specs.Requests.{request_of}
-use Rattle.maint_packets.specs.Responses.{is_status, is_with_data, is_without_data, with_words, response_of}
+use Rattle.maint_packets.specs.Responses.{is_with_data, is_without_data, with_words, response_of}
 use Rattle.fabric_ask.specs.Travel.{IsOn}
 
 -- a maintenance packet has a destination

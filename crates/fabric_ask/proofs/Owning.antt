@@ -9,7 +9,7 @@ use Rattle.maint_packets.specs.declared.request.Request.{Request}
 use Rattle.maint_packets.specs.NextHops.{next_of}
 use Rattle.maint_packets.specs.Requests.{request_of}
 use Rattle.maint_packets.specs.Responses.{response_bytes}
-use Rattle.maint_packets.specs.Answers.{answered}
+use Rattle.maint_packets.specs.Answers.{request_answered}
 use Rattle.link_wires.specs.declared.edits.Edit.{Edit}
 use Rattle.fabric_script.specs.declared.ports.PortRef.{PortRef}
 use Rattle.fabric_model.specs.Network.{Network, with_device, peer_in, IsEndpoint}
@@ -19,13 +19,13 @@ use Rattle.fabric_trace.specs.Settings.{with_change}
 use Rattle.fabric_trace.specs.Known.{Seen, peer_of}
 use Rattle.fabric_trace.specs.Fold.{edit_of, edited_by, got_from, fired_from, seen_line, seen}
 use Rattle.fabric_trace.specs.Lines.{Sent, Got, Fired, TraceLine, Begun, Stepped, Signed, Lacked, Ended, Undetected}
-use Rattle.fabric_trace.specs.Parts.{Part, Begins, Lacks, Ends, Names, Steps, Serves, Turns, Tells, Delivers, Fires, Made, Done, Then}
+use Rattle.fabric_trace.specs.Parts.{Part, PartBegins, PartLacks, PartEnds, PartNames, PartSteps, PartServes, PartTurns, PartTells, PartDelivers, PartFires, Made, Done, Then}
 use Rattle.fabric_trace.proofs.Boards.{seen_board}
 use Rattle.fabric_trace.proofs.Keeping.{IsGood}
 use Rattle.fabric_model.proofs.Lanes.{AreWell}
 use Rattle.fabric_trace.specs.Ready.{IsReady}
 use Rattle.maint_registers.specs.Within.{IsWithin}
-use Rattle.fabric_model.specs.Laws.Holding.{Received, Waiting, Over}
+use Rattle.fabric_model.specs.Laws.Holding.{ReceivedAt, WaitingAt, Over}
 use Rattle.std.specs.List.{AllByRecursion}
 use Rattle.fabric_ask.specs.Course.{IsEndpointIn}
 use Rattle.fabric_ask.specs.Own.{with_own, NoAnswer, NeverAnswers}
@@ -99,7 +99,7 @@ module _ (host : ℕ) (device : Device) (endpoint : is_switch device ≡ false) 
       → response_at (own net) p packet ≡ Some response → response_at net p packet ≡ Some response
   response_own net p packet response apart answer =
       ap (option_and_then (λ (d : Device). option_map
-      (λ (r : Request). response_bytes (answered d r p.port).response) (request_of packet)))
+      (λ (r : Request). response_bytes (request_answered d r p.port).response) (request_of packet)))
       (sym (own_at net.registers host device p.node apart)) ∙ answer
 
   -- ---- steps
@@ -189,18 +189,19 @@ module _ (host : ℕ) (device : Device) (endpoint : is_switch device ≡ false) 
 
   part_own : (s : Seen) (lines : List TraceLine) → IsEndpoint s.network host
       → NeverAnswers host lines → Part (with_own host device s) lines → Part s lines
-  part_own s lines is never (Begins line at) = Begins line at
-  part_own s lines is never (Lacks lack at) = Lacks lack at
-  part_own s lines is never (Ends at) = Ends at
-  part_own s lines is never (Names number q e found at) = Names number q e found at
-  part_own s lines is never (Steps step needs few at) =
-      Steps step (node_own s.network step is needs) few at
-  part_own s lines is never (Serves step needs at) =
-      Serves step (device_own s.network step is (never_by at never).0 needs) at
-  part_own s lines is never (Turns p q n peer none at) = Turns p q n peer none at
-  part_own s lines is never (Tells p q peer none at) = Tells p q peer none at
-  part_own s lines is never (Delivers p q n peer none has at) = Delivers p q n peer none has at
-  part_own s lines is never (Fires p q peer none silent at) = Fires p q peer none silent at
+  part_own s lines is never (PartBegins line at) = PartBegins line at
+  part_own s lines is never (PartLacks lack at) = PartLacks lack at
+  part_own s lines is never (PartEnds at) = PartEnds at
+  part_own s lines is never (PartNames number q e found at) = PartNames number q e found at
+  part_own s lines is never (PartSteps step needs few at) =
+      PartSteps step (node_own s.network step is needs) few at
+  part_own s lines is never (PartServes step needs at) =
+      PartServes step (device_own s.network step is (never_by at never).0 needs) at
+  part_own s lines is never (PartTurns p q n peer none at) = PartTurns p q n peer none at
+  part_own s lines is never (PartTells p q peer none at) = PartTells p q peer none at
+  part_own s lines is never (PartDelivers p q n peer none has at) =
+      PartDelivers p q n peer none has at
+  part_own s lines is never (PartFires p q peer none silent at) = PartFires p q peer none silent at
 
   stays : (s : Seen) (lines : List TraceLine) → IsEndpoint s.network host
       → IsEndpoint (seen s lines).network host
@@ -224,8 +225,8 @@ module _ (host : ℕ) (device : Device) (endpoint : is_switch device ≡ false) 
 -- What stands in lanes stands well whatever the host's registers are.
 own_well : (host : ℕ) (device : Device) (s : Seen) → AreWell s.network
     → AreWell (with_own host device s).network
-own_well host device s well (Received p r) = well (Received p r)
-own_well host device s well (Waiting p r) = well (Waiting p r)
+own_well host device s well (ReceivedAt p r) = well (ReceivedAt p r)
+own_well host device s well (WaitingAt p r) = well (WaitingAt p r)
 own_well host device s well (Over e) = tt
 
 -- What is known stays good.

@@ -2,7 +2,7 @@
 use Rattle.std.proofs.Common.{◌≡◌, ℕ, ◌+◌, ◌%◌, ◌<◌, ◌≤◌, min, Bool, true, false, List, ◌++◌, length, Option, Some, None, option_map, refl, sym, ap, ◌∙◌, subst, arith, inl, inr, All, length-append}
 use Rattle.std.proofs.lemmas.List.{get_or_append_left}
 use Rattle.rio_packets.specs.Fields.{hop_of}
-use Rattle.rio_packets.specs.Hops.{closed, ended}
+use Rattle.rio_packets.specs.Hops.{closed, message_ended}
 use Rattle.rio_packets.specs.LinkForm.{IsBody, LinkForm, Passes}
 use Rattle.rio_packets.specs.Making.{made}
 use Rattle.rio_packets.proofs.FormLaws.{LinkForm-made}
@@ -12,9 +12,9 @@ use Rattle.maint_packets.specs.declared.request.Op.{Op}
 use Rattle.maint_packets.specs.declared.request.Op.TheVariants.{Read, Write, BadRead, BadWrite}
 use Rattle.maint_packets.specs.declared.request.Request.{Request}
 use Rattle.maint_packets.specs.declared.response.Response.{Response}
-use Rattle.maint_packets.specs.Responses.{response_of, IsFormed, response_body, response_bytes}
+use Rattle.maint_packets.specs.Responses.{response_of, IsResponseForm, response_body, response_bytes}
 use Rattle.maint_packets.proofs.ResponseLaws.{read_back, is_bytes}
-use Rattle.maint_packets.specs.Answers.{answered, answered_to, after_read, after_write}
+use Rattle.maint_packets.specs.Answers.{request_answered, answered_to, request_read, request_written}
 use Rattle.fabric_model.specs.Laws.Leaving.{IsAfterMoves}
 use Rattle.fabric_ask.proofs.OnWay.{hop_read}
 use Rattle.fabric_ask.proofs.Lowering.{unhopped, anyhow, responses_same}
@@ -22,14 +22,15 @@ use Rattle.fabric_ask.proofs.Lowering.{unhopped, anyhow, responses_same}
 -- ---- what answers it
 
 answered_anyhow : (device : Device) (request : Request) (port : ℕ)
-    → answered device request port ≡ answered device (anyhow request) port
+    → request_answered device request port ≡ request_answered device (anyhow request) port
 answered_anyhow device request port = by_op request.op
   where
-    read : (o : Option ℕ) → after_read device request o ≡ after_read device (anyhow request) o
+    read : (o : Option ℕ) → request_read device request o ≡ request_read device (anyhow request) o
     read None = refl
     read (Some value) = refl
 
-    write : (o : Option Device) → after_write device request o ≡ after_write device (anyhow request)
+    write : (o : Option Device)
+        → request_written device request o ≡ request_written device (anyhow request)
         o
     write None = refl
     write (Some next) = refl
@@ -43,9 +44,10 @@ answered_anyhow device request port = by_op request.op
 
 -- requests that differ in their hop counts alone are answered alike
 pub answered_alike : (device : Device) (first second : Request) (port : ℕ)
-    → anyhow first ≡ anyhow second → answered device first port ≡ answered device second port
+    → anyhow first ≡ anyhow second
+    → request_answered device first port ≡ request_answered device second port
 answered_alike device first second port same =
-    answered_anyhow device first port ∙ ap (λ r. answered device r port) same
+    answered_anyhow device first port ∙ ap (λ r. request_answered device r port) same
     ∙ sym (answered_anyhow device second port)
 
 -- ---- a response
@@ -55,19 +57,19 @@ pub record IsBack (request : Request) (response : Response) : Type 0 where
   pub hop : response.hop ≡ 255
   pub prio : response.prio ≡ min (request.prio + 1) 3
   pub status : response.status < 16
-  pub formed : IsFormed response.write response.status response.words
+  pub formed : IsResponseForm response.write response.status response.words
 
 pub is_back : (device : Device) (request : Request) (port : ℕ)
-    → IsBack request (answered device request port).response
+    → IsBack request (request_answered device request port).response
 is_back device request port = by_op request.op
   where
-    read : (o : Option ℕ) → IsBack request (after_read device request o).response
+    read : (o : Option ℕ) → IsBack request (request_read device request o).response
     read None =
         record { dest = refl; hop = refl; prio = refl; status = omega arith; formed = refl }
     read (Some value) =
         record { dest = refl; hop = refl; prio = refl; status = omega arith; formed = refl }
 
-    write : (o : Option Device) → IsBack request (after_write device request o).response
+    write : (o : Option Device) → IsBack request (request_written device request o).response
     write None =
         record { dest = refl; hop = refl; prio = refl; status = omega arith; formed = inr refl }
     write (Some next) =
@@ -88,7 +90,7 @@ front_all P xs ys all = λ i other below.
     let size = length-append xs ys in
     subst P (get_or_append_left xs ys other i below) (all i other (omega (arith, below, size)))
 
-ended_range : (large : Bool) (message : List ℕ) → All (λ b. b < 256) (ended large message)
+ended_range : (large : Bool) (message : List ℕ) → All (λ b. b < 256) (message_ended large message)
     → All (λ b. b < 256) message
 unfolding closed
 ended_range false message all = front_all (λ b. b < 256) message _ all
@@ -123,7 +125,7 @@ module _ (response : Response) (passes : Passes (response_bytes response))
         origin = omega arith;
       }
 
-  pub read_again : IsFormed response.write response.status response.words
+  pub read_again : IsResponseForm response.write response.status response.words
       → response_of (response_bytes response) ≡ Some response
   read_again formed =
       let body = response_body response in
@@ -134,7 +136,7 @@ module _ (response : Response) (passes : Passes (response_bytes response))
 -- However often it moved on, it is read back with the hop count that is left.
 pub moved_response : (response : Response) (packet : List ℕ) (n left : ℕ)
     → Passes (response_bytes response) → response.prio < 4
-    → IsFormed response.write response.status response.words
+    → IsResponseForm response.write response.status response.words
     → IsAfterMoves (response_bytes response) n packet → hop_of packet ≡ Some left
     → response_of packet ≡ Some (record response { hop = left })
 moved_response response packet n left passes low formed moves hop =

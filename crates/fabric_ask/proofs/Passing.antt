@@ -8,7 +8,7 @@ use Rattle.link_machine.specs.Queues.{Queues}
 use Rattle.fabric_script.specs.declared.ports.PortRef.{PortRef}
 use Rattle.fabric_model.specs.Network.{Item, in_turn}
 use Rattle.fabric_trace.specs.Views.{packets_in, lists_in, queue}
-use Rattle.fabric_trace.specs.Known.{Seen, link_at, port_at}
+use Rattle.fabric_trace.specs.Known.{Seen, link_at, port_seen}
 use Rattle.fabric_trace.specs.Links.{IsLink}
 use Rattle.fabric_trace.proofs.Lanes.{counted}
 
@@ -51,7 +51,7 @@ lists_none lanes none =
 
 -- at a settled link no packet waits that has room
 pub waits_not : (t : Seen) (a b : PortRef) (r : ℕ) → IsLink t a b
-    → IsDone (port_at t a) (port_at t b) → 4 ≤ t.network.buffers b → r < 4
+    → IsDone (port_seen t a) (port_seen t b) → 4 ≤ t.network.buffers b → r < 4
     → 0 < length (t.network.waiting a r) → ((s : ℕ) → t.network.received b s ≡ []) → ⊥
 waits_not t a b r is done least few some none = by_end done
   where
@@ -71,7 +71,7 @@ waits_not t a b r is done least few some none = by_end done
     some_none None is some = absurd cc
     some_none (Some x) is some = absurd cc
 
-    by_end : IsDone (port_at t a) (port_at t b) → ⊥
+    by_end : IsDone (port_seen t a) (port_seen t b) → ⊥
     by_end (inl highest_none) = some_none _ highest_none
         ((packet_count-highest (lists_in (queue t.network a)) refl).0 there)
     by_end (inr blocked) =

@@ -14,12 +14,12 @@ use Rattle.fabric_trace.specs.Fold.{seen_line, seen}
 use Rattle.fabric_trace.specs.Known.{Found, Wire, Seen, link_at}
 use Rattle.fabric_trace.specs.Views.{Half}
 use Rattle.fabric_trace.specs.Lines.{Full, TraceLine, Begun, Stepped, Signed, Lacked, Ended, Undetected}
-use Rattle.fabric_trace.specs.Rounds.{Follows, NamesNothing, Joined, ServesAll, Rests, Goes, ServeNodes}
+use Rattle.fabric_trace.specs.Rounds.{Follows, NamesNothing, Joined, ServesAll, ServeRests, ServeGoes, ServeNodes}
 use Rattle.fabric_trace.proofs.Keeping.{IsGood, made_keeps}
 use Rattle.fabric_trace.proofs.Rounds.{AreFound, all_found, by_test}
 use Rattle.fabric_ask.specs.Only.{is_end}
 use Rattle.fabric_ask.specs.Noise.{IsCarry}
-use Rattle.fabric_ask.specs.Asks.{CarryAll, CollectsAll, CollectNodes, Handles, AskRound}
+use Rattle.fabric_ask.specs.Asks.{CarryAll, CollectsAll, CollectNodes, Handles, AskRound, CollectRests, CollectStops, CollectGoes}
 use Rattle.fabric_ask.specs.Quiet.{AreQuiet}
 use Rattle.fabric_ask.proofs.Carrying.{has_carried}
 use Rattle.fabric_ask.proofs.Crossing.{split, AreAway}
@@ -119,8 +119,8 @@ joined_steps First More s lines one more joined =
 
 pub serves_steps : {s : Seen} {node : ℕ} {lines : List TraceLine} → ServesAll s node lines
     → OnlySteps lines
-serves_steps {s} {node} {lines} (Rests move is) = steps_none lines is
-serves_steps {s} {node} {lines} (Goes step rest move is more) =
+serves_steps {s} {node} {lines} (ServeRests move is) = steps_none lines is
+serves_steps {s} {node} {lines} (ServeGoes step rest move is more) =
     steps_by is (one_step (ByDevice step) rest (serves_steps more))
 
 full_steps : OnlySteps (Lacked Full ∷ [])
@@ -129,9 +129,9 @@ full_steps = tt
 
 pub collects_steps : {s : Seen} {node : ℕ} {lines : List TraceLine} → CollectsAll s node lines
     → OnlySteps lines
-collects_steps {s} {node} {lines} (CollectsAll.Rests move is) = steps_none lines is
-collects_steps {s} {node} {lines} (CollectsAll.Stops move is) = steps_by is full_steps
-collects_steps {s} {node} {lines} (CollectsAll.Goes step rest move is more) =
+collects_steps {s} {node} {lines} (CollectRests move is) = steps_none lines is
+collects_steps {s} {node} {lines} (CollectStops move is) = steps_by is full_steps
+collects_steps {s} {node} {lines} (CollectGoes step rest move is more) =
     steps_by is (one_step step rest (collects_steps more))
 
 pub serve_steps : (devices : List Device) (k : ℕ) (s : Seen) (lines : List TraceLine)

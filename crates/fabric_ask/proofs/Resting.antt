@@ -12,7 +12,7 @@ use Rattle.fabric_trace.specs.Blocks.{Asks}
 use Rattle.fabric_trace.specs.Fold.{seen, seen_line}
 use Rattle.fabric_trace.specs.Known.{Seen, Found}
 use Rattle.fabric_trace.specs.Lines.{TraceLine, Stepped, steps_of, Full, Lacked}
-use Rattle.fabric_trace.specs.Parts.{Made, Steps, Lacks}
+use Rattle.fabric_trace.specs.Parts.{Made, PartSteps, PartLacks}
 use Rattle.fabric_trace.specs.Served.{collect_lines}
 use Rattle.fabric_trace.proofs.Folding.{seen-append}
 use Rattle.fabric_trace.proofs.Keeping.{IsGood, made_keeps, legal_links}
@@ -75,13 +75,13 @@ asks_apart s host request first good endpoint own =
         ∙ ap (λ r. if r then Stepped (AtNode (Take host own.packet)) ∷ [] else Lacked Full ∷ [])
         room in
         whole (Stepped (AtNode (Take host own.packet))) is
-        (made_by is (one_part (Steps (Take host own.packet) (endpoint, passes, room)
+        (made_by is (one_part (PartSteps (Take host own.packet) (endpoint, passes, room)
         (few_prio own.packet passes) refl))) (tt, tt) refl
     by_room false room lines =
         let is : first ≡ Lacked Full ∷ [] = lines
         ∙ ap (λ r. if r then Stepped (AtNode (Take host own.packet)) ∷ [] else Lacked Full ∷ [])
         room in
-        whole (Lacked Full) is (made_by is (one_part (Lacks Full refl))) (tt, tt) refl
+        whole (Lacked Full) is (made_by is (one_part (PartLacks Full refl))) (tt, tt) refl
 
 -- Where a packet leaves at the host in the end, all links are at rest then.
 module _ (host : ℕ) (request : Request) (noise : List Edit) (s : Seen) (lines : List TraceLine)

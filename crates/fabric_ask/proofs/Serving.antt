@@ -12,7 +12,7 @@ use Rattle.maint_packets.specs.declared.request.Request.{Request}
 use Rattle.maint_packets.specs.NextHops.{is_foreign, is_at_end, to_port, next_of}
 use Rattle.maint_packets.specs.Requests.{request_of}
 use Rattle.maint_packets.specs.Responses.{response_bytes}
-use Rattle.maint_packets.specs.Answers.{answered}
+use Rattle.maint_packets.specs.Answers.{request_answered}
 use Rattle.switch_core.specs.declared.switch.Step as switch
 use Rattle.switch_core.specs.declared.switch.Step.TheVariants.{Moved, Dropped, Answered, Nothing}
 use Rattle.switch_core.specs.Faces.{Face, face_at, head_of, has_room}
@@ -21,6 +21,7 @@ use Rattle.switch_core.specs.SwitchSteps.{answer_step, step_to, step_of_head, st
 use Rattle.switch_core.proofs.OrderLaws.{least_first-is, greatest_first-is, least_first-found, greatest_first-found, greatest_first-passed}
 use Rattle.switch_core.proofs.RequestLaws.{request_there, answer_prio}
 use Rattle.fabric_script.specs.declared.ports.PortRef.{PortRef}
+use Rattle.fabric_script.specs.Ports.{port_at}
 use Rattle.fabric_model.specs.Network.{Item, Network, same_port, to_send}
 use Rattle.fabric_model.specs.Steps.{DeviceStep, Move, Drop, Answer, ByDevice, Needs, IsFirst, behind_first, only_first, moved_item, item_of, without_first, with_waiting, after}
 use Rattle.fabric_model.proofs.Emptying.{port_by}
@@ -28,14 +29,13 @@ use Rattle.fabric_model.proofs.Moving.{moves_on, named_goes, sent_by}
 use Rattle.fabric_model.proofs.Peers.{port_is}
 use Rattle.fabric_trace.specs.Known.{Seen}
 use Rattle.fabric_trace.specs.Lines.{NoStep, Stepped, Lacked}
-use Rattle.fabric_trace.specs.Served.{face_in, faces_in, step_lines, HasForm, IsMove}
+use Rattle.fabric_trace.specs.Served.{face_in, faces_in, step_lines, ResponseHasForm, IsMove}
 use Rattle.fabric_trace.proofs.Faces.{room_is, face_is, port_there, StepNeeds, step_needs}
 use Rattle.fabric_trace.proofs.Keeping.{IsGood, good_by_priority}
 use Rattle.fabric_trace.proofs.Lanes.{lane_at}
 use Rattle.std.specs.Option.{option_and_then}
 use Rattle.fabric_ask.specs.Only.{Spot, Held, Waits, alone, IsOnly, IsClear}
-use Rattle.fabric_map.specs.Topology.{port_at}
-use Rattle.fabric_ask.specs.Course.{IsDevicePort, HandledAs, Moves, Falls, Heard}
+use Rattle.fabric_ask.specs.Course.{IsDevicePort, HandledAs, Moves, Falls, IsHeard}
 use Rattle.fabric_ask.proofs.Alone.{first_in, chosen, and_refl, gone}
 
 -- ---- what steps make of the one packet
@@ -113,7 +113,7 @@ becomes_answer net q item response only needs =
     let put = put_only (without_first net q (prio_of item.now)) q (prio_of response)
     (item_of net q response ∷ []) (item_of net q response) (cleared net q item only) refl refl
     in
-    Heard response needs.1 needs.2 (record {
+    IsHeard response needs.1 needs.2 (record {
       received = put.received;
       waiting = put.waiting;
       lent =
@@ -156,7 +156,7 @@ pub record IsMade (net : Network) (node : ℕ) (step : DeviceStep) : Type 0 wher
   pub needs : Needs net (ByDevice step)
   pub here : (port_by step).node ≡ node
 
-move_made_by : (s : Seen) (node : ℕ) (made : switch.Step) (step : DeviceStep) → HasForm made
+move_made_by : (s : Seen) (node : ℕ) (made : switch.Step) (step : DeviceStep) → ResponseHasForm made
     → StepNeeds s.network node made → Stepped (ByDevice step) ∷ [] ≡ step_lines node made
     → IsMade s.network node step
 move_made_by s node (Moved from to packet) step form needs is =
@@ -251,7 +251,7 @@ module _ (device : Device) (faces : List Face) where
   unfolding IsSome_step
   answer_some port packet None = tt
   answer_some port packet (Some request) =
-      let response = response_bytes (answered device request port).response in
+      let response = response_bytes (request_answered device request port).response in
       if_step (has_room (face_at faces port) (prio_of response)) (Answered port packet response) tt
 
   to_some : (port : ℕ) (packet : List ℕ) (next : Next)
@@ -356,7 +356,7 @@ module _ (net : Network) (node : ℕ) (q : PortRef) (item : Item) (device : Devi
           → answer_step device (faces_in net node device) q.port item.now asks ≡ None → ⊥
       by_request None asks none = absurd cc
       by_request (Some request) asks none =
-          let response = response_bytes (answered device request q.port).response in
+          let response = response_bytes (request_answered device request q.port).response in
           let prio = answer_prio device request q.port in
           let low : prio_of response < 4 = omega (arith, prio) in
           let room : has_room (face_at (faces_in net node device) q.port)

@@ -7,7 +7,7 @@ use Rattle.fabric_model.proofs.Peers.{port_is}
 use Rattle.fabric_trace.specs.Fold.{seen}
 use Rattle.fabric_trace.specs.Known.{Found, Seen, link_at}
 use Rattle.fabric_trace.specs.Lines.{Full, TraceLine, Stepped, Lacked}
-use Rattle.fabric_trace.specs.Parts.{Made, Steps, Lacks}
+use Rattle.fabric_trace.specs.Parts.{Made, PartSteps, PartLacks}
 use Rattle.fabric_model.specs.Steps.{Take, AtNode}
 use Rattle.fabric_model.proofs.Nodes.{few_prio}
 use Rattle.fabric_trace.specs.Rounds.{Follows, NamesNothing}
@@ -80,7 +80,7 @@ ask_still host request s lines good none quiet ask =
         → IsGood t × ((t.unfaithful ≡ None) × AllCalm t)
     by_room true is room =
         let passes = Passes-from_form (request_body request) ask.3.packet ask.3.form in
-        let made : Made s first = made_by is (one_part (Steps (Take host ask.3.packet)
+        let made : Made s first = made_by is (one_part (PartSteps (Take host ask.3.packet)
         (ask.3.endpoint, passes, room) (few_prio ask.3.packet passes) refl)) in (
           (made_keeps good made).good,
           (
@@ -93,7 +93,7 @@ ask_still host request s lines good none quiet ask =
           ),
         )
     by_room false is room =
-        let made : Made s first = made_by is (one_part (Lacks Full refl)) in (
+        let made : Made s first = made_by is (one_part (PartLacks Full refl)) in (
           (made_keeps good made).good,
           (
             ap (λ (l : List TraceLine). (seen s l).unfaithful) is ∙ none,

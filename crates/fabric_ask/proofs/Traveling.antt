@@ -9,6 +9,7 @@ use Rattle.maint_packets.specs.declared.next_hop.Next.TheVariants.{Nowhere, Regi
 use Rattle.maint_packets.specs.NextHops.{to_port, moved, is_spent}
 use Rattle.link_wires.specs.declared.edits.Edit.{Edit}
 use Rattle.fabric_script.specs.declared.ports.PortRef.{PortRef}
+use Rattle.fabric_script.specs.Ports.{port_at}
 use Rattle.fabric_map.specs.Topology.{Topology}
 use Rattle.fabric_map.specs.Routes.{Registers, walk}
 use Rattle.fabric_model.specs.Network.{Item, Network, port_of, peer_in, in_turn}
@@ -25,8 +26,7 @@ use Rattle.fabric_trace.proofs.Folding.{seen-append}
 use Rattle.fabric_trace.proofs.Keeping.{IsGood}
 use Rattle.fabric_trace.proofs.Making.{made-append}
 use Rattle.fabric_ask.specs.Only.{Held, Waits, IsOnly, IsClear}
-use Rattle.fabric_map.specs.Topology.{port_at}
-use Rattle.fabric_ask.specs.Course.{HandledAs, Moves, Falls, Heard, Goes, IsEndpointIn, IsLaid, Handled, Home, Away, Rounded, Waited, Handed, Final, Fell, WasHeard, HasLeft, FinalAt, AtHost, NotHost}
+use Rattle.fabric_ask.specs.Course.{HandledAs, Moves, Falls, IsHeard, GoesOut, IsEndpointIn, IsLaid, Handled, Home, Away, Rounded, Waited, Handed, Final, Fell, WasHeard, HasLeft, FinalAt, AtHost, NotHost}
 use Rattle.fabric_ask.specs.Asks.{AskRound, holds_some, AskRounds}
 use Rattle.fabric_map.specs.Plain.{ports_of_switch, topology_of, registers_of}
 use Rattle.fabric_ask.specs.Answered.{hops_left}
@@ -139,7 +139,7 @@ module _ (host dest : ℕ) (regs : List Device) (links : List (PortRef × PortRe
   pub ends_there : (n : ℕ) (mid end : Network) (p q : PortRef) (item : Item) → mid.registers ≡ regs
       → topo.peer p ≡ Some q → IsOn item.now dest n → HandledAs mid q item end
       → EndsThere n mid end p q item
-  ends_there n mid end p q item same peer on (Goes endpoint other clear regs_same) =
+  ends_there n mid end p q item same peer on (GoesOut endpoint other clear regs_same) =
       let kind = kind_endpoint q.node (subst (λ r. IsEndpointIn r q.node) same endpoint) in
       IsThere (walk_endpoint topo table dest n p q peer kind)
       (left_endpoint topo table dest n p q peer kind) (HasLeft endpoint other clear regs_same)
@@ -187,16 +187,16 @@ module _ (host dest : ℕ) (regs : List Device) (links : List (PortRef × PortRe
       none_is : (o : Option ℕ) → to_port o ≡ Nowhere → o ≡ None
       none_is None is = refl
       none_is (Some x) is = absurd cc
-  ends_there zero mid end p q item same peer on (Heard response own answer only regs_same) =
+  ends_there zero mid end p q item same peer on (IsHeard response own answer only regs_same) =
       IsThere peer refl (WasHeard response answer only regs_same)
   ends_there (suc h) mid end p q item same peer on
-      (Heard response (inl endpoint) answer only regs_same) =
+      (IsHeard response (inl endpoint) answer only regs_same) =
       let kind = kind_endpoint q.node (subst (λ r. IsEndpointIn r q.node) same endpoint) in
       IsThere (walk_endpoint topo table dest (suc h) p q peer kind)
       (left_endpoint topo table dest (suc h) p q peer kind)
       (WasHeard response answer only regs_same)
   ends_there (suc h) mid end p q item same peer on
-      (Heard response (inr next) answer only regs_same) =
+      (IsHeard response (inr next) answer only regs_same) =
       let sent = sent_by mid q.node item.now RegisterUnit next in
       let named : to_port (next_port sent.device dest) ≡ RegisterUnit =
       sym (next_goes sent.device item.now dest h on) ∙ sent.sends in

@@ -12,7 +12,7 @@ use Rattle.fabric_trace.specs.Known.{Found, Seen}
 use Rattle.fabric_trace.specs.Lines.{TraceLine, Begun, Stepped, Signed, Lacked, Ended, Undetected, steps_of}
 use Rattle.fabric_trace.specs.Parts.{Made, Done}
 use Rattle.fabric_trace.specs.Served.{IsCollect}
-use Rattle.fabric_trace.specs.Rounds.{Follows, NamesNothing, Joined, ServesAll, Rests, Goes, ServeNodes}
+use Rattle.fabric_trace.specs.Rounds.{Follows, NamesNothing, Joined, ServesAll, ServeRests, ServeGoes, ServeNodes}
 use Rattle.fabric_trace.proofs.Keeping.{IsGood, made_keeps, legal_links}
 use Rattle.fabric_trace.proofs.Folding.{seen-append}
 use Rattle.fabric_trace.proofs.Making.{made-append, made_by}
@@ -20,7 +20,7 @@ use Rattle.fabric_trace.proofs.Rounds.{AreFound, all_found, by_test, serves_made
 use Rattle.fabric_trace.proofs.Running.{move_made}
 use Rattle.fabric_ask.specs.Only.{AreAt}
 use Rattle.fabric_ask.specs.Noise.{IsCarry}
-use Rattle.fabric_ask.specs.Asks.{CarryAll, CollectsAll, CollectNodes, Handles, AskRound, holds_some, AskRounds, Unheld}
+use Rattle.fabric_ask.specs.Asks.{CarryAll, CollectsAll, CollectNodes, Handles, AskRound, holds_some, AskRounds, Unheld, CollectRests, CollectStops, CollectGoes}
 use Rattle.fabric_ask.specs.Travel.{GoesOn}
 use Rattle.fabric_ask.specs.Own.{NoAnswer, NeverAnswers, IsElsewhere, CollectsNothing}
 use Rattle.fabric_ask.proofs.Carrying.{has_carried}
@@ -155,8 +155,8 @@ module _ (host : ℕ) where
 
   serves_never : {s : Seen} {node : ℕ} {lines : List TraceLine} → IsGood s
       → IsEndpoint s.network host → ServesAll s node lines → CollectsNothing host lines
-  serves_never {s} {node} {lines} good is (Rests move at) = never_none host lines at
-  serves_never {s} {node} {lines} good is (Goes step rest move at more) =
+  serves_never {s} {node} {lines} good is (ServeRests move at) = never_none host lines at
+  serves_never {s} {node} {lines} good is (ServeGoes step rest move at more) =
       let one = move_made s node (Stepped (ByDevice step) ∷ []) good move in
       never_by host at (
         step_never s node step is move.switch (move_is s node step good move),
@@ -173,11 +173,11 @@ module _ (host : ℕ) where
 
   collects_never : {s : Seen} {node : ℕ} {lines : List TraceLine} → IsGood s → s.unfaithful ≡ None
       → node ≢ host → CollectsAll s node lines → CollectsNothing host lines
-  collects_never {s} {node} {lines} good none away (CollectsAll.Rests move at) =
+  collects_never {s} {node} {lines} good none away (CollectRests move at) =
       never_none host lines at
-  collects_never {s} {node} {lines} good none away (CollectsAll.Stops move at) =
+  collects_never {s} {node} {lines} good none away (CollectStops move at) =
       never_by host at (tt, tt)
-  collects_never {s} {node} {lines} good none away (CollectsAll.Goes step rest move at more) =
+  collects_never {s} {node} {lines} good none away (CollectGoes step rest move at more) =
       let one = collect_lines_made s node (Stepped step ∷ []) good none move in
       never_by host at (
         makes_never s.network node step away (collect_makes s node step good move),

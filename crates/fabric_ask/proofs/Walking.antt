@@ -8,6 +8,7 @@ use Rattle.maint_registers.specs.Routes.{next_port}
 use Rattle.maint_packets.specs.declared.next_hop.Next.TheVariants.{Nowhere, RegisterUnit}
 use Rattle.maint_packets.specs.NextHops.{is_foreign, is_at_end, to_port, next_of, moved, is_spent}
 use Rattle.fabric_script.specs.declared.ports.PortRef.{PortRef}
+use Rattle.fabric_script.specs.Ports.{port_at}
 use Rattle.fabric_map.specs.Topology.{Topology}
 use Rattle.fabric_map.specs.Routes.{Registers, walk}
 use Rattle.fabric_model.specs.Network.{peer_in}
@@ -15,7 +16,6 @@ use Rattle.fabric_model.specs.Laws.Leaving.{MovesTo}
 use Rattle.fabric_model.proofs.Moving.{moves_on}
 use Rattle.fabric_model.proofs.Peers.{peer_back}
 use Rattle.fabric_model.specs.Laws.Proper.{AreProper}
-use Rattle.fabric_map.specs.Topology.{port_at}
 use Rattle.fabric_map.specs.Plain.{topology_of, registers_of}
 use Rattle.fabric_ask.specs.Answered.{hops_left}
 use Rattle.fabric_ask.specs.Travel.{IsOn}

@@ -6,7 +6,7 @@ use Rattle.maint_registers.specs.Routes.{next_port}
 use Rattle.maint_packets.specs.declared.request.Request.{Request}
 use Rattle.maint_packets.specs.declared.response.Response.{Response}
 use Rattle.maint_packets.specs.Responses.{response_of}
-use Rattle.maint_packets.specs.Answers.{answered}
+use Rattle.maint_packets.specs.Answers.{request_answered}
 use Rattle.fabric_script.specs.declared.ports.PortRef.{PortRef}
 use Rattle.fabric_map.specs.Topology.{Topology}
 use Rattle.fabric_map.specs.Routes.{Registers, walk}
@@ -23,7 +23,7 @@ use Rattle.fabric_ask.specs.Own.{CollectsNothing}
 -- the registers of the device of a port, as a request that came there leaves them
 abbrev pub after_request : List Device → PortRef → Request → List Device
 after_request registers at request = with_device registers at.node
-    (λ device. (answered device request at.port).device)
+    (λ device. (request_answered device request at.port).device)
 
 -- A request of a host goes to the device of this port, which is another, and the response comes
 -- back to the host, by the tables as the answer leaves them.
@@ -57,7 +57,7 @@ hops_left topology registers dest (suc hops) at =
 abbrev pub response_home : List Device → List (PortRef × PortRef) → ℕ → Request → PortRef
     → Response
 response_home registers links host request at =
-    record (answered (registers_of registers at.node) request at.port).response {
+    record (request_answered (registers_of registers at.node) request at.port).response {
       hop = hops_left (topology_of (after_request registers at request) links host)
           (registers_of (after_request registers at request)) request.source 255 at;
     }

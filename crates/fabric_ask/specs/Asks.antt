@@ -23,12 +23,12 @@ CarryAll (link ∷ links) noise left s lines = (mid : List Edit)
 
 -- An endpoint collects one packet after another, until it holds none or has no room for an answer.
 pub data CollectsAll : Seen → ℕ → List TraceLine → Type 0 where
-  Rests : {s : Seen} {node : ℕ} {lines : List TraceLine}
+  CollectRests : {s : Seen} {node : ℕ} {lines : List TraceLine}
       → IsCollect s.network node (Lacked Empty ∷ []) → lines ≡ [] → CollectsAll s node lines
-  Goes : {s : Seen} {node : ℕ} {lines : List TraceLine} (step : Step) (rest : List TraceLine)
+  CollectGoes : {s : Seen} {node : ℕ} {lines : List TraceLine} (step : Step) (rest : List TraceLine)
       → IsCollect s.network node (Stepped step ∷ []) → lines ≡ Stepped step ∷ rest
       → CollectsAll (seen_line s (Stepped step)) node rest → CollectsAll s node lines
-  Stops : {s : Seen} {node : ℕ} {lines : List TraceLine}
+  CollectStops : {s : Seen} {node : ℕ} {lines : List TraceLine}
       → IsCollect s.network node (Lacked Full ∷ []) → lines ≡ Lacked Full ∷ []
       → CollectsAll s node lines
 

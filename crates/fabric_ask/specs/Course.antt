@@ -5,7 +5,7 @@ use Rattle.maint_registers.specs.Devices.{Device, is_switch}
 use Rattle.maint_packets.specs.declared.next_hop.Next.TheVariants.{Nowhere, Port}
 use Rattle.maint_packets.specs.Requests.{request_of}
 use Rattle.fabric_script.specs.declared.ports.PortRef.{PortRef}
-use Rattle.fabric_map.specs.Topology.{port_at}
+use Rattle.fabric_script.specs.Ports.{port_at}
 use Rattle.fabric_model.specs.Network.{Item, Network, port_of, with_device, peer_in, IsEndpoint}
 use Rattle.fabric_model.specs.Serving.{next_at, response_at, device_after}
 use Rattle.fabric_model.specs.Steps.{IsForRegisters, moved_item, item_of}
@@ -30,11 +30,11 @@ pub data HandledAs (net : Network) (q : PortRef) (item : Item) (end : Network) :
       → HandledAs net q item end
   Falls : next_at net q.node item.now ≡ Some Nowhere → IsClear end → end.registers ≡ net.registers
       → HandledAs net q item end
-  Heard : (response : List ℕ) → IsForRegisters net q item.now
+  IsHeard : (response : List ℕ) → IsForRegisters net q item.now
       → response_at net q item.now ≡ Some response
       → IsOnly end (Waits q) (item_of net q response)
       → end.registers ≡ answered_registers net q item.now → HandledAs net q item end
-  Goes : IsEndpoint net q.node → is_request item.now ≡ false → IsClear end
+  GoesOut : IsEndpoint net q.node → is_request item.now ≡ false → IsClear end
       → end.registers ≡ net.registers → HandledAs net q item end
 
 -- a node is an endpoint

@@ -10,7 +10,7 @@ use Rattle.contest_machine.proofs.Apart.{turns_keep_apart}
 use Rattle.contest_machine.proofs.Greater.{greater_holds_on}
 use Rattle.fabric_contest.specs.Contests.{new_host, new_both}
 use Rattle.fabric_contest.specs.Laws.{ContestsKeepApart, FirstHoldsOn, SecondHoldsOn}
-use Rattle.fabric_contest.specs.Orders.{turns_of}
+use Rattle.fabric_contest.specs.Orders.{seeded_turns}
 use Rattle.fabric_contest.proofs.Distinct.{ids_differ}
 
 new_is : (lines : List Numbered) (node : ℕ) → IsNew (new_host lines node)
@@ -19,7 +19,7 @@ new_is lines node =
 
 pub keep_apart : ContestsKeepApart
 keep_apart names lines first second seed hosts =
-    turns_keep_apart (new_both lines first second) (turns_of seed) (new_is lines first)
+    turns_keep_apart (new_both lines first second) (seeded_turns seed) (new_is lines first)
     (new_is lines second)
     (ids_differ names lines hosts.passes first second hosts.first_host hosts.second_host
     hosts.differ)
@@ -27,7 +27,7 @@ keep_apart names lines first second seed hosts =
 
 pub first_holds_on : FirstHoldsOn
 first_holds_on names lines first second seed hosts free less =
-    greater_holds_on (new_both lines first second) (turns_of seed) (new_is lines first)
+    greater_holds_on (new_both lines first second) (seeded_turns seed) (new_is lines first)
     (new_is lines second) less hosts.first_host.has_id free
 
 -- ---- the hosts change places
@@ -51,6 +51,6 @@ flip_turns both (side ∷ turns) =
 pub second_holds_on : SecondHoldsOn
 second_holds_on names lines first second seed hosts free less =
     subst (λ (b : Both). HoldsOn b.first.stage)
-    (flip_turns (new_both lines first second) (turns_of seed))
-    (greater_holds_on (flip (new_both lines first second)) (map other_side (turns_of seed))
+    (flip_turns (new_both lines first second) (seeded_turns seed))
+    (greater_holds_on (flip (new_both lines first second)) (map other_side (seeded_turns seed))
     (new_is lines second) (new_is lines first) less hosts.second_host.has_id free)

@@ -2,7 +2,7 @@
 use Rattle.std.proofs.Common.{◌≡◌, ◌≢◌, ℕ, ◌<◌, List, [], length, refl, ap, ◌∙◌}
 use Rattle.maint_registers.specs.Devices.{Device}
 use Rattle.fabric_script.specs.declared.lines.Numbered.{Numbered}
-use Rattle.fabric_script.specs.Scripts.{Passes}
+use Rattle.fabric_script.specs.Scripts.{ScriptPasses}
 use Rattle.fabric_map.specs.Topology.{Topology, IsTopology}
 use Rattle.fabric_map.specs.Routes.{Registers}
 use Rattle.fabric_map.specs.Fitting.{Fits}
@@ -24,7 +24,7 @@ use Rattle.contest_law.specs.Locks.{walker_of}
 use Rattle.host_contest.specs.Machines.{new_walker}
 use Rattle.host_contest.specs.Reaching.{AreLow}
 use Rattle.host_contest.specs.Walkers.{machine_in, HasEntries}
-use Rattle.fabric_contest.specs.Contests.{new_both, view_of, lines_of, both_of, CanTurn}
+use Rattle.fabric_contest.specs.Contests.{new_both, view_of, contest_lines, both_of, CanTurn}
 use Rattle.fabric_contest.specs.declared.contest.Contest.{Contest}
 use Rattle.fabric_contest.proofs.Distinct.{ids_differ}
 
@@ -33,7 +33,8 @@ new_is_new view id =
     record { devices = refl; tried = refl; todo = refl; path = refl; stage = refl }
 
 -- the hosts of a script begin
-module _ (names : List (List ℕ)) (lines : List Numbered) (passes : Passes names lines) (f s : ℕ)
+module _ (names : List (List ℕ)) (lines : List Numbered) (passes : ScriptPasses names lines)
+    (f s : ℕ)
     (host_f : IsHost (devices_of lines) (links_of lines) f)
     (host_s : IsHost (devices_of lines) (links_of lines) s) (differ : f ≢ s) where
   made : (host : ℕ) → IsHost (devices_of lines) (links_of lines) host
@@ -79,12 +80,13 @@ module _ (names : List (List ℕ)) (lines : List Numbered) (passes : Passes name
   none_tagged B node inside own = (made s host_s).untagged node inside
 
 -- a contest that was made of a new fabric
-module _ (contest : Contest) (passes : Passes contest.script.now.names.items (lines_of contest))
-    (stands : Stands (start (lines_of contest)) [] contest.fabric)
+module _ (contest : Contest)
+    (passes : ScriptPasses contest.script.now.names.items (contest_lines contest))
+    (stands : Stands (start (contest_lines contest)) [] contest.fabric)
     (named : length contest.fabric.devices.items ≡ length contest.script.now.names.items)
-    (host_f : IsHost (devices_of (lines_of contest)) (links_of (lines_of contest))
+    (host_f : IsHost (devices_of (contest_lines contest)) (links_of (contest_lines contest))
     contest.first_node)
-    (host_s : IsHost (devices_of (lines_of contest)) (links_of (lines_of contest))
+    (host_s : IsHost (devices_of (contest_lines contest)) (links_of (contest_lines contest))
     contest.second_node)
     (differ : contest.first_node ≢ contest.second_node) (id_f id_s : ℕ)
     (first_id : id_f ≡ (registers_of contest.fabric.devices.items contest.first_node).base_id)
@@ -92,7 +94,7 @@ module _ (contest : Contest) (passes : Passes contest.script.now.names.items (li
     (first_is : (view : Topology) → machine_in view contest.first ≡ new_walker view id_f)
     (second_is : (view : Topology) → machine_in view contest.second ≡ new_walker view id_s) where
   abbrev lines : List Numbered
-  lines = lines_of contest
+  lines = contest_lines contest
 
   abbrev Ids : Registers → Both
   Ids r = record {

@@ -18,7 +18,7 @@ use Rattle.host_contest.specs.declared.machine.Machine.{Machine}
 use Rattle.host_contest.specs.Machines.{machine_of}
 use Rattle.host_contest.specs.Reaching.{IsOfLock, IsAtHost, CanReachOn, AreLow}
 use Rattle.host_contest.specs.Steps.{CanStep}
-use Rattle.fabric_contest.specs.Contests.{view_of, lines_of, both_of, CanTurn}
+use Rattle.fabric_contest.specs.Contests.{view_of, contest_lines, both_of, CanTurn}
 use Rattle.fabric_contest.specs.declared.contest.Contest.{Contest}
 
 new_at_host : (w : Walker) → w ≡ starter w.view w.id false Ask [] → IsAtHost w
@@ -70,10 +70,10 @@ module _ (contest : Contest) (can : CanTurn contest) where
   now = registers_of contest.fabric.devices.items
 
   abbrev first_view : Topology
-  first_view = view_of (lines_of contest) contest.first_node
+  first_view = view_of (contest_lines contest) contest.first_node
 
   abbrev second_view : Topology
-  second_view = view_of (lines_of contest) contest.second_node
+  second_view = view_of (contest_lines contest) contest.second_node
 
   pub first_step : CanStep first_view now contest.first.machine
   first_step =

@@ -15,7 +15,7 @@ use Rattle.fabric_script.specs.declared.reasons.Reason.TheVariants.{IdTaken}
 use Rattle.fabric_script.specs.Lines.{new_name}
 use Rattle.fabric_script.specs.Known.{Known, nothing, known_after, nodes_after, node_is_switch, has_id}
 use Rattle.fabric_script.specs.Reading.{IsFree}
-use Rattle.fabric_script.specs.Scripts.{Passes, PassesFrom}
+use Rattle.fabric_script.specs.Scripts.{ScriptPasses, PassesFrom}
 use Rattle.fabric_map.specs.Plain.{registers_of}
 use Rattle.host_enumerate.specs.Devised.{IsHost, with_linked_end, devices_of, links_of, devices_after, devices_after_all}
 use Rattle.host_enumerate.proofs.Devised.{stage_after_all, first_stage}
@@ -133,7 +133,7 @@ only_at_end known names devices (line ∷ lines) same only passes =
 
 -- ---- of a script
 
-module _ (names : List (List ℕ)) (lines : List Numbered) (passes : Passes names lines) where
+module _ (names : List (List ℕ)) (lines : List Numbered) (passes : ScriptPasses names lines) where
   id_shown : (host : ℕ) → IsHost (devices_of lines) (links_of lines) host
       → slice_get (map id_in (devices_of lines)) host
       ≡ Some (Some (registers_of (devices_of lines) host).base_id)

@@ -6,11 +6,11 @@ use Rattle.fabric_script.specs.declared.ports.PortRef.{PortRef}
 use Rattle.host_enumerate.specs.Causes.{IsCaused}
 use Rattle.host_enumerate.specs.declared.maint.MaintEnd.{MaintEnd}
 use Rattle.fabric_script.specs.declared.lines.Script.{Script}
-use Rattle.fabric_maint.specs.Going.{StandsFor, StandsWhole, IsSame}
+use Rattle.fabric_maint.specs.Going.{StandsFor, StandsWhole, MaintIsSame}
 use Rattle.fabric_maint.specs.declared.maint.FabricMaint.{FabricMaint}
 
 pub stands_over : {N K : Type 0} (maint after : FabricMaint N K) (script : Script) (host : ℕ)
-    → IsSame maint after → maint.script.now ≡ script → maint.host ≡ host → StandsWhole after
+    → MaintIsSame maint after → maint.script.now ≡ script → maint.host ≡ host → StandsWhole after
     → StandsFor script.names.items script.lines.items host after.fabric.now
 stands_over maint after script host same is_script is_host whole =
     subst (λ (s : Script). StandsFor s.names.items s.lines.items host after.fabric.now)

@@ -9,13 +9,13 @@ use Rattle.fabric_ports.specs.declared.fabric.Fabric.{Fabric}
 use Rattle.fabric_maint.specs.Going.{StandsFor}
 use Rattle.fabric_maint.proofs.Hosts.{other_stands}
 use Rattle.contest_machine.specs.Machine.{Walker, State}
-use Rattle.contest_machine.specs.Turns.{turned, came_of, Both, turn_of}
+use Rattle.contest_machine.specs.Turns.{walker_turned, came_of, Both, turn_of}
 use Rattle.host_contest.specs.declared.walker.Walker as walkers
 use Rattle.host_contest.specs.Reaching.{AreLow}
 use Rattle.host_contest.specs.Steps.{state_in}
 use Rattle.host_contest.specs.Walkers.{machine_in, HasEntries}
 use Rattle.contest_law.proofs.Steps.{after_one_more}
-use Rattle.fabric_contest.specs.Contests.{view_of, lines_of, both_of, CanTurn}
+use Rattle.fabric_contest.specs.Contests.{view_of, contest_lines, both_of, CanTurn}
 use Rattle.fabric_contest.specs.declared.contest.Contest.{Contest}
 
 -- the walkers, if this one has come to a state, and the other one
@@ -32,9 +32,9 @@ turned_by side both = turn_of both side
 
 -- what came of the turn is told by the machine
 pub last_turn : (view : Topology) (old new : Registers) (w after : walkers.Walker)
-    → state_in view new after.machine ≡ turned (machine_in view w) old
+    → state_in view new after.machine ≡ walker_turned (machine_in view w) old
     → after.last ≡ came_of (machine_in view w) (machine_in view after)
-    → after.last ≡ came_of (machine_in view w) (turned (machine_in view w) old).walker
+    → after.last ≡ came_of (machine_in view w) (walker_turned (machine_in view w) old).walker
 last_turn view old new w after is last =
     last ∙ ap (λ (s : State). came_of (machine_in view w) s.walker) is
 
@@ -52,9 +52,10 @@ module _ (contest : Contest) (can : CanTurn contest) (fabric : Fabric) (walker :
   abbrev by_second : Contest
   by_second = record contest { fabric = fabric; second = walker }
 
-  module _ (is : state_in (view_of (lines_of contest) contest.first_node) new walker.machine
-      ≡ turned (machine_in (view_of (lines_of contest) contest.first_node) contest.first) was)
-      (stands : StandsFor contest.script.now.names.items (lines_of contest) contest.first_node
+  module _ (is : state_in (view_of (contest_lines contest) contest.first_node) new walker.machine
+      ≡ walker_turned
+      (machine_in (view_of (contest_lines contest) contest.first_node) contest.first) was)
+      (stands : StandsFor contest.script.now.names.items (contest_lines contest) contest.first_node
       fabric) where
     pub first_turns : both_of by_first ≡ turn_of (both_of contest) A
     first_turns = ap (λ (s : State). first_at s (both_of contest).second) is
@@ -75,16 +76,18 @@ module _ (contest : Contest) (can : CanTurn contest) (fabric : Fabric) (walker :
       entries_second = can.entries_second;
     }
 
-  module _ (is : state_in (view_of (lines_of contest) contest.second_node) new walker.machine
-      ≡ turned (machine_in (view_of (lines_of contest) contest.second_node) contest.second) was)
-      (stands : StandsFor contest.script.now.names.items (lines_of contest) contest.second_node
+  module _ (is : state_in (view_of (contest_lines contest) contest.second_node) new walker.machine
+      ≡ walker_turned
+      (machine_in (view_of (contest_lines contest) contest.second_node) contest.second) was)
+      (stands : StandsFor contest.script.now.names.items (contest_lines contest) contest.second_node
       fabric) where
     pub second_turns : both_of by_second ≡ turn_of (both_of contest) B
     second_turns = ap (λ (s : State). second_at s (both_of contest).first) is
 
     pub second_can : CanTurn by_second
     second_can = record {
-      stands = other_stands contest.script.now.names.items (lines_of contest) contest.second_node
+      stands =
+          other_stands contest.script.now.names.items (contest_lines contest) contest.second_node
           contest.first_node fabric stands can.stands.host;
       second_host = can.second_host;
       begun = can.begun;

@@ -6,14 +6,15 @@ use Rattle.link_watch.specs.declared.side.Side.TheVariants.{B}
 use Rattle.link_watch.specs.Sides.{other_side}
 use Rattle.contest_machine.specs.Machine.{Walker}
 use Rattle.contest_machine.specs.Contest.{IsContest}
-use Rattle.contest_machine.specs.Turns.{turned, Both, turn_of, after_turns}
+use Rattle.contest_machine.specs.Turns.{walker_turned, Both, turn_of, after_turns}
 use Rattle.contest_machine.proofs.Apart.{swap, turns_hold, begun_holds, turn_leaves_kept}
 use Rattle.fabric_contest.specs.Laws.{StaysOpen, FirstStaysOpen, SecondStaysOpen}
 use Rattle.fabric_contest.proofs.AllTurns.{flip, flip_turns}
 
 module _ (w : Walker) (before old : Registers) where
   -- a turn of the other leaves what this one keeps, and so the ways through it
-  ways_open : (o : Walker) → IsContest o w before old → StaysOpen w old (turned o old).registers
+  ways_open : (o : Walker) → IsContest o w before old
+      → StaysOpen w old (walker_turned o old).registers
   ways_open o contest path passes opened = record {
     onwards = λ first front rest port at is enters.
         ap (λ d. next_port d 255)

@@ -9,8 +9,8 @@ use Rattle.contest_machine.specs.declared.stages.Pending.{Pending}
 use Rattle.contest_machine.specs.declared.stages.Stage.{Stage}
 use Rattle.contest_machine.specs.declared.stages.Stage.TheVariants.{Ask, Claim, Check, Test, Features, Information, Status, Free, Done, Lost}
 use Rattle.contest_machine.specs.Machine.{Walker, State, wants_at, wants_with, wants}
-use Rattle.contest_machine.specs.Turns.{turned, Both, turn_of, after_turns}
-use Rattle.host_contest.specs.Machines.{is_clear, is_last}
+use Rattle.contest_machine.specs.Turns.{walker_turned, Both, turn_of, after_turns}
+use Rattle.host_contest.specs.Machines.{is_clear, is_last_stage}
 use Rattle.host_contest.proofs.Stepping.{idle, turned_later}
 use Rattle.fabric_contest.specs.Contests.{both_of, has_stopped}
 use Rattle.fabric_contest.specs.declared.contest.Contest.{Contest}
@@ -53,7 +53,7 @@ module _ {S : Type 0} (step : S → Side → S) (fold : S → List Side → S)
 
 -- ---- of walkers
 
-ended_wants : (w : Walker) (stage : Stage) → is_last stage ≡ true → None ≡ wants_at w stage
+ended_wants : (w : Walker) (stage : Stage) → is_last_stage stage ≡ true → None ≡ wants_at w stage
 ended_wants w Ask is = absurd (cc)
 ended_wants w Claim is = absurd (cc)
 ended_wants w Check is = absurd (cc)
@@ -65,7 +65,7 @@ ended_wants w Free is = absurd (cc)
 ended_wants w Done is = refl
 ended_wants w Lost is = refl
 
-no_wants : (w : Walker) → is_last w.stage ≡ true → is_clear w.todo ≡ true → None ≡ wants w
+no_wants : (w : Walker) → is_last_stage w.stage ≡ true → is_clear w.todo ≡ true → None ≡ wants w
 no_wants w last clear = go w.todo clear
   where
     go : (todo : List Pending) → is_clear todo ≡ true → None ≡ wants_with w todo
@@ -73,10 +73,10 @@ no_wants w last clear = go w.todo clear
     go (p ∷ rest) is = absurd (cc)
 
 stopped_turns : (w : Walker) (registers : Registers) → w.begun ≡ true
-    → (is_last w.stage && is_clear w.todo) ≡ true
-    → turned w registers ≡ record { walker = w; registers = registers }
+    → (is_last_stage w.stage && is_clear w.todo) ≡ true
+    → walker_turned w registers ≡ record { walker = w; registers = registers }
 stopped_turns w registers begun over =
-    let parts = and_parts (is_last w.stage) (is_clear w.todo) over in
+    let parts = and_parts (is_last_stage w.stage) (is_clear w.todo) over in
     sym (idle w registers (no_wants w parts.0 parts.1) ∙ turned_later w registers begun)
 
 module _ (contest : Contest)
@@ -85,7 +85,8 @@ module _ (contest : Contest)
   stopped_of A =
       let both = both_of contest in
       let first = (and_parts (has_stopped contest.first) (has_stopped contest.second) stopped).0 in
-      let parts = and_parts both.first.begun (is_last both.first.stage && is_clear both.first.todo)
+      let parts = and_parts both.first.begun (is_last_stage both.first.stage
+      && is_clear both.first.todo)
       first in
       ap (λ (s : State). first_at s both.second)
       (stopped_turns both.first both.registers parts.0 parts.1)
@@ -93,7 +94,7 @@ module _ (contest : Contest)
       let both = both_of contest in
       let second = (and_parts (has_stopped contest.first) (has_stopped contest.second) stopped).1 in
       let parts = and_parts both.second.begun
-      (is_last both.second.stage && is_clear both.second.todo) second in
+      (is_last_stage both.second.stage && is_clear both.second.todo) second in
       ap (λ (s : State). second_at s both.first)
       (stopped_turns both.second both.registers parts.0 parts.1)
 

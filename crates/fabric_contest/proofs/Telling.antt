@@ -3,12 +3,12 @@ use Rattle.std.proofs.Common.{◌≡◌, ℕ, false, List, [], ◌++◌, Option,
 use Rattle.rio_chars.specs.Written.{Writes}
 use Rattle.rio_chars.specs.declared.outbox.Outbox.{Outbox}
 use Rattle.rio_chars.proofs.WrittenLaws.{Writes-whole, Writes-front, Writes-rose}
-use Rattle.fabric_contest.specs.ContestTexts.{IsTold}
+use Rattle.fabric_contest.specs.ContestTexts.{TextIsTold}
 
 pub told_by : {K : Type 0} (written : K → Option (List ℕ)) (faults : K → ℕ)
     (begun out : Outbox K) (text : List ℕ) → begun.buffer.now ≡ [] → begun.failed ≡ false
     → Writes written faults begun out (text ++ []) → out.buffer.now ≡ []
-    → IsTold out.failed (written begun.sink.now) (faults begun.sink.now) (written out.sink.now)
+    → TextIsTold out.failed (written begun.sink.now) (faults begun.sink.now) (written out.sink.now)
     (faults out.sink.now) text
 told_by written faults begun out text empty calm told none = record {
   whole = λ fine. Writes-whole written faults begun out text empty all fine none;

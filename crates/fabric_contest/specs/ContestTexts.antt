@@ -9,12 +9,12 @@ use Rattle.fabric_map.specs.declared.map.Device.{Device}
 use Rattle.host_enumerate.specs.MapTexts.{map_text}
 use Rattle.contest_machine.specs.Machine.{Walker}
 use Rattle.contest_machine.specs.Turns.{Both}
-use Rattle.host_contest.specs.Machines.{is_clear, is_last, is_numbered}
+use Rattle.host_contest.specs.Machines.{is_clear, is_last_stage, is_numbered}
 
 -- A host has ended once it asks nothing and has nothing to write, and is done if it has numbered
 -- the fabric.
 abbrev pub is_over : Walker → Bool
-is_over w = is_last w.stage && is_clear w.todo
+is_over w = is_last_stage w.stage && is_clear w.todo
 
 abbrev pub has_numbered : Walker → Bool
 has_numbered w = is_numbered w.stage && is_clear w.todo
@@ -45,7 +45,7 @@ contest_text names first second both =
     ++ map_by both.first ++ map_by both.second ++ codes "end\n"
 
 -- A text was written, or a front of it if a write has failed.
-pub record IsTold (failed : Bool) (written : Option (List ℕ)) (faults : ℕ)
+pub record TextIsTold (failed : Bool) (written : Option (List ℕ)) (faults : ℕ)
     (written_after : Option (List ℕ)) (faults_after : ℕ) (text : List ℕ) : Type 0 where
   pub whole : failed ≡ false → Appends written written_after text
   pub counts : failed ≡ false → faults_after ≡ faults

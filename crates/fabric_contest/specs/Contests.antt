@@ -16,7 +16,7 @@ use Rattle.host_contest.specs.Reaching.{AreLow}
 use Rattle.host_contest.specs.Walkers.{machine_in, HasEntries}
 use Rattle.host_contest.specs.declared.walker.Walker as walkers
 use Rattle.fabric_contest.specs.declared.contest.Contest.{Contest}
-use Rattle.fabric_contest.specs.Orders.{turns_of}
+use Rattle.fabric_contest.specs.Orders.{seeded_turns}
 
 -- ---- of set-up lines
 
@@ -35,7 +35,7 @@ new_both lines first second = record {
 
 -- what stands after the turns of a number
 abbrev pub contest_of : List Numbered → ℕ → ℕ → ℕ → Both
-contest_of lines first second seed = after_turns (new_both lines first second) (turns_of seed)
+contest_of lines first second seed = after_turns (new_both lines first second) (seeded_turns seed)
 
 -- ---- of the code
 
@@ -43,14 +43,14 @@ contest_of lines first second seed = after_turns (new_both lines first second) (
 abbrev pub view_of : List Numbered → ℕ → Topology
 view_of lines node = topology_of (devices_of lines) (links_of lines) node
 
-abbrev pub lines_of : Contest → List Numbered
-lines_of contest = contest.script.now.lines.items
+abbrev pub contest_lines : Contest → List Numbered
+contest_lines contest = contest.script.now.lines.items
 
 -- two walkers of a fabric, and its registers
 abbrev pub both_of : Contest → Both
 both_of contest = record {
-  first = machine_in (view_of (lines_of contest) contest.first_node) contest.first;
-  second = machine_in (view_of (lines_of contest) contest.second_node) contest.second;
+  first = machine_in (view_of (contest_lines contest) contest.first_node) contest.first;
+  second = machine_in (view_of (contest_lines contest) contest.second_node) contest.second;
   registers = registers_of contest.fabric.devices.items;
 }
 
@@ -61,9 +61,9 @@ has_stopped walker = walker.machine.begun && has_ended walker.machine
 -- The fabric rests, and both hosts are two of its script. They have made turns since they began,
 -- and at first no device that bears the ID of one had a tag. Whoever is done has its entries.
 pub record CanTurn (contest : Contest) : Type 0 where
-  pub stands : StandsFor contest.script.now.names.items (lines_of contest) contest.first_node
+  pub stands : StandsFor contest.script.now.names.items (contest_lines contest) contest.first_node
       contest.fabric
-  pub second_host : IsHost (devices_of (lines_of contest)) (links_of (lines_of contest))
+  pub second_host : IsHost (devices_of (contest_lines contest)) (links_of (contest_lines contest))
       contest.second_node
   pub begun : Both
   pub turns : List Side

@@ -3,15 +3,15 @@ use Rattle.std.specs.Prelude.{List, [], ◌∷◌}
 use Rattle.link_watch.specs.declared.side.Side.{Side}
 use Rattle.link_watch.specs.declared.side.Side.TheVariants.{A, B}
 use Rattle.contest_machine.specs.declared.stages.Turn.{Turn}
-use Rattle.contest_machine.specs.Turns.{turned, came_of, Both, turn_of}
+use Rattle.contest_machine.specs.Turns.{walker_turned, came_of, Both, turn_of}
 use Rattle.fabric_contest.specs.declared.contest.Contest.{Contest}
 
 -- with one more turn
 abbrev pub lasts_after : Both → Turn × Turn → Side → Turn × Turn
 lasts_after both lasts A =
-    (came_of both.first (turned both.first both.registers).walker, lasts.1)
+    (came_of both.first (walker_turned both.first both.registers).walker, lasts.1)
 lasts_after both lasts B =
-    (lasts.0, came_of both.second (turned both.second both.registers).walker)
+    (lasts.0, came_of both.second (walker_turned both.second both.registers).walker)
 
 -- with all these
 abbrev pub lasts_after_turns : Both → Turn × Turn → List Side → Turn × Turn

@@ -10,7 +10,7 @@ use Rattle.contest_machine.specs.Machine.{Walker}
 use Rattle.contest_machine.specs.Contest.{Keeps}
 use Rattle.contest_machine.specs.Turns.{Both, turn_of, after_turns}
 use Rattle.fabric_script.specs.declared.lines.Numbered.{Numbered}
-use Rattle.fabric_script.specs.Scripts.{Passes}
+use Rattle.fabric_script.specs.Scripts.{ScriptPasses}
 use Rattle.fabric_map.specs.Plain.{registers_of}
 use Rattle.host_enumerate.specs.Devised.{IsHost, devices_of, links_of}
 use Rattle.contest_machine.specs.Laws.{IsNew, KeepsApart, HoldsOn}
@@ -23,7 +23,7 @@ id_of_node lines node = (registers_of (devices_of lines) node).base_id
 -- These are two hosts of a script that passes.
 pub record AreHosts (names : List (List ℕ)) (lines : List Numbered) (first second : ℕ) : Type 0
   where
-    pub passes : Passes names lines
+    pub passes : ScriptPasses names lines
     pub first_host : IsHost (devices_of lines) (links_of lines) first
     pub second_host : IsHost (devices_of lines) (links_of lines) second
     pub differ : first ≢ second
@@ -35,20 +35,20 @@ ContestsKeepApart = (names : List (List ℕ)) (lines : List Numbered) (first sec
     → KeepsApart (registers_of (devices_of lines)) (contest_of lines first second seed)
 
 -- no set-up line locks a device
-abbrev pub IsUnlocked : List Numbered → Type 0
-IsUnlocked lines = (node : ℕ) → (registers_of (devices_of lines) node).lock ≡ 0xffff
+abbrev pub SetUpIsUnlocked : List Numbered → Type 0
+SetUpIsUnlocked lines = (node : ℕ) → (registers_of (devices_of lines) node).lock ≡ 0xffff
 
 -- Whatever the number, the host with the greater ID does not give up what it keeps, if no device is
 -- locked at first.
 abbrev pub FirstHoldsOn : Type 0
 FirstHoldsOn = (names : List (List ℕ)) (lines : List Numbered) (first second seed : ℕ)
-    → AreHosts names lines first second → IsUnlocked lines
+    → AreHosts names lines first second → SetUpIsUnlocked lines
     → id_of_node lines second < id_of_node lines first
     → HoldsOn (contest_of lines first second seed).first.stage
 
 abbrev pub SecondHoldsOn : Type 0
 SecondHoldsOn = (names : List (List ℕ)) (lines : List Numbered) (first second seed : ℕ)
-    → AreHosts names lines first second → IsUnlocked lines
+    → AreHosts names lines first second → SetUpIsUnlocked lines
     → id_of_node lines first < id_of_node lines second
     → HoldsOn (contest_of lines first second seed).second.stage
 

@@ -21,5 +21,5 @@ abbrev pub sides_of : ℕ → ℕ → List Side
 sides_of count seed = A ∷ B ∷ sides_behind count (seed % 2147483648)
 
 -- 100,000 turns
-abbrev pub turns_of : ℕ → List Side
-turns_of seed = sides_of 99998 seed
+abbrev pub seeded_turns : ℕ → List Side
+seeded_turns seed = sides_of 99998 seed

@@ -1,12 +1,12 @@
 //! `Contest`: two hosts, and the fabric that they contest.
 ghost use Rattle.std.specs.Prelude.{◌≡◌, ◌≢◌, ◌&&◌, ◌<◌, OnOk, IfOk};
-ghost use Rattle.fabric_script.specs.Scripts.{Passes};
+ghost use Rattle.fabric_script.specs.Scripts.{ScriptPasses};
 ghost use Rattle.host_enumerate.specs.Devised.{IsHost, devices_of, links_of};
 ghost use Rattle.contest_machine.specs.declared.stages.Turn.TheVariants.{Going};
 ghost use Rattle.contest_machine.specs.Turns.{turn_of, after_turns};
 ghost use Rattle.fabric_contest.specs.Contests.{new_both, both_of, has_stopped, CanTurn};
 ghost use Rattle.fabric_contest.specs.LastTurns.{lasts_of, lasts_after, lasts_after_turns};
-ghost use Rattle.fabric_contest.specs.Orders.{sides_behind, turns_of};
+ghost use Rattle.fabric_contest.specs.Orders.{sides_behind, seeded_turns};
 
 use crate::orders::{first_number, next_number, side_by};
 use crate::over::{id_of, turn_over};
@@ -42,7 +42,7 @@ impl<'a> Contest<'a> {
         first: u8,
         second: u8,
     ) -> Result<Contest<'a>, NoMemory>
-        requires passes { Passes script.now.names.items script.now.lines.items }
+        requires passes { ScriptPasses script.now.names.items script.now.lines.items }
         requires first { IsHost (devices_of script.now.lines.items)
             (links_of script.now.lines.items) first }
         requires second { IsHost (devices_of script.now.lines.items)
@@ -131,7 +131,7 @@ impl<'a> Contest<'a> {
     pub fn turns_by(&mut self, alloc: Global, seed: u32) -> Result<(), NoMemory>
         requires can { CanTurn self.old }
         ensures both { OnOk result (both_of self.new ≡ after_turns (both_of self.old)
-            (turns_of seed)) }
+            (seeded_turns seed)) }
         ensures can { OnOk result (CanTurn self.new) }
     {
         self.turn(alloc, Side::A)?;

@@ -4,12 +4,12 @@ ghost use Rattle.std.specs.Io.KnownBytes.{Appends, Keeps};
 ghost use Rattle.rio_chars.specs.Faults.{Rose};
 ghost use Rattle.rio_chars.specs.Fronts.{AppendsFront};
 ghost use Rattle.rio_chars.specs.Written.{Writes};
-ghost use Rattle.fabric_script.specs.Scripts.{Passes};
+ghost use Rattle.fabric_script.specs.Scripts.{ScriptPasses};
 ghost use Rattle.host_enumerate.specs.Devised.{IsHost, devices_of, links_of};
-ghost use Rattle.host_contest.specs.Machines.{has_ended, is_done};
+ghost use Rattle.host_contest.specs.Machines.{has_ended, machine_is_done};
 ghost use Rattle.host_contest.specs.Walkers.{HasEntries};
 ghost use Rattle.fabric_contest.specs.Contests.{both_of, contest_of, CanTurn};
-ghost use Rattle.fabric_contest.specs.ContestTexts.{IsTold, word_by, host_line, map_if, contest_text};
+ghost use Rattle.fabric_contest.specs.ContestTexts.{TextIsTold, word_by, host_line, map_if, contest_text};
 ghost use Rattle.fabric_contest.specs.declared.lines.ContestEnd.TheVariants as Ends;
 
 use crate::contest::Contest;
@@ -47,7 +47,7 @@ pub fn write_contest<K: Sink>(
     seed: u32,
     sink: &mut K,
 ) -> Result<(), ContestEnd>
-    requires passes { Passes script.now.names.items script.now.lines.items }
+    requires passes { ScriptPasses script.now.names.items script.now.lines.items }
     requires first { IsHost (devices_of script.now.lines.items) (links_of script.now.lines.items)
         first }
     requires second { IsHost (devices_of script.now.lines.items) (links_of script.now.lines.items)
@@ -87,7 +87,7 @@ fn tell_contest<K: Sink>(
     requires can { CanTurn contest.now }
     requires first { first < length names.now }
     requires second { second < length names.now }
-    ensures { IsTold result (K.written sink.old) (K.faults sink.old) (K.written sink.new)
+    ensures { TextIsTold result (K.written sink.old) (K.faults sink.old) (K.written sink.new)
         (K.faults sink.new) (contest_text names.now first second (both_of contest.now)) }
 {
     let mut outbox = Outbox::new(buffer, sink);
@@ -104,7 +104,7 @@ fn tell_contest<K: Sink>(
 fn tell_host<K: Sink>(outbox: &mut Outbox<K>, names: &[Name], node: u8, walker: &Walker)
     requires { node < length names.now }
     ensures { Writes K.written K.faults outbox.old outbox.new (host_line names.now node
-        (is_done walker.now.machine) (has_ended walker.now.machine)) }
+        (machine_is_done walker.now.machine) (has_ended walker.now.machine)) }
 {
     outbox.write(b"host ");
     outbox.write(names[usize::from(node)].as_slice());
@@ -116,7 +116,7 @@ fn tell_host<K: Sink>(outbox: &mut Outbox<K>, names: &[Name], node: u8, walker: 
 /// Tells what became of a host.
 fn tell_word<K: Sink>(outbox: &mut Outbox<K>, walker: &Walker)
     ensures { Writes K.written K.faults outbox.old outbox.new
-        (word_by (is_done walker.now.machine) (has_ended walker.now.machine)) }
+        (word_by (machine_is_done walker.now.machine) (has_ended walker.now.machine)) }
 {
     if walker.is_done() {
         outbox.write(b"done");
@@ -131,7 +131,7 @@ fn tell_word<K: Sink>(outbox: &mut Outbox<K>, walker: &Walker)
 fn tell_map<K: Sink>(outbox: &mut Outbox<K>, walker: &Walker)
     requires { HasEntries walker.now }
     ensures { Writes K.written K.faults outbox.old outbox.new
-        (map_if (is_done walker.now.machine) walker.now.machine.map.devices.items) }
+        (map_if (machine_is_done walker.now.machine) walker.now.machine.map.devices.items) }
 {
     if let Some(map) = walker.map() {
         write_map(outbox, map);

@@ -1,8 +1,8 @@
 //! A turn of a host, whose accesses go over the links of a fabric.
 ghost use Rattle.std.specs.Prelude.{◌≡◌, length, [], OnOk};
 ghost use Rattle.fabric_map.specs.Plain.{registers_of};
-ghost use Rattle.contest_machine.specs.Turns.{turned, came_of};
-ghost use Rattle.fabric_maint.specs.Going.{topology_in, registers_in, StandsFor, StandsWhole, IsSame};
+ghost use Rattle.contest_machine.specs.Turns.{walker_turned, came_of};
+ghost use Rattle.fabric_maint.specs.Going.{topology_in, registers_in, StandsFor, StandsWhole, MaintIsSame};
 ghost use Rattle.host_contest.specs.Reaching.{CanReachOn};
 ghost use Rattle.host_contest.specs.Steps.{state_in, CanStep};
 ghost use Rattle.host_contest.specs.Walkers.{machine_in, HasEntries};
@@ -45,7 +45,7 @@ pub(crate) fn turn_over(
         fabric.new) }
     ensures turned { OnOk result (state_in (view_of script.now.lines.items host)
         (registers_of fabric.new.devices.items) walker.new.machine
-        ≡ turned (machine_in (view_of script.now.lines.items host) walker.old)
+        ≡ walker_turned (machine_in (view_of script.now.lines.items host) walker.old)
         (registers_of fabric.old.devices.items)) }
     ensures can { OnOk result (CanStep (view_of script.now.lines.items host)
         (registers_of fabric.new.devices.items) walker.new.machine) }
@@ -71,10 +71,10 @@ fn make_turn(
     requires can { CanStep (topology_in maint.old) (registers_in maint.old) walker.old.machine }
     requires reach { CanReachOn (machine_in (topology_in maint.old) walker.old)
         (registers_in maint.old) }
-    ensures same { IsSame maint.old maint.new }
+    ensures same { MaintIsSame maint.old maint.new }
     ensures whole { OnOk result (StandsWhole maint.new) }
     ensures turned { OnOk result (state_in (topology_in maint.old) (registers_in maint.new)
-        walker.new.machine ≡ turned (machine_in (topology_in maint.old) walker.old)
+        walker.new.machine ≡ walker_turned (machine_in (topology_in maint.old) walker.old)
         (registers_in maint.old)) }
     ensures can { OnOk result (CanStep (topology_in maint.old) (registers_in maint.new)
         walker.new.machine) }

@@ -6,14 +6,14 @@ use Rattle.fabric_map.specs.Routes.{Registers}
 use Rattle.fabric_map.specs.Locked.{IsForeign}
 use Rattle.fabric_map.proofs.Maps.{one_map}
 use Rattle.fabric_map.proofs.Firsts.{one_first_locked}
-use Rattle.host_enumerate.specs.Ends.{EndsAtLock, IsFree}
+use Rattle.host_enumerate.specs.Ends.{EndsAtLock, IsLockFree}
 use Rattle.host_enumerate.specs.declared.ends.EnumEnd.{EnumEnd}
 use Rattle.host_enumerate.specs.declared.ends.EnumEnd.TheVariants.{LockedBy, Undetected, WriteFault, NoMemory}
 use Rattle.fabric_maint.specs.Enumerated.{IsEnumerated, Agrees}
 
 -- where a device is locked by another host, not all are free of it
 locked_not_free : (topology : Topology) (before after : Registers) (path : List ℕ) (id : ℕ)
-    → EndsAtLock topology before after path id → ¬ IsFree topology before
+    → EndsAtLock topology before after path id → ¬ IsLockFree topology before
 locked_not_free topology before after path id ends free =
     free ends.first.node (path, ends.first.leads)
     (subst (λ n. IsForeign (before topology.host).base_id n) (sym ends.first.lock)

@@ -6,11 +6,12 @@ use Rattle.maint_registers.specs.Within.{IsWithin}
 use Rattle.maint_registers.proofs.ChangeLaws.{device-changed}
 use Rattle.maint_packets.specs.declared.request.Request.{Request}
 use Rattle.maint_packets.specs.declared.response.Response.{Response}
-use Rattle.maint_packets.specs.Requests.{IsGood}
+use Rattle.maint_packets.specs.Requests.{IsGoodOp}
 use Rattle.maint_packets.specs.Answers as packets
 use Rattle.link_wires.specs.declared.edits.Edit.{Edit}
 use Rattle.fabric_script.specs.declared.ports.PortRef.{PortRef}
-use Rattle.fabric_map.specs.Topology.{Topology, IsTopology, port_at}
+use Rattle.fabric_script.specs.Ports.{port_at}
+use Rattle.fabric_map.specs.Topology.{Topology, IsTopology}
 use Rattle.fabric_map.specs.Fitting.{Fits}
 use Rattle.fabric_map.specs.Plain.{topology_of, registers_of}
 use Rattle.fabric_model.proofs.Forms.{device_at}
@@ -23,11 +24,11 @@ use Rattle.fabric_ports.specs.Asking.{CanAsk, Replied}
 use Rattle.fabric_ports.specs.declared.fabric.Fabric.{Fabric}
 use Rattle.host_enumerate.specs.declared.maint.Access.{Access}
 use Rattle.host_enumerate.specs.declared.maint.Access.TheVariants.{Read, Write}
-use Rattle.host_enumerate.specs.Accesses.{answered, offset_of, after_access, IsAnswered}
+use Rattle.host_enumerate.specs.Accesses.{answered, access_offset, after_access, IsAnswered}
 use Rattle.host_enumerate.proofs.Accessed.{fits-with}
 use Rattle.host_enumerate.proofs.PlainWalks.{walk-inside}
-use Rattle.fabric_maint.specs.Asked.{IsAskOf, Asks}
-use Rattle.fabric_maint.specs.Going.{names_of, topology_in, registers_in, RestsAt, StandsWhole, Went, Followed}
+use Rattle.fabric_maint.specs.Asked.{IsAskOf, AskedMore}
+use Rattle.fabric_maint.specs.Going.{names_of, topology_in, registers_in, MaintRestsAt, StandsWhole, Went, Followed}
 use Rattle.fabric_maint.specs.GoingLaws.{has_topology}
 use Rattle.fabric_maint.specs.Requests.{request_for, answer_in}
 use Rattle.fabric_maint.specs.declared.maint.FabricMaint.{FabricMaint}
@@ -37,7 +38,7 @@ use Rattle.fabric_maint.proofs.Told.{told_more}
 use Rattle.fabric_maint.proofs.Written.{keeps}
 
 pub good_request : (source tid dest hops : ℕ) (access : Access)
-    → IsGood (request_for source tid dest hops access).op
+    → IsGoodOp (request_for source tid dest hops access).op
 good_request source tid dest hops (Read offset) = tt
 good_request source tid dest hops (Write offset value) = tt
 
@@ -71,7 +72,7 @@ module _ {N K : Type 0} (old : FabricMaint N K) (whole : StandsWhole old) (dest 
 
   -- the lines of its ask are those of the access
   pub ask_of : (edits : N → List Edit) (noise : N) (t : Seen) (block : List TraceLine)
-      (asked : Request) → asked ≡ request → offset_of access < 2 ^ 24
+      (asked : Request) → asked ≡ request → access_offset access < 2 ^ 24
       → CanAsk old.host t [] old.fabric.now → IsAsk old.host asked (edits noise) t block
       → IsAskOf edits old.host t old.tid asked block
   ask_of edits noise t block asked is low can ask = record {
@@ -122,10 +123,10 @@ module _ {N K : Type 0} (old : FabricMaint N K) (whole : StandsWhole old) (dest 
       end_registers = replied.registers
           ∙ ap (λ (p : PortRef). after_request t.network.registers p request) one_port
 
-      pub reply_answer : answer_in response (offset_of access)
+      pub reply_answer : answer_in response (access_offset access)
           ≡ (answered (registers_in old at.node) at.port access).answer
       reply_answer =
-          ap (λ (r : Response). answer_in r (offset_of access)) (replied.response_is
+          ap (λ (r : Response). answer_in r (access_offset access)) (replied.response_is
           ∙ ap (λ (p : PortRef). response_home t.network.registers t.network.links old.host request
           p) one_port)
           ∙ brought t.network.registers t.network.links old.host source old.tid dest hops access at
@@ -142,7 +143,7 @@ module _ {N K : Type 0} (old : FabricMaint N K) (whole : StandsWhole old) (dest 
           ∙ ap (λ (devices : List Device). after_access (registers_of devices) at access)
           (devices_at t can)
 
-      pub reply_rests : RestsAt old.host (seen t replied.block) fabric
+      pub reply_rests : MaintRestsAt old.host (seen t replied.block) fabric
       reply_rests = record {
         can = can_from old.host t replied.block fabric replied.again;
         quiet = replied.quiet;
@@ -152,20 +153,20 @@ module _ {N K : Type 0} (old : FabricMaint N K) (whole : StandsWhole old) (dest 
       device = registers_of t.network.registers at.node
 
       device_after : slice_get (seen t replied.block).network.registers at.node
-          ≡ Some (packets.answered device request at.port).device
+          ≡ Some (packets.request_answered device request at.port).device
       unfolding device
       device_after =
           ap (λ (devices : List Device). slice_get devices at.node) end_registers
           ∙ device-changed t.network.registers at.node
-          (λ d. (packets.answered d request at.port).device)
-          ∙ ap (option_map (λ (d : Device). (packets.answered d request at.port).device))
+          (λ d. (packets.request_answered d request at.port).device)
+          ∙ ap (option_map (λ (d : Device). (packets.request_answered d request at.port).device))
           (slice_get-get_or t.network.registers at.node (new_endpoint 0 false) (inside_at t can))
 
       within_after : IsWithin (answered device at.port access).device
       unfolding device
       within_after = subst IsWithin (device_same device source old.tid dest hops at.port access)
           (device_at (seen t replied.block).network.registers at.node
-          (packets.answered device request at.port).device device_after
+          (packets.request_answered device request at.port).device device_after
           reply_rests.can.stands.ready.formed.registers)
 
       pub reply_fits : (topology : Topology) → Fits topology (registers_of t.network.registers)
@@ -203,7 +204,7 @@ moved old fabric noise sink undetected = record old {
 module _ {N K : Type 0} (edits : N → List Edit) (written : K → Option (List ℕ))
     (old : FabricMaint N K) (whole : StandsWhole old) (fabric : Fabric) (noise : N) (sink : K)
     (undetected dest hops : ℕ) (access : Access)
-    (low : offset_of access < 2 ^ 24) (asked : Request) (response : Response)
+    (low : access_offset access < 2 ^ 24) (asked : Request) (response : Response)
     (request_is : asked ≡ request_for (registers_in old old.host).base_id old.tid dest hops access)
     (replied : (t : Seen) → CanAsk old.host t [] old.fabric.now → Replied (names_of old)
     (written old.sink.now) (written sink) old.host asked (edits old.noise.now) t []
@@ -217,14 +218,14 @@ module _ {N K : Type 0} (edits : N → List Edit) (written : K → Option (List 
       (replied t can)
 
   goes_on : (s : Seen) (origin : FabricMaint N K)
-      → RestsAt origin.host s origin.fabric.now → Went edits written s origin old
+      → MaintRestsAt origin.host s origin.fabric.now → Went edits written s origin old
       → Went edits written s origin (moved old fabric noise sink undetected)
   goes_on s origin rests went =
       let own = replied went.end went.rests.can in
       record {
         lines = went.lines ++ own.block;
         end = seen went.end own.block;
-        asked = Asks went.lines own.block went.end old.tid asked went.asked
+        asked = AskedMore went.lines own.block went.end old.tid asked went.asked
             (ask_of old whole dest hops access edits old.noise.now went.end own.block asked
             request_is low went.rests.can own.is) own.again.stands.sent refl refl refl;
         leads = leads_more old.host s went.end went.lines own.block rests.can.stands.ready
@@ -278,7 +279,7 @@ module _ {N K : Type 0} (edits : N → List Edit) (written : K → Option (List 
 
   pub asked_answer : (at : PortRef)
       → IsAnswered (topology_in old) (registers_in old) dest hops access at
-      → answer_in response (offset_of access)
+      → answer_in response (access_offset access)
       ≡ (answered (registers_in old at.node) at.port access).answer
   asked_answer at is = reply_answer old whole dest hops access at is (written old.sink.now)
       (written sink) (edits old.noise.now) whole.s whole.rests.can fabric response

@@ -12,7 +12,7 @@ use Rattle.fabric_map.specs.Routes.{Registers, walk}
 use Rattle.fabric_map.specs.Plain.{topology_of, registers_of}
 use Rattle.host_enumerate.specs.declared.maint.Access.{Access}
 use Rattle.host_enumerate.specs.declared.maint.Access.TheVariants.{Read, Write}
-use Rattle.host_enumerate.specs.Accesses.{answered, after_read, after_write, offset_of, with_device, after_access, IsAnswered}
+use Rattle.host_enumerate.specs.Accesses.{answered, after_read, after_write, access_offset, registers_with, after_access, IsAnswered}
 use Rattle.fabric_ask.specs.Answered.{after_request, IsRoundTrip, response_home}
 use Rattle.fabric_maint.specs.Requests.{request_for, word_named, answer_in}
 use Rattle.fabric_maint.proofs.Tables.{registers_of-changed, topology_of-changed}
@@ -30,39 +30,39 @@ word_put offset value = go (names_second offset)
     go false = refl
 
 module _ (device : Device) (source tid dest hops port : ℕ) where
-  abbrev carried : Access → packets.Answered
-  carried access = packets.answered device (request_for source tid dest hops access) port
+  abbrev carried : Access → packets.RequestAnswered
+  carried access = packets.request_answered device (request_for source tid dest hops access) port
 
   pub device_same : (access : Access)
       → (carried access).device ≡ (answered device port access).device
   device_same (Read offset) = go (value_at device offset port)
     where
       go : (o : Option ℕ)
-          → (packets.after_read device (request_for source tid dest hops (Read offset)) o).device
+          → (packets.request_read device (request_for source tid dest hops (Read offset)) o).device
           ≡ (after_read device o).device
       go None = refl
       go (Some value) = refl
   device_same (Write offset value) = go (written_at device offset value)
     where
-      go : (o : Option Device) → (packets.after_write device
+      go : (o : Option Device) → (packets.request_written device
           (request_for source tid dest hops (Write offset value)) o).device
           ≡ (after_write device o).device
       go None = refl
       go (Some next) = refl
 
   pub answer_same : (access : Access)
-      → answer_in (carried access).response (offset_of access)
+      → answer_in (carried access).response (access_offset access)
       ≡ (answered device port access).answer
   answer_same (Read offset) = go (value_at device offset port)
     where
-      go : (o : Option ℕ) → answer_in (packets.after_read device
+      go : (o : Option ℕ) → answer_in (packets.request_read device
           (request_for source tid dest hops (Read offset)) o).response offset
           ≡ (after_read device o).answer
       go None = refl
       go (Some value) = ap (λ (n : ℕ). record { status = 0; value = n }) (word_put offset value)
   answer_same (Write offset value) = go (written_at device offset value)
     where
-      go : (o : Option Device) → answer_in (packets.after_write device
+      go : (o : Option Device) → answer_in (packets.request_written device
           (request_for source tid dest hops (Write offset value)) o).response offset
           ≡ (after_write device o).answer
       go None = refl
@@ -79,15 +79,15 @@ module _ (registers : List Device) (links : List (PortRef × PortRef))
   pub after_same : registers_of (after_request registers at request)
       ≡ after_access (registers_of registers) at access
   after_same =
-      registers_of-changed registers at.node (λ device. (packets.answered device request
+      registers_of-changed registers at.node (λ device. (packets.request_answered device request
       at.port).device) inside
-      ∙ ap (λ d. with_device (registers_of registers) at.node d)
+      ∙ ap (λ d. registers_with (registers_of registers) at.node d)
       (device_same (registers_of registers at.node) source tid dest hops at.port access)
 
   pub topology_same : topology_of (after_request registers at request) links host
       ≡ topology_of registers links host
   topology_same = topology_of-changed registers links host at.node
-      (λ device. (packets.answered device request at.port).device)
+      (λ device. (packets.request_answered device request at.port).device)
       (λ device stands. answered_same device request at.port)
 
   walk_same : walk (topology_of (after_request registers at request) links host)
@@ -123,6 +123,6 @@ module _ (registers : List Device) (links : List (PortRef × PortRef))
   }
 
   -- the answer that the response brings home
-  pub brought : answer_in (response_home registers links host request at) (offset_of access)
+  pub brought : answer_in (response_home registers links host request at) (access_offset access)
       ≡ (answered (registers_of registers at.node) at.port access).answer
   brought = answer_same (registers_of registers at.node) source tid dest hops at.port access

@@ -22,9 +22,9 @@ use Rattle.host_enumerate.specs.declared.maint.Access.{Access}
 use Rattle.host_enumerate.specs.declared.maint.MaintEnd.{MaintEnd}
 use Rattle.host_enumerate.specs.declared.maint.MaintEnd.TheVariants as maint
 use Rattle.host_enumerate.specs.Causes.{IsCaused}
-use Rattle.host_enumerate.specs.Accesses.{offset_of, IsAnswered}
+use Rattle.host_enumerate.specs.Accesses.{access_offset, IsAnswered}
 use Rattle.fabric_maint.specs.AskEnds.{count_after, end_for}
-use Rattle.fabric_maint.specs.Going.{names_of, topology_in, registers_in, RestsAt, StandsWhole, Went, Followed, Partly, Left, Abandoned, HasMet}
+use Rattle.fabric_maint.specs.Going.{names_of, topology_in, registers_in, MaintRestsAt, StandsWhole, Went, Followed, Partly, AskLeftOff, Abandoned, HasMet}
 use Rattle.fabric_maint.specs.Requests.{request_for}
 use Rattle.fabric_maint.specs.declared.maint.FabricMaint.{FabricMaint}
 use Rattle.fabric_maint.proofs.Asking.{good_request, ask_of, trip_at, moved}
@@ -100,7 +100,7 @@ rose before after is = go (cases_lt before 18446744073709551615)
 module _ {N K : Type 0} (edits : N → List Edit) (written : K → Option (List ℕ))
     (old : FabricMaint N K) (whole : StandsWhole old) (fabric : Fabric) (noise : N) (sink : K)
     (undetected dest hops : ℕ) (access : Access)
-    (low : offset_of access < 2 ^ 24) (short : hops < 256) (at : PortRef)
+    (low : access_offset access < 2 ^ 24) (short : hops < 256) (at : PortRef)
     (is : IsAnswered (topology_in old) (registers_in old) dest hops access at) (asked : Request)
     (request_is : asked ≡ request_for (registers_in old old.host).base_id old.tid dest hops access)
   where
@@ -141,8 +141,8 @@ module _ {N K : Type 0} (edits : N → List Edit) (written : K → Option (List 
     leaves_off : (part : (t : Seen) → CanAsk old.host t [] old.fabric.now → ToldPart (names_of old)
         (written old.sink.now) (written sink) old.host asked (edits old.noise.now) t)
         → (s : Seen) (origin : FabricMaint N K)
-        → RestsAt origin.host s origin.fabric.now → Went edits written s origin old
-        → Left edits written s origin (moved old fabric noise sink undetected)
+        → MaintRestsAt origin.host s origin.fabric.now → Went edits written s origin old
+        → AskLeftOff edits written s origin (moved old fabric noise sink undetected)
     leaves_off part s origin rests went =
         let own = part went.end went.rests.can in
         let own_lines = lines_at (edits old.noise.now) went.end own.block went.rests.can own.is in

@@ -4,7 +4,7 @@ use Rattle.std.proofs.lemmas.Option.{same_Some}
 use Rattle.maint_registers.specs.Devices.{Device, is_switch}
 use Rattle.maint_registers.specs.Changes.{with_device}
 use Rattle.maint_packets.specs.declared.request.Request.{Request}
-use Rattle.maint_packets.specs.Requests.{IsGood}
+use Rattle.maint_packets.specs.Requests.{IsGoodOp}
 use Rattle.maint_packets.proofs.RequestLaws.{read_back}
 use Rattle.link_wires.specs.declared.edits.Edit.{Edit}
 use Rattle.fabric_script.specs.declared.ports.PortRef.{PortRef}
@@ -167,7 +167,7 @@ leads_own host s end lines device kind leads = record {
 
 pub ask_lines : (host : ℕ) (request : Request) (noise : List Edit) (at : PortRef) (s : Seen)
     (block : List TraceLine) (fabric : Fabric) → CanAsk host s [] fabric → request.hop < 256
-    → request.prio < 4 → IsGood request.op
+    → request.prio < 4 → IsGoodOp request.op
     → IsRoundTrip s.network.registers s.network.links host request at
     → IsAsk host request noise s block → AnswersNothing host s block
 ask_lines host request noise at s block fabric can low prio good trip ask =

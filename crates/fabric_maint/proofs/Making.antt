@@ -5,7 +5,7 @@ use Rattle.maint_registers.specs.Devices.{Device}
 use Rattle.link_wires.specs.declared.edits.Edit.{Edit}
 use Rattle.fabric_script.specs.declared.ports.PortRef.{PortRef}
 use Rattle.fabric_script.specs.declared.lines.Numbered.{Numbered}
-use Rattle.fabric_script.specs.Scripts.{Passes}
+use Rattle.fabric_script.specs.Scripts.{ScriptPasses}
 use Rattle.fabric_map.specs.Fitting.{Fits}
 use Rattle.fabric_map.specs.Plain.{topology_of, registers_of}
 use Rattle.fabric_trace.specs.Runs.{start}
@@ -14,7 +14,7 @@ use Rattle.fabric_ports.specs.declared.fabric.Fabric.{Fabric}
 use Rattle.host_enumerate.specs.Checking.{IsNewFabric}
 use Rattle.host_enumerate.specs.Devised.{IsHost, devices_of, links_of}
 use Rattle.host_enumerate.proofs.NewFabrics.{devised_fabric}
-use Rattle.fabric_maint.specs.Asked.{Begins}
+use Rattle.fabric_maint.specs.Asked.{AskedNothing}
 use Rattle.fabric_maint.specs.Going.{names_of, registers_in, StandsFor, StandsWhole, Followed}
 use Rattle.fabric_maint.specs.declared.maint.FabricMaint.{FabricMaint}
 use Rattle.fabric_maint.proofs.Leading.{leads_none}
@@ -29,7 +29,7 @@ follows_itself edits written faults maint = record {
   went = λ s rests. record {
     lines = [];
     end = s;
-    asked = Begins refl refl refl;
+    asked = AskedNothing refl refl refl;
     leads = leads_none maint.host s rests.can.stands.sent rests.can.laid.host_is;
     told = Appends-nil (written maint.sink.now);
     rests = rests;
@@ -38,7 +38,7 @@ follows_itself edits written faults maint = record {
 
 -- a new fabric of a script
 module _ (names : List (List ℕ)) (lines : List Numbered) (node : ℕ) (fabric : Fabric)
-    (passes : Passes names lines) (host : IsHost (devices_of lines) (links_of lines) node)
+    (passes : ScriptPasses names lines) (host : IsHost (devices_of lines) (links_of lines) node)
     (stands : Stands (start lines) [] fabric)
     (named : length fabric.devices.items ≡ length names) where
   new_here : IsNewFabric (devices_of lines) (links_of lines) node
@@ -68,7 +68,7 @@ module _ (names : List (List ℕ)) (lines : List Numbered) (node : ℕ) (fabric 
   }
 
 module _ {N K : Type 0} (maint : FabricMaint N K)
-    (passes : Passes (names_of maint) maint.script.now.lines.items)
+    (passes : ScriptPasses (names_of maint) maint.script.now.lines.items)
     (host : IsHost (devices_of maint.script.now.lines.items)
     (links_of maint.script.now.lines.items) maint.host)
     (stands : Stands (start maint.script.now.lines.items) [] maint.fabric.now)

@@ -9,7 +9,8 @@ use Rattle.maint_registers.proofs.ChangeLaws.{device-changed}
 use Rattle.maint_registers.proofs.SameLaws.{same_kind}
 use Rattle.link_wires.specs.declared.edits.Edit.{Edit}
 use Rattle.fabric_script.specs.declared.ports.PortRef.{PortRef}
-use Rattle.fabric_map.specs.Topology.{Topology, port_at}
+use Rattle.fabric_script.specs.Ports.{port_at}
+use Rattle.fabric_map.specs.Topology.{Topology}
 use Rattle.fabric_map.specs.Routes.{Registers}
 use Rattle.fabric_map.specs.Fitting.{Fits}
 use Rattle.fabric_map.specs.Plain.{topology_of, registers_of}
@@ -20,11 +21,11 @@ use Rattle.fabric_ports.specs.OwnRegisters.{device_with, seen_with, OwnWritten}
 use Rattle.fabric_ports.specs.declared.fabric.Fabric.{Fabric}
 use Rattle.host_enumerate.specs.declared.maint.Access.{Access}
 use Rattle.host_enumerate.specs.declared.maint.Access.TheVariants.{Read, Write}
-use Rattle.host_enumerate.specs.Accesses.{done, failed, answered, after_read, after_write, with_device as with_one, after_access}
+use Rattle.host_enumerate.specs.Accesses.{access_done, access_failed, answered, after_read, after_write, registers_with, after_access}
 use Rattle.host_enumerate.proofs.Accessed.{Keeps, fits-with}
 use Rattle.host_enumerate.proofs.Frames.{with_device-itself}
 use Rattle.fabric_maint.specs.Asked.{Owns}
-use Rattle.fabric_maint.specs.Going.{topology_in, registers_in, RestsAt, StandsWhole, Went, Followed}
+use Rattle.fabric_maint.specs.Going.{topology_in, registers_in, MaintRestsAt, StandsWhole, Went, Followed}
 use Rattle.fabric_maint.specs.declared.maint.FabricMaint.{FabricMaint}
 use Rattle.fabric_maint.proofs.Tables.{registers_of-changed, topology_of-changed}
 use Rattle.fabric_maint.proofs.Written.{keeps}
@@ -67,7 +68,7 @@ module _ {N K : Type 0} (old : FabricMaint N K) (whole : StandsWhole old) where
       → registers_in old ≡ after_access (registers_in old) (port_at old.host 0) access
   read_registers access offset is =
       sym (with_device-itself (registers_in old) old.host)
-      ∙ ap (λ (d : Device). with_one (registers_in old) old.host d)
+      ∙ ap (λ (d : Device). registers_with (registers_in old) old.host d)
       (sym (same (value_at (registers_in old old.host) offset 0)))
       ∙ ap (λ (a : Access). after_access (registers_in old) (port_at old.host 0) a) (sym is)
     where
@@ -79,25 +80,25 @@ module _ {N K : Type 0} (old : FabricMaint N K) (whole : StandsWhole old) where
   -- a write that was done, or not
   pub done_answer : (access : Access) (offset value : ℕ) → access ≡ Write offset value
       → is_some (written_at own_device.device offset value) ≡ true
-      → done 0 ≡ (answered (registers_in old old.host) 0 access).answer
+      → access_done 0 ≡ (answered (registers_in old old.host) 0 access).answer
   done_answer access offset value is some =
       sym (go (written_at own_device.device offset value) some)
       ∙ of_access access (Write offset value) is
     where
       go : (o : Option Device) → is_some o ≡ true
-          → (after_write own_device.device o).answer ≡ done 0
+          → (after_write own_device.device o).answer ≡ access_done 0
       go None is = absurd cc
       go (Some next) is = refl
 
   pub failed_answer : (access : Access) (offset value : ℕ) → access ≡ Write offset value
       → (is_some (written_at own_device.device offset value) ≡ true → ⊥)
-      → failed ≡ (answered (registers_in old old.host) 0 access).answer
+      → access_failed ≡ (answered (registers_in old old.host) 0 access).answer
   failed_answer access offset value is none =
       sym (go (written_at own_device.device offset value) none)
       ∙ of_access access (Write offset value) is
     where
       go : (o : Option Device) → (is_some o ≡ true → ⊥)
-          → (after_write own_device.device o).answer ≡ failed
+          → (after_write own_device.device o).answer ≡ access_failed
       go None is = refl
       go (Some next) is = absurd (is refl)
 
@@ -114,7 +115,7 @@ written_is : (device : Device) (offset value : ℕ) (o : Option Device)
 written_is device offset value None = refl
 written_is device offset value (Some next) = refl
 
-module _ (host : ℕ) (t : Seen) (old new : Fabric) (rests : RestsAt host t old)
+module _ (host : ℕ) (t : Seen) (old new : Fabric) (rests : MaintRestsAt host t old)
     (own : IsHostDevice host t) (offset value : ℕ) (answer : Bool)
     (written : OwnWritten host own.device offset value t [] old new answer) where
   abbrev next : Device
@@ -141,14 +142,14 @@ module _ (host : ℕ) (t : Seen) (old new : Fabric) (rests : RestsAt host t old)
   pub next_kind : is_switch next ≡ false
   next_kind = same_kind own.device next next_keeps.same ∙ own.kind
 
-  pub rests_on : RestsAt host end new
+  pub rests_on : MaintRestsAt host end new
   rests_on = record { can = written.asks host rests.can; quiet = rests.quiet }
 
   inside : host < length t.network.registers
   inside = slice_get_within t.network.registers host own.device own.stands
 
   pub registers_on : registers_of end.network.registers
-      ≡ with_one (registers_of t.network.registers) host next
+      ≡ registers_with (registers_of t.network.registers) host next
   registers_on = registers_of-changed t.network.registers host (λ other. next) inside
 
   pub topology_on : (links : List (PortRef × PortRef))
@@ -186,11 +187,11 @@ module _ {N K : Type 0} (old : FabricMaint N K) (whole : StandsWhole old) (fabri
       ∙ registers_on host whole.s old.fabric.now fabric whole.rests (own_device old whole) offset
       value
       answer written
-      ∙ ap (λ (r : Registers). with_one r host (device_with device offset value))
+      ∙ ap (λ (r : Registers). registers_with r host (device_with device offset value))
       (ap registers_of whole.rests.can.stands.shows.registers)
-      ∙ ap (λ (d : Device). with_one (registers_in old) host d)
+      ∙ ap (λ (d : Device). registers_with (registers_in old) host d)
       (sym (written_is device offset value (written_at device offset value)))
-      ∙ ap (λ (d : Device). with_one (registers_in old) host
+      ∙ ap (λ (d : Device). registers_with (registers_in old) host
       (answered d 0 (Write offset value)).device) (sym (own_is old whole))
       ∙ ap (λ (a : Access). after_access (registers_in old) (port_at old.host 0) a) (sym is)
 

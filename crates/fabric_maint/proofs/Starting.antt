@@ -7,8 +7,8 @@ use Rattle.fabric_script.specs.declared.lines.Line.{Line}
 use Rattle.fabric_script.specs.declared.lines.Line.TheVariants.{Endpoint, Switch, Link, Buffers, Route, Default, Lock, Large}
 use Rattle.fabric_script.specs.declared.lines.Numbered.{Numbered}
 use Rattle.fabric_script.specs.Peers.{peer_in}
-use Rattle.fabric_script.specs.Scripts.{Passes}
-use Rattle.fabric_map.specs.Topology.{IsPort, ports_of}
+use Rattle.fabric_script.specs.Scripts.{ScriptPasses}
+use Rattle.fabric_map.specs.Topology.{IsPortIn, device_ports}
 use Rattle.fabric_map.specs.Plain.{ports_of_switch, topology_of, registers_of}
 use Rattle.fabric_model.specs.Network.{Network}
 use Rattle.fabric_trace.specs.Runs.{bare, set_up, set_up_all, begins, start}
@@ -24,7 +24,7 @@ use Rattle.fabric_ports.specs.declared.fabric.Fabric.{Fabric}
 use Rattle.host_enumerate.specs.Checking.{IsNewFabric}
 use Rattle.host_enumerate.specs.Devised.{IsHost, devices_after, devices_after_all, links_after_all, devices_of, links_of}
 use Rattle.host_enumerate.proofs.NewFabrics.{devised_fabric}
-use Rattle.fabric_maint.specs.Going.{RestsAt}
+use Rattle.fabric_maint.specs.Going.{MaintRestsAt}
 
 -- ---- lines of set-up make the same devices and links of a network
 
@@ -97,7 +97,7 @@ quiet_begun net (link ∷ links) = (
 
 module _ (devices : List Device) (links : List (PortRef × PortRef)) (host : ℕ)
     (new : IsNewFabric devices links host) where
-  there : (q p : PortRef) → peer_in links q ≡ Some p → IsPort (topology_of devices links host) q
+  there : (q p : PortRef) → peer_in links q ≡ Some p → IsPortIn (topology_of devices links host) q
   there q p peer = new.topology.ports q p peer
 
   stands : (node : ℕ) → node < length devices
@@ -105,7 +105,7 @@ module _ (devices : List Device) (links : List (PortRef × PortRef)) (host : ℕ
   stands node inside = slice_get-get_or devices node (new_endpoint 0 false) inside
 
   one_port : (node : ℕ) → IsEndpointIn devices node
-      → ports_of (topology_of devices links host) node ≡ 1
+      → device_ports (topology_of devices links host) node ≡ 1
   one_port node is = go (slice_get devices node) is
     where
       of_kind : (device : Device) → is_switch device ≡ false
@@ -135,8 +135,8 @@ module _ (devices : List Device) (links : List (PortRef × PortRef)) (host : ℕ
 -- ---- the fabric of a script
 
 pub rests_new : (names : List (List ℕ)) (lines : List Numbered) (host : ℕ) (fabric : Fabric)
-    → Passes names lines → IsHost (devices_of lines) (links_of lines) host
-    → Stands (start lines) [] fabric → RestsAt host (start lines) fabric
+    → ScriptPasses names lines → IsHost (devices_of lines) (links_of lines) host
+    → Stands (start lines) [] fabric → MaintRestsAt host (start lines) fabric
 rests_new names lines host fabric passes is stands = record {
   can = record {
     stands = stands;

@@ -9,14 +9,14 @@ use Rattle.maint_registers.proofs.ChangeLaws.{length-with_device, device-changed
 use Rattle.fabric_script.specs.declared.ports.PortRef.{PortRef}
 use Rattle.fabric_map.specs.Topology.{Topology}
 use Rattle.fabric_map.specs.Plain.{ports_of_switch, topology_of, registers_of}
-use Rattle.host_enumerate.specs.Accesses.{with_device as with_one}
+use Rattle.host_enumerate.specs.Accesses.{registers_with}
 use Rattle.host_enumerate.proofs.Accessed.{ports_of_switch-same}
 
 -- the registers by number, with those of one device changed
 pub registers_of-changed : (devices : List Device) (node : ℕ) (change : Device → Device)
     → node < length devices
     → registers_of (with_device devices node change)
-    ≡ with_one (registers_of devices) node (change (registers_of devices node))
+    ≡ registers_with (registers_of devices) node (change (registers_of devices node))
 registers_of-changed devices node change inside =
     fun_ext (λ other. at other (eqb other node) refl)
   where

@@ -5,7 +5,7 @@ use Rattle.maint_registers.specs.Within.{IsWithin}
 use Rattle.maint_packets.specs.declared.request.Request.{Request}
 use Rattle.link_wires.specs.declared.edits.Edit.{Edit}
 use Rattle.fabric_map.specs.Plain.{registers_of}
-use Rattle.host_enumerate.specs.Accesses.{offset_of}
+use Rattle.host_enumerate.specs.Accesses.{access_offset}
 use Rattle.host_enumerate.specs.declared.maint.Access.{Access}
 use Rattle.fabric_trace.specs.Fold.{seen}
 use Rattle.fabric_trace.specs.Known.{Seen}
@@ -22,7 +22,7 @@ pub record IsAskOf {N : Type 0} (edits : N → List Edit) (host : ℕ) (s : Seen
   pub dest : ℕ
   pub hops : ℕ
   pub access : Access
-  pub offset : offset_of access < 2 ^ 24
+  pub offset : access_offset access < 2 ^ 24
   pub request_is : request
       ≡ request_for (registers_of s.network.registers host).base_id tid dest hops access
   pub is : IsAsk host request (edits noise) s block
@@ -33,9 +33,9 @@ pub record IsAskOf {N : Type 0} (edits : N → List Edit) (host : ℕ) (s : Seen
 -- and the last state and number.
 pub data Asked {N : Type 0} (edits : N → List Edit) (host : ℕ) (s : Seen) (tid : ℕ) :
     List TraceLine → Seen → ℕ → Type 0 where
-  Begins : {lines : List TraceLine} {t : Seen} {next : ℕ} → lines ≡ [] → t ≡ s → next ≡ tid
+  AskedNothing : {lines : List TraceLine} {t : Seen} {next : ℕ} → lines ≡ [] → t ≡ s → next ≡ tid
       → Asked edits host s tid lines t next
-  Asks : {lines : List TraceLine} {t : Seen} {next : ℕ} (before block : List TraceLine)
+  AskedMore : {lines : List TraceLine} {t : Seen} {next : ℕ} (before block : List TraceLine)
       (u : Seen) (number : ℕ) (request : Request) → Asked edits host s tid before u number
       → IsAskOf edits host u number request block → (seen u block).unfaithful ≡ None
       → lines ≡ before ++ block → t ≡ seen u block → next ≡ (number + 1) % 256

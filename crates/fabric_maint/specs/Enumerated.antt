@@ -4,7 +4,7 @@ use Rattle.fabric_map.specs.declared.map.Map.{Map}
 use Rattle.fabric_map.specs.Topology.{Topology}
 use Rattle.fabric_map.specs.Routes.{Registers}
 use Rattle.fabric_map.specs.Numbered.{IsNumbered}
-use Rattle.host_enumerate.specs.Ends.{EndsAtLock, IsFree}
+use Rattle.host_enumerate.specs.Ends.{EndsAtLock, IsLockFree}
 use Rattle.host_enumerate.specs.declared.ends.EnumEnd.{EnumEnd}
 use Rattle.host_enumerate.specs.declared.ends.EnumEnd.TheVariants.{LockedBy}
 
@@ -12,7 +12,8 @@ use Rattle.host_enumerate.specs.declared.ends.EnumEnd.TheVariants.{LockedBy}
 -- before and after.
 abbrev pub IsEnumerated : Topology → Registers → Registers → Result Map EnumEnd → Type 0
 IsEnumerated topology before after (Ok map) =
-    IsNumbered topology map.devices.items map.entries.items before after × IsFree topology before
+    IsNumbered topology map.devices.items map.entries.items before after
+    × IsLockFree topology before
 IsEnumerated topology before after (Err (LockedBy path id)) =
     EndsAtLock topology before after path id
 IsEnumerated topology before after (Err _) = ⊤

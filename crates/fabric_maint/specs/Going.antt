@@ -7,7 +7,7 @@ use Rattle.link_model.specs.declared.event.Event.{Event}
 use Rattle.link_wires.specs.declared.edits.Edit.{Edit}
 use Rattle.fabric_script.specs.declared.ports.PortRef.{PortRef}
 use Rattle.fabric_script.specs.declared.lines.Numbered.{Numbered}
-use Rattle.fabric_script.specs.Scripts.{Passes}
+use Rattle.fabric_script.specs.Scripts.{ScriptPasses}
 use Rattle.fabric_map.specs.Topology.{Topology}
 use Rattle.fabric_map.specs.Routes.{Registers}
 use Rattle.fabric_map.specs.Fitting.{Fits}
@@ -44,7 +44,7 @@ registers_in maint = registers_of maint.fabric.now.devices.items
 
 -- The fabric stands for a state in which a host can ask: no packet is in the network, and all links
 -- are at rest.
-pub record RestsAt (host : ℕ) (s : Seen) (fabric : Fabric) : Type 0 where
+pub record MaintRestsAt (host : ℕ) (s : Seen) (fabric : Fabric) : Type 0 where
   pub can : CanAsk host s [] fabric
   pub quiet : AreQuiet s.network.links s
 
@@ -52,12 +52,12 @@ pub record RestsAt (host : ℕ) (s : Seen) (fabric : Fabric) : Type 0 where
 -- is an endpoint.
 pub record StandsFor (names : List (List ℕ)) (lines : List Numbered) (node : ℕ) (fabric : Fabric)
     : Type 0 where
-  pub passes : Passes names lines
+  pub passes : ScriptPasses names lines
   pub host : IsHost (devices_of lines) (links_of lines) node
   pub named : length (devices_of lines) ≤ length names
   pub few : length names ≤ 256
   pub s : Seen
-  pub rests : RestsAt node s fabric
+  pub rests : MaintRestsAt node s fabric
   pub topology : topology_of s.network.registers s.network.links node
       ≡ topology_of (devices_of lines) (links_of lines) node
   pub fits : Fits (topology_of (devices_of lines) (links_of lines) node)
@@ -70,7 +70,7 @@ StandsWhole maint =
 -- ---- from one value to a later one
 
 -- Script and host are the same, and so are the fabric, the noise and the sink that are lent.
-pub record IsSame {N K : Type 0} (old new : FabricMaint N K) : Type 0 where
+pub record MaintIsSame {N K : Type 0} (old new : FabricMaint N K) : Type 0 where
   pub script : new.script.now ≡ old.script.now
   pub host : new.host ≡ old.host
   pub fabric : new.fabric.ghost_name ≡ old.fabric.ghost_name
@@ -97,28 +97,28 @@ pub record Went {N K : Type 0} (edits : N → List Edit) (written : K → Option
   pub leads : LeadsTo new.host s lines end
   pub told : Appends (written old.sink.now) (written new.sink.now)
       (trace_text (names_of new) lines)
-  pub rests : RestsAt new.host end new.fabric.now
+  pub rests : MaintRestsAt new.host end new.fabric.now
 
 -- From whatever state the first stands for, the host has come to the second. The count of write
 -- faults of its sink has not fallen.
 pub record Followed {N K : Type 0} (edits : N → List Edit) (written : K → Option (List ℕ))
     (faults : K → ℕ) (old new : FabricMaint N K) : Type 0 where
-  pub same : IsSame old new
+  pub same : MaintIsSame old new
   pub never_falls : faults old.sink.now ≤ faults new.sink.now
-  pub went : (s : Seen) → RestsAt old.host s old.fabric.now → Went edits written s old new
+  pub went : (s : Seen) → MaintRestsAt old.host s old.fabric.now → Went edits written s old new
 
 -- What was told of an ask that has no answer: nothing, or a front of the text of its lines, which
 -- may stand in a trace behind those before.
-pub data Begun {N : Type 0} (edits : N → List Edit) (host : ℕ) (names : List (List ℕ)) (s : Seen)
+pub data AskBegun {N : Type 0} (edits : N → List Edit) (host : ℕ) (names : List (List ℕ)) (s : Seen)
     (before : List TraceLine) (end : Seen) (tid : ℕ) (bytes : List ℕ) : Type 0 where
-  Nothing : bytes ≡ [] → Begun edits host names s before end tid bytes
+  NothingTold : bytes ≡ [] → AskBegun edits host names s before end tid bytes
   Partly : (request : Request) (block : List TraceLine) (rest : List ℕ)
       → IsAskOf edits host end tid request block → Made s (before ++ block)
-      → trace_text names block ≡ bytes ++ rest → Begun edits host names s before end tid bytes
+      → trace_text names block ≡ bytes ++ rest → AskBegun edits host names s before end tid bytes
 
 -- From a state a host has made asks, and the sink was told their text and then a front of the text
 -- of one more, up to where that stopped.
-pub record Left {N K : Type 0} (edits : N → List Edit) (written : K → Option (List ℕ))
+pub record AskLeftOff {N K : Type 0} (edits : N → List Edit) (written : K → Option (List ℕ))
     (s : Seen) (old new : FabricMaint N K) : Type 0 where
   pub lines : List TraceLine
   pub end : Seen
@@ -128,15 +128,16 @@ pub record Left {N K : Type 0} (edits : N → List Edit) (written : K → Option
   pub bytes : List ℕ
   pub told : Appends (written old.sink.now) (written new.sink.now)
       (trace_text (names_of new) lines ++ bytes)
-  pub begun : Begun edits new.host (names_of new) s lines end tid bytes
+  pub begun : AskBegun edits new.host (names_of new) s lines end tid bytes
 
 -- From whatever state the first stands for, the host has left off at the second. The count of write
 -- faults of its sink has not fallen.
 pub record Abandoned {N K : Type 0} (edits : N → List Edit) (written : K → Option (List ℕ))
     (faults : K → ℕ) (old new : FabricMaint N K) : Type 0 where
-  pub same : IsSame old new
+  pub same : MaintIsSame old new
   pub never_falls : faults old.sink.now ≤ faults new.sink.now
-  pub left : (s : Seen) → RestsAt old.host s old.fabric.now → Left edits written s old new
+  pub left : (s : Seen) → MaintRestsAt old.host s old.fabric.now
+      → AskLeftOff edits written s old new
 
 -- The last lines that the sink was told are those of an ask, from a state in which all links were
 -- at rest and every event that was acted on had been sent. In it this port acted on this event,

@@ -8,7 +8,7 @@ use Rattle.fabric_map.specs.Fitting.{Fits}
 use Rattle.fabric_map.specs.Plain.{registers_of}
 use Rattle.host_enumerate.proofs.NewFabrics.{devised_fabric}
 use Rattle.fabric_trace.specs.Text.{trace_text}
-use Rattle.fabric_maint.specs.Going.{names_of, topology_in, registers_in, StandsWhole, Followed, Nothing, Abandoned}
+use Rattle.fabric_maint.specs.Going.{names_of, topology_in, registers_in, StandsWhole, Followed, NothingTold, Abandoned}
 use Rattle.fabric_maint.specs.declared.maint.FabricMaint.{FabricMaint}
 
 pub has_topology : {N K : Type 0} (maint : FabricMaint N K) → StandsWhole maint
@@ -41,6 +41,6 @@ abandons edits written faults origin maint followed = record {
         bytes = [];
         told = subst (Appends (written origin.sink.now) (written maint.sink.now))
             (sym (append-nil (trace_text (names_of maint) went.lines))) went.told;
-        begun = Nothing refl;
+        begun = NothingTold refl;
       };
 }

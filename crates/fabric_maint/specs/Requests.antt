@@ -5,14 +5,14 @@ use Rattle.maint_packets.specs.declared.request.Op.TheVariants as Ops
 use Rattle.maint_packets.specs.declared.request.Request.{Request}
 use Rattle.maint_packets.specs.declared.response.Response.{Response}
 use Rattle.maint_packets.specs.Requests.{names_second}
-use Rattle.host_enumerate.specs.Accesses.{offset_of}
+use Rattle.host_enumerate.specs.Accesses.{access_offset}
 use Rattle.host_enumerate.specs.declared.maint.Access.{Access}
 use Rattle.host_enumerate.specs.declared.maint.Access.TheVariants.{Read, Write}
 use Rattle.host_enumerate.specs.declared.maint.Answer.{Answer}
 
-abbrev pub op_of : Access → Op
-op_of (Read offset) = Ops.Read
-op_of (Write offset value) = Ops.Write value
+abbrev pub access_op : Access → Op
+access_op (Read offset) = Ops.Read
+access_op (Write offset value) = Ops.Write value
 
 -- from an ID, with a transaction number, to a destination behind so many hops; its priority is 0,
 -- and its IDs
@@ -23,10 +23,10 @@ request_for source tid dest hops access = record {
   dest = dest;
   source = source;
   large = false;
-  op = op_of access;
+  op = access_op access;
   tid = tid;
   hop = hops;
-  offset = offset_of access;
+  offset = access_offset access;
 }
 
 -- the word that an offset names, or 0 if there are none

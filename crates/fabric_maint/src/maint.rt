@@ -1,12 +1,12 @@
 //! `FabricMaint`: accesses over the links of a fabric.
 ghost use Rattle.std.specs.Prelude.{◌≡◌, ◌<◌, length, Some, []};
-ghost use Rattle.fabric_script.specs.Scripts.{Passes};
+ghost use Rattle.fabric_script.specs.Scripts.{ScriptPasses};
 ghost use Rattle.fabric_map.specs.Plain.{topology_of, registers_of};
 ghost use Rattle.fabric_trace.specs.Runs.{start};
 ghost use Rattle.fabric_ports.specs.Standing.{Stands};
 ghost use Rattle.host_enumerate.specs.Devised.{IsHost, devices_of, links_of};
 ghost use Rattle.host_enumerate.specs.Underway.{AreUntagged};
-ghost use Rattle.fabric_maint.specs.Going.{topology_in, registers_in, RestsAt, StandsFor, StandsWhole, HasMet, Followed, Abandoned};
+ghost use Rattle.fabric_maint.specs.Going.{topology_in, registers_in, MaintRestsAt, StandsFor, StandsWhole, HasMet, Followed, Abandoned};
 
 use crate::ends::{count_after, end_for};
 use crate::requests::{answer_in, request_for};
@@ -52,7 +52,7 @@ impl<'a, N: Noise, K: Sink> FabricMaint<'a, N, K> {
         noise: &'a mut N,
         sink: &'a mut K,
     ) -> FabricMaint<'a, N, K>
-        requires passes { Passes script.now.names.items script.now.lines.items }
+        requires passes { ScriptPasses script.now.names.items script.now.lines.items }
         requires host { IsHost (devices_of script.now.lines.items) (links_of script.now.lines.items)
             host }
         requires stands { Stands (start script.now.lines.items) [] fabric.old }
@@ -67,7 +67,7 @@ impl<'a, N: Noise, K: Sink> FabricMaint<'a, N, K> {
             (⟦<FabricMaint<'a, N, K> as Maint>⟧.registers result) }
         ensures host_has_id { (⟦<FabricMaint<'a, N, K> as Maint>⟧.registers result
             (⟦<FabricMaint<'a, N, K> as Maint>⟧.topology result).host).base_id < 255 }
-        ensures rests { RestsAt host (start script.now.lines.items) result.fabric.now }
+        ensures rests { MaintRestsAt host (start script.now.lines.items) result.fabric.now }
         ensures follows { ⟦<FabricMaint<'a, N, K> as Maint>⟧.Follows result result }
         ensures script { result.script.now ≡ script.now }
         ensures host_is { result.host ≡ host }

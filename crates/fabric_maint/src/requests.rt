@@ -1,7 +1,7 @@
 //! The request that carries an access, and the answer that its response brings.
 ghost use Rattle.std.specs.Prelude.{◌≡◌, ◌<◌, ◌^◌};
-ghost use Rattle.maint_packets.specs.Requests.{IsGood};
-ghost use Rattle.host_enumerate.specs.Accesses.{offset_of};
+ghost use Rattle.maint_packets.specs.Requests.{IsGoodOp};
+ghost use Rattle.host_enumerate.specs.Accesses.{access_offset};
 ghost use Rattle.fabric_maint.specs.Requests.{request_for, word_named, answer_in};
 
 use host_enumerate::{Access, Answer};
@@ -9,9 +9,9 @@ use maint_packets::{Op, Request, Response};
 
 /// The request for an access, with priority 0 and IDs of eight bits.
 pub(crate) fn request_for(source: u8, tid: u8, dest: u8, hops: u8, access: Access) -> Request
-    requires { offset_of access < 2 ^ 24 }
+    requires { access_offset access < 2 ^ 24 }
     ensures value { result ≡ request_for source tid dest hops access }
-    ensures good { IsGood result.op }
+    ensures good { IsGoodOp result.op }
     ensures dest { result.dest < 256 }
     ensures source { result.source < 256 }
 {

@@ -6,7 +6,7 @@ use Rattle.std.proofs.lemmas.Bool.{eqb-true}
 use Rattle.std.proofs.lemmas.List.Folds.{find-append}
 use Rattle.fabric_map.specs.declared.map.Device.{Device}
 use Rattle.fabric_map.specs.Walked.{Before, onward}
-use Rattle.fabric_map.specs.Numbered.{has_id, is_given, toward, port_toward}
+use Rattle.fabric_map.specs.Numbered.{device_has_id, is_given, toward, port_toward}
 use Rattle.fabric_map.proofs.Order.{further-not_less}
 
 -- a path that goes on behind another
@@ -103,14 +103,14 @@ take_from_toward (x ∷ front) (y ∷ path) port d same =
     go false is leads on = absurd (cc)
 
 find-free : (devices : List Device) (id : ℕ) → is_given devices id ≡ false
-    → find (has_id id) devices ≡ None
+    → find (device_has_id id) devices ≡ None
 find-free [] id free = refl
 find-free (device ∷ devices) id free =
-    go (has_id id device) free (λ none. find-free devices id none)
+    go (device_has_id id device) free (λ none. find-free devices id none)
   where
-    go : (b : Bool) → (b || list_any (has_id id) devices) ≡ false
-        → (list_any (has_id id) devices ≡ false → find (has_id id) devices ≡ None)
-        → cond b (Some device) (find (has_id id) devices) ≡ None
+    go : (b : Bool) → (b || list_any (device_has_id id) devices) ≡ false
+        → (list_any (device_has_id id) devices ≡ false → find (device_has_id id) devices ≡ None)
+        → cond b (Some device) (find (device_has_id id) devices) ≡ None
     go true free on = absurd (cc)
     go false free on = on free
 
@@ -127,28 +127,28 @@ or_none (Some x) = refl
 
 -- a device that does not have the ID changes nothing
 pub port_toward-other : (devices : List Device) (device : Device) (path : List ℕ) (id : ℕ)
-    → has_id id device ≡ false
+    → device_has_id id device ≡ false
     → port_toward (devices ++ device ∷ []) path id ≡ port_toward devices path id
 port_toward-other devices device path id other =
     ap (λ o. option_and_then (λ (endpoint : Device). toward path endpoint.path) o)
-    (find-append (has_id id) devices (device ∷ [])
-    ∙ (ap (λ o. option_or (find (has_id id) devices) o) last ∙ or_none
-    (find (has_id id) devices)))
+    (find-append (device_has_id id) devices (device ∷ [])
+    ∙ (ap (λ o. option_or (find (device_has_id id) devices) o) last ∙ or_none
+    (find (device_has_id id) devices)))
   where
-    last : find (has_id id) (device ∷ []) ≡ None
+    last : find (device_has_id id) (device ∷ []) ≡ None
     last = rw other refl
 
 -- the first endpoint with an ID has the way
 pub port_toward-new : (devices : List Device) (device : Device) (path : List ℕ) (id : ℕ)
-    → is_given devices id ≡ false → has_id id device ≡ true
+    → is_given devices id ≡ false → device_has_id id device ≡ true
     → port_toward (devices ++ device ∷ []) path id ≡ toward path device.path
 port_toward-new devices device path id free new =
     ap (λ o. option_and_then (λ (endpoint : Device). toward path endpoint.path) o)
-    (find-append (has_id id) devices (device ∷ [])
-    ∙ (ap (λ o. option_or o (find (has_id id) (device ∷ []))) (find-free devices id free)
+    (find-append (device_has_id id) devices (device ∷ [])
+    ∙ (ap (λ o. option_or o (find (device_has_id id) (device ∷ []))) (find-free devices id free)
     ∙ last))
   where
-    last : find (has_id id) (device ∷ []) ≡ Some device
+    last : find (device_has_id id) (device ∷ []) ≡ Some device
     last = rw new refl
 
 -- no device is reached by a path behind this one
@@ -157,11 +157,11 @@ pub port_toward-unbegun : (devices : List Device) (path : List ℕ) (id : ℕ)
     → port_toward devices path id ≡ None
 port_toward-unbegun [] path id before = refl
 port_toward-unbegun (device ∷ devices) path id before =
-    go (has_id id device)
+    go (device_has_id id device)
     (port_toward-unbegun devices path id (λ k d within. before (suc k) d (omega (arith, within))))
   where
     go : (b : Bool) → port_toward devices path id ≡ None
         → option_and_then (λ (endpoint : Device). toward path endpoint.path)
-        (cond b (Some device) (find (has_id id) devices)) ≡ None
+        (cond b (Some device) (find (device_has_id id) devices)) ≡ None
     go true rest = toward-before path device.path (before zero device (omega arith))
     go false rest = rest

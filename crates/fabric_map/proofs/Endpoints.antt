@@ -1,8 +1,9 @@
 -- Packets for one ID that leave one port come to one endpoint.
 use Rattle.std.proofs.Common.{◌≡◌, ℕ, subst, sym}
 use Rattle.fabric_script.specs.declared.ports.PortRef.{PortRef}
-use Rattle.fabric_map.specs.Topology.{Topology, port_at}
-use Rattle.fabric_map.specs.Routes.{Registers, Arrives, AtEndpoint, Through}
+use Rattle.fabric_script.specs.Ports.{port_at}
+use Rattle.fabric_map.specs.Topology.{Topology}
+use Rattle.fabric_map.specs.Routes.{Registers, Arrives, AtEndpoint, ThroughSwitch}
 
 pub one_endpoint : (topology : Topology) (registers : Registers)
     (id node other : ℕ) {at : PortRef} → Arrives topology registers id node at
@@ -12,15 +13,17 @@ one_endpoint topology registers id node other (AtEndpoint at next link is_end is
     let same : next ≡ next2 = cc in
     cc
 one_endpoint topology registers id node other (AtEndpoint at next link is_end is)
-    (Through at2 next2 ports2 port2 link2 is_switch2 sent2 on2) =
+    (ThroughSwitch at2 next2 ports2 port2 link2 is_switch2 sent2 on2) =
     let same : next ≡ next2 = cc in
     absurd (cc)
-one_endpoint topology registers id node other (Through at next ports port link is_switch sent on)
+one_endpoint topology registers id node other
+    (ThroughSwitch at next ports port link is_switch sent on)
     (AtEndpoint at2 next2 link2 is_end2 is2) =
     let same : next ≡ next2 = cc in
     absurd (cc)
-one_endpoint topology registers id node other (Through at next ports port link is_switch sent on)
-    (Through at2 next2 ports2 port2 link2 is_switch2 sent2 on2) =
+one_endpoint topology registers id node other
+    (ThroughSwitch at next ports port link is_switch sent on)
+    (ThroughSwitch at2 next2 ports2 port2 link2 is_switch2 sent2 on2) =
     let same : next ≡ next2 = cc in
     let by : port ≡ port2 = cc in
     one_endpoint topology registers id node other on

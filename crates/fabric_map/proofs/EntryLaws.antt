@@ -2,7 +2,7 @@
 use Rattle.std.proofs.Common.{◌≡◌, ℕ, ◌+◌, ◌<◌, Bool, true, false, cond, List, [], ◌∷◌, ◌++◌, length, map, filter, None, arith, refl, ap, ◌∙◌, append-nil, add-one}
 use Rattle.fabric_map.specs.declared.map.Device.{Device}
 use Rattle.fabric_map.specs.declared.map.Entry.{Entry}
-use Rattle.fabric_map.specs.Numbered.{is_given, toward, port_toward, port_for, numbers_below, ids_of, entries_at}
+use Rattle.fabric_map.specs.Numbered.{is_given, toward, port_toward, port_for, numbers_below, given_ids, entries_at}
 use Rattle.fabric_map.specs.declared.map.Kind.TheVariants.{Endpoint, Switch}
 
 pub toward-none : (front path : List ℕ) → length path < 1 → None ≡ toward front path
@@ -70,8 +70,8 @@ entries_below-free devices device entry n free =
 -- the entries of a switch are those for all IDs
 pub entries_at-switch : (devices : List Device) (device : Device) (ports entry n : ℕ)
     → device.kind ≡ Switch ports entry → n ≡ 255
-    → entries_below devices device entry n ≡ entries_at devices (ids_of devices) device
-unfolding ids_of
+    → entries_below devices device entry n ≡ entries_at devices (given_ids devices) device
+unfolding given_ids
 entries_at-switch devices device ports entry n is all =
     rw (is, all) refl
 

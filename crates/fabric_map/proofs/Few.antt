@@ -9,26 +9,27 @@ use Rattle.std.proofs.lemmas.List.{length-map}
 use Rattle.std.proofs.lemmas.Map.Steps.{length-le_from_distinct_below}
 use Rattle.std.proofs.lemmas.Map.Keys.{IsDistinct-cons}
 use Rattle.fabric_script.specs.declared.ports.PortRef.{PortRef}
-use Rattle.fabric_map.specs.Topology.{Topology, IsTopology, IsPort, port_at, ports_of, behind, along, entered, node_at}
+use Rattle.fabric_script.specs.Ports.{port_at}
+use Rattle.fabric_map.specs.Topology.{Topology, IsTopology, IsPortIn, device_ports, behind_port, along, entered, node_at}
 use Rattle.fabric_map.specs.Walked.{Before, Walked}
 use Rattle.fabric_map.proofs.Order.{Before-irreflexive}
 use Rattle.fabric_map.proofs.Lists.{Contains-first, Contains-rest, AllPairs-first, AllPairs-rest}
 use Rattle.fabric_map.proofs.Ways.{behind-link}
 
 along-port : (topology : Topology) (at last : PortRef) (path : List ℕ)
-    → IsTopology topology → IsPort topology at → along topology at path ≡ Some last
-    → IsPort topology last
+    → IsTopology topology → IsPortIn topology at → along topology at path ≡ Some last
+    → IsPortIn topology last
 along-port topology at last [] proper is leads =
-    subst (λ p. IsPort topology p) (same_Some at last leads) is
+    subst (λ p. IsPortIn topology p) (same_Some at last leads) is
 along-port topology at last (port ∷ path) proper is leads =
-    go (behind topology at.node port) refl leads
+    go (behind_port topology at.node port) refl leads
     (λ next there on. along-port topology next last path proper there on)
   where
-    go : (o : Option PortRef) → behind topology at.node port ≡ o
+    go : (o : Option PortRef) → behind_port topology at.node port ≡ o
         → option_and_then (λ next. along topology next path) o ≡ Some last
-        → ((next : PortRef) → IsPort topology next → along topology next path ≡ Some last
-        → IsPort topology last)
-        → IsPort topology last
+        → ((next : PortRef) → IsPortIn topology next → along topology next path ≡ Some last
+        → IsPortIn topology last)
+        → IsPortIn topology last
     go None is_next leads on = absurd (cc)
     go (Some next) is_next leads on =
         let link = behind-link topology at.node port next is_next in
@@ -37,12 +38,12 @@ along-port topology at last (port ∷ path) proper is leads =
 
 -- a path enters its device by one of its ports
 pub entered-port : (topology : Topology) (path : List ℕ) (at : PortRef)
-    → IsTopology topology → entered topology path ≡ Some at → IsPort topology at
+    → IsTopology topology → entered topology path ≡ Some at → IsPortIn topology at
 entered-port topology path at proper leads =
     along-port topology (port_at topology.host 0) at path proper
     (record { node = proper.host; port = subst (λ n. 0 < n) (sym one) (omega arith) }) leads
   where
-    one : ports_of topology topology.host ≡ 1
+    one : device_ports topology topology.host ≡ 1
     one = ap (λ o. unwrap_or o 1) proper.host_is_endpoint
 
 -- and this is one of the devices

@@ -6,15 +6,15 @@ use Rattle.fabric_map.specs.declared.map.Kind.{Kind}
 use Rattle.fabric_map.specs.declared.map.Kind.TheVariants.{Endpoint, Switch}
 use Rattle.fabric_map.specs.declared.map.Device.{Device}
 use Rattle.fabric_map.specs.Topology.{Topology}
-use Rattle.fabric_map.specs.Numbered.{has_id, is_given, IsIdOf, IsKindAt, AreDescribed}
+use Rattle.fabric_map.specs.Numbered.{device_has_id, is_given, IsIdOf, IsKindAt, AreDescribed}
 use Rattle.fabric_map.proofs.Lists.{Contains-cases}
 
 pub has_id-endpoint : (device : Device) (id given : ℕ) → device.kind ≡ Endpoint given
-    → has_id id device ≡ (given == id)
+    → device_has_id id device ≡ (given == id)
 has_id-endpoint device id given is = rw is refl
 
 pub has_id-switch : (device : Device) (id ports entry : ℕ) → device.kind ≡ Switch ports entry
-    → has_id id device ≡ false
+    → device_has_id id device ≡ false
 has_id-switch device id ports entry is = rw is refl
 
 pub or_false : (b : Bool) → (b || false) ≡ b
@@ -23,36 +23,36 @@ or_false false = refl
 
 -- one device more
 pub is_given-push : (devices : List Device) (device : Device) (id : ℕ)
-    → is_given (devices ++ device ∷ []) id ≡ (is_given devices id || has_id id device)
+    → is_given (devices ++ device ∷ []) id ≡ (is_given devices id || device_has_id id device)
 is_given-push devices device id =
-    list_any-append (has_id id) devices (device ∷ [])
-    ∙ ap (λ b. is_given devices id || b) (or_false (has_id id device))
+    list_any-append (device_has_id id) devices (device ∷ [])
+    ∙ ap (λ b. is_given devices id || b) (or_false (device_has_id id device))
 
 pub is_given-later : (devices : List Device) (device : Device) (id : ℕ)
     → is_given devices id ≡ true → is_given (devices ++ device ∷ []) id ≡ true
 is_given-later devices device id given =
-    is_given-push devices device id ∙ ap (λ b. b || has_id id device) given
+    is_given-push devices device id ∙ ap (λ b. b || device_has_id id device) given
 
 pub is_given-not : (devices : List Device) (device : Device) (id : ℕ)
-    → is_given devices id ≡ false → has_id id device ≡ false
+    → is_given devices id ≡ false → device_has_id id device ≡ false
     → is_given (devices ++ device ∷ []) id ≡ false
 is_given-not devices device id free other =
     is_given-push devices device id
-    ∙ (ap (λ b. b || has_id id device) free ∙ other)
+    ∙ (ap (λ b. b || device_has_id id device) free ∙ other)
 
 pub is_given-new : (devices : List Device) (device : Device) (id : ℕ)
-    → has_id id device ≡ true → is_given (devices ++ device ∷ []) id ≡ true
+    → device_has_id id device ≡ true → is_given (devices ++ device ∷ []) id ≡ true
 is_given-new devices device id has =
     is_given-push devices device id
     ∙ (ap (λ b. is_given devices id || b) has ∙ or_right (is_given devices id) true refl)
 
 pub is_given-contains : (devices : List Device) (device : Device) (id : ℕ)
-    → Contains devices device → has_id id device ≡ true → is_given devices id ≡ true
+    → Contains devices device → device_has_id id device ≡ true → is_given devices id ≡ true
 is_given-contains [] device id listed has = absurd (omega (arith, listed.1))
 is_given-contains (first ∷ devices) device id (zero, within, same) has =
-    ap (λ b. b || is_given devices id) (ap (λ d. has_id id d) same ∙ has)
+    ap (λ b. b || is_given devices id) (ap (λ d. device_has_id id d) same ∙ has)
 is_given-contains (first ∷ devices) device id (suc k, within, same) has =
-    go (has_id id first)
+    go (device_has_id id first)
     (is_given-contains devices device id (k, omega (arith, within), same) has)
   where
     go : (b : Bool) → is_given devices id ≡ true → (b || is_given devices id) ≡ true
@@ -60,11 +60,12 @@ is_given-contains (first ∷ devices) device id (suc k, within, same) has =
     go false given = given
 
 -- an endpoint has one ID
-pub endpoint_from_id : (device : Device) (id : ℕ) → has_id id device ≡ true
+pub endpoint_from_id : (device : Device) (id : ℕ) → device_has_id id device ≡ true
     → device.kind ≡ Endpoint id
 endpoint_from_id device id has = go device.kind has
   where
-    go : (kind : Kind) → has_id id (record device { kind = kind }) ≡ true → kind ≡ Endpoint id
+    go : (kind : Kind) → device_has_id id (record device { kind = kind }) ≡ true
+        → kind ≡ Endpoint id
     go (Endpoint given) has = ap (λ n. Endpoint n) (eqb-true given id has)
     go (Switch ports entry) has = absurd (cc)
 
@@ -72,7 +73,7 @@ endpoint_from_id device id has = go device.kind has
 given-not_again : (topology : Topology) (host_id id : ℕ) (before devices : List Device)
     (goal : Device)
     → AreDescribed topology host_id before devices → is_given before id ≡ true
-    → Contains devices goal → has_id id goal ≡ true → ⊥
+    → Contains devices goal → device_has_id id goal ≡ true → ⊥
 given-not_again topology host_id id before [] goal described given listed has =
     absurd (omega (arith, listed.1))
 given-not_again topology host_id id before (first ∷ devices) goal described given listed has =
@@ -104,22 +105,22 @@ given-not_again topology host_id id before (first ∷ devices) goal described gi
 pub found-by_id : (topology : Topology) (host_id id : ℕ) (before devices : List Device)
     (goal : Device)
     → AreDescribed topology host_id before devices → Contains devices goal
-    → has_id id goal ≡ true → find (has_id id) devices ≡ Some goal
+    → device_has_id id goal ≡ true → find (device_has_id id) devices ≡ Some goal
 found-by_id topology host_id id before [] goal described listed has =
     absurd (omega (arith, listed.1))
 found-by_id topology host_id id before (first ∷ devices) goal described listed has =
-    go (has_id id first) refl (Contains-cases first devices goal listed)
+    go (device_has_id id first) refl (Contains-cases first devices goal listed)
     (λ later. found-by_id topology host_id id (before ++ first ∷ []) devices goal described.1 later
     has)
   where
-    go : (b : Bool) → has_id id first ≡ b → (first ≡ goal) ⊎ Contains devices goal
-        → (Contains devices goal → find (has_id id) devices ≡ Some goal)
-        → cond b (Some first) (find (has_id id) devices) ≡ Some goal
+    go : (b : Bool) → device_has_id id first ≡ b → (first ≡ goal) ⊎ Contains devices goal
+        → (Contains devices goal → find (device_has_id id) devices ≡ Some goal)
+        → cond b (Some first) (find (device_has_id id) devices) ≡ Some goal
     go true is (inl same) on = ap (λ (d : Device). Some d) same
     go true is (inr later) on =
         absurd (given-not_again topology host_id id (before ++ first ∷ []) devices goal described.1
         (is_given-new before first id is) later has)
     go false is (inl same) on =
-        let both : true ≡ false = sym has ∙ (ap (λ d. has_id id d) (sym same) ∙ is) in
+        let both : true ≡ false = sym has ∙ (ap (λ d. device_has_id id d) (sym same) ∙ is) in
         absurd (cc)
     go false is (inr later) on = on later

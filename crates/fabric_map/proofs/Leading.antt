@@ -3,7 +3,8 @@ use Rattle.std.proofs.Common.{◌≡◌, ℕ, ◌<◌, ◌≤◌, nat_lt, Bool, 
 use Rattle.std.specs.Option.{option_and_then}
 use Rattle.std.proofs.lemmas.List.Elements.{All-contains}
 use Rattle.fabric_script.specs.declared.ports.PortRef.{PortRef}
-use Rattle.fabric_map.specs.Topology.{Topology, port_at, followed, behind, along, entered, node_at, IsReached}
+use Rattle.fabric_script.specs.Ports.{port_at}
+use Rattle.fabric_map.specs.Topology.{Topology, ports_followed, behind_port, along, entered, node_at, IsReached}
 use Rattle.fabric_map.specs.Walked.{Before, IsNotAfter, onward, Walked, after_all_paths}
 use Rattle.fabric_map.proofs.Order.{further_from_between}
 
@@ -11,7 +12,7 @@ use Rattle.fabric_map.proofs.Order.{further_from_between}
 abbrev node_of : Option PortRef → Option ℕ
 node_of o = option_map (λ (p : PortRef). p.node) o
 
-pub followed-host : (topology : Topology) → followed topology topology.host ≡ 1
+pub followed-host : (topology : Topology) → ports_followed topology topology.host ≡ 1
 followed-host topology = rw (eq-eqb topology.host topology.host refl) refl
 
 -- every path that leads to a device stands before the path after all
@@ -19,14 +20,14 @@ pub leads_before_all : (topology : Topology) (path : List ℕ) → IsSome (node_
     → Before path after_all_paths
 leads_before_all topology [] leads = tt
 leads_before_all topology (x ∷ path) leads = go (nat_lt x
-    (followed topology topology.host)) refl leads
+    (ports_followed topology topology.host)) refl leads
   where
-    go : (is_followed : Bool) → nat_lt x (followed topology topology.host) ≡ is_followed
+    go : (is_followed : Bool) → nat_lt x (ports_followed topology topology.host) ≡ is_followed
         → IsSome (option_map (λ (p : PortRef). p.node) (option_and_then
         (λ next. along topology next path) (if is_followed then topology.peer
         (port_at topology.host x) else None))) → Before (x ∷ path) after_all_paths
     go true is leads = inl (subst (λ n. x < n) (followed-host topology) (ltb-true x
-        (followed topology topology.host) is))
+        (ports_followed topology topology.host) is))
     go false is leads = absurd (cc)
 
 and_then-Some : {A : Type 0} (o : Option A) → option_and_then (λ x. Some x) o ≡ o
@@ -36,16 +37,16 @@ and_then-Some (Some x) = refl
 -- one port more
 pub along-onward : (topology : Topology) (at : PortRef) (path : List ℕ) (port : ℕ)
     → along topology at (onward path port) ≡ option_and_then (λ
-    (p : PortRef). behind topology p.node port) (along topology at path)
-along-onward topology at [] port = and_then-Some (behind topology at.node port)
+    (p : PortRef). behind_port topology p.node port) (along topology at path)
+along-onward topology at [] port = and_then-Some (behind_port topology at.node port)
 along-onward topology at (x ∷ path) port =
-    go (behind topology at.node x) (λ next. along-onward topology next path port)
+    go (behind_port topology at.node x) (λ next. along-onward topology next path port)
   where
     go : (o : Option PortRef) → ((next : PortRef)
         → along topology next (onward path port) ≡ option_and_then (λ
-        (p : PortRef). behind topology p.node port) (along topology next path))
+        (p : PortRef). behind_port topology p.node port) (along topology next path))
         → option_and_then (λ next. along topology next (onward path port)) o ≡ option_and_then (λ
-        (p : PortRef). behind topology p.node port) (option_and_then
+        (p : PortRef). behind_port topology p.node port) (option_and_then
         (λ next. along topology next path) o)
     go None more = refl
     go (Some next) more = more next
@@ -56,7 +57,7 @@ pub along-append : (topology : Topology) (at : PortRef) (path rest : List ℕ) (
     → along topology at (path ++ rest) ≡ along topology last rest
 along-append topology at [] rest last leads = ap (λ (p : PortRef). along topology p rest) (cc)
 along-append topology at (x ∷ path) rest last leads =
-    go (behind topology at.node x) leads
+    go (behind_port topology at.node x) leads
     (λ next leads_on. along-append topology next path rest last leads_on)
   where
     go : (o : Option PortRef) → option_and_then (λ next. along topology next path) o ≡ Some last
@@ -73,23 +74,23 @@ pub along-same_device : (topology : Topology) (p q : PortRef) (path : List ℕ) 
 along-same_device topology p q [] same = ap (λ n. Some n) same
 along-same_device topology p q (x ∷ path) same =
     ap (λ n. option_map (λ (p : PortRef). p.node) (option_and_then
-    (λ next. along topology next path) (behind topology n x))) same
+    (λ next. along topology next path) (behind_port topology n x))) same
 
 -- a port by which a path goes on is one that is followed
 pub onward_is_followed : (topology : Topology) (path : List ℕ) (at : PortRef) (port : ℕ)
     → entered topology path ≡ Some at → IsSome (node_at topology (onward path port))
-    → port < followed topology at.node
+    → port < ports_followed topology at.node
 onward_is_followed topology path at port enters leads =
-    go (nat_lt port (followed topology at.node)) refl
+    go (nat_lt port (ports_followed topology at.node)) refl
     (subst (λ o. IsSome (node_of o))
     (along-onward topology (port_at topology.host 0) path port
-    ∙ ap (λ o. option_and_then (λ (p : PortRef). behind topology p.node port) o) enters)
+    ∙ ap (λ o. option_and_then (λ (p : PortRef). behind_port topology p.node port) o) enters)
     leads)
   where
-    go : (is_followed : Bool) → nat_lt port (followed topology at.node) ≡ is_followed
+    go : (is_followed : Bool) → nat_lt port (ports_followed topology at.node) ≡ is_followed
         → IsSome (node_of (if is_followed then topology.peer (port_at at.node port) else None))
-        → port < followed topology at.node
-    go true is leads = ltb-true port (followed topology at.node) is
+        → port < ports_followed topology at.node
+    go true is leads = ltb-true port (ports_followed topology at.node) is
     go false is leads = absurd (cc)
 
 -- what is met has a port of entry
@@ -120,11 +121,11 @@ met_along topology paths walked [] front at node listed enters same = (
       (λ o. option_map (λ (p : PortRef). p.node) o) enters ∙ same,
 )
 met_along topology paths walked (x ∷ path) front at node listed enters same =
-    go (behind topology at.node x) refl same
+    go (behind_port topology at.node x) refl same
     (λ met next enters_met leads. met_along topology paths walked path met next node enters_met
     leads)
   where
-    go : (o : Option PortRef) → behind topology at.node x ≡ o
+    go : (o : Option PortRef) → behind_port topology at.node x ≡ o
         → option_map (λ (p : PortRef). p.node) (option_and_then
         (λ next. along topology next path) o) ≡ Some node
         → ((met : List ℕ) (next : PortRef) → Contains paths met
@@ -136,7 +137,8 @@ met_along topology paths walked (x ∷ path) front at node listed enters same =
     go (Some next) is leads on =
         let enters_next : entered topology (onward front x) ≡ Some next =
         along-onward topology (port_at topology.host 0) front x
-        ∙ (ap (λ o. option_and_then (λ (p : PortRef). behind topology p.node x) o) enters ∙ is) in
+        ∙ (ap (λ o. option_and_then (λ (p : PortRef). behind_port topology p.node x) o) enters
+        ∙ is) in
         let node_next : node_at topology (onward front x) ≡ Some next.node =
         ap (λ o. option_map (λ (p : PortRef). p.node) o) enters_next in
         let leads_on = some_from_same (node_at topology (onward front x)) next.node node_next in

@@ -2,7 +2,7 @@
 use Rattle.std.proofs.Common.{◌≡◌, ◌≢◌, ℕ, ◌<◌, [], ◌∷◌, Some, Contains, arith, ◌⊎◌, inl, inr, refl, ap, ◌∙◌}
 use Rattle.maint_registers.specs.Routes.{entry_of, next_port}
 use Rattle.fabric_map.specs.Routes.{Registers}
-use Rattle.fabric_map.specs.Examples.{IsRing, endpoint, switch, entry}
+use Rattle.fabric_map.specs.Examples.{IsRing, example_endpoint, switch, entry}
 use Rattle.fabric_map.proofs.Lists.{Contains-cases, not_in_empty}
 
 module _ (before after : Registers) (is : IsRing before after) where
@@ -14,7 +14,8 @@ module _ (before after : Registers) (is : IsRing before after) where
 
   pub ring_id : (after 3).base_id ≡ 0
   ring_id =
-      (is.1.marked (endpoint 5 0 (0 ∷ 1 ∷ 1 ∷ 2 ∷ [])) 3 (4, omega arith, refl) refl).base_id
+      (is.1.marked (example_endpoint 5 0 (0 ∷ 1 ∷ 1 ∷ 2 ∷ [])) 3 (4, omega arith, refl)
+      refl).base_id
 
   pub ring_table : next_port (after 4) 0 ≡ Some 1
   ring_table =

@@ -1,9 +1,10 @@
 -- The map of the ring.
 use Rattle.std.proofs.Common.{◌≡◌, ℕ, zero, suc, ◌<◌, ◌==◌, true, take, List, [], ◌∷◌, Option, Some, None, IsSome, Contains, arith, inl, inr, subst, sym, refl, ap, ◌∙◌, if◌then◌else◌}
 use Rattle.std.proofs.lemmas.List.Elements.{Contains-get_or}
-use Rattle.fabric_map.specs.Topology.{port_at, node_at}
+use Rattle.fabric_script.specs.Ports.{port_at}
+use Rattle.fabric_map.specs.Topology.{node_at}
 use Rattle.fabric_map.specs.Walked.{IsNotAfter, onward, IsMet, Walked, after_all_paths}
-use Rattle.fabric_map.specs.Numbered.{is_given, AreDescribed, ids_of, IsMap}
+use Rattle.fabric_map.specs.Numbered.{is_given, AreDescribed, given_ids, IsMap}
 use Rattle.fabric_map.specs.Examples.{ring, ring_devices, ring_entries}
 use Rattle.fabric_map.proofs.Order.{front_of, front_of-onward}
 use Rattle.fabric_map.proofs.Lists.{AllPairs-rising}
@@ -231,5 +232,5 @@ ring_described = (
 )
 
 pub ring_has_its_map : IsMap ring 5 ring_devices ring_entries
-unfolding ids_of
+unfolding given_ids
 ring_has_its_map = record { walked = ring_walked; described = ring_described; listed = refl }

@@ -4,13 +4,14 @@ use Rattle.std.proofs.Common.{◌≡◌, ◌≢◌, ℕ, zero, suc, ◌<◌, tru
 use Rattle.std.specs.Option.{option_and_then}
 use Rattle.std.proofs.lemmas.Option.{same_Some}
 use Rattle.fabric_script.specs.declared.ports.PortRef.{PortRef}
+use Rattle.fabric_script.specs.Ports.{port_at}
 use Rattle.maint_registers.specs.Routes.{next_port}
 use Rattle.fabric_map.specs.declared.map.Kind.TheVariants.{Switch}
 use Rattle.fabric_map.specs.declared.map.Device.{Device}
-use Rattle.fabric_map.specs.Topology.{Topology, IsTopology, port_at, behind, along, entered, node_at}
+use Rattle.fabric_map.specs.Topology.{Topology, IsTopology, behind_port, along, entered, node_at}
 use Rattle.fabric_map.specs.Walked.{onward, Walked, after_all_paths}
-use Rattle.fabric_map.specs.Routes.{Registers, Arrives, AtEndpoint, Through, Comes}
-use Rattle.fabric_map.specs.Numbered.{has_id, paths_of, toward, port_toward, port_for, AreDescribed}
+use Rattle.fabric_map.specs.Routes.{Registers, Arrives, AtEndpoint, ThroughSwitch, PacketComes}
+use Rattle.fabric_map.specs.Numbered.{device_has_id, paths_of, toward, port_toward, port_for, AreDescribed}
 use Rattle.fabric_map.proofs.Walks.{last_port}
 use Rattle.fabric_map.proofs.Leading.{along-onward, along-append, port_of_entry, followed-host}
 use Rattle.fabric_map.proofs.Ways.{behind-link, followed-switch}
@@ -31,7 +32,7 @@ module _ (topology : Topology) (registers : Registers) (host_id id to : ℕ)
     (walked : Walked topology (paths_of devices) after_all_paths)
     (described : AreDescribed topology host_id [] devices)
     (sends : SendsById topology registers devices id)
-    (listed : Contains devices goal) (has : has_id id goal ≡ true)
+    (listed : Contains devices goal) (has : device_has_id id goal ≡ true)
     (leads : node_at topology goal.path ≡ Some to) where
   goal_end : (end : PortRef) × (entered topology goal.path ≡ Some end) × (end.node ≡ to)
   goal_end = port_of_entry (entered topology goal.path) to leads
@@ -76,11 +77,11 @@ module _ (topology : Topology) (registers : Registers) (host_id id to : ℕ)
       → IsSome (entered topology (path ++ port ∷ rest))
       → (ports : ℕ) × (topology.switch_ports at.node ≡ Some ports)
   switch_on path at port rest within some enters further =
-      go (behind topology at.node port) refl
+      go (behind_port topology at.node port) refl
       (subst (λ o. IsSome o)
       (along-append topology (port_at topology.host 0) path (port ∷ rest) at enters) further)
     where
-      go : (o : Option PortRef) → behind topology at.node port ≡ o
+      go : (o : Option PortRef) → behind_port topology at.node port ≡ o
           → IsSome (option_and_then (λ next. along topology next rest) o)
           → (ports : ℕ) × (topology.switch_ports at.node ≡ Some ports)
       go None is on = absurd (cc)
@@ -95,11 +96,11 @@ module _ (topology : Topology) (registers : Registers) (host_id id to : ℕ)
       × (entered topology (onward path port) ≡ Some next)
       × (along topology next rest ≡ Some goal_end.0)
   onwards path port rest at split enters =
-      go (behind topology at.node port) refl
+      go (behind_port topology at.node port) refl
       (sym (along-append topology (port_at topology.host 0) path (port ∷ rest) at enters)
       ∙ (ap (λ l. entered topology l) (sym split) ∙ goal_end.1))
     where
-      go : (o : Option PortRef) → behind topology at.node port ≡ o
+      go : (o : Option PortRef) → behind_port topology at.node port ≡ o
           → option_and_then (λ next. along topology next rest) o ≡ Some goal_end.0
           → (next : PortRef) × (topology.peer (port_at at.node port) ≡ Some next)
           × (entered topology (onward path port) ≡ Some next)
@@ -109,7 +110,8 @@ module _ (topology : Topology) (registers : Registers) (host_id id to : ℕ)
         next,
         (behind-link topology at.node port next is).0,
         along-onward topology (port_at topology.host 0) path port
-            ∙ (ap (λ o. option_and_then (λ (p : PortRef). behind topology p.node port) o) enters
+            ∙ (ap (λ o. option_and_then (λ (p : PortRef). behind_port topology p.node port) o)
+            enters
             ∙ is),
         on,
       )
@@ -139,7 +141,7 @@ module _ (topology : Topology) (registers : Registers) (host_id id to : ℕ)
       (way (onward path port)
       ∙ (ap (λ l. toward (onward path port) l) whole
       ∙ toward-further (onward path port) y later)) in
-      Through (port_at at.node port) next.0 switch.0 y next.1 switch.1
+      ThroughSwitch (port_at at.node port) next.0 switch.0 y next.1 switch.1
       (sends_at (onward path port) next.0 switch.0 within next.2 switch.1
       ∙ ap (λ n. Some n) sent)
       (descend later (onward path port) y next.0 whole next.2)
@@ -153,7 +155,7 @@ module _ (topology : Topology) (registers : Registers) (host_id id to : ℕ)
       (sym (along-onward topology (port_at topology.host 0) path port) ∙ enters)
     where
       go : (o : Option PortRef) → entered topology path ≡ o
-          → option_and_then (λ (p : PortRef). behind topology p.node port) o ≡ Some at
+          → option_and_then (λ (p : PortRef). behind_port topology p.node port) o ≡ Some at
           → (from : PortRef) × (entered topology path ≡ Some from)
           × (topology.peer at ≡ Some (port_at from.node port))
       go None is on = absurd (cc)
@@ -167,9 +169,9 @@ module _ (topology : Topology) (registers : Registers) (host_id id to : ℕ)
   -- a path of one port leads on only from the host's port 0
   first_is_zero : (path : List ℕ) (port : ℕ) (end : PortRef)
       → entered topology (port ∷ path) ≡ Some end → port ≡ 0
-  first_is_zero path port end enters = go (behind topology topology.host port) refl enters
+  first_is_zero path port end enters = go (behind_port topology topology.host port) refl enters
     where
-      go : (o : Option PortRef) → behind topology topology.host port ≡ o
+      go : (o : Option PortRef) → behind_port topology topology.host port ≡ o
           → option_and_then (λ next. along topology next path) o ≡ Some end → port ≡ 0
       go None is on = absurd (cc)
       go (Some next) is on =
@@ -256,7 +258,8 @@ module _ (topology : Topology) (registers : Registers) (host_id id to : ℕ)
           (subst (λ o. IsSome o)
           (sym (ap (λ l. entered topology l) (sym is) ∙ enters)) refl) in
           let shorter = ap (λ (l : List ℕ). length l) is ∙ length-append front (port ∷ []) in
-          Through at (port_at from.node port) switch.0 (port_for devices front from.port id) link
+          ThroughSwitch at (port_at from.node port) switch.0 (port_for devices front from.port id)
+          link
           switch.1 (sends_at front from switch.0 within_front enters_front switch.1)
           (on front from switch.0 (omega (arith, long, shorter)) within_front nonempty
           enters_front switch.1)
@@ -308,19 +311,20 @@ module _ (topology : Topology) (registers : Registers) (host_id id to : ℕ)
           (homewards n path at long within enters other home.0 on)
 
   comes-endpoint : (from : ℕ) → topology.switch_ports from ≡ None
-      → Arrives topology registers id to (port_at from 0) → Comes topology registers id from to
+      → Arrives topology registers id to (port_at from 0)
+      → PacketComes topology registers id from to
   comes-endpoint from is arrives = rw is arrives
 
   comes-switch : (from ports port : ℕ) → topology.switch_ports from ≡ Some ports
       → next_port (registers from) id ≡ Some port
       → Arrives topology registers id to (port_at from port)
-      → Comes topology registers id from to
+      → PacketComes topology registers id from to
   comes-switch from ports port is sent arrives = rw is (port, sent, arrives)
 
   -- Packets for the ID come to its endpoint from each other device.
   pub comes-from : (path : List ℕ) (at : PortRef) → Contains (paths_of devices) path
       → entered topology path ≡ Some at → at.node ≢ to
-      → Comes topology registers id at.node to
+      → PacketComes topology registers id at.node to
   comes-from path at within enters other = go (topology.switch_ports at.node) refl path refl
     where
       not_empty : (x : ℕ) (p : List ℕ) → path ≡ x ∷ p → path ≢ []
@@ -360,7 +364,7 @@ module _ (topology : Topology) (registers : Registers) (host_id id to : ℕ)
               omega (arith, one)
 
       from_host : topology.switch_ports at.node ≡ None → path ≡ [] → (g : List ℕ)
-          → goal.path ≡ g → Comes topology registers id at.node to
+          → goal.path ≡ g → PacketComes topology registers id at.node to
       from_host none empty [] is =
           absurd (other (ap (λ (p : PortRef). p.node) (host_at empty)
           ∙ same_Some topology.host to (ap (λ l. node_at topology l) (sym is) ∙ leads)))
@@ -374,7 +378,7 @@ module _ (topology : Topology) (registers : Registers) (host_id id to : ℕ)
           (descend gs [] g (port_at topology.host 0) is refl)))
 
       go : (o : Option ℕ) → topology.switch_ports at.node ≡ o → (p : List ℕ) → path ≡ p
-          → Comes topology registers id at.node to
+          → PacketComes topology registers id at.node to
       go None none [] empty = from_host none empty goal.path refl
       go None none (x ∷ p) is =
           comes-endpoint at.node none

@@ -8,7 +8,7 @@ use Rattle.fabric_map.specs.declared.map.Kind.TheVariants.{Endpoint, Switch}
 use Rattle.fabric_map.specs.declared.map.Device.{Device}
 use Rattle.fabric_map.specs.declared.map.Entry.{Entry}
 use Rattle.fabric_map.specs.Topology.{Topology}
-use Rattle.fabric_map.specs.Numbered.{has_id, is_given, port_for, numbers_below, ids_of, entries_at, entries_of, AreDescribed}
+use Rattle.fabric_map.specs.Numbered.{device_has_id, is_given, port_for, numbers_below, given_ids, entries_at, entries_of, AreDescribed}
 use Rattle.fabric_map.proofs.Lists.{not_in_empty, Contains-first, Contains-rest, Contains-cases}
 
 listed-flat_map : {X Y : Type 0} (f : X → List Y) (xs : List X) (y : Y)
@@ -60,20 +60,20 @@ pub entry_listed : (devices : List Device) (entry : Entry) → Contains (entries
     × (device.kind ≡ Switch ports home) × (device.tag ≡ entry.tag)
     × (is_given devices entry.id ≡ true)
     × (port_for devices device.path home entry.id ≡ entry.port)
-unfolding ids_of
+unfolding given_ids
 entry_listed devices entry listed =
-    let at = listed-flat_map (entries_at devices (ids_of devices)) devices entry listed in
+    let at = listed-flat_map (entries_at devices (given_ids devices)) devices entry listed in
     go at.0 at.1 at.0.kind refl at.2
   where
     go : (device : Device) → Contains devices device → (kind : Kind) → device.kind ≡ kind
-        → Contains (entries_at devices (ids_of devices) (record device { kind = kind })) entry
+        → Contains (entries_at devices (given_ids devices) (record device { kind = kind })) entry
         → (device : Device) × (ports : ℕ) × (home : ℕ) × Contains devices device
         × (device.kind ≡ Switch ports home) × (device.tag ≡ entry.tag)
         × (is_given devices entry.id ≡ true)
         × (port_for devices device.path home entry.id ≡ entry.port)
     go device within (Endpoint id) is found = absurd (not_in_empty entry found)
     go device within (Switch ports home) is found =
-        let of_id = listed-map (λ id. entry_with device home id) (ids_of devices) entry found in
+        let of_id = listed-map (λ id. entry_with device home id) (given_ids devices) entry found in
         let given = listed-filter (is_given devices) (numbers_below 255) of_id.0 of_id.1 in
         let id_same : of_id.0 ≡ entry.id = ap (λ (e : Entry). e.id) of_id.2 in (
           device,
@@ -96,15 +96,15 @@ entry_listed devices entry listed =
 
 -- the device to which an ID is given
 pub given_device : (devices : List Device) (id : ℕ) → is_given devices id ≡ true
-    → (device : Device) × Contains devices device × (has_id id device ≡ true)
+    → (device : Device) × Contains devices device × (device_has_id id device ≡ true)
 given_device [] id given = absurd (cc)
 given_device (first ∷ devices) id given =
-    go (has_id id first) refl given (λ later. given_device devices id later)
+    go (device_has_id id first) refl given (λ later. given_device devices id later)
   where
-    go : (b : Bool) → has_id id first ≡ b → (b || list_any (has_id id) devices) ≡ true
+    go : (b : Bool) → device_has_id id first ≡ b → (b || list_any (device_has_id id) devices) ≡ true
         → (is_given devices id ≡ true
-        → (device : Device) × Contains devices device × (has_id id device ≡ true))
-        → (device : Device) × Contains (first ∷ devices) device × (has_id id device ≡ true)
+        → (device : Device) × Contains devices device × (device_has_id id device ≡ true))
+        → (device : Device) × Contains (first ∷ devices) device × (device_has_id id device ≡ true)
     go true is found on = (first, Contains-first first devices, is)
     go false is found on =
         let at = on found in (at.0, Contains-rest first devices at.0 at.1, at.2)

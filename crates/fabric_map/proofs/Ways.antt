@@ -2,8 +2,9 @@
 use Rattle.std.proofs.Common.{◌≡◌, ◌≢◌, ℕ, zero, suc, ◌+◌, ◌<◌, ◌≤◌, ◌==◌, nat_lt, Bool, true, false, List, [], ◌∷◌, ◌++◌, length, Option, Some, None, unwrap_or, arith, subst, sym, refl, ap, ◌∙◌, if◌then◌else◌, ltb-true, eqb-true, append_assoc}
 use Rattle.std.specs.Option.{option_and_then}
 use Rattle.fabric_script.specs.declared.ports.PortRef.{PortRef}
+use Rattle.fabric_script.specs.Ports.{port_at}
 use Rattle.maint_registers.specs.Routes.{next_port}
-use Rattle.fabric_map.specs.Topology.{Topology, IsTopology, port_at, followed, behind, along, entered}
+use Rattle.fabric_map.specs.Topology.{Topology, IsTopology, ports_followed, behind_port, along, entered}
 use Rattle.fabric_map.specs.Routes.{Registers, passed, walk}
 use Rattle.fabric_map.specs.Ways.{IsOpened}
 use Rattle.fabric_map.proofs.Leading.{followed-host, along-append}
@@ -66,19 +67,19 @@ arrive-endpoint topology registers dest (suc hops) at is =
 
 -- a port that is followed has a link
 pub behind-link : (topology : Topology) (node port : ℕ) (next : PortRef)
-    → behind topology node port ≡ Some next
-    → (topology.peer (port_at node port) ≡ Some next) × (port < followed topology node)
-behind-link topology node port next same = go (nat_lt port (followed topology node)) refl same
+    → behind_port topology node port ≡ Some next
+    → (topology.peer (port_at node port) ≡ Some next) × (port < ports_followed topology node)
+behind-link topology node port next same = go (nat_lt port (ports_followed topology node)) refl same
   where
-    go : (is : Bool) → nat_lt port (followed topology node) ≡ is
+    go : (is : Bool) → nat_lt port (ports_followed topology node) ≡ is
         → (if is then topology.peer (port_at node port) else None) ≡ Some next
-        → (topology.peer (port_at node port) ≡ Some next) × (port < followed topology node)
-    go true less found = (found, ltb-true port (followed topology node) less)
+        → (topology.peer (port_at node port) ≡ Some next) × (port < ports_followed topology node)
+    go true less found = (found, ltb-true port (ports_followed topology node) less)
     go false less found = absurd (cc)
 
 -- what follows a port, other than the host, is a switch
 pub followed-switch : (topology : Topology) (node port : ℕ) → node ≢ topology.host
-    → port < followed topology node
+    → port < ports_followed topology node
     → (ports : ℕ) × (topology.switch_ports node ≡ Some ports)
 followed-switch topology node port other less = go (node == topology.host) refl
     (topology.switch_ports node) refl less
@@ -93,7 +94,7 @@ followed-switch topology node port other less = go (node == topology.host) refl
 
 -- the first port of a path is the host's
 pub first_link : (topology : Topology) (first : ℕ) (at : PortRef)
-    → behind topology topology.host first ≡ Some at
+    → behind_port topology topology.host first ≡ Some at
     → topology.peer (port_at topology.host 0) ≡ Some at
 first_link topology first at same =
     let parts = behind-link topology topology.host first at same in
@@ -108,11 +109,11 @@ go_down : (topology : Topology) (registers : Registers) (host_id first : ℕ) (f
     → arrive topology registers 255 (length rest) at ≡ Some end
 go_down topology registers host_id first front [] at end opened enters leads = leads
 go_down topology registers host_id first front (port ∷ rest) at end opened enters leads =
-    go (behind topology at.node port) refl leads
+    go (behind_port topology at.node port) refl leads
     (λ next opened_on enters_next leads_on. go_down topology registers host_id first
     (front ++ port ∷ []) rest next end opened_on enters_next leads_on)
   where
-    go : (o : Option PortRef) → behind topology at.node port ≡ o
+    go : (o : Option PortRef) → behind_port topology at.node port ≡ o
         → option_and_then (λ next. along topology next rest) o ≡ Some end
         → ((next : PortRef)
         → IsOpened topology registers host_id (first ∷ (front ++ port ∷ []) ++ rest)
@@ -139,9 +140,9 @@ pub request_ends : (topology : Topology) (registers : Registers) (host_id first 
     → entered topology (first ∷ rest) ≡ Some at
     → walk topology registers 255 (length rest) (port_at topology.host 0) ≡ Some at
 request_ends topology registers host_id first rest at proper opened enters =
-    go (behind topology topology.host first) refl enters
+    go (behind_port topology topology.host first) refl enters
   where
-    go : (o : Option PortRef) → behind topology topology.host first ≡ o
+    go : (o : Option PortRef) → behind_port topology topology.host first ≡ o
         → option_and_then (λ next. along topology next rest) o ≡ Some at
         → walk topology registers 255 (length rest) (port_at topology.host 0) ≡ Some at
     go None is leads = absurd (cc)
@@ -170,7 +171,7 @@ go_home topology registers host_id first least front [] at end proper opened ent
     (home hops (omega (arith, enough)))
 go_home topology registers host_id first least front
     (port ∷ rest) at end proper opened enters leads home =
-    go (behind topology at.node port) refl leads
+    go (behind_port topology at.node port) refl leads
     (λ next opened_on enters_next leads_on home_on. go_home topology registers host_id first
     (suc least)
     (front ++ port ∷ []) rest next end proper opened_on enters_next leads_on home_on)
@@ -186,7 +187,7 @@ go_home topology registers host_id first least front
         (opened.home first front rest port at refl enters)
         ∙ home hops (omega (arith, enough)))
 
-    go : (o : Option PortRef) → behind topology at.node port ≡ o
+    go : (o : Option PortRef) → behind_port topology at.node port ≡ o
         → option_and_then (λ next. along topology next rest) o ≡ Some end
         → ((next : PortRef)
         → IsOpened topology registers host_id (first ∷ (front ++ port ∷ []) ++ rest)
@@ -212,7 +213,7 @@ pub answer_returns : (topology : Topology) (registers : Registers) (host_id firs
     → entered topology (first ∷ rest) ≡ Some at → length rest ≤ hops
     → walk topology registers host_id hops at ≡ Some (port_at topology.host 0)
 answer_returns topology registers host_id first rest at hops proper opened enters enough =
-    go (behind topology topology.host first) refl enters
+    go (behind_port topology topology.host first) refl enters
   where
     near : (next : PortRef) → topology.peer (port_at topology.host 0) ≡ Some next
         → ComesHome topology registers host_id 0 next
@@ -222,7 +223,7 @@ answer_returns topology registers host_id first rest at hops proper opened enter
         ∙ arrive-endpoint topology registers host_id hops
         (port_at topology.host 0) proper.host_is_endpoint
 
-    go : (o : Option PortRef) → behind topology topology.host first ≡ o
+    go : (o : Option PortRef) → behind_port topology topology.host first ≡ o
         → option_and_then (λ next. along topology next rest) o ≡ Some at
         → walk topology registers host_id hops at ≡ Some (port_at topology.host 0)
     go None is leads = absurd (cc)

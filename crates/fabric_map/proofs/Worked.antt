@@ -6,11 +6,11 @@ use Rattle.fabric_map.specs.declared.map.Entry.{Entry}
 use Rattle.fabric_map.specs.Topology.{Topology, node_at}
 use Rattle.fabric_map.specs.Walked.{Before, IsNotAfter, IsMet, Walked, after_all_paths}
 use Rattle.fabric_map.specs.Numbered.{IsDescribed, IsIdOf, IsKindAt, IsMap}
-use Rattle.fabric_map.specs.Examples.{ring, skipped, twice_linked, numbered_twice, from_highest, left_out, endpoint}
+use Rattle.fabric_map.specs.Examples.{ring, skipped, twice_linked, numbered_twice, from_highest, left_out, example_endpoint}
 
 -- the ID of an endpoint is right
 id_of : (topology : Topology) (host_id id : ℕ) (before : List Device) (tag : ℕ) (path : List ℕ)
-    → IsDescribed topology host_id before (endpoint tag id path) → IsIdOf host_id before id
+    → IsDescribed topology host_id before (example_endpoint tag id path) → IsIdOf host_id before id
 id_of topology host_id id before tag path described = go
     (topology.switch_ports described.at.node) described.kind
   where

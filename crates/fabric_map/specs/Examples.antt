@@ -4,7 +4,8 @@ use Rattle.fabric_map.specs.declared.map.Kind.TheVariants.{Endpoint, Switch}
 use Rattle.fabric_map.specs.declared.map.Device.{Device}
 use Rattle.fabric_map.specs.declared.map.Entry.{Entry}
 use Rattle.fabric_script.specs.Peers.{peer_in}
-use Rattle.fabric_map.specs.Topology.{Topology, port_at}
+use Rattle.fabric_script.specs.Ports.{port_at}
+use Rattle.fabric_map.specs.Topology.{Topology}
 use Rattle.fabric_map.specs.Routes.{Registers}
 use Rattle.fabric_map.specs.Numbered.{IsNumbered}
 
@@ -27,8 +28,8 @@ ring = record {
   host = 0;
 }
 
-abbrev pub endpoint : ℕ → ℕ → List ℕ → Device
-endpoint tag id path = record { tag = tag; kind = Endpoint id; path = path }
+abbrev pub example_endpoint : ℕ → ℕ → List ℕ → Device
+example_endpoint tag id path = record { tag = tag; kind = Endpoint id; path = path }
 
 abbrev pub switch : ℕ → ℕ → ℕ → List ℕ → Device
 switch tag ports entry path = record { tag = tag; kind = Switch ports entry; path = path }
@@ -36,13 +37,13 @@ switch tag ports entry path = record { tag = tag; kind = Switch ports entry; pat
 -- the devices of the ring, whose last three endpoints have these IDs
 abbrev pub ring_with : ℕ → ℕ → ℕ → List Device
 ring_with first second third =
-    endpoint 1 5 []
+    example_endpoint 1 5 []
     ∷ switch 2 4 0 (0 ∷ [])
     ∷ switch 3 3 0 (0 ∷ 1 ∷ [])
     ∷ switch 4 3 0 (0 ∷ 1 ∷ 1 ∷ [])
-    ∷ endpoint 5 first (0 ∷ 1 ∷ 1 ∷ 2 ∷ [])
-    ∷ endpoint 6 second (0 ∷ 1 ∷ 2 ∷ [])
-    ∷ endpoint 7 third (0 ∷ 3 ∷ [])
+    ∷ example_endpoint 5 first (0 ∷ 1 ∷ 1 ∷ 2 ∷ [])
+    ∷ example_endpoint 6 second (0 ∷ 1 ∷ 2 ∷ [])
+    ∷ example_endpoint 7 third (0 ∷ 3 ∷ [])
     ∷ []
 
 abbrev pub ring_devices : List Device

@@ -1,7 +1,8 @@
 -- What the registers of devices show of a topology.
 use Rattle.std.specs.Prelude.{◌≡◌, ℕ, ◌<◌, ◌/◌, ◌%◌, ◌^◌, true, false, Some, None, is_some, if◌then◌else◌}
+use Rattle.fabric_script.specs.Ports.{port_at}
 use Rattle.maint_registers.specs.Devices.{IsDevice, is_switch}
-use Rattle.fabric_map.specs.Topology.{Topology, port_at, ports_of}
+use Rattle.fabric_map.specs.Topology.{Topology, device_ports}
 use Rattle.fabric_map.specs.Routes.{Registers}
 
 -- Each device shows whether it is a switch, how many ports it has, and which of them have a link.
@@ -17,7 +18,7 @@ pub record Fits (topology : Topology) (registers : Registers) : Type 0 where
   pub switches : (node ports : ℕ) → node < topology.nodes
       → topology.switch_ports node ≡ Some ports → is_switch (registers node) ≡ true
   pub ports : (node : ℕ) → node < topology.nodes
-      → (registers node).ports ≡ ports_of topology node
-  pub linked : (node port : ℕ) → node < topology.nodes → port < ports_of topology node
+      → (registers node).ports ≡ device_ports topology node
+  pub linked : (node port : ℕ) → node < topology.nodes → port < device_ports topology node
       → (registers node).linked / 2 ^ port % 2
       ≡ (if is_some (topology.peer (port_at node port)) then 1 else 0)

@@ -63,12 +63,12 @@ TakesIn = (topology : Topology) (paths : List (List ℕ)) (path : List ℕ)
 
 -- When all ports of a device are tried, as of an endpoint none are, the port behind which it was
 -- met is done.
-abbrev pub Closes : Type 0
-Closes = (topology : Topology) (paths : List (List ℕ)) (path : List ℕ) (port ports : ℕ)
+abbrev pub WalkCloses : Type 0
+WalkCloses = (topology : Topology) (paths : List (List ℕ)) (path : List ℕ) (port ports : ℕ)
     → Walked topology paths (onward (onward path port) ports)
     → ((on : ℕ) → IsSome (node_at topology (onward (onward path port) on)) → on < ports)
     → Walked topology paths (onward path (port + 1))
 
 -- Before the host, nothing is met.
-abbrev pub Begins : Type 0
-Begins = (topology : Topology) → Walked topology [] []
+abbrev pub WalkBegins : Type 0
+WalkBegins = (topology : Topology) → Walked topology [] []

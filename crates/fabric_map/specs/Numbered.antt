@@ -11,14 +11,14 @@ use Rattle.fabric_map.specs.declared.map.Device.{Device}
 use Rattle.fabric_map.specs.declared.map.Entry.{Entry}
 use Rattle.fabric_map.specs.Topology.{Topology, entered, node_at, IsReached}
 use Rattle.fabric_map.specs.Walked.{Walked, after_all_paths}
-use Rattle.fabric_map.specs.Routes.{Registers, Comes}
+use Rattle.fabric_map.specs.Routes.{Registers, PacketComes}
 
 abbrev pub paths_of : List Device → List (List ℕ)
 paths_of devices = map (λ (device : Device). device.path) devices
 
 -- it is the endpoint with this ID
-abbrev pub has_id : ℕ → Device → Bool
-has_id id device = is_id device.kind
+abbrev pub device_has_id : ℕ → Device → Bool
+device_has_id id device = is_id device.kind
   where
     is_id : Kind → Bool
     is_id (Endpoint given) = given == id
@@ -26,7 +26,7 @@ has_id id device = is_id device.kind
 
 -- one of them has the ID
 abbrev pub is_given : List Device → ℕ → Bool
-is_given devices id = list_any (has_id id) devices
+is_given devices id = list_any (device_has_id id) devices
 
 -- no device before has the ID, and each lesser ID is given
 pub record IsLeastFree (before : List Device) (id : ℕ) : Type 0 where
@@ -71,7 +71,8 @@ toward (x ∷ front) (y ∷ path) = if x == y then toward front path else None
 -- the port by which a path leads to the endpoint with an ID, if it leads there
 abbrev pub port_toward : List Device → List ℕ → ℕ → Option ℕ
 port_toward devices path id =
-    option_and_then (λ (endpoint : Device). toward path endpoint.path) (find (has_id id) devices)
+    option_and_then (λ (endpoint : Device). toward path endpoint.path)
+    (find (device_has_id id) devices)
 
 -- The port by which a switch sends packets for an ID: that of the way to its endpoint if this is
 -- below the switch in the tree of paths, else the port by which the switch was entered.
@@ -84,8 +85,8 @@ numbers_below zero = []
 numbers_below (suc n) = numbers_below n ++ n ∷ []
 
 -- the IDs that are given, in order; 255 is given to none
-unfoldable pub ids_of : List Device → List ℕ
-ids_of devices = filter (is_given devices) (numbers_below 255)
+unfoldable pub given_ids : List Device → List ℕ
+given_ids devices = filter (is_given devices) (numbers_below 255)
 
 -- the entries of one device for these IDs
 abbrev pub entries_at : List Device → List ℕ → Device → List Entry
@@ -103,7 +104,7 @@ entries_at devices ids device = of_kind device.kind
 
 -- one entry for each switch and each ID that is given
 abbrev pub entries_of : List Device → List Entry
-entries_of devices = flat_map (entries_at devices (ids_of devices)) devices
+entries_of devices = flat_map (entries_at devices (given_ids devices)) devices
 
 -- The map of a fabric whose host has this ID: every device that is reached, in the order of paths.
 pub record IsMap (topology : Topology) (host_id : ℕ) (devices : List Device)
@@ -153,7 +154,7 @@ pub record IsNumbered (topology : Topology) (devices : List Device) (entries : L
   pub routed : (id from to : ℕ) (device goal : Device)
       → Contains devices device → Contains devices goal
       → node_at topology device.path ≡ Some from → node_at topology goal.path ≡ Some to
-      → has_id id goal ≡ true → from ≢ to → Comes topology after id from to
+      → device_has_id id goal ≡ true → from ≢ to → PacketComes topology after id from to
   pub outside : (node : ℕ) → ¬ IsReached topology node → after node ≡ before node
   pub inside : (node : ℕ) → IsReached topology node
       → ChangesOnly ((before topology.host).base_id ∷ []) (before node) (after node)

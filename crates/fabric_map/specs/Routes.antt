@@ -3,9 +3,10 @@
 use Rattle.std.specs.Prelude.{◌≡◌, ℕ, zero, suc, Option, Some, None}
 use Rattle.std.specs.Option.{option_and_then}
 use Rattle.fabric_script.specs.declared.ports.PortRef.{PortRef}
+use Rattle.fabric_script.specs.Ports.{port_at}
 use Rattle.maint_registers.specs.Devices.{Device}
 use Rattle.maint_registers.specs.Routes.{next_port}
-use Rattle.fabric_map.specs.Topology.{Topology, port_at}
+use Rattle.fabric_map.specs.Topology.{Topology}
 
 -- the registers of each device
 abbrev pub Registers : Type 0
@@ -38,7 +39,7 @@ pub data Arrives (topology : Topology) (registers : Registers) (id node : ℕ) :
   AtEndpoint : (at next : PortRef) → topology.peer at ≡ Some next
       → topology.switch_ports next.node ≡ None → next.node ≡ node
       → Arrives topology registers id node at
-  Through : (at next : PortRef) (ports port : ℕ) → topology.peer at ≡ Some next
+  ThroughSwitch : (at next : PortRef) (ports port : ℕ) → topology.peer at ≡ Some next
       → topology.switch_ports next.node ≡ Some ports
       → next_port (registers next.node) id ≡ Some port
       → Arrives topology registers id node (port_at next.node port)
@@ -46,8 +47,8 @@ pub data Arrives (topology : Topology) (registers : Registers) (id node : ℕ) :
 
 -- A packet for an ID comes from one device to another. An endpoint sends it by its port, a switch
 -- by its table.
-abbrev pub Comes : Topology → Registers → ℕ → ℕ → ℕ → Type 0
-Comes topology registers id from to = sent (topology.switch_ports from)
+abbrev pub PacketComes : Topology → Registers → ℕ → ℕ → ℕ → Type 0
+PacketComes topology registers id from to = sent (topology.switch_ports from)
   where
     sent : Option ℕ → Type 0
     sent None = Arrives topology registers id to (port_at from 0)

@@ -2,8 +2,9 @@
 -- the answer comes home by the entries of the host's ID.
 use Rattle.std.specs.Prelude.{◌≡◌, ◌≢◌, ℕ, ◌≤◌, List, ◌∷◌, ◌++◌, length, Some}
 use Rattle.fabric_script.specs.declared.ports.PortRef.{PortRef}
+use Rattle.fabric_script.specs.Ports.{port_at}
 use Rattle.maint_registers.specs.Routes.{next_port}
-use Rattle.fabric_map.specs.Topology.{Topology, IsTopology, port_at, entered}
+use Rattle.fabric_map.specs.Topology.{Topology, IsTopology, entered}
 use Rattle.fabric_map.specs.Routes.{Registers, walk}
 
 -- Each switch that a path passes sends packets for 255 by the next port of the path, and packets

@@ -1,13 +1,13 @@
 //! The entries of a map, by its devices.
 ghost use Rattle.std.specs.Prelude.{◌≡◌, ◌++◌, OnOk, IfOk};
-ghost use Rattle.fabric_map.specs.Numbered.{has_id, is_given, toward, port_toward, ids_of, entries_at, entries_of};
+ghost use Rattle.fabric_map.specs.Numbered.{device_has_id, is_given, toward, port_toward, given_ids, entries_at, entries_of};
 
 use crate::map::{Device, Entry, Kind};
 use std::alloc::{AllocError, Global};
 
 /// Whether a device is the endpoint with an ID.
 fn has_id(device: &Device, id: u8) -> bool
-    ensures { result ≡ has_id id device.now }
+    ensures { result ≡ device_has_id id device.now }
 {
     match device.kind {
         Kind::Endpoint { id: given } => given == id,
@@ -60,7 +60,7 @@ fn push_entries(
     device: &Device,
 ) -> Result<(), AllocError>
     ensures { OnOk result (entries.new.items
-        ≡ entries.old.items ++ entries_at devices.now (ids_of devices.now) device.now) }
+        ≡ entries.old.items ++ entries_at devices.now (given_ids devices.now) device.now) }
 {
     let Kind::Switch { entry, .. } = device.kind else {
         return Ok(());

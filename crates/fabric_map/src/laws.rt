@@ -1,5 +1,5 @@
 //! Laws of maps, for whoever states something of an enumeration.
-ghost use Rattle.fabric_map.specs.Laws.{OneMap, OneWalk, OneFirstLocked, EachIsReached, LaterIsBelow, OneEndpoint, GoesPast, TakesIn, Closes, Begins};
+ghost use Rattle.fabric_map.specs.Laws.{OneMap, OneWalk, OneFirstLocked, EachIsReached, LaterIsBelow, OneEndpoint, GoesPast, TakesIn, WalkCloses, WalkBegins};
 ghost use Rattle.fabric_map.specs.Ways.{RequestEnds, AnswerReturns};
 
 /// A fabric whose host has an ID has at most one map, and the devices that are met before one path
@@ -31,10 +31,10 @@ pub fn an_id_has_one_endpoint()
 /// nothing else: from no device at all, past a port, to a device that is not met yet, and back when
 /// its ports are tried.
 pub fn a_walk_goes_on()
-    ensures begun { Begins }
+    ensures begun { WalkBegins }
     ensures past { GoesPast }
     ensures taken { TakesIn }
-    ensures closed { Closes }
+    ensures closed { WalkCloses }
 {}
 
 /// A request ends at the device on its path, and the answer at the host, if each switch on the path

@@ -11,65 +11,65 @@ use Rattle.fabric_script.specs.declared.ports.PortRef.{PortRef}
 use Rattle.fabric_model.specs.Network.{Item, Network, same_port, port_of, peer_in, first_packet, IsEndpoint}
 use Rattle.fabric_model.specs.Serving.{next_at}
 use Rattle.fabric_model.specs.Steps.{Hold, Free, Take, Leave, Move, Drop, Answer, Step, Linked, AtNode, ByDevice, Needs, IsForRegisters, only_first, behind_first, moved_item, without_first, item_of, after_hold, after}
-use Rattle.fabric_model.specs.Laws.History.{End, Left, Dropped, Answered, same_end, taken_by, ended_by}
-use Rattle.fabric_model.specs.Laws.Holding.{Place, Received, Waiting, Over, same_place, items_at}
+use Rattle.fabric_model.specs.Laws.History.{End, EndLeft, EndDropped, EndAnswered, same_end, taken_by, ended_by}
+use Rattle.fabric_model.specs.Laws.Holding.{ItemPlace, ReceivedAt, WaitingAt, Over, same_place, items_at}
 use Rattle.fabric_model.proofs.Peers.{port_is}
 use Rattle.fabric_model.proofs.Moving.{moves_on, named_goes, sent_by}
 
 end_is : (e f : End) → same_end e f ≡ true → e ≡ f
-end_is Left Left same = refl
-end_is Dropped Dropped same = refl
-end_is Answered Answered same = refl
-end_is Left Dropped same = absurd (cc)
-end_is Left Answered same = absurd (cc)
-end_is Dropped Left same = absurd (cc)
-end_is Dropped Answered same = absurd (cc)
-end_is Answered Left same = absurd (cc)
-end_is Answered Dropped same = absurd (cc)
+end_is EndLeft EndLeft same = refl
+end_is EndDropped EndDropped same = refl
+end_is EndAnswered EndAnswered same = refl
+end_is EndLeft EndDropped same = absurd (cc)
+end_is EndLeft EndAnswered same = absurd (cc)
+end_is EndDropped EndLeft same = absurd (cc)
+end_is EndDropped EndAnswered same = absurd (cc)
+end_is EndAnswered EndLeft same = absurd (cc)
+end_is EndAnswered EndDropped same = absurd (cc)
 
-pub place_is : (a b : Place) → same_place a b ≡ true → a ≡ b
-place_is (Received p r) (Received q s) same =
+pub place_is : (a b : ItemPlace) → same_place a b ≡ true → a ≡ b
+place_is (ReceivedAt p r) (ReceivedAt q s) same =
     let parts = and_parts (same_port p q) (eqb r s) same in
-    ap₂ Received (port_is p q parts.0) (eqb-true r s parts.1)
-place_is (Received p r) (Waiting q s) same = absurd (cc)
-place_is (Received p r) (Over f) same = absurd (cc)
-place_is (Waiting p r) (Received q s) same = absurd (cc)
-place_is (Waiting p r) (Waiting q s) same =
+    ap₂ ReceivedAt (port_is p q parts.0) (eqb-true r s parts.1)
+place_is (ReceivedAt p r) (WaitingAt q s) same = absurd (cc)
+place_is (ReceivedAt p r) (Over f) same = absurd (cc)
+place_is (WaitingAt p r) (ReceivedAt q s) same = absurd (cc)
+place_is (WaitingAt p r) (WaitingAt q s) same =
     let parts = and_parts (same_port p q) (eqb r s) same in
-    ap₂ Waiting (port_is p q parts.0) (eqb-true r s parts.1)
-place_is (Waiting p r) (Over f) same = absurd (cc)
-place_is (Over e) (Received q s) same = absurd (cc)
-place_is (Over e) (Waiting q s) same = absurd (cc)
+    ap₂ WaitingAt (port_is p q parts.0) (eqb-true r s parts.1)
+place_is (WaitingAt p r) (Over f) same = absurd (cc)
+place_is (Over e) (ReceivedAt q s) same = absurd (cc)
+place_is (Over e) (WaitingAt q s) same = absurd (cc)
 place_is (Over e) (Over f) same = ap Over (end_is e f same)
 
 -- what stands where
 abbrev pub Board : Type 0
-Board = Place → List Item
+Board = ItemPlace → List Item
 
 -- with one more item at the end of a place
-abbrev pub put : Board → Place → Item → Board
+abbrev pub put : Board → ItemPlace → Item → Board
 put old to item place = cond (same_place place to) (old to ++ item ∷ []) (old place)
 
 -- with these items in a place
-abbrev pub cut : Board → Place → List Item → Board
+abbrev pub cut : Board → ItemPlace → List Item → Board
 cut old from rest place = cond (same_place place from) rest (old place)
 
 -- Which goings are allowed: from which place to which, of an item as it was and as it then is.
-pub data Allowed (net : Network) : Place → Place → Item → Item → Type 0 where
+pub data Allowed (net : Network) : ItemPlace → ItemPlace → Item → Item → Type 0 where
   Crosses : (p q : PortRef) (r : ℕ) (item : Item) → peer_in net.links q ≡ Some p
-      → Allowed net (Waiting p r) (Received q r) item item
+      → Allowed net (WaitingAt p r) (ReceivedAt q r) item item
   Turns : (p q : PortRef) (item : Item) → q.node ≡ p.node → next_at net p.node item.now
-      ≡ Some (Port q.port) → Allowed net (Received p (prio_of item.now))
-      (Waiting q (prio_of item.now)) item (moved_item item)
+      ≡ Some (Port q.port) → Allowed net (ReceivedAt p (prio_of item.now))
+      (WaitingAt q (prio_of item.now)) item (moved_item item)
   Leaves : (n : ℕ) (item : Item) → IsEndpoint net n → is_request item.now ≡ false
-      → Allowed net (Received (port_of n) (prio_of item.now)) (Over Left) item item
+      → Allowed net (ReceivedAt (port_of n) (prio_of item.now)) (Over EndLeft) item item
   Falls : (p : PortRef) (item : Item) → next_at net p.node item.now ≡ Some Nowhere
-      → Allowed net (Received p (prio_of item.now)) (Over Dropped) item item
+      → Allowed net (ReceivedAt p (prio_of item.now)) (Over EndDropped) item item
   IsHeard : (p : PortRef) (item : Item) → IsForRegisters net p item.now
-      → Allowed net (Received p (prio_of item.now)) (Over Answered) item item
+      → Allowed net (ReceivedAt p (prio_of item.now)) (Over EndAnswered) item item
 
 -- an item never goes from where it has ended
-pub allowed_open : (net : Network) (from to : Place) (item moved : Item)
+pub allowed_open : (net : Network) (from to : ItemPlace) (item moved : Item)
     → Allowed net from to item moved → (e : End) → from ≡ Over e → ⊥
 allowed_open net from to item moved (Crosses p q r item2 peer) e is = absurd (cc)
 allowed_open net from to item moved (Turns p q item2 same named) e is = absurd (cc)
@@ -77,7 +77,7 @@ allowed_open net from to item moved (Leaves n item2 endpoint other) e is = absur
 allowed_open net from to item moved (Falls p item2 named) e is = absurd (cc)
 allowed_open net from to item moved (IsHeard p item2 heard) e is = absurd (cc)
 
-pub moved_number : (net : Network) (from to : Place) (item moved : Item)
+pub moved_number : (net : Network) (from to : ItemPlace) (item moved : Item)
     → Allowed net from to item moved → moved.number ≡ item.number
 moved_number net from to item moved (Crosses p q r item2 peer) = refl
 moved_number net from to item moved2 (Turns p q item2 same named) = refl
@@ -104,7 +104,7 @@ as_is item passes = record {
   dest = refl;
 }
 
-pub allowed_along : (net : Network) (from to : Place) (item moved : Item)
+pub allowed_along : (net : Network) (from to : ItemPlace) (item moved : Item)
     → Allowed net from to item moved → Passes item.now → Along item moved
 allowed_along net from to item moved (Crosses p q r item2 peer) passes = as_is item passes
 allowed_along net from to item moved2 (Turns p q item2 same named) passes =
@@ -124,14 +124,14 @@ allowed_along net from to item moved (IsHeard p item2 heard) passes = as_is item
 
 -- the first item of a place goes to another
 pub record Goes (net : Network) (old new : Board) : Type 0 where
-  pub from : Place
-  pub to : Place
+  pub from : ItemPlace
+  pub to : ItemPlace
   pub item : Item
   pub moved : Item
   pub rest : List Item
   pub allowed : Allowed net from to item moved
   pub was : old from ≡ item ∷ rest
-  pub becomes : (place : Place) → new place ≡ put (cut old from rest) to moved place
+  pub becomes : (place : ItemPlace) → new place ≡ put (cut old from rest) to moved place
 
 -- the next number is given to an item at a port
 pub record Comes (net : Network) (taken : List Item) (old new : Board) : Type 0 where
@@ -139,12 +139,12 @@ pub record Comes (net : Network) (taken : List Item) (old new : Board) : Type 0 
   pub packet : List ℕ
   pub made : taken ≡ item_of net port packet ∷ []
   pub passes : Passes packet
-  pub becomes : (place : Place) → new place ≡ put old (Waiting port (prio_of packet))
+  pub becomes : (place : ItemPlace) → new place ≡ put old (WaitingAt port (prio_of packet))
       (item_of net port packet) place
 
 -- what a step makes of a network, with the items that it takes
 pub data StepOn (net next : Network) (made : List Item) (old new : Board) : Type 0 where
-  Stays : made ≡ [] → next.given ≡ net.given → ((place : Place) → new place ≡ old place)
+  Stays : made ≡ [] → next.given ≡ net.given → ((place : ItemPlace) → new place ≡ old place)
       → StepOn net next made old new
   IsTaken : next.given ≡ net.given + 1 → Comes net made old new → StepOn net next made old new
   IsMoved : made ≡ [] → next.given ≡ net.given → Goes net old new → StepOn net next made old new
@@ -169,36 +169,37 @@ ending out end items e = out e ++ cond (same_end e end) items []
 
 module _ (net : Network) (out : End → List Item) where
   pub holds_on : (q p : PortRef) (r : ℕ) (item : Item) → only_first (net.waiting p r) ≡ item ∷ []
-      → (place : Place) → items_at (after_hold net q (Some p) r) (λ e. out e ++ []) place
-      ≡ put (cut (items_at net out) (Waiting p r) (behind_first (net.waiting p r))) (Received q r)
+      → (place : ItemPlace) → items_at (after_hold net q (Some p) r) (λ e. out e ++ []) place
+      ≡ put (cut (items_at net out) (WaitingAt p r) (behind_first (net.waiting p r)))
+      (ReceivedAt q r)
       item place
-  holds_on q p r item only (Received s t) = rw only refl
-  holds_on q p r item only (Waiting s t) = refl
+  holds_on q p r item only (ReceivedAt s t) = rw only refl
+  holds_on q p r item only (WaitingAt s t) = refl
   holds_on q p r item only (Over e) = append-nil (out e)
 
-  pub frees_on : (p : PortRef) (packet : List ℕ) (place : Place)
+  pub frees_on : (p : PortRef) (packet : List ℕ) (place : ItemPlace)
       → items_at (after net (Linked (Free p packet))) (λ e. out e ++ []) place
       ≡ items_at net out place
-  frees_on p packet (Received s t) = refl
-  frees_on p packet (Waiting s t) = refl
+  frees_on p packet (ReceivedAt s t) = refl
+  frees_on p packet (WaitingAt s t) = refl
   frees_on p packet (Over e) = append-nil (out e)
 
-  pub takes_on : (n : ℕ) (packet : List ℕ) (place : Place)
+  pub takes_on : (n : ℕ) (packet : List ℕ) (place : ItemPlace)
       → items_at (after net (AtNode (Take n packet))) (λ e. out e ++ []) place
-      ≡ put (items_at net out) (Waiting (port_of n) (prio_of packet))
+      ≡ put (items_at net out) (WaitingAt (port_of n) (prio_of packet))
       (item_of net (port_of n) packet) place
-  takes_on n packet (Received s t) = refl
-  takes_on n packet (Waiting s t) = refl
+  takes_on n packet (ReceivedAt s t) = refl
+  takes_on n packet (WaitingAt s t) = refl
   takes_on n packet (Over e) = append-nil (out e)
 
   -- an item ends
   pub ends_on : (p : PortRef) (r : ℕ) (end : End) (item : Item) → only_first (net.received p r)
-      ≡ item ∷ [] → (place : Place) → items_at (without_first net p r)
+      ≡ item ∷ [] → (place : ItemPlace) → items_at (without_first net p r)
       (ending out end (only_first (net.received p r))) place
-      ≡ put (cut (items_at net out) (Received p r) (behind_first (net.received p r))) (Over end)
+      ≡ put (cut (items_at net out) (ReceivedAt p r) (behind_first (net.received p r))) (Over end)
       item place
-  ends_on p r end item only (Received s t) = refl
-  ends_on p r end item only (Waiting s t) = refl
+  ends_on p r end item only (ReceivedAt s t) = refl
+  ends_on p r end item only (WaitingAt s t) = refl
   ends_on p r end item only (Over e) = rw only (go (same_end e end) refl)
     where
       go : (t : Bool) → same_end e end ≡ t → out e ++ cond t (item ∷ []) []
@@ -208,39 +209,40 @@ module _ (net : Network) (out : End → List Item) where
 
   pub turns_on : (p q : PortRef) (packet : List ℕ) (item : Item)
       → only_first (map moved_item (net.received p (prio_of packet))) ≡ moved_item item ∷ []
-      → (place : Place) → items_at (after net (ByDevice (Move p q packet))) (λ e. out e ++ []) place
-      ≡ put (cut (items_at net out) (Received p (prio_of packet))
-      (behind_first (net.received p (prio_of packet)))) (Waiting q (prio_of packet))
+      → (place : ItemPlace)
+      → items_at (after net (ByDevice (Move p q packet))) (λ e. out e ++ []) place
+      ≡ put (cut (items_at net out) (ReceivedAt p (prio_of packet))
+      (behind_first (net.received p (prio_of packet)))) (WaitingAt q (prio_of packet))
       (moved_item item) place
-  turns_on p q packet item only (Received s t) = refl
-  turns_on p q packet item only (Waiting s t) = rw only refl
+  turns_on p q packet item only (ReceivedAt s t) = refl
+  turns_on p q packet item only (WaitingAt s t) = rw only refl
   turns_on p q packet item only (Over e) = append-nil (out e)
 
-  pub answers_on : (p : PortRef) (packet response : List ℕ) (place : Place)
+  pub answers_on : (p : PortRef) (packet response : List ℕ) (place : ItemPlace)
       → items_at (after net (ByDevice (Answer p packet response)))
-      (ending out Answered (only_first (net.received p (prio_of packet)))) place
+      (ending out EndAnswered (only_first (net.received p (prio_of packet)))) place
       ≡ put (items_at (without_first net p (prio_of packet))
-      (ending out Answered (only_first (net.received p (prio_of packet)))))
-      (Waiting p (prio_of response)) (item_of net p response) place
-  answers_on p packet response (Received s t) = refl
-  answers_on p packet response (Waiting s t) = refl
+      (ending out EndAnswered (only_first (net.received p (prio_of packet)))))
+      (WaitingAt p (prio_of response)) (item_of net p response) place
+  answers_on p packet response (ReceivedAt s t) = refl
+  answers_on p packet response (WaitingAt s t) = refl
   answers_on p packet response (Over e) = refl
 
   -- the first item of what a port has received goes
-  goes_from : (p : PortRef) (packet : List ℕ) (to : Place) (new : Board) (moves : Item → Item)
+  goes_from : (p : PortRef) (packet : List ℕ) (to : ItemPlace) (new : Board) (moves : Item → Item)
       (first : First (net.received p (prio_of packet)) packet)
-      → Allowed net (Received p (prio_of first.item.now)) to first.item (moves first.item)
-      → ((place : Place) → new place
-      ≡ put (cut (items_at net out) (Received p (prio_of packet))
+      → Allowed net (ReceivedAt p (prio_of first.item.now)) to first.item (moves first.item)
+      → ((place : ItemPlace) → new place
+      ≡ put (cut (items_at net out) (ReceivedAt p (prio_of packet))
       (behind_first (net.received p (prio_of packet)))) to (moves first.item) place)
       → Goes net (items_at net out) new
   goes_from p packet to new moves first allowed becomes = record {
-    from = Received p (prio_of packet);
+    from = ReceivedAt p (prio_of packet);
     to = to;
     item = first.item;
     moved = moves first.item;
     rest = behind_first (net.received p (prio_of packet));
-    allowed = subst (λ r. Allowed net (Received p r) to first.item (moves first.item))
+    allowed = subst (λ r. Allowed net (ReceivedAt p r) to first.item (moves first.item))
         (ap prio_of first.now) allowed;
     was = first.whole;
     becomes = becomes;
@@ -249,7 +251,7 @@ module _ (net : Network) (out : End → List Item) where
   -- it ends
   ends_goes : (p : PortRef) (packet : List ℕ) (end : End)
       (first : First (net.received p (prio_of packet)) packet)
-      → Allowed net (Received p (prio_of first.item.now)) (Over end) first.item first.item
+      → Allowed net (ReceivedAt p (prio_of first.item.now)) (Over end) first.item first.item
       → Goes net (items_at net out)
       (items_at (without_first net p (prio_of packet))
       (ending out end (only_first (net.received p (prio_of packet)))))
@@ -269,8 +271,8 @@ module _ (net : Network) (out : End → List Item) where
       subst (λ x. StepOn net (after_hold net q x r) [] (items_at net out)
       (items_at (after_hold net q x r) (λ e. out e ++ []))) (sym needs.1)
       (IsMoved refl refl (record {
-        from = Waiting needs.0 r;
-        to = Received q r;
+        from = WaitingAt needs.0 r;
+        to = ReceivedAt q r;
         item = first.item;
         moved = first.item;
         rest = behind_first (net.waiting needs.0 r);
@@ -288,12 +290,12 @@ module _ (net : Network) (out : End → List Item) where
       ap (λ xs. only_first (map moved_item xs)) first.whole in
       let named : next_at net p.node first.item.now ≡ Some (Port q.port) =
       ap (next_at net p.node) first.now ∙ needs.2 in
-      let turns : Allowed net (Received p (prio_of first.item.now)) (Waiting q r) first.item
+      let turns : Allowed net (ReceivedAt p (prio_of first.item.now)) (WaitingAt q r) first.item
       (moved_item first.item) =
-      subst (λ s. Allowed net (Received p (prio_of first.item.now)) (Waiting q s) first.item
+      subst (λ s. Allowed net (ReceivedAt p (prio_of first.item.now)) (WaitingAt q s) first.item
       (moved_item first.item)) (ap prio_of first.now) (Turns p q first.item needs.0 named) in
       IsMoved refl refl
-      (goes_from p packet (Waiting q r) _ moved_item first turns
+      (goes_from p packet (WaitingAt q r) _ moved_item first turns
       (turns_on p q packet first.item only))
 
   dropped_on : (p : PortRef) (packet : List ℕ) → Needs net (ByDevice (Drop p packet))
@@ -301,7 +303,7 @@ module _ (net : Network) (out : End → List Item) where
   dropped_on p packet needs =
       let first = first_item (net.received p (prio_of packet)) packet needs.0 in
       IsMoved refl refl
-      (ends_goes p packet Dropped first
+      (ends_goes p packet EndDropped first
       (Falls p first.item (ap (next_at net p.node) first.now ∙ needs.1)))
 
   left_on : (n : ℕ) (packet : List ℕ) → Needs net (AtNode (Leave n packet))
@@ -309,7 +311,7 @@ module _ (net : Network) (out : End → List Item) where
   left_on n packet needs =
       let first = first_item (net.received (port_of n) (prio_of packet)) packet needs.1 in
       IsMoved refl refl
-      (ends_goes (port_of n) packet Left first
+      (ends_goes (port_of n) packet EndLeft first
       (Leaves n first.item needs.0 (ap is_request first.now ∙ needs.2)))
 
   answered_on : (p : PortRef) (packet response : List ℕ)
@@ -320,8 +322,8 @@ module _ (net : Network) (out : End → List Item) where
       let heard = IsHeard p first.item (subst (IsForRegisters net p) (sym first.now) needs.1) in
       IsAnswered
       (items_at (without_first net p (prio_of packet))
-      (ending out Answered (only_first (net.received p (prio_of packet))))) refl
-      (ends_goes p packet Answered first heard)
+      (ending out EndAnswered (only_first (net.received p (prio_of packet))))) refl
+      (ends_goes p packet EndAnswered first heard)
       (record {
         port = p;
         packet = response;

@@ -10,8 +10,8 @@ use Rattle.maint_packets.specs.declared.next_hop.Next.{Next}
 use Rattle.maint_packets.specs.declared.next_hop.Next.TheVariants.{Nowhere, RegisterUnit, Port}
 use Rattle.fabric_script.specs.declared.ports.PortRef.{PortRef}
 use Rattle.fabric_model.specs.Network.{Item, Network, port_of, peer_in, switch_at, route_at}
-use Rattle.fabric_model.specs.Laws.History.{End, Left, Dropped, Answered}
-use Rattle.fabric_model.specs.Laws.Holding.{Place, Received, Waiting, Over}
+use Rattle.fabric_model.specs.Laws.History.{End, EndLeft, EndDropped, EndAnswered}
+use Rattle.fabric_model.specs.Laws.Holding.{ItemPlace, ReceivedAt, WaitingAt, Over}
 use Rattle.fabric_model.specs.Laws.Proper.{AreProper}
 use Rattle.fabric_model.proofs.Peers.{peer_back}
 use Rattle.fabric_model.proofs.Boards.{Allowed, Crosses, Turns, Leaves, Falls, IsHeard, Along}
@@ -34,29 +34,29 @@ port_at n port = record { node = n; port = port }
 
 -- a place, and what is known there of the packet
 pub record Spot : Type 0 where
-  pub place : Place
+  pub place : ItemPlace
   pub key : Key
 
 -- over the link
 abbrev over_link : Option PortRef → PortRef → ℕ → Key → Spot
-over_link None p r key = record { place = Waiting p r; key = key }
-over_link (Some q) p r key = record { place = Received q r; key = key }
+over_link None p r key = record { place = WaitingAt p r; key = key }
+over_link (Some q) p r key = record { place = ReceivedAt q r; key = key }
 
 -- to the port that was named, or dropped
 abbrev to_named : Option ℕ → ℕ → ℕ → Key → Spot
-to_named None n r key = record { place = Over Dropped; key = key }
-to_named (Some port) n r key = record { place = Waiting (port_at n port) r; key = moved_key key }
+to_named None n r key = record { place = Over EndDropped; key = key }
+to_named (Some port) n r key = record { place = WaitingAt (port_at n port) r; key = moved_key key }
 
 -- on at a switch, and out of the fabric at an endpoint
 abbrev pub at_node : Option Bool → Option ℕ → ℕ → ℕ → Key → Spot
-at_node None route n r key = record { place = Over Left; key = key }
-at_node (Some false) route n r key = record { place = Over Left; key = key }
+at_node None route n r key = record { place = Over EndLeft; key = key }
+at_node (Some false) route n r key = record { place = Over EndLeft; key = key }
 at_node (Some true) route n r key = to_named (by_key key.eight key.hop route) n r key
 
 -- the next place
-abbrev pub onward : Chart → Key → Place → Spot
-onward chart key (Waiting p r) = over_link (peer_in chart.links p) p r key
-onward chart key (Received p r) = at_node (chart.switch p.node) (chart.route p.node) p.node r key
+abbrev pub onward : Chart → Key → ItemPlace → Spot
+onward chart key (WaitingAt p r) = over_link (peer_in chart.links p) p r key
+onward chart key (ReceivedAt p r) = at_node (chart.switch p.node) (chart.route p.node) p.node r key
 onward chart key (Over e) = record { place = Over e; key = key }
 
 -- the place after so many
@@ -65,24 +65,25 @@ course chart spot zero = spot
 course chart spot (suc n) = onward chart (course chart spot n).key (course chart spot n).place
 
 -- An item stands where its course says, or was answered where the course ends.
-pub data Fits : Place → Place → Type 0 where
-  Stands : (place : Place) → Fits place place
-  Ends : (e : End) → Fits (Over Answered) (Over e)
+pub data Fits : ItemPlace → ItemPlace → Type 0 where
+  Stands : (place : ItemPlace) → Fits place place
+  Ends : (e : End) → Fits (Over EndAnswered) (Over e)
 
 -- An item at a place of its course that is no end stands there.
-pub fits_open : (a b : Place) → Fits a b → ((e : End) → b ≡ Over e → ⊥) → a ≡ b
+pub fits_open : (a b : ItemPlace) → Fits a b → ((e : End) → b ≡ Over e → ⊥) → a ≡ b
 fits_open a b (Stands place) goes_on = refl
 fits_open a b (Ends e) goes_on = absurd (goes_on e refl)
 
-pub fits_from : (a b : Place) → Fits a b → ((e : End) → a ≡ Over e → ⊥) → b ≡ a
+pub fits_from : (a b : ItemPlace) → Fits a b → ((e : End) → a ≡ Over e → ⊥) → b ≡ a
 fits_from a b (Stands place) goes_on = refl
-fits_from a b (Ends e) goes_on = absurd (goes_on Answered refl)
+fits_from a b (Ends e) goes_on = absurd (goes_on EndAnswered refl)
 
-pub fits_same : (a b : Place) → a ≡ b → Fits a b
+pub fits_same : (a b : ItemPlace) → a ≡ b → Fits a b
 fits_same a b same = subst (Fits a) same (Stands a)
 
 -- what has left by its course has left, or was answered
-pub fits_left : (a : Place) → Fits a (Over Left) → (a ≡ Over Left) ⊎ (a ≡ Over Answered)
+pub fits_left : (a : ItemPlace) → Fits a (Over EndLeft) → (a ≡ Over EndLeft)
+    ⊎ (a ≡ Over EndAnswered)
 fits_left a (Stands place) = inl refl
 fits_left a (Ends e) = inr refl
 
@@ -99,11 +100,12 @@ course_ends chart spot i (suc more) e is =
     (course_ends chart spot i more e is))
 
 -- What is allowed is the next place of a course.
-pub record IsNext (spot : Spot) (to : Place) (packet : List ℕ) : Type 0 where
+pub record IsNext (spot : Spot) (to : ItemPlace) (packet : List ℕ) : Type 0 where
   pub fits : Fits to spot.place
   pub key : key_of packet ≡ spot.key
 
-by_spot : {to : Place} {packet : List ℕ} (spot other : Spot) → spot ≡ other → IsNext other to packet
+by_spot : {to : ItemPlace} {packet : List ℕ} (spot other : Spot) → spot ≡ other
+    → IsNext other to packet
     → IsNext spot to packet
 by_spot {to} {packet} spot other same next = subst (λ s. IsNext s to packet) (sym same) next
 
@@ -145,32 +147,33 @@ agrees_none (Some m) RegisterUnit is apart = absurd is
 agrees_none (Some m) (Port n) is apart = absurd (apart n refl)
 
 -- where a switch names no port
-not_named : (net : Network) (p : PortRef) (r : ℕ) (packet : List ℕ) (next : Next) (to : Place)
-    → SentBy net p.node packet next → ((n : ℕ) → next ≡ Port n → ⊥) → Fits to (Over Dropped)
-    → IsNext (onward (chart_of (dest_of packet) net) (key_of packet) (Received p r)) to packet
+not_named : (net : Network) (p : PortRef) (r : ℕ) (packet : List ℕ) (next : Next) (to : ItemPlace)
+    → SentBy net p.node packet next → ((n : ℕ) → next ≡ Port n → ⊥) → Fits to (Over EndDropped)
+    → IsNext (onward (chart_of (dest_of packet) net) (key_of packet) (ReceivedAt p r)) to packet
 not_named net p r packet next to s apart fits =
     let none = agrees_none _ next (sends net p.node packet next s) apart in
-    by_spot _ (record { place = Over Dropped; key = key_of packet })
+    by_spot _ (record { place = Over EndDropped; key = key_of packet })
     (spot_here net p.node packet next s r ∙ ap (λ o. to_named o p.node r (key_of packet)) none)
     (record { fits = fits; key = refl })
 
 -- at an endpoint
-at_endpoint : (net : Network) (p : PortRef) (r : ℕ) (dest : Option ℕ) (packet : List ℕ) (to : Place)
-    → switch_at net p.node ≡ Some false → Fits to (Over Left)
-    → IsNext (onward (chart_of dest net) (key_of packet) (Received p r)) to packet
+at_endpoint : (net : Network) (p : PortRef) (r : ℕ) (dest : Option ℕ) (packet : List ℕ)
+    (to : ItemPlace)
+    → switch_at net p.node ≡ Some false → Fits to (Over EndLeft)
+    → IsNext (onward (chart_of dest net) (key_of packet) (ReceivedAt p r)) to packet
 at_endpoint net p r dest packet to endpoint fits =
-    by_spot _ (record { place = Over Left; key = key_of packet })
+    by_spot _ (record { place = Over EndLeft; key = key_of packet })
     (ap (λ o. at_node o (route_at net dest p.node) p.node r (key_of packet)) endpoint)
     (record { fits = fits; key = refl })
 
 -- what is allowed is the next place
-pub allowed_next : (net : Network) (from to : Place) (item moved : Item) → AreProper net.links
+pub allowed_next : (net : Network) (from to : ItemPlace) (item moved : Item) → AreProper net.links
     → Passes item.now → Allowed net from to item moved
     → IsNext (onward (chart_of (dest_of item.now) net) (key_of item.now) from) to moved.now
 allowed_next net from to item moved proper passes (Crosses p q r item2 peer) =
-    by_spot _ (record { place = Received q r; key = key_of item.now })
+    by_spot _ (record { place = ReceivedAt q r; key = key_of item.now })
     (ap (λ o. over_link o p r (key_of item.now)) (peer_back net.links p q proper peer))
-    (record { fits = Stands (Received q r); key = refl })
+    (record { fits = Stands (ReceivedAt q r); key = refl })
 allowed_next net from to item moved2 proper passes (Turns p q item2 same named) =
     let s = sent_by net p.node item.now (Port q.port) named in
     let on = moves_on item.now passes (named_goes s.device item.now q.port s.sends) in
@@ -178,28 +181,29 @@ allowed_next net from to item moved2 proper passes (Turns p q item2 same named) 
     let here : port_at p.node q.port ≡ q = λ i. record { node = sym same i; port = q.port } in
     by_spot _
     (record {
-      place = Waiting (port_at p.node q.port) (prio_of item.now);
+      place = WaitingAt (port_at p.node q.port) (prio_of item.now);
       key = moved_key (key_of item.now);
     })
     (spot_here net p.node item.now (Port q.port) s (prio_of item.now)
     ∙ ap (λ o. to_named o p.node (prio_of item.now) (key_of item.now)) some)
     (record {
-      fits = subst (λ x. Fits (Waiting q (prio_of item.now)) (Waiting x (prio_of item.now)))
-          (sym here) (Stands (Waiting q (prio_of item.now)));
+      fits = subst (λ x. Fits (WaitingAt q (prio_of item.now)) (WaitingAt x (prio_of item.now)))
+          (sym here) (Stands (WaitingAt q (prio_of item.now)));
       key = on.key;
     })
 allowed_next net from to item moved proper passes (Leaves n item2 endpoint other) =
-    at_endpoint net (port_of n) (prio_of item.now) (dest_of item.now) item.now (Over Left) endpoint
-    (Stands (Over Left))
+    at_endpoint net (port_of n) (prio_of item.now) (dest_of item.now) item.now (Over EndLeft)
+    endpoint
+    (Stands (Over EndLeft))
 allowed_next net from to item moved proper passes (Falls p item2 named) =
-    not_named net p (prio_of item.now) item.now Nowhere (Over Dropped)
-    (sent_by net p.node item.now Nowhere named) (λ n e. absurd (cc)) (Stands (Over Dropped))
+    not_named net p (prio_of item.now) item.now Nowhere (Over EndDropped)
+    (sent_by net p.node item.now Nowhere named) (λ n e. absurd (cc)) (Stands (Over EndDropped))
 allowed_next net from to item moved proper passes (IsHeard p item2 (inl endpoint)) =
-    at_endpoint net p (prio_of item.now) (dest_of item.now) item.now (Over Answered) endpoint
-    (Ends Left)
+    at_endpoint net p (prio_of item.now) (dest_of item.now) item.now (Over EndAnswered) endpoint
+    (Ends EndLeft)
 allowed_next net from to item moved proper passes (IsHeard p item2 (inr named)) =
-    not_named net p (prio_of item.now) item.now RegisterUnit (Over Answered)
-    (sent_by net p.node item.now RegisterUnit named) (λ n e. absurd (cc)) (Ends Dropped)
+    not_named net p (prio_of item.now) item.now RegisterUnit (Over EndAnswered)
+    (sent_by net p.node item.now RegisterUnit named) (λ n e. absurd (cc)) (Ends EndDropped)
 
 -- ---- items of one course
 

@@ -7,14 +7,14 @@ use Rattle.maint_registers.specs.Devices.{Device, is_switch}
 use Rattle.maint_registers.proofs.SameLaws.{same_kind}
 use Rattle.maint_packets.specs.declared.request.Request.{Request}
 use Rattle.maint_packets.specs.Requests.{request_of}
-use Rattle.maint_packets.specs.Answers.{answered}
+use Rattle.maint_packets.specs.Answers.{request_answered}
 use Rattle.maint_packets.proofs.AnswerLaws.{answered_same}
 use Rattle.fabric_script.specs.declared.ports.PortRef.{PortRef}
 use Rattle.fabric_model.specs.Network.{Item, Network, port_of, switch_at, route_at}
 use Rattle.fabric_model.specs.Serving.{device_after}
 use Rattle.fabric_model.specs.Steps.{Hold, Free, Take, Leave, Move, Drop, Answer, Step, Linked, AtNode, ByDevice, Needs, only_first, behind_first, item_of, after, after_all, LegalFrom}
-use Rattle.fabric_model.specs.Laws.History.{IsEmptyNetwork, End, Left, Dropped, Answered, same_end, taken_by, ended_by, taken, ended}
-use Rattle.fabric_model.specs.Laws.Holding.{Place, Received, Waiting, Over, same_place, items_at, how_often}
+use Rattle.fabric_model.specs.Laws.History.{IsEmptyNetwork, End, EndLeft, EndDropped, EndAnswered, same_end, taken_by, ended_by, items_taken, items_ended}
+use Rattle.fabric_model.specs.Laws.Holding.{ItemPlace, ReceivedAt, WaitingAt, Over, same_place, items_at, how_often}
 use Rattle.fabric_model.specs.Laws.Flows.{SameCourse, RoutesStand, EarlierFirst, InOrder}
 use Rattle.fabric_model.specs.Laws.Proper.{AreProper}
 use Rattle.fabric_model.proofs.Devices.{kinds_stay}
@@ -34,7 +34,8 @@ device_kind : (port : ℕ) (request : Option Request) (device : Device)
     → is_switch (device_after port request device) ≡ is_switch device
 device_kind port None device = refl
 device_kind port (Some request) device =
-    same_kind device (answered device request port).device (answered_same device request port)
+    same_kind device (request_answered device request port).device
+    (answered_same device request port)
 
 pub switches_stay : (net : Network) (step : Step) (n : ℕ) → switch_at (after net step) n
     ≡ switch_at net n
@@ -86,7 +87,7 @@ ended_none : (n : ℕ) (net : Network) → ((p : PortRef) (r : ℕ) → how_ofte
 ended_none n net none end (Linked step) = refl
 ended_none n net none end (AtNode (Take m packet)) = refl
 ended_none n net none end (AtNode (Leave m packet)) =
-    if_none n (same_end end Left) (only_first (net.received (port_of m) (prio_of packet)))
+    if_none n (same_end end EndLeft) (only_first (net.received (port_of m) (prio_of packet)))
     (omega (
       arith,
       first_fewer n (net.received (port_of m) (prio_of packet)),
@@ -95,10 +96,10 @@ ended_none n net none end (AtNode (Leave m packet)) =
     ))
 ended_none n net none end (ByDevice (Move p q packet)) = refl
 ended_none n net none end (ByDevice (Drop p packet)) =
-    if_none n (same_end end Dropped) (only_first (net.received p (prio_of packet)))
+    if_none n (same_end end EndDropped) (only_first (net.received p (prio_of packet)))
     (omega (arith, first_fewer n (net.received p (prio_of packet)), none p (prio_of packet)))
 ended_none n net none end (ByDevice (Answer p packet response)) =
-    if_none n (same_end end Answered) (only_first (net.received p (prio_of packet)))
+    if_none n (same_end end EndAnswered) (only_first (net.received p (prio_of packet)))
     (omega (arith, first_fewer n (net.received p (prio_of packet)), none p (prio_of packet)))
 
 -- ---- the journal along the steps
@@ -106,12 +107,14 @@ ended_none n net none end (ByDevice (Answer p packet response)) =
 -- all that stands anywhere has a lesser number than the next
 older : (net : Network) (made : List Item) (out : End → List Item) → Held net made out
     → AllOn (λ place item. item.number < net.given) (items_at net (λ e. []))
-older net made out held (Received p r) = all_weaker (AsTaken made) (λ item. item.number < net.given)
+older net made out held (ReceivedAt p r) =
+    all_weaker (AsTaken made) (λ item. item.number < net.given)
     (λ item was. omega (arith, slice_below made item.number _ was.known, held.counted))
-    (net.received p r) (held.known (Received p r))
-older net made out held (Waiting p r) = all_weaker (AsTaken made) (λ item. item.number < net.given)
+    (net.received p r) (held.known (ReceivedAt p r))
+older net made out held (WaitingAt p r) =
+    all_weaker (AsTaken made) (λ item. item.number < net.given)
     (λ item was. omega (arith, slice_below made item.number _ was.known, held.counted))
-    (net.waiting p r) (held.known (Waiting p r))
+    (net.waiting p r) (held.known (WaitingAt p r))
 older net made out held (Over e) = tt
 
 -- the chart stays
@@ -135,7 +138,7 @@ module _ (x : Item) (chart : Chart) where
       ≡ chart_of (dest_of x.taken) net → AreProper net.links
       → Journal x chart net.given (items_at net out) → LegalFrom net steps end
       → RoutesStand (dest_of x.taken) net steps
-      → Journal x chart end.given (items_at end (λ e. out e ++ ended net steps e))
+      → Journal x chart end.given (items_at end (λ e. out e ++ items_ended net steps e))
   along net out [] end known proper j legal stand =
       let none : (λ (e : End). out e) ≡ (λ (e : End). out e ++ []) =
       λ i e. sym (append-nil (out e)) i in
@@ -149,9 +152,10 @@ module _ (x : Item) (chart : Chart) where
       let whole = along (after net step) (λ e. out e ++ ended_by e net step) steps end
       (known ∙ stays) (subst AreProper (sym (links_stay net step)) proper) next legal.1
       stand.1 in
-      let joined : (λ (e : End). (out e ++ ended_by e net step) ++ ended (after net step) steps e)
-      ≡ (λ (e : End). out e ++ (ended_by e net step ++ ended (after net step) steps e)) =
-      λ i e. append_assoc (out e) (ended_by e net step) (ended (after net step) steps e) i in
+      let joined : (λ (e : End). (out e ++ ended_by e net step)
+      ++ items_ended (after net step) steps e)
+      ≡ (λ (e : End). out e ++ (ended_by e net step ++ items_ended (after net step) steps e)) =
+      λ i e. append_assoc (out e) (ended_by e net step) (items_ended (after net step) steps e) i in
       subst (λ (o : End → List Item). Journal x chart end.given (items_at end o)) joined whole
 
   -- ---- where the older item is when the later one leaves
@@ -159,32 +163,34 @@ module _ (x : Item) (chart : Chart) where
   -- it has left, or was answered
   record IsOut (e : Entry) : Type 0 where
     pub number : e.item.number ≡ x.number
-    pub out : (e.place ≡ Over Left) ⊎ (e.place ≡ Over Answered)
+    pub out : (e.place ≡ Over EndLeft) ⊎ (e.place ≡ Over EndAnswered)
 
-  counted : (es : List Entry) → Some_of IsOut es → 0 < how_often x.number (lane (Over Left) es)
-      + how_often x.number (lane (Over Answered) es)
+  counted : (es : List Entry) → Some_of IsOut es → 0 < how_often x.number (lane (Over EndLeft) es)
+      + how_often x.number (lane (Over EndAnswered) es)
   counted [] some = absurd some
   counted (e ∷ es) (inl own) = here own.out
     where
       one : how_often x.number (e.item ∷ []) ≡ 1
       one = rw (eq-eqb e.item.number x.number own.number) refl
 
-      here : ((e.place ≡ Over Left) ⊎ (e.place ≡ Over Answered)) → 0
+      here : ((e.place ≡ Over EndLeft) ⊎ (e.place ≡ Over EndAnswered)) → 0
           < how_often x.number
-          (cond (same_place (Over Left) e.place) (e.item ∷ lane (Over Left) es)
-          (lane (Over Left) es))
+          (cond (same_place (Over EndLeft) e.place) (e.item ∷ lane (Over EndLeft) es)
+          (lane (Over EndLeft) es))
           + how_often x.number
-          (cond (same_place (Over Answered) e.place) (e.item ∷ lane (Over Answered) es)
-          (lane (Over Answered) es))
+          (cond (same_place (Over EndAnswered) e.place) (e.item ∷ lane (Over EndAnswered) es)
+          (lane (Over EndAnswered) es))
       here (inl left) = rw left (omega (arith, one))
       here (inr heard) = rw heard (omega (arith, one))
   counted (e ∷ es) (inr more) =
-      go (same_place (Over Left) e.place) (same_place (Over Answered) e.place) (counted es more)
+      go (same_place (Over EndLeft) e.place) (same_place (Over EndAnswered) e.place)
+      (counted es more)
     where
-      go : (s t : Bool) → 0 < how_often x.number (lane (Over Left) es)
-          + how_often x.number (lane (Over Answered) es) → 0
-          < how_often x.number (cond s (e.item ∷ lane (Over Left) es) (lane (Over Left) es))
-          + how_often x.number (cond t (e.item ∷ lane (Over Answered) es) (lane (Over Answered) es))
+      go : (s t : Bool) → 0 < how_often x.number (lane (Over EndLeft) es)
+          + how_often x.number (lane (Over EndAnswered) es) → 0
+          < how_often x.number (cond s (e.item ∷ lane (Over EndLeft) es) (lane (Over EndLeft) es))
+          + how_often x.number
+          (cond t (e.item ∷ lane (Over EndAnswered) es) (lane (Over EndAnswered) es))
       go true true some = omega (arith, some)
       go true false some = omega (arith, some)
       go false true some = omega (arith, some)
@@ -195,15 +201,15 @@ module _ (x : Item) (chart : Chart) where
       (n r : ℕ) (endpoint : switch_at net n ≡ Some false) (y : Item) (rest : List Item)
       (was : net.received (port_of n) r ≡ y ∷ rest) (less : x.number < y.number)
       (same : SameCourse x y) (j : Journal x chart net.given (items_at net out)) where
-    from : Place
-    from = Received (port_of n) r
+    from : ItemPlace
+    from = ReceivedAt (port_of n) r
 
-    found : FirstAt (Received (port_of n) r) j.entries y (since x.number rest)
-    found = first_at (Received (port_of n) r) j.entries y (since x.number rest)
-        (sym (j.lanes (Received (port_of n) r))
+    found : FirstAt (ReceivedAt (port_of n) r) j.entries y (since x.number rest)
+    found = first_at (ReceivedAt (port_of n) r) j.entries y (since x.number rest)
+        (sym (j.lanes (ReceivedAt (port_of n) r))
         ∙ (ap (since x.number) was ∙ rw (le-leb x.number y.number (omega (arith, less))) refl))
 
-    closed : (e : End) → Received (port_of n) r ≡ Over e → ⊥
+    closed : (e : End) → ReceivedAt (port_of n) r ≡ Over e → ⊥
     closed e is = absurd (cc)
 
     wells : WellEntry x chart net.given found.entry × AllByRecursion (WellEntry x chart net.given)
@@ -215,14 +221,14 @@ module _ (x : Item) (chart : Chart) where
     same_entry = subst (SameCourse x) (sym found.item) same
 
     -- y's course ends with the next place
-    ends : (course chart (first_spot x chart) (suc found.entry.passed)).place ≡ Over Left
+    ends : (course chart (first_spot x chart) (suc found.entry.passed)).place ≡ Over EndLeft
     ends =
         let here = wells.0.on same_entry in
         let place : (course chart (first_spot x chart) found.entry.passed).place
-        ≡ Received (port_of n) r =
-        fits_from (Received (port_of n) r) _
+        ≡ ReceivedAt (port_of n) r =
+        fits_from (ReceivedAt (port_of n) r) _
         (subst (λ p. Fits p (course chart (first_spot x chart) found.entry.passed).place)
-        (sym (place_is (Received (port_of n) r) found.entry.place found.here)) here.fits) closed
+        (sym (place_is (ReceivedAt (port_of n) r) found.entry.place found.here)) here.fits) closed
         in
         let kind : chart.switch n ≡ Some false = ap (λ (c : Chart). c.switch n) known ∙ endpoint in
         ap (λ p. (onward chart (course chart (first_spot x chart) found.entry.passed).key p).place)
@@ -241,9 +247,9 @@ module _ (x : Item) (chart : Chart) where
         let count : (z.passed - suc found.entry.passed) + suc found.entry.passed ≡ z.passed =
         omega (arith, more) in
         let over = course_ends chart (first_spot x chart) (suc found.entry.passed)
-        (z.passed - suc found.entry.passed) Left ends in
-        let place : (course chart (first_spot x chart) z.passed).place ≡ Over Left =
-        subst (λ k. (course chart (first_spot x chart) k).place ≡ Over Left) count over in
+        (z.passed - suc found.entry.passed) EndLeft ends in
+        let place : (course chart (first_spot x chart) z.passed).place ≡ Over EndLeft =
+        subst (λ k. (course chart (first_spot x chart) k).place ≡ Over EndLeft) count over in
         record { number = own.number; out = fits_left z.place (subst (Fits z.place) place on.fits) }
 
     others : Some_of IsOut (found.before ++ found.behind)
@@ -256,7 +262,7 @@ module _ (x : Item) (chart : Chart) where
         both = all-both (WellEntry x chart net.given) (Behind x chart found.entry)
             (λ z. WellEntry x chart net.given z × Behind x chart found.entry z) (λ z w b. (w, b))
             (found.before ++ found.behind) wells.1
-            (all_behind x chart net.given (Received (port_of n) r) closed j.entries y
+            (all_behind x chart net.given (ReceivedAt (port_of n) r) closed j.entries y
             (since x.number rest) found j.well j.line)
 
         go : IsOwn x chart found.entry ⊎ Some_of (IsOwn x chart) (found.before ++ found.behind)
@@ -268,25 +274,25 @@ module _ (x : Item) (chart : Chart) where
             (λ z. WellEntry x chart net.given z × Behind x chart found.entry z) IsOut is_out
             (found.before ++ found.behind) some both
 
-    pub has_ended : 0 < how_often x.number (out Left) + how_often x.number (out Answered)
+    pub has_ended : 0 < how_often x.number (out EndLeft) + how_often x.number (out EndAnswered)
     has_ended =
         let all =
         counted j.entries
         (subst (Some_of IsOut) (sym found.parts)
         (some_with IsOut found.before found.behind found.entry others)) in
-        let left : how_often x.number (since x.number (out Left))
-        ≡ how_often x.number (lane (Over Left) j.entries) =
-        ap (how_often x.number) (j.lanes (Over Left)) in
-        let heard : how_often x.number (since x.number (out Answered))
-        ≡ how_often x.number (lane (Over Answered) j.entries) =
-        ap (how_often x.number) (j.lanes (Over Answered)) in
+        let left : how_often x.number (since x.number (out EndLeft))
+        ≡ how_often x.number (lane (Over EndLeft) j.entries) =
+        ap (how_often x.number) (j.lanes (Over EndLeft)) in
+        let heard : how_often x.number (since x.number (out EndAnswered))
+        ≡ how_often x.number (lane (Over EndAnswered) j.entries) =
+        ap (how_often x.number) (j.lanes (Over EndAnswered)) in
         omega (
           arith,
           all,
           left,
           heard,
-          since_fewer x.number x.number (out Left),
-          since_fewer x.number x.number (out Answered),
+          since_fewer x.number x.number (out EndLeft),
+          since_fewer x.number x.number (out EndAnswered),
         )
 
 -- ---- the law
@@ -300,9 +306,9 @@ first_whole (item ∷ items) y is =
 
 -- at the step by which y leaves
 leaves_after : (x : Item) (chart : Chart) (net : Network) (out : End → List Item) (last : Step)
-    (y : Item) → chart ≡ chart_of (dest_of x.taken) net → Needs net last → ended_by Left net last
+    (y : Item) → chart ≡ chart_of (dest_of x.taken) net → Needs net last → ended_by EndLeft net last
     ≡ y ∷ [] → x.number < y.number → SameCourse x y → Journal x chart net.given (items_at net out)
-    → 0 < how_often x.number (out Left) + how_often x.number (out Answered)
+    → 0 < how_often x.number (out EndLeft) + how_often x.number (out EndAnswered)
 leaves_after x chart net out (Linked step) y known needs is less same j = absurd (cc)
 leaves_after x chart net out (AtNode (Take n packet)) y known needs is less same j = absurd (cc)
 leaves_after x chart net out (AtNode (Leave n packet)) y known needs is less same j =
@@ -341,28 +347,29 @@ in_order_of_course start steps end empty proper legal before first between last 
     let chart = chart_of (dest_of x.taken) then in
     let begun = journal-begins x chart net then (taken_by net first) (items_at net (λ e. []))
     (items_at then (λ e. ended_by e net first)) (step_on net (λ e. []) first whole.1.0)
-    takes (older net (taken start before) (ended start before) held) in
+    takes (older net (items_taken start before) (items_ended start before) held) in
     let links : AreProper then.links =
     subst AreProper (sym (links_stay net first ∙ links_along start before)) proper in
     let j = along x chart then (λ e. ended_by e net first) between at_last refl links begun middle.0
     stand in
     let known : chart ≡ chart_of (dest_of x.taken) at_last =
     chart_stays (dest_of x.taken) then between stand in
-    let ended_one = leaves_after x chart at_last (λ e. ended_by e net first ++ ended then between e)
+    let ended_one = leaves_after x chart at_last (λ e. ended_by e net first ++ items_ended
+    then between e)
     last y known middle.1.0 leaves less same j in
     let number = taken_number net first x takes in
     let none : (e : End) → how_often x.number (ended_by e net first) ≡ 0 =
     λ e. ended_none x.number net
-    (λ p r. held.standing.fresh x.number (omega (arith, number)) (Received p r)) e first in
+    (λ p r. held.standing.fresh x.number (omega (arith, number)) (ReceivedAt p r)) e first in
     omega (
       arith,
       ended_one,
-      none Left,
-      none Answered,
+      none EndLeft,
+      none EndAnswered,
       how_often-append x.number
-          (ended_by Left net first) (ended then between Left),
+          (ended_by EndLeft net first) (items_ended then between EndLeft),
       how_often-append x.number
-          (ended_by Answered net first) (ended then between Answered),
+          (ended_by EndAnswered net first) (items_ended then between EndAnswered),
     )
 
 pub in_order : (start : Network) (steps : List Step) (end : Network) → IsEmptyNetwork start

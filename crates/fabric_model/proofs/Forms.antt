@@ -9,15 +9,15 @@ use Rattle.maint_registers.specs.Within.{IsWithin}
 use Rattle.maint_packets.specs.declared.request.Request.{Request}
 use Rattle.maint_packets.specs.Requests.{request_of}
 use Rattle.maint_packets.specs.Responses.{response_bytes}
-use Rattle.maint_packets.specs.Answers.{answered}
+use Rattle.maint_packets.specs.Answers.{request_answered}
 use Rattle.maint_packets.proofs.AnswerLaws.{responses_pass, answered_within}
 use Rattle.fabric_script.specs.declared.ports.PortRef.{PortRef}
 use Rattle.fabric_model.specs.Network.{Item, Network, same_port, first_packet, with_lent, with_device}
 use Rattle.fabric_model.specs.Serving.{response_at, device_after}
 use Rattle.fabric_model.specs.Steps.{Hold, Free, Take, Leave, Move, Drop, Answer, Step, Linked, AtNode, ByDevice, Needs, only_first, behind_first, after_hold, after, LegalFrom}
 use Rattle.fabric_model.specs.Laws.History.{IsEmptyNetwork, taken_by, ended_by}
-use Rattle.fabric_model.specs.Laws.Holding.{Place, Received, Waiting, Over, items_at}
-use Rattle.fabric_model.specs.Laws.Forms.{ArePackets, IsFormed, AnswersPass}
+use Rattle.fabric_model.specs.Laws.Holding.{ItemPlace, ReceivedAt, WaitingAt, Over, items_at}
+use Rattle.fabric_model.specs.Laws.Forms.{ItemsPass, IsFormed, AnswersPass}
 use Rattle.fabric_model.proofs.Boards.{allowed_along, step_on}
 use Rattle.fabric_model.proofs.Lists.{all-append}
 use Rattle.fabric_model.proofs.OnBoards.{AllOn, AllOn-step}
@@ -25,16 +25,16 @@ use Rattle.fabric_model.proofs.Tables.{registers_stay}
 
 -- ---- items
 
-front : (items : List Item) → ArePackets items → ArePackets (only_first items)
+front : (items : List Item) → ItemsPass items → ItemsPass (only_first items)
 front [] all = tt
 front (item ∷ items) all = (all.0, tt)
 
-rest : (items : List Item) → ArePackets items → ArePackets (behind_first items)
+rest : (items : List Item) → ItemsPass items → ItemsPass (behind_first items)
 rest [] all = tt
 rest (item ∷ items) all = all.1
 
 first_is_packet : (items : List Item) (packet : List ℕ) → first_packet items ≡ Some packet
-    → ArePackets items
+    → ItemsPass items
     → Passes packet
 first_is_packet [] packet first all = absurd (cc)
 first_is_packet (item ∷ items) packet first all =
@@ -42,12 +42,12 @@ first_is_packet (item ∷ items) packet first all =
     subst Passes same all.0
 
 -- wherever it stands
-abbrev IsPacket : Place → Item → Type 0
+abbrev IsPacket : ItemPlace → Item → Type 0
 IsPacket place item = Passes item.now
 
 on_board : (net : Network) → IsFormed net → AllOn IsPacket (items_at net (λ e. []))
-on_board net formed (Received p r) = formed.received p r
-on_board net formed (Waiting p r) = formed.waiting p r
+on_board net formed (ReceivedAt p r) = formed.received p r
+on_board net formed (WaitingAt p r) = formed.waiting p r
 on_board net formed (Over e) = tt
 
 after_step : (net : Network) (step : Step) → Needs net step → IsFormed net
@@ -63,18 +63,18 @@ after_step net step needs formed =
 -- ---- what is lent
 
 with_lent_packets : (lent : PortRef → List Item) (p : PortRef) (items : List Item)
-    → ArePackets items
-    → ((q : PortRef) → ArePackets (lent q)) → (q : PortRef) → ArePackets (with_lent lent p items q)
+    → ItemsPass items
+    → ((q : PortRef) → ItemsPass (lent q)) → (q : PortRef) → ItemsPass (with_lent lent p items q)
 with_lent_packets lent p items all others q = go (same_port q p)
   where
-    go : (here : Bool) → ArePackets (if here then items else lent q)
+    go : (here : Bool) → ItemsPass (if here then items else lent q)
     go true = all
     go false = others q
 
 step_lent : (net : Network) (step : Step) → Needs net step → IsFormed net
-    → (q : PortRef) → ArePackets ((after net step).lent q)
+    → (q : PortRef) → ItemsPass ((after net step).lent q)
 step_lent net (Linked (Hold far packet)) (p, peer, first, room) formed q =
-    subst (λ (o : Option PortRef). ArePackets ((after_hold net far o (prio_of packet)).lent q))
+    subst (λ (o : Option PortRef). ItemsPass ((after_hold net far o (prio_of packet)).lent q))
     (sym peer)
     (with_lent_packets net.lent p (net.lent p ++ only_first (net.waiting p (prio_of packet)))
     (all-append (λ (item : Item). Passes item.now) (net.lent p)
@@ -131,8 +131,8 @@ step_formed : (net : Network) (step : Step) → Needs net step → IsFormed net
 step_formed net step needs formed =
     let board = after_step net step needs formed in
     record {
-      received = λ p r. board (Received p r);
-      waiting = λ p r. board (Waiting p r);
+      received = λ p r. board (ReceivedAt p r);
+      waiting = λ p r. board (WaitingAt p r);
       lent = step_lent net step needs formed;
       registers = step_registers net step needs formed;
     }
@@ -148,9 +148,9 @@ pub empty_formed : (start : Network) → IsEmptyNetwork start
     → AllByRecursion IsWithin start.registers
     → IsFormed start
 empty_formed start empty within = record {
-  received = λ p r. subst ArePackets (sym (empty.received p r)) tt;
-  waiting = λ p r. subst ArePackets (sym (empty.waiting p r)) tt;
-  lent = λ p. subst ArePackets (sym (empty.lent p)) tt;
+  received = λ p r. subst ItemsPass (sym (empty.received p r)) tt;
+  waiting = λ p r. subst ItemsPass (sym (empty.waiting p r)) tt;
+  lent = λ p. subst ItemsPass (sym (empty.lent p)) tt;
   registers = within;
 }
 
@@ -173,7 +173,7 @@ answer_passes net formed p packet response low passes = by_device (slice_get net
     refl
   where
     answer : Device → Request → List ℕ
-    answer device request = response_bytes (answered device request p.port).response
+    answer device request = response_bytes (request_answered device request p.port).response
 
     by_request : (device : Device) (o : Option Request) → IsWithin device → request_of packet ≡ o
         → option_map (answer device) o ≡ Some response → Passes response

@@ -5,8 +5,8 @@ use Rattle.rio_packets.specs.Fields.{prio_of}
 use Rattle.rio_packets.specs.LinkForm.{Passes}
 use Rattle.fabric_model.specs.Network.{Item, Network}
 use Rattle.fabric_model.specs.Steps.{Step, Needs, item_of, after, LegalFrom}
-use Rattle.fabric_model.specs.Laws.History.{IsEmptyNetwork, End, taken_by, ended_by, taken, ended, WasTaken}
-use Rattle.fabric_model.specs.Laws.Holding.{Place, Waiting, same_place, items_at, how_often, StandsAt, HoldingExactly}
+use Rattle.fabric_model.specs.Laws.History.{IsEmptyNetwork, End, taken_by, ended_by, items_taken, items_ended, WasTaken}
+use Rattle.fabric_model.specs.Laws.Holding.{ItemPlace, WaitingAt, same_place, items_at, how_often, StandsAt, HoldingExactly}
 use Rattle.fabric_model.proofs.Joining.{carried}
 use Rattle.fabric_model.proofs.Boards.{place_is, Board, put, cut, Allowed, allowed_along, Goes, Comes, StepOn, Stays, IsTaken, IsMoved, IsAnswered, step_on}
 use Rattle.fabric_model.proofs.OnBoards.{AllOn, AllOn-same, AllOn-put, AllOn-cut, AllOn-goes, nothing_at, AllOn-empty}
@@ -21,7 +21,7 @@ pub how_often-append : (n : ℕ) (xs ys : List Item) → how_often n (xs ++ ys) 
 how_often-append n [] ys = omega arith
 how_often-append n (x ∷ xs) ys = omega (arith, how_often-append n xs ys)
 
-how_often-put : (n : ℕ) (old : Board) (to : Place) (item : Item) (place : Place)
+how_often-put : (n : ℕ) (old : Board) (to : ItemPlace) (item : Item) (place : ItemPlace)
     → how_often n (put old to item place) ≡ how_often n (old place)
     + cond (same_place place to) (one n item) 0
 how_often-put n old to item place = go (same_place place to) refl
@@ -34,8 +34,9 @@ how_often-put n old to item place = go (same_place place to) refl
         omega (arith, how_often-append n (old to) (item ∷ []), here)
     go false apart = omega arith
 
-pub how_often-cut : (n : ℕ) (old : Board) (from : Place) (item : Item) (rest : List Item) → old from
-    ≡ item ∷ rest → (place : Place) → how_often n (cut old from rest place)
+pub how_often-cut : (n : ℕ) (old : Board) (from : ItemPlace) (item : Item) (rest : List Item)
+    → old from
+    ≡ item ∷ rest → (place : ItemPlace) → how_often n (cut old from rest place)
     + cond (same_place place from) (one n item) 0 ≡ how_often n (old place)
 how_often-cut n old from item rest was place = go (same_place place from) refl
   where
@@ -49,8 +50,8 @@ how_often-cut n old from item rest was place = go (same_place place from) refl
 
 -- each number below this one stands in exactly one place, and no other number anywhere
 pub record Standing (given : ℕ) (board : Board) : Type 0 where
-  pub placed : (n : ℕ) → n < given → (place : Place) × StandsAt board n place
-  pub fresh : (n : ℕ) → given ≤ n → (place : Place) → how_often n (board place) ≡ 0
+  pub placed : (n : ℕ) → n < given → (place : ItemPlace) × StandsAt board n place
+  pub fresh : (n : ℕ) → given ≤ n → (place : ItemPlace) → how_often n (board place) ≡ 0
 
 one_own : (n : ℕ) (item : Item) → item.number ≡ n → one n item ≡ 1
 one_own n item same = rw (eq-eqb item.number n same)
@@ -63,7 +64,7 @@ cond_zero true = refl
 cond_zero false = refl
 
 Standing-same : (given : ℕ) (old new : Board) → Standing given old
-    → ((place : Place) → new place ≡ old place) → Standing given new
+    → ((place : ItemPlace) → new place ≡ old place) → Standing given new
 Standing-same given old new standing same = record {
   placed = λ n below.
       let at = standing.placed n below in
@@ -72,19 +73,20 @@ Standing-same given old new standing same = record {
 }
 
 -- the next number comes to a place
-Standing-put : (given : ℕ) (board : Board) (to : Place) (item : Item) → Standing given board
+Standing-put : (given : ℕ) (board : Board) (to : ItemPlace) (item : Item) → Standing given board
     → item.number ≡ given → Standing (given + 1) (put board to item)
 Standing-put given board to item standing own = record { placed = placed; fresh = fresh }
   where
-    away : (n : ℕ) → (item.number ≡ n → ⊥) → (place : Place) → how_often n (put board to item place)
+    away : (n : ℕ) → (item.number ≡ n → ⊥) → (place : ItemPlace)
+        → how_often n (put board to item place)
         ≡ how_often n (board place)
     away n other place = how_often-put n board to item place
         ∙ (rw (one_other n item other, cond_zero) (omega arith))
 
-    placed : (n : ℕ) → n < given + 1 → (place : Place) × StandsAt (put board to item) n place
+    placed : (n : ℕ) → n < given + 1 → (place : ItemPlace) × StandsAt (put board to item) n place
     placed n below = ⊎_cases (cases_eq n given)
       where
-        ⊎_cases : ((n ≡ given) ⊎ (n ≡ given → ⊥)) → (place : Place)
+        ⊎_cases : ((n ≡ given) ⊎ (n ≡ given → ⊥)) → (place : ItemPlace)
             × StandsAt (put board to item) n place
         ⊎_cases (inl same) = (
           to,
@@ -96,11 +98,13 @@ Standing-put given board to item standing own = record { placed = placed; fresh 
             let at = standing.placed n (omega arith) in
             (at.0, λ place. away n (λ e. other (sym e ∙ own)) place ∙ at.1 place)
 
-    fresh : (n : ℕ) → given + 1 ≤ n → (place : Place) → how_often n (put board to item place) ≡ 0
+    fresh : (n : ℕ) → given + 1 ≤ n → (place : ItemPlace)
+        → how_often n (put board to item place) ≡ 0
     fresh n above place = away n (λ e. omega arith) place ∙ standing.fresh n (omega arith) place
 
 -- the first item of a place goes to another, under its number
-Standing-move : (given : ℕ) (board : Board) (from to : Place) (item moved : Item) (rest : List Item)
+Standing-move : (given : ℕ) (board : Board) (from to : ItemPlace) (item moved : Item)
+    (rest : List Item)
     → moved.number ≡ item.number → Standing given board → board from ≡ item ∷ rest
     → Standing given (put (cut board from rest) to moved)
 Standing-move given board from to item moved rest same standing was = record {
@@ -108,7 +112,7 @@ Standing-move given board from to item moved rest same standing was = record {
   fresh = fresh;
 }
   where
-    count : (n : ℕ) (place : Place) → how_often n (put (cut board from rest) to moved place)
+    count : (n : ℕ) (place : ItemPlace) → how_often n (put (cut board from rest) to moved place)
         + cond (same_place place from) (one n item) 0 ≡ how_often n (board place)
         + cond (same_place place to) (one n item) 0
     count n place =
@@ -121,7 +125,7 @@ Standing-move given board from to item moved rest same standing was = record {
           own,
         )
 
-    away : (n : ℕ) → (item.number ≡ n → ⊥) → (place : Place)
+    away : (n : ℕ) → (item.number ≡ n → ⊥) → (place : ItemPlace)
         → how_often n (put (cut board from rest) to moved place) ≡ how_often n (board place)
     away n other place =
         let all =
@@ -135,11 +139,12 @@ Standing-move given board from to item moved rest same standing was = record {
     there : (n : ℕ) → item.number ≡ n → 0 < how_often n (board from)
     there n own = omega (arith, ap (how_often n) was, one_own n item own)
 
-    placed : (n : ℕ) → n < given → (place : Place) × StandsAt (put (cut board from rest) to moved) n
+    placed : (n : ℕ) → n < given → (place : ItemPlace)
+        × StandsAt (put (cut board from rest) to moved) n
         place
     placed n below = ⊎_cases (cases_eq item.number n) (standing.placed n below)
       where
-        from_there : (place : Place) → StandsAt board n place → item.number ≡ n → place ≡ from
+        from_there : (place : ItemPlace) → StandsAt board n place → item.number ≡ n → place ≡ from
         from_there place at own =
             sym (place_is from place
             (true_if (same_place from place) (omega (arith, there n own, at from))))
@@ -149,7 +154,7 @@ Standing-move given board from to item moved rest same standing was = record {
             true_if false pos = absurd (omega arith)
 
         ⊎_cases : ((item.number ≡ n) ⊎ (item.number ≡ n → ⊥))
-            → ((place : Place) × StandsAt board n place) → (place : Place)
+            → ((place : ItemPlace) × StandsAt board n place) → (place : ItemPlace)
             × StandsAt (put (cut board from rest) to moved) n place
         ⊎_cases (inl own) at =
             let here = subst (StandsAt board n) (from_there at.0 at.1 own) at.1 in (
@@ -160,7 +165,7 @@ Standing-move given board from to item moved rest same standing was = record {
             )
         ⊎_cases (inr other) at = (at.0, λ place. away n other place ∙ at.1 place)
 
-    fresh : (n : ℕ) → given ≤ n → (place : Place)
+    fresh : (n : ℕ) → given ≤ n → (place : ItemPlace)
         → how_often n (put (cut board from rest) to moved place) ≡ 0
     fresh n above place = away n (λ own. omega (arith, there n own, standing.fresh n above from))
         place ∙ standing.fresh n above place
@@ -196,14 +201,14 @@ abbrev pub Held : Network → List Item → (End → List Item) → Type 0
 Held net made out = HeldOn net.given made (items_at net out)
 
 HeldOn-same : (given : ℕ) (made : List Item) (old new : Board)
-    → ((place : Place) → new place ≡ old place) → HeldOn given made old → HeldOn given made new
+    → ((place : ItemPlace) → new place ≡ old place) → HeldOn given made old → HeldOn given made new
 HeldOn-same given made old new same held = record {
   counted = held.counted;
   standing = Standing-same given old new held.standing same;
   known = AllOn-same (λ place. AsTaken made) old new same held.known;
 }
 
-goes_as_taken : (net : Network) (from to : Place) (item moved : Item) (made : List Item)
+goes_as_taken : (net : Network) (from to : ItemPlace) (item moved : Item) (made : List Item)
     → Allowed net from to item moved → AsTaken made item → AsTaken made moved
 goes_as_taken net from to item moved made allowed was =
     let along = allowed_along net from to item moved allowed was.passes in
@@ -249,8 +254,8 @@ HeldOn-comes made more net old new c held = subst (λ x. HeldOn (net.given + 1) 
           own);
     })
   where
-    to : Place
-    to = Waiting c.port (prio_of c.packet)
+    to : ItemPlace
+    to = WaitingAt c.port (prio_of c.packet)
 
     item : Item
     item = item_of net c.port c.packet
@@ -304,7 +309,7 @@ Held-empty net empty = record {
 
 -- along all legal steps from an empty network
 pub held_along : (start : Network) (steps : List Step) (end : Network) → IsEmptyNetwork start
-    → LegalFrom start steps end → Held end (taken start steps) (ended start steps)
+    → LegalFrom start steps end → Held end (items_taken start steps) (items_ended start steps)
 held_along start steps end empty legal =
     carried Held held_step start [] (λ e. []) steps end (Held-empty start empty) legal
 
@@ -315,6 +320,6 @@ holding_exactly start steps end empty legal =
     record {
       counted = held.counted;
       placed = held.standing.placed;
-      known = λ place. all_weaker (AsTaken (taken start steps)) (WasTaken start steps)
-          (λ item was. was.known) (items_at end (ended start steps) place) (held.known place);
+      known = λ place. all_weaker (AsTaken (items_taken start steps)) (WasTaken start steps)
+          (λ item was. was.known) (items_at end (items_ended start steps) place) (held.known place);
     }

@@ -4,7 +4,7 @@ use Rattle.rio_packets.specs.Fields.{prio_of}
 use Rattle.fabric_script.specs.declared.ports.PortRef.{PortRef}
 use Rattle.fabric_model.specs.Network.{Item, Network, peer_in}
 use Rattle.fabric_model.specs.Steps.{Hold, Free, Take, Leave, Move, Drop, Answer, Step, Linked, AtNode, ByDevice, Needs, after_hold, after, after_all, LegalFrom}
-use Rattle.fabric_model.specs.Laws.History.{End, gathered, taken_by, ended_by, taken, ended}
+use Rattle.fabric_model.specs.Laws.History.{End, gathered, taken_by, ended_by, items_taken, items_ended}
 
 -- a legal list of steps ends in one network
 pub end_is : (net : Network) (steps : List Step) (end : Network) → LegalFrom net steps end → end
@@ -37,7 +37,8 @@ pub carried : (Kept : Network → List Item → (End → List Item) → Type 0)
     → Kept net made out → Kept (after net step) (made ++ taken_by net step)
     (λ e. out e ++ ended_by e net step)) → (net : Network) (made : List Item)
     (out : End → List Item) (steps : List Step) (end : Network) → Kept net made out
-    → LegalFrom net steps end → Kept end (made ++ taken net steps) (λ e. out e ++ ended net steps e)
+    → LegalFrom net steps end
+    → Kept end (made ++ items_taken net steps) (λ e. out e ++ items_ended net steps e)
 carried Kept keeps net made out [] end kept legal =
     let none : (λ (e : End). out e) ≡ (λ (e : End). out e ++ []) =
     λ i e. sym (append-nil (out e)) i in
@@ -48,11 +49,12 @@ carried Kept keeps net made out (step ∷ steps) end kept legal =
     let after_step = keeps net made out step legal.0 kept in
     let whole = carried Kept keeps (after net step) (made ++ taken_by net step)
     (λ e. out e ++ ended_by e net step) steps end after_step legal.1 in
-    let joined : (λ (e : End). (out e ++ ended_by e net step) ++ ended (after net step) steps e)
-    ≡ (λ (e : End). out e ++ (ended_by e net step ++ ended (after net step) steps e)) =
-    λ i e. append_assoc (out e) (ended_by e net step) (ended (after net step) steps e) i in
-    subst (λ (o : End → List Item). Kept end (made ++ taken net (step ∷ steps)) o) joined
-    (rw (append_assoc made (taken_by net step) (taken (after net step) steps)) at whole)
+    let joined : (λ (e : End). (out e ++ ended_by e net step)
+    ++ items_ended (after net step) steps e)
+    ≡ (λ (e : End). out e ++ (ended_by e net step ++ items_ended (after net step) steps e)) =
+    λ i e. append_assoc (out e) (ended_by e net step) (items_ended (after net step) steps e) i in
+    subst (λ (o : End → List Item). Kept end (made ++ items_taken net (step ∷ steps)) o) joined
+    (rw (append_assoc made (taken_by net step) (items_taken (after net step) steps)) at whole)
 
 -- A queue along the steps: what stands in it and what comes in is what goes out and what then
 -- stands in it.

@@ -4,22 +4,22 @@ use Rattle.std.proofs.Common.{◌≡◌, ℕ, Bool, true, false, leb, List, [], 
 use Rattle.std.specs.List.{AllByRecursion}
 use Rattle.std.proofs.lemmas.List.Elements.{filter-append}
 use Rattle.fabric_model.specs.Network.{Item}
-use Rattle.fabric_model.specs.Laws.Holding.{Place, same_place}
+use Rattle.fabric_model.specs.Laws.Holding.{ItemPlace, same_place}
 use Rattle.fabric_model.proofs.Boards.{place_is, Board, put, cut}
 use Rattle.std.proofs.lemmas.Bool.{false_from_ne_true}
 
 -- an item, where it stands, and how many places of its course it has passed
 pub record Entry : Type 0 where
   pub item : Item
-  pub place : Place
+  pub place : ItemPlace
   pub passed : ℕ
 
 -- the items of the entries at a place
-abbrev pub lane : Place → List Entry → List Item
+abbrev pub lane : ItemPlace → List Entry → List Item
 lane place [] = []
 lane place (e ∷ es) = cond (same_place place e.place) (e.item ∷ lane place es) (lane place es)
 
-pub lane-append : (place : Place) (xs ys : List Entry) → lane place (xs ++ ys) ≡ lane place xs
+pub lane-append : (place : ItemPlace) (xs ys : List Entry) → lane place (xs ++ ys) ≡ lane place xs
     ++ lane place ys
 lane-append place [] ys = refl
 lane-append place (x ∷ xs) ys = go (same_place place x.place) (lane-append place xs ys)
@@ -32,15 +32,16 @@ lane-append place (x ∷ xs) ys = go (same_place place x.place) (lane-append pla
 
 -- ---- the first entry of a place
 
-abbrev pub Elsewhere : Place → Entry → Type 0
+abbrev pub Elsewhere : ItemPlace → Entry → Type 0
 Elsewhere place e = same_place place e.place ≡ false
 
-pub nothing_elsewhere : (place : Place) (es : List Entry) → AllByRecursion (Elsewhere place) es
+pub nothing_elsewhere : (place : ItemPlace) (es : List Entry) → AllByRecursion (Elsewhere place) es
     → lane place es ≡ []
 nothing_elsewhere place [] all = refl
 nothing_elsewhere place (e ∷ es) all = rw all.0 (nothing_elsewhere place es all.1)
 
-pub record FirstAt (place : Place) (es : List Entry) (first : Item) (others : List Item) : Type 0
+pub record FirstAt (place : ItemPlace) (es : List Entry) (first : Item) (others : List Item) : Type
+    0
   where
     pub before : List Entry
     pub entry : Entry
@@ -51,7 +52,8 @@ pub record FirstAt (place : Place) (es : List Entry) (first : Item) (others : Li
     pub item : entry.item ≡ first
     pub rest : lane place behind ≡ others
 
-pub first_at : (place : Place) (es : List Entry) (item : Item) (rest : List Item) → lane place es
+pub first_at : (place : ItemPlace) (es : List Entry) (item : Item) (rest : List Item)
+    → lane place es
     ≡ item ∷ rest → FirstAt place es item rest
 first_at place [] item rest is = absurd (cc)
 first_at place (e ∷ es) item rest is =
@@ -90,7 +92,7 @@ abbrev pub since : ℕ → List Item → List Item
 since low items = filter (λ item. leb low item.number) items
 
 abbrev pub AreLanes : ℕ → Board → List Entry → Type 0
-AreLanes low board entries = (place : Place) → since low (board place) ≡ lane place entries
+AreLanes low board entries = (place : ItemPlace) → since low (board place) ≡ lane place entries
 
 pub not_leb : (m n : ℕ) → n < m → leb m n ≡ false
 not_leb m n less = false_from_ne_true (leb m n) (λ le. omega (arith, less, leb-true m n le))
@@ -104,7 +106,7 @@ pub since-append : (low : ℕ) (xs ys : List Item) → since low (xs ++ ys) ≡ 
     ++ since low ys
 since-append low xs ys = filter-append (λ item. leb low item.number) xs ys
 
-since-put : (low : ℕ) (old : Board) (to : Place) (item : Item) (place : Place)
+since-put : (low : ℕ) (old : Board) (to : ItemPlace) (item : Item) (place : ItemPlace)
     → since low (put old to item place) ≡ since low (old place)
     ++ cond (same_place place to) (since low (item ∷ [])) []
 since-put low old to item place = go (same_place place to) refl
@@ -116,12 +118,12 @@ since-put low old to item place = go (same_place place to) refl
     go false apart = sym (append-nil (since low (old place)))
 
 -- an entry comes to the end
-lane-comes : (place : Place) (es : List Entry) (e : Entry) → lane place (es ++ e ∷ [])
+lane-comes : (place : ItemPlace) (es : List Entry) (e : Entry) → lane place (es ++ e ∷ [])
     ≡ lane place es ++ cond (same_place place e.place) (e.item ∷ []) []
 lane-comes place es e = lane-append place es (e ∷ [])
 
 -- an item comes, and its entry
-pub lanes-comes : (low : ℕ) (old : Board) (to : Place) (item : Item) (passed : ℕ)
+pub lanes-comes : (low : ℕ) (old : Board) (to : ItemPlace) (item : Item) (passed : ℕ)
     (entries : List Entry) → leb low item.number ≡ true → AreLanes low old entries
     → AreLanes low (put old to item)
     (entries ++ record { item = item; place = to; passed = passed } ∷ [])
@@ -131,7 +133,7 @@ lanes-comes low old to item passed entries newer lanes place =
     ∙ sym (lane-comes place entries (record { item = item; place = to; passed = passed })))
 
 -- an older item comes
-pub lanes-older : (low : ℕ) (old : Board) (to : Place) (item : Item) (entries : List Entry)
+pub lanes-older : (low : ℕ) (old : Board) (to : ItemPlace) (item : Item) (entries : List Entry)
     → leb low item.number ≡ false → AreLanes low old entries
     → AreLanes low (put old to item) entries
 lanes-older low old to item entries older lanes place =
@@ -142,7 +144,7 @@ lanes-older low old to item entries older lanes place =
     none false = append-nil (since low (old place))
 
 -- the first item of a place is taken out, and it is an older one
-pub lanes-cut_older : (low : ℕ) (old : Board) (from : Place) (item : Item) (rest : List Item)
+pub lanes-cut_older : (low : ℕ) (old : Board) (from : ItemPlace) (item : Item) (rest : List Item)
     (entries : List Entry) → leb low item.number ≡ false → old from ≡ item ∷ rest
     → AreLanes low old entries → AreLanes low (cut old from rest) entries
 lanes-cut_older low old from item rest entries older was lanes place =
@@ -158,7 +160,7 @@ lanes-cut_older low old from item rest entries older was lanes place =
     go false apart = lanes place
 
 -- it is not, and its entry is taken out
-pub lanes-cut : (low : ℕ) (old : Board) (from : Place) (item : Item) (rest : List Item)
+pub lanes-cut : (low : ℕ) (old : Board) (from : ItemPlace) (item : Item) (rest : List Item)
     (entries : List Entry) → (f : FirstAt from entries item (since low rest))
     → AreLanes low old entries → AreLanes low (cut old from rest) (f.before ++ f.behind)
 lanes-cut low old from item rest entries f lanes place = go (same_place place from) refl

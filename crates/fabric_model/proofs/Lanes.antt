@@ -7,26 +7,26 @@ use Rattle.rio_packets.specs.LinkForm.{Passes}
 use Rattle.fabric_script.specs.declared.ports.PortRef.{PortRef}
 use Rattle.fabric_model.specs.Network.{Item, Network, first_packet}
 use Rattle.fabric_model.specs.Steps.{Step, after, LegalFrom}
-use Rattle.fabric_model.specs.Laws.History.{IsEmptyNetwork, End, taken_by, ended_by, ended}
+use Rattle.fabric_model.specs.Laws.History.{IsEmptyNetwork, End, taken_by, ended_by, items_ended}
 use Rattle.fabric_model.specs.Laws.Forms.{IsFormed}
 use Rattle.fabric_model.specs.Laws.Priorities.{ByPriority}
-use Rattle.fabric_model.specs.Laws.Holding.{Place, Received, Waiting, Over, items_at}
+use Rattle.fabric_model.specs.Laws.Holding.{ItemPlace, ReceivedAt, WaitingAt, Over, items_at}
 use Rattle.fabric_model.proofs.Joining.{carried}
 use Rattle.fabric_model.proofs.Boards.{Allowed, Crosses, Turns, Leaves, Falls, IsHeard, Along, allowed_along, step_on}
 use Rattle.fabric_model.proofs.OnBoards.{AllOn, AllOn-step, AllOn-empty}
 use Rattle.fabric_model.proofs.Lists.{all_weaker, all-both}
 
 -- the priority of the list where an item stands
-abbrev HasPriority : Place → Item → Type 0
-HasPriority (Received p r) item = prio_of item.now ≡ r
-HasPriority (Waiting p r) item = prio_of item.now ≡ r
+abbrev HasPriority : ItemPlace → Item → Type 0
+HasPriority (ReceivedAt p r) item = prio_of item.now ≡ r
+HasPriority (WaitingAt p r) item = prio_of item.now ≡ r
 HasPriority (Over e) item = ⊤
 
 -- and a packet in its link form
-abbrev StandsWell : Place → Item → Type 0
+abbrev StandsWell : ItemPlace → Item → Type 0
 StandsWell place item = Passes item.now × HasPriority place item
 
-goes_to : (net : Network) (from to : Place) (item moved : Item) → Allowed net from to item moved
+goes_to : (net : Network) (from to : ItemPlace) (item moved : Item) → Allowed net from to item moved
     → Along item moved → HasPriority from item → HasPriority to moved
 goes_to net from to item moved (Crosses p q r item2 peer) along own = own
 goes_to net from to item moved (Turns p q item2 same named) along own = along.prio
@@ -34,7 +34,8 @@ goes_to net from to item moved (Leaves n item2 endpoint other) along own = tt
 goes_to net from to item moved (Falls p item2 named) along own = tt
 goes_to net from to item moved (IsHeard p item2 heard) along own = tt
 
-goes_well : (net : Network) (from to : Place) (item moved : Item) → Allowed net from to item moved
+goes_well : (net : Network) (from to : ItemPlace) (item moved : Item)
+    → Allowed net from to item moved
     → StandsWell from item → StandsWell to moved
 goes_well net from to item moved allowed well =
     let along = allowed_along net from to item moved allowed well.0 in
@@ -47,15 +48,15 @@ AreWell net = AllOn StandsWell (items_at net (λ e. []))
 -- what has ended is none of it
 lanes_alone : (net : Network) (out : End → List Item) → AllOn StandsWell (items_at net out)
     → AreWell net
-lanes_alone net out all (Received p r) = all (Received p r)
-lanes_alone net out all (Waiting p r) = all (Waiting p r)
+lanes_alone net out all (ReceivedAt p r) = all (ReceivedAt p r)
+lanes_alone net out all (WaitingAt p r) = all (WaitingAt p r)
 lanes_alone net out all (Over e) = tt
 
 -- this stays along legal steps, whatever came before them
 pub well_on : (start : Network) (steps : List Step) (end : Network) → AreWell start
     → LegalFrom start steps end → AreWell end
 well_on start steps end well legal =
-    lanes_alone end (ended start steps)
+    lanes_alone end (items_ended start steps)
     (carried (λ net made out. AllOn StandsWell (items_at net out))
     (λ net made out step needs held. AllOn-step StandsWell net (after net step) (taken_by net step)
     (items_at net out) (items_at (after net step) (λ e. out e ++ ended_by e net step))
@@ -67,23 +68,23 @@ well_begun start empty = AllOn-empty StandsWell start empty
 
 pub well_priority : (net : Network) → AreWell net → ByPriority net
 well_priority net well = record {
-  received = λ p r. only (Received p r);
-  waiting = λ p r. only (Waiting p r);
+  received = λ p r. only (ReceivedAt p r);
+  waiting = λ p r. only (WaitingAt p r);
 }
   where
-    only : (place : Place) → AllByRecursion (HasPriority place) (items_at net (λ e. []) place)
+    only : (place : ItemPlace) → AllByRecursion (HasPriority place) (items_at net (λ e. []) place)
     only place =
         all_weaker (StandsWell place) (HasPriority place) (λ item well. well.1)
         (items_at net (λ e. []) place) (well place)
 
 -- the two halves of it by themselves
 pub well_by : (net : Network) → IsFormed net → ByPriority net → AreWell net
-well_by net formed own (Received p r) =
-    all-both (λ item. Passes item.now) (HasPriority (Received p r)) (StandsWell (Received p r))
+well_by net formed own (ReceivedAt p r) =
+    all-both (λ item. Passes item.now) (HasPriority (ReceivedAt p r)) (StandsWell (ReceivedAt p r))
     (λ item passes own. (passes, own)) (net.received p r)
     (formed.received p r) (own.received p r)
-well_by net formed own (Waiting p r) =
-    all-both (λ item. Passes item.now) (HasPriority (Waiting p r)) (StandsWell (Waiting p r))
+well_by net formed own (WaitingAt p r) =
+    all-both (λ item. Passes item.now) (HasPriority (WaitingAt p r)) (StandsWell (WaitingAt p r))
     (λ item passes own. (passes, own)) (net.waiting p r)
     (formed.waiting p r) (own.waiting p r)
 well_by net formed own (Over e) = tt
@@ -91,10 +92,10 @@ well_by net formed own (Over e) = tt
 -- the first packet that a port has received is one in its link form
 pub well_passes : (net : Network) → AreWell net → (p : PortRef) (r : ℕ) (packet : List ℕ)
     → first_packet (net.received p r) ≡ Some packet → Passes packet
-well_passes net well p r packet is = go (net.received p r) is (well (Received p r))
+well_passes net well p r packet is = go (net.received p r) is (well (ReceivedAt p r))
   where
     go : (items : List Item) → first_packet items ≡ Some packet
-        → AllByRecursion (StandsWell (Received p r)) items → Passes packet
+        → AllByRecursion (StandsWell (ReceivedAt p r)) items → Passes packet
     go [] is all = absurd (cc)
     go (item ∷ items) is all =
         let same : item.now ≡ packet = cc in

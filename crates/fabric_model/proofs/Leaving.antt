@@ -5,7 +5,7 @@ use Rattle.std.proofs.lemmas.List.{length-map}
 use Rattle.rio_packets.specs.Fields.{prio_of}
 use Rattle.fabric_model.specs.Network.{Network, port_of}
 use Rattle.fabric_model.specs.Steps.{Take, Leave, Move, Drop, Answer, Step, Linked, AtNode, ByDevice, Needs, after, LegalFrom}
-use Rattle.fabric_model.specs.Laws.History.{IsEmptyNetwork, Left, ended_by, taken, ended, gone, WasTaken}
+use Rattle.fabric_model.specs.Laws.History.{IsEmptyNetwork, EndLeft, ended_by, items_taken, items_ended, gone, WasTaken}
 use Rattle.fabric_model.specs.Laws.Holding.{Over, same_place, how_often}
 use Rattle.fabric_model.specs.Laws.Leaving.{packet_left, packets_left, moves, Once, Unchanged}
 use Rattle.fabric_model.proofs.Freeing.{packets, packets-append, packets-only_first}
@@ -14,7 +14,7 @@ use Rattle.fabric_model.proofs.Moves.{HasMoved, moved_along}
 use Rattle.fabric_model.proofs.Holding.{AsTaken, Held, held_along}
 
 left_shown : (net : Network) (step : Step) → Needs net step → packet_left step
-    ≡ packets (ended_by Left net step)
+    ≡ packets (ended_by EndLeft net step)
 left_shown net (Linked step) needs = refl
 left_shown net (AtNode (Take n packet)) needs = refl
 left_shown net (AtNode (Leave n packet)) needs =
@@ -28,7 +28,7 @@ gone_shown : (net : Network) (steps : List Step) (end : Network) → LegalFrom n
 gone_shown net [] end legal = refl
 gone_shown net (step ∷ steps) end legal =
     ap₂ ◌++◌ (left_shown net step legal.0) (gone_shown (after net step) steps end legal.1)
-    ∙ sym (packets-append (ended_by Left net step) (gone (after net step) steps))
+    ∙ sym (packets-append (ended_by EndLeft net step) (gone (after net step) steps))
 
 pub unchanged : (start : Network) (steps : List Step) (end : Network) → IsEmptyNetwork start
     → LegalFrom start steps end → Unchanged start steps
@@ -36,10 +36,10 @@ unchanged start steps end empty legal =
     let held = held_along start steps end empty legal in
     record {
       shown = gone_shown start steps end legal;
-      same = all-both (AsTaken (taken start steps)) (HasMoved (moves start steps))
+      same = all-both (AsTaken (items_taken start steps)) (HasMoved (moves start steps))
           (λ item. HasMoved (moves start steps) item × WasTaken start steps item)
-          (λ item was after. (after, was.known)) (gone start steps) (held.known (Over Left))
-          ((moved_along start steps end empty legal).after (Over Left));
+          (λ item was after. (after, was.known)) (gone start steps) (held.known (Over EndLeft))
+          ((moved_along start steps end empty legal).after (Over EndLeft));
     }
 
 at_most_one : (t : Bool) (n : ℕ) → n ≡ cond t 1 0 → n ≤ 1
@@ -55,12 +55,12 @@ once start steps end empty legal = record {
   never_twice = λ n. go n (cases_lt n end.given);
 }
   where
-    held : Held end (taken start steps) (ended start steps)
+    held : Held end (items_taken start steps) (items_ended start steps)
     held = held_along start steps end empty legal
 
     go : (n : ℕ) → ((n < end.given) ⊎ (end.given ≤ n)) → how_often n (gone start steps) ≤ 1
     go n (inl below) =
         let at = held.standing.placed n below in
-        at_most_one (same_place (Over Left) at.0) (how_often n (gone start steps))
-        (at.1 (Over Left))
-    go n (inr above) = omega (arith, held.standing.fresh n above (Over Left))
+        at_most_one (same_place (Over EndLeft) at.0) (how_often n (gone start steps))
+        (at.1 (Over EndLeft))
+    go n (inr above) = omega (arith, held.standing.fresh n above (Over EndLeft))

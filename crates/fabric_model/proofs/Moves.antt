@@ -9,8 +9,8 @@ use Rattle.maint_packets.specs.NextHops.{moved as next_hop_moved}
 use Rattle.fabric_script.specs.declared.ports.PortRef.{PortRef}
 use Rattle.fabric_model.specs.Network.{Item, Network, port_of}
 use Rattle.fabric_model.specs.Steps.{Hold, Free, Take, Leave, Move, Drop, Answer, Step, Linked, AtNode, ByDevice, Needs, only_first, behind_first, moved_item, without_first, item_of, after_hold, after, LegalFrom}
-use Rattle.fabric_model.specs.Laws.History.{IsEmptyNetwork, End, Left, Dropped, Answered, taken_by, ended_by, ended}
-use Rattle.fabric_model.specs.Laws.Holding.{Place, Received, Waiting, Over, same_place, items_at, how_often, StandsAt}
+use Rattle.fabric_model.specs.Laws.History.{IsEmptyNetwork, End, EndLeft, EndDropped, EndAnswered, taken_by, ended_by, items_ended}
+use Rattle.fabric_model.specs.Laws.Holding.{ItemPlace, ReceivedAt, WaitingAt, Over, same_place, items_at, how_often, StandsAt}
 use Rattle.fabric_model.specs.Laws.Leaving.{IsAfterMoves, AsItWas, OnceMore, moved_by, moves}
 use Rattle.fabric_model.proofs.Moving.{MovesOn, moves_on, named_goes, sent_by}
 use Rattle.fabric_model.proofs.Boards.{place_is, Board, put, cut, ending, holds_on, frees_on, takes_on, turns_on, ends_on, answers_on, First, first_item}
@@ -43,8 +43,8 @@ none_of n (item ∷ items) none = (
 )
 
 -- the number of a first item, without it
-cut_has_none : (given : ℕ) (board : Board) (from : Place) (item : Item) (rest : List Item)
-    → Standing given board → board from ≡ item ∷ rest → item.number < given → (place : Place)
+cut_has_none : (given : ℕ) (board : Board) (from : ItemPlace) (item : Item) (rest : List Item)
+    → Standing given board → board from ≡ item ∷ rest → item.number < given → (place : ItemPlace)
     → how_often item.number (cut board from rest place) ≡ 0
 cut_has_none given board from item rest standing was below place =
     go (standing.placed item.number below)
@@ -56,7 +56,7 @@ cut_has_none given board from item rest standing was below place =
     true_if true pos = refl
     true_if false pos = absurd (omega arith)
 
-    go : ((at : Place) × StandsAt board item.number at)
+    go : ((at : ItemPlace) × StandsAt board item.number at)
         → how_often item.number (cut board from rest place) ≡ 0
     go (at, stands) =
         let here : from ≡ at =
@@ -75,9 +75,10 @@ cut_has_none given board from item rest standing was below place =
 -- ---- steps
 
 -- the first item of a place goes as it is
-goes_as_is : (given : ℕ) (moved : List Item) (old new : Board) (from to : Place) (item : Item)
+goes_as_is : (given : ℕ) (moved : List Item) (old new : Board) (from to : ItemPlace) (item : Item)
     (rest : List Item) → old from ≡ item ∷ rest
-    → ((place : Place) → new place ≡ put (cut old from rest) to item place) → Moved given moved old
+    → ((place : ItemPlace) → new place ≡ put (cut old from rest) to item place)
+    → Moved given moved old
     → Moved given moved new
 goes_as_is given moved old new from to item rest was becomes m =
     let parts = AllOn-cut (λ place. HasMoved moved) old from item rest m.after was in
@@ -89,12 +90,13 @@ goes_as_is given moved old new from to item rest was becomes m =
 
 -- the next number comes
 comes : (net : Network) (moved : List Item) (old new : Board) (p : PortRef) (packet : List ℕ)
-    → ((place : Place) → new place ≡ put old (Waiting p (prio_of packet)) (item_of net p packet)
+    → ((place : ItemPlace)
+    → new place ≡ put old (WaitingAt p (prio_of packet)) (item_of net p packet)
     place) → Moved net.given moved old → Moved (net.given + 1) moved new
 comes net moved old new p packet becomes m = record {
   after = AllOn-same (λ place. HasMoved moved)
-      (put old (Waiting p (prio_of packet)) (item_of net p packet)) new becomes
-      (AllOn-put (λ place. HasMoved moved) old (Waiting p (prio_of packet)) (item_of net p packet)
+      (put old (WaitingAt p (prio_of packet)) (item_of net p packet)) new becomes
+      (AllOn-put (λ place. HasMoved moved) old (WaitingAt p (prio_of packet)) (item_of net p packet)
       m.after
       (subst (λ n. IsAfterMoves packet n packet) (sym (none_below net.given moved m.known))
       AsItWas));
@@ -104,10 +106,10 @@ comes net moved old new p packet becomes m = record {
 }
 
 -- an item moves
-turns : (given : ℕ) (made moved : List Item) (old new : Board) (from to : Place) (item : Item)
+turns : (given : ℕ) (made moved : List Item) (old new : Board) (from to : ItemPlace) (item : Item)
     (rest : List Item) → Standing given old → AllOn (λ place. AsTaken made) old → item.number
     < given → old from ≡ item ∷ rest → MovesOn item.now (moved_item item).now
-    → ((place : Place) → new place ≡ put (cut old from rest) to (moved_item item) place)
+    → ((place : ItemPlace) → new place ≡ put (cut old from rest) to (moved_item item) place)
     → Moved given moved old → Moved given (moved ++ item ∷ []) new
 turns given made moved old new from to item rest standing known below was on becomes m =
     let parts = AllOn-cut (λ place. HasMoved moved) old from item rest m.after was in
@@ -168,7 +170,7 @@ module _ (net : Network) (made : List Item) (out : End → List Item) (moved : L
       (items_at (without_first net p (prio_of packet))
       (ending out end (only_first (net.received p (prio_of packet)))))
   ends p packet end first = goes_as_is net.given moved (items_at net out) _
-      (Received p (prio_of packet)) (Over end) first.item
+      (ReceivedAt p (prio_of packet)) (Over end) first.item
       (behind_first (net.received p (prio_of packet))) first.whole
       (ends_on net out p (prio_of packet) end first.item first.only) m
 
@@ -178,7 +180,7 @@ module _ (net : Network) (made : List Item) (out : End → List Item) (moved : L
       let r = prio_of packet in
       let first = first_item (net.received p r) packet needs.1 in
       let sent = sent_by net p.node packet (Port q.port) needs.2 in
-      let known = AllOn-cut (λ place. AsTaken made) (items_at net out) (Received p r) first.item
+      let known = AllOn-cut (λ place. AsTaken made) (items_at net out) (ReceivedAt p r) first.item
       (behind_first (net.received p r)) held.known first.whole in
       let on = moves_on packet (subst Passes first.now known.0.passes)
       (named_goes sent.device packet q.port sent.sends) in
@@ -190,7 +192,7 @@ module _ (net : Network) (made : List Item) (out : End → List Item) (moved : L
       ap (λ xs. only_first (map moved_item xs)) first.whole in
       subst (λ xs. Moved net.given (moved ++ xs)
       (items_at (after net (ByDevice (Move p q packet))) (λ e. out e ++ []))) (sym first.only)
-      (turns net.given made moved (items_at net out) _ (Received p r) (Waiting q r) first.item
+      (turns net.given made moved (items_at net out) _ (ReceivedAt p r) (WaitingAt q r) first.item
       (behind_first (net.received p r)) held.standing held.known below first.whole moves_item
       (turns_on net out p q packet first.item only) m)
 
@@ -201,7 +203,7 @@ module _ (net : Network) (made : List Item) (out : End → List Item) (moved : L
       subst (λ x. Moved (after_hold net q x r).given (moved ++ [])
       (items_at (after_hold net q x r) (λ e. out e ++ []))) (sym needs.1)
       (none_moves
-      (goes_as_is net.given moved (items_at net out) _ (Waiting needs.0 r) (Received q r)
+      (goes_as_is net.given moved (items_at net out) _ (WaitingAt needs.0 r) (ReceivedAt q r)
       first.item (behind_first (net.waiting needs.0 r)) first.whole
       (holds_on net out q needs.0 r first.item first.only) m))
   step_after (Linked (Free p packet)) needs =
@@ -216,22 +218,23 @@ module _ (net : Network) (made : List Item) (out : End → List Item) (moved : L
       (comes net moved (items_at net out) _ (port_of n) packet (takes_on net out n packet) m)
   step_after (AtNode (Leave n packet)) needs =
       none_moves
-      (ends (port_of n) packet Left
+      (ends (port_of n) packet EndLeft
       (first_item (net.received (port_of n) (prio_of packet)) packet needs.1))
   step_after (ByDevice (Move p q packet)) needs = moves_after p q packet needs
   step_after (ByDevice (Drop p packet)) needs =
       none_moves
-      (ends p packet Dropped (first_item (net.received p (prio_of packet)) packet needs.0))
+      (ends p packet EndDropped (first_item (net.received p (prio_of packet)) packet needs.0))
   step_after (ByDevice (Answer p packet response)) needs =
       none_moves
       (comes net moved _ _ p response (answers_on net out p packet response)
-      (ends p packet Answered (first_item (net.received p (prio_of packet)) packet needs.0)))
+      (ends p packet EndAnswered (first_item (net.received p (prio_of packet)) packet needs.0)))
 
 -- along all legal steps
 moved_from : (net : Network) (made : List Item) (out : End → List Item) (moved : List Item)
     (steps : List Step) (end : Network) → Held net made out
     → Moved net.given moved (items_at net out) → LegalFrom net steps end
-    → Moved end.given (moved ++ moves net steps) (items_at end (λ e. out e ++ ended net steps e))
+    → Moved end.given (moved ++ moves net steps)
+    (items_at end (λ e. out e ++ items_ended net steps e))
 moved_from net made out moved [] end held m legal =
     let none : (λ (e : End). out e) ≡ (λ (e : End). out e ++ []) =
     λ i e. sym (append-nil (out e)) i in
@@ -243,16 +246,17 @@ moved_from net made out moved (step ∷ steps) end held m legal =
     let whole = moved_from (after net step) (made ++ taken_by net step)
     (λ e. out e ++ ended_by e net step) (moved ++ moved_by net step) steps end
     (held_step net made out step legal.0 held) next legal.1 in
-    let joined : (λ (e : End). (out e ++ ended_by e net step) ++ ended (after net step) steps e)
-    ≡ (λ (e : End). out e ++ (ended_by e net step ++ ended (after net step) steps e)) =
-    λ i e. append_assoc (out e) (ended_by e net step) (ended (after net step) steps e) i in
+    let joined : (λ (e : End). (out e ++ ended_by e net step)
+    ++ items_ended (after net step) steps e)
+    ≡ (λ (e : End). out e ++ (ended_by e net step ++ items_ended (after net step) steps e)) =
+    λ i e. append_assoc (out e) (ended_by e net step) (items_ended (after net step) steps e) i in
     subst (λ (o : End → List Item). Moved end.given (moved ++ moves net (step ∷ steps))
     (items_at end o)) joined
     (rw (append_assoc moved (moved_by net step) (moves (after net step) steps)) at whole)
 
 pub moved_along : (start : Network) (steps : List Step) (end : Network) → IsEmptyNetwork start
     → LegalFrom start steps end → Moved end.given (moves start steps)
-    (items_at end (ended start steps))
+    (items_at end (items_ended start steps))
 moved_along start steps end empty legal =
     moved_from start [] (λ e. []) [] steps end (Held-empty start empty)
     (record { after = AllOn-empty (λ place. HasMoved []) start empty; known = tt }) legal

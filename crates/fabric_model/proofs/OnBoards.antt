@@ -7,19 +7,19 @@ use Rattle.fabric_script.specs.declared.ports.PortRef.{PortRef}
 use Rattle.fabric_model.specs.Network.{Item, Network}
 use Rattle.fabric_model.specs.Steps.{item_of}
 use Rattle.fabric_model.specs.Laws.History.{IsEmptyNetwork}
-use Rattle.fabric_model.specs.Laws.Holding.{Place, Received, Waiting, Over, same_place, items_at}
+use Rattle.fabric_model.specs.Laws.Holding.{ItemPlace, ReceivedAt, WaitingAt, Over, same_place, items_at}
 use Rattle.fabric_model.proofs.Boards.{place_is, Board, put, cut, Allowed, Goes, Comes, StepOn, Stays, IsTaken, IsMoved, IsAnswered}
 use Rattle.fabric_model.proofs.Lists.{all-append}
 
-abbrev pub AllOn : (Place → Item → Type 0) → Board → Type 0
-AllOn Holds board = (place : Place) → AllByRecursion (Holds place) (board place)
+abbrev pub AllOn : (ItemPlace → Item → Type 0) → Board → Type 0
+AllOn Holds board = (place : ItemPlace) → AllByRecursion (Holds place) (board place)
 
-pub AllOn-same : (Holds : Place → Item → Type 0) (old new : Board)
-    → ((place : Place) → new place ≡ old place) → AllOn Holds old → AllOn Holds new
+pub AllOn-same : (Holds : ItemPlace → Item → Type 0) (old new : Board)
+    → ((place : ItemPlace) → new place ≡ old place) → AllOn Holds old → AllOn Holds new
 AllOn-same Holds old new same all place = subst (AllByRecursion (Holds place)) (sym (same place))
     (all place)
 
-pub AllOn-put : (Holds : Place → Item → Type 0) (old : Board) (to : Place) (item : Item)
+pub AllOn-put : (Holds : ItemPlace → Item → Type 0) (old : Board) (to : ItemPlace) (item : Item)
     → AllOn Holds old → Holds to item → AllOn Holds (put old to item)
 AllOn-put Holds old to item all one place = go (same_place place to) refl
   where
@@ -30,7 +30,7 @@ AllOn-put Holds old to item all one place = go (same_place place to) refl
         (all-append (Holds to) (old to) (item ∷ []) (all to) (one, tt))
     go false apart = all place
 
-pub AllOn-cut : (Holds : Place → Item → Type 0) (old : Board) (from : Place) (item : Item)
+pub AllOn-cut : (Holds : ItemPlace → Item → Type 0) (old : Board) (from : ItemPlace) (item : Item)
     (rest : List Item) → AllOn Holds old → old from ≡ item ∷ rest → Holds from item
     × AllOn Holds (cut old from rest)
 AllOn-cut Holds old from item rest all was =
@@ -39,7 +39,7 @@ AllOn-cut Holds old from item rest all was =
     whole : AllByRecursion (Holds from) (item ∷ rest)
     whole = subst (AllByRecursion (Holds from)) was (all from)
 
-    go : (place : Place) (t : Bool) → same_place place from ≡ t
+    go : (place : ItemPlace) (t : Bool) → same_place place from ≡ t
         → AllByRecursion (Holds place) (cond t rest (old place))
     go place true same = subst (λ x. AllByRecursion (Holds x) rest) (sym (place_is place from same))
         whole.1
@@ -47,7 +47,7 @@ AllOn-cut Holds old from item rest all was =
 
 -- What holds of an item where it comes, and of an item as it goes if it held of it before, holds of
 -- all after a step.
-module _ (Holds : Place → Item → Type 0) (net : Network) where
+module _ (Holds : ItemPlace → Item → Type 0) (net : Network) where
   pub AllOn-goes : (old new : Board) → (g : Goes net old new)
       → (Holds g.from g.item → Holds g.to g.moved) → AllOn Holds old → AllOn Holds new
   AllOn-goes old new g goes all =
@@ -56,19 +56,20 @@ module _ (Holds : Place → Item → Type 0) (net : Network) where
       (AllOn-put Holds (cut old g.from g.rest) g.to g.moved parts.1 (goes parts.0))
 
   pub AllOn-comes : (made : List Item) (old new : Board) → (c : Comes net made old new)
-      → Holds (Waiting c.port (prio_of c.packet)) (item_of net c.port c.packet) → AllOn Holds old
+      → Holds (WaitingAt c.port (prio_of c.packet)) (item_of net c.port c.packet) → AllOn Holds old
       → AllOn Holds new
   AllOn-comes made old new c comes all =
-      AllOn-same Holds (put old (Waiting c.port (prio_of c.packet)) (item_of net c.port c.packet))
+      AllOn-same Holds (put old (WaitingAt c.port (prio_of c.packet)) (item_of net c.port c.packet))
       new c.becomes
-      (AllOn-put Holds old (Waiting c.port (prio_of c.packet)) (item_of net c.port c.packet) all
+      (AllOn-put Holds old (WaitingAt c.port (prio_of c.packet)) (item_of net c.port c.packet) all
       comes)
 
   pub AllOn-step : (next : Network) (made : List Item) (old new : Board)
       → StepOn net next made old new
-      → ((p : PortRef) (packet : List ℕ) → Passes packet → Holds (Waiting p (prio_of packet))
+      → ((p : PortRef) (packet : List ℕ) → Passes packet → Holds (WaitingAt p (prio_of packet))
       (item_of net p packet))
-      → ((from to : Place) (item moved : Item) → Allowed net from to item moved → Holds from item
+      → ((from to : ItemPlace) (item moved : Item) → Allowed net from to item moved
+      → Holds from item
       → Holds to moved) → AllOn Holds old → AllOn Holds new
   AllOn-step next made old new (Stays none given same) comes goes all =
       AllOn-same Holds old new same all
@@ -81,13 +82,13 @@ module _ (Holds : Place → Item → Type 0) (net : Network) where
       (AllOn-goes old mid g (goes g.from g.to g.item g.moved g.allowed) all)
 
 -- nothing stands anywhere in an empty network
-pub nothing_at : (net : Network) → IsEmptyNetwork net → (place : Place)
+pub nothing_at : (net : Network) → IsEmptyNetwork net → (place : ItemPlace)
     → items_at net (λ e. []) place ≡ []
-nothing_at net empty (Received p r) = empty.received p r
-nothing_at net empty (Waiting p r) = empty.waiting p r
+nothing_at net empty (ReceivedAt p r) = empty.received p r
+nothing_at net empty (WaitingAt p r) = empty.waiting p r
 nothing_at net empty (Over e) = refl
 
-pub AllOn-empty : (Holds : Place → Item → Type 0) (net : Network) → IsEmptyNetwork net
+pub AllOn-empty : (Holds : ItemPlace → Item → Type 0) (net : Network) → IsEmptyNetwork net
     → AllOn Holds (items_at net (λ e. []))
 AllOn-empty Holds net empty place =
     subst (AllByRecursion (Holds place)) (sym (nothing_at net empty place)) tt

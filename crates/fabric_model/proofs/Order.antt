@@ -9,7 +9,7 @@ use Rattle.fabric_script.specs.declared.ports.PortRef.{PortRef}
 use Rattle.fabric_model.specs.Network.{Item, Network}
 use Rattle.fabric_model.specs.Steps.{item_of}
 use Rattle.fabric_model.specs.Laws.History.{End}
-use Rattle.fabric_model.specs.Laws.Holding.{Place, Waiting, Over, same_place}
+use Rattle.fabric_model.specs.Laws.Holding.{ItemPlace, WaitingAt, Over, same_place}
 use Rattle.fabric_model.specs.Laws.Flows.{SameCourse}
 use Rattle.fabric_model.specs.Laws.Proper.{AreProper}
 use Rattle.fabric_model.proofs.Boards.{place_is, Board, cut, Along, allowed_along, Goes, Comes, StepOn, Stays, IsTaken, IsMoved, IsAnswered, allowed_open, moved_number}
@@ -23,7 +23,7 @@ use Rattle.fabric_model.proofs.Journal.{Entry, Elsewhere, FirstAt, first_at, sin
 abbrev taken_entry : Network → PortRef → List ℕ → Entry
 taken_entry net port packet = record {
   item = item_of net port packet;
-  place = Waiting port (prio_of packet);
+  place = WaitingAt port (prio_of packet);
   passed = zero;
 }
 
@@ -32,14 +32,14 @@ taken_entry net port packet = record {
 module _ (x : Item) (chart : Chart) where
   -- where its course begins
   abbrev pub first_spot : Spot
-  first_spot = record { place = Waiting x.port (prio_of x.taken); key = key_of x.taken }
+  first_spot = record { place = WaitingAt x.port (prio_of x.taken); key = key_of x.taken }
 
   -- the item stands on the course, after so many places
-  pub record IsOn (item : Item) (place : Place) (passed : ℕ) : Type 0 where
+  pub record IsOn (item : Item) (place : ItemPlace) (passed : ℕ) : Type 0 where
     pub fits : Fits place (course chart first_spot passed).place
     pub key : key_of item.now ≡ (course chart first_spot passed).key
 
-  pub record IsWell (given : ℕ) (item : Item) (place : Place) (passed : ℕ) : Type 0 where
+  pub record IsWell (given : ℕ) (item : Item) (place : ItemPlace) (passed : ℕ) : Type 0 where
     pub below : item.number < given
     pub passes : Passes item.now
     pub dest : dest_of item.now ≡ dest_of item.taken
@@ -72,7 +72,7 @@ module _ (x : Item) (chart : Chart) where
   abbrev pub Behind : Entry → Entry → Type 0
   Behind e z = Line z (record e { passed = suc e.passed })
 
-  in_front : (given : ℕ) (from : Place) → ((e : End) → from ≡ Over e → ⊥) → (e z : Entry)
+  in_front : (given : ℕ) (from : ItemPlace) → ((e : End) → from ≡ Over e → ⊥) → (e z : Entry)
       → same_place from e.place ≡ true → Elsewhere from z → WellEntry given e → WellEntry given z
       → Line z e → Behind e z
   in_front given from goes_on e z here elsewhere well_e well_z line same_z same_e =
@@ -103,7 +103,7 @@ module _ (x : Item) (chart : Chart) where
       further le (inr other) = omega (arith, le, other)
 
   -- what stands behind it has passed less, or is older
-  pub all_behind : (given : ℕ) (from : Place) → ((e : End) → from ≡ Over e → ⊥)
+  pub all_behind : (given : ℕ) (from : ItemPlace) → ((e : End) → from ≡ Over e → ⊥)
       → (entries : List Entry) (item : Item) (rest : List Item)
       → (f : FirstAt from entries item rest) → AllByRecursion (WellEntry given) entries
       → Pairs Line entries → AllByRecursion (Behind f.entry) (f.before ++ f.behind)
@@ -128,7 +128,7 @@ module _ (x : Item) (chart : Chart) where
 
   -- ---- what a step makes of it
 
-  journal-same : (given : ℕ) (old new : Board) → ((place : Place) → new place ≡ old place)
+  journal-same : (given : ℕ) (old new : Board) → ((place : ItemPlace) → new place ≡ old place)
       → Journal given old → Journal given new
   journal-same given old new same j = record {
     entries = j.entries;
@@ -268,13 +268,13 @@ module _ (x : Item) (chart : Chart) where
 
   -- an item that is taken stands at the beginning of its course
   first_well : (net : Network) (port : PortRef) (packet : List ℕ) → Passes packet
-      → IsWell (net.given + 1) (item_of net port packet) (Waiting port (prio_of packet)) zero
+      → IsWell (net.given + 1) (item_of net port packet) (WaitingAt port (prio_of packet)) zero
   first_well net port packet passes = record {
     below = omega arith;
     passes = passes;
     dest = refl;
     on = λ same. record {
-      fits = fits_same _ _ (λ t. Waiting (sym same.port t) (sym same.priority t));
+      fits = fits_same _ _ (λ t. WaitingAt (sym same.port t) (sym same.priority t));
       key = λ t. record { eight = sym same.maintenance t; hop = sym same.hop t };
     };
   }

@@ -6,8 +6,8 @@ use Rattle.rio_packets.specs.Register.{fed, shifted, shifted_times}
 use Rattle.rio_packets.proofs.CarriesLaws.{decides_passes}
 use Rattle.fabric_model.specs.Network.{Item, port_of}
 use Rattle.fabric_model.specs.Steps.{Hold, Free, Take, Leave, Linked, AtNode, after_all, LegalFrom}
-use Rattle.fabric_model.specs.Laws.History.{gone, ended}
-use Rattle.fabric_model.specs.Laws.Holding.{Place, Received, Waiting, Over, HoldingExactly, StandsAt, items_at}
+use Rattle.fabric_model.specs.Laws.History.{gone, items_ended}
+use Rattle.fabric_model.specs.Laws.Holding.{ItemPlace, ReceivedAt, WaitingAt, Over, HoldingExactly, StandsAt, items_at}
 use Rattle.fabric_model.specs.Laws.Leaving.{Once, Unchanged}
 use Rattle.fabric_model.specs.Laws.Freeing.{FreedAfterHeld}
 use Rattle.fabric_model.specs.Laws.Flows.{InOrder}
@@ -40,14 +40,16 @@ pair_gone = refl
 pub kept_too_breaks : HoldingExactly pair held_once kept_too → ⊥
 kept_too_breaks holding = go (holding.placed 0 (omega arith))
   where
-    go : ((place : Place) × StandsAt (items_at kept_too (ended pair held_once)) 0 place) → ⊥
+    go : ((place : ItemPlace) × StandsAt (items_at kept_too (items_ended pair held_once)) 0 place)
+        → ⊥
     go at = elsewhere at.0 at.1
       where
-        elsewhere : (place : Place) → StandsAt (items_at kept_too (ended pair held_once)) 0 place
+        elsewhere : (place : ItemPlace)
+            → StandsAt (items_at kept_too (items_ended pair held_once)) 0 place
             → ⊥
-        elsewhere (Received p r) stands = omega (arith, stands (Waiting (port_of 0) 0))
-        elsewhere (Waiting p r) stands = omega (arith, stands (Received (port_of 1) 0))
-        elsewhere (Over e) stands = omega (arith, stands (Waiting (port_of 0) 0))
+        elsewhere (ReceivedAt p r) stands = omega (arith, stands (WaitingAt (port_of 0) 0))
+        elsewhere (WaitingAt p r) stands = omega (arith, stands (ReceivedAt (port_of 1) 0))
+        elsewhere (Over e) stands = omega (arith, stands (WaitingAt (port_of 0) 0))
 
 pub left_twice_breaks : Once pair left_twice → ⊥
 left_twice_breaks once = omega (arith, once.each)

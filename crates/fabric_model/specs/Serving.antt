@@ -7,7 +7,7 @@ use Rattle.maint_packets.specs.declared.request.Request.{Request}
 use Rattle.maint_packets.specs.NextHops.{next_of}
 use Rattle.maint_packets.specs.Requests.{request_of}
 use Rattle.maint_packets.specs.Responses.{response_bytes}
-use Rattle.maint_packets.specs.Answers.{answered}
+use Rattle.maint_packets.specs.Answers.{request_answered}
 use Rattle.fabric_script.specs.declared.ports.PortRef.{PortRef}
 use Rattle.fabric_model.specs.Network.{Network}
 
@@ -22,10 +22,11 @@ next_at net n packet =
 abbrev pub response_at : Network → PortRef → List ℕ → Option (List ℕ)
 response_at net p packet =
     option_and_then
-    (λ device. option_map (λ request. response_bytes (answered device request p.port).response)
+    (λ device.
+    option_map (λ request. response_bytes (request_answered device request p.port).response)
     (request_of packet)) (slice_get net.registers p.node)
 
 -- a device after it answered a request on a port
 abbrev pub device_after : ℕ → Option Request → Device → Device
 device_after port None device = device
-device_after port (Some request) device = (answered device request port).device
+device_after port (Some request) device = (request_answered device request port).device

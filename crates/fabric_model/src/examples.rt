@@ -2,8 +2,9 @@
 //! law can fail.
 
 ghost use Rattle.std.specs.Prelude.{[], ◌∷◌, ◌≡◌, map};
+ghost use Rattle.fabric_script.specs.Ports.{port_at};
 ghost use Rattle.fabric_model.specs.Steps.{LegalFrom, after_all};
-ghost use Rattle.fabric_model.specs.Laws.History.{Dropped, ended, gone};
+ghost use Rattle.fabric_model.specs.Laws.History.{EndDropped, items_ended, gone};
 ghost use Rattle.fabric_model.specs.Laws.Holding.{HoldingExactly};
 ghost use Rattle.fabric_model.specs.Laws.Leaving.{Once, Unchanged};
 ghost use Rattle.fabric_model.specs.Laws.Freeing.{FreedAfterHeld};
@@ -11,7 +12,7 @@ ghost use Rattle.fabric_model.specs.Laws.Flows.{SameCourse, SameFlow, EarlierFir
 ghost use Rattle.fabric_model.specs.Laws.Tables.{ByTables};
 ghost use Rattle.fabric_model.specs.Laws.Proper.{AreProper};
 ghost use Rattle.fabric_model.specs.Laws.Examples.{pair, pair_steps, first, held_once, kept_too, left_twice, twins, left_both, left_as_other, freed_too_early, fork, overtaking};
-ghost use Rattle.fabric_model.specs.Laws.Switches.{port_at, around, through, circle, parting, SamePriority, moved_elsewhere, dropped_on_its_way, for_7, later_for_7, changing, with_hop_0, with_hop_5, with_hop_3, hopping, large, of_both_sizes, taken_as};
+ghost use Rattle.fabric_model.specs.Laws.Switches.{around, through, circle, parting, SamePriority, moved_elsewhere, dropped_on_its_way, for_7, later_for_7, changing, with_hop_0, with_hop_5, with_hop_3, hopping, large, of_both_sizes, taken_as};
 
 /// A packet is sent over the one link of two endpoints and collected: the steps are legal, and the
 /// one item has left.
@@ -73,7 +74,8 @@ pub fn routes_can_change()
 /// its hops, and the later one leaves, with its hop count lowered at each switch.
 pub fn hop_counts_part_flows()
     ensures legal { LegalFrom around hopping (after_all around hopping) }
-    ensures dropped { ended around hopping Dropped ≡ taken_as 0 with_hop_0 with_hop_0 ∷ [] }
+    ensures dropped { items_ended around hopping EndDropped ≡ taken_as 0 with_hop_0 with_hop_0
+        ∷ [] }
     ensures left { gone around hopping ≡ taken_as 1 with_hop_5 with_hop_3 ∷ [] }
 {}
 

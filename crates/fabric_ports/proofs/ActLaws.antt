@@ -12,13 +12,13 @@ use Rattle.link_wires.specs.declared.edits.Edited.TheVariants as Edits
 use Rattle.link_machine.specs.Calls.{pumped, pump_notes, has_chars, first_takes, delivery_from, delivered_from, delivery_notes, timed_out_at, time_out_notes}
 use Rattle.link_machine.specs.States.{LinkState, at_end}
 use Rattle.link_rest.specs.Acts as acts
-use Rattle.link_rest.specs.Acts.{At, Found, reached_by, after}
-use Rattle.link_law.specs.Answers.{taken_by, delivery_answer, UnlessGivenUp, OnGivenUp}
+use Rattle.link_rest.specs.Acts.{At, FoundAt, reached_by, after_act}
+use Rattle.link_law.specs.Answers.{delivery_taken, delivery_answer, UnlessGivenUp, OnGivenUp}
 use Rattle.link_law.specs.Does.{Comes, Stops, Ends, end_of}
 use Rattle.link_law.specs.declared.answers.LinkEnd.{LinkEnd}
 use Rattle.link_law.specs.declared.answers.LinkEnd.TheVariants.{Undetected, Failed, NoMemory}
 use Rattle.link_law.proofs.DeliverLaws.{one_comes, one_stops, through_is, found_is}
-use Rattle.link_rest.specs.Settling.{Part}
+use Rattle.link_rest.specs.Settling.{SchedulePart}
 use Rattle.fabric_ports.specs.Acting.{part_of, Acts}
 use Rattle.fabric_ports.specs.declared.actions.Acted.{Acted}
 use Rattle.fabric_ports.specs.declared.actions.Action.{Action}
@@ -34,7 +34,8 @@ stops grew cut side action before old new Stop.NoMemory stopped = stopped
 
 -- a call in one that ended, which ended so too
 pub acts_end : {W : Type 0} (grew : W → List Note → W → Type 0) (cut : W → Note → W → Type 0)
-    (P : Part) (before : LinkState) (old : W) (result : Result Acted LinkEnd) (end : LinkEnd)
+    (P : SchedulePart) (before : LinkState) (old : W) (result : Result Acted LinkEnd)
+    (end : LinkEnd)
     (next : LinkState) (new : W) → IsErrAnd result (λ y. y ≡ end)
     → Ends grew cut P before old end new → Acts grew cut P before old result next new
 acts_end grew cut P before old (Ok answer) end next new gives ends = absurd gives
@@ -85,14 +86,14 @@ fire_ends grew cut side action before old new end is stopped =
 
 delivered : (from : Side) (n : ℕ) (s next : LinkState) (x : Edited)
     → Ok x ≡ delivery_answer from n s → next ≡ delivered_from from n s
-    → after (acts.Deliver from n) s ≡ At next
+    → after_act (acts.Deliver from n) s ≡ At next
 delivered from n s next x answer there = by_chars (has_chars from n s) refl
   where
-    by_chars : (has : Bool) → has_chars from n s ≡ has → after (acts.Deliver from n) s ≡ At next
+    by_chars : (has : Bool) → has_chars from n s ≡ has → after_act (acts.Deliver from n) s ≡ At next
     by_chars true is =
         let d = delivery_from from n s in
-        let taken : Ok x ≡ taken_by (other_side from) d = answer
-        ∙ ap (λ (b : Bool). if b then taken_by (other_side from) d else Ok Edits.Short) is in
+        let taken : Ok x ≡ delivery_taken (other_side from) d = answer
+        ∙ ap (λ (b : Bool). if b then delivery_taken (other_side from) d else Ok Edits.Short) is in
         ap (λ (b : Bool). if b then reached_by (other_side from) (delivered_from from n s) d else At
         s) is
         ∙ through_is (other_side from) (delivered_from from n s) d x taken ∙ ap At (sym there)
@@ -116,22 +117,22 @@ delivery_comes grew side action n before next old new x is answer there grown =
 
 undelivered : (from side : Side) (n : ℕ) (s : LinkState) (e : Event)
     → Err (Undetected side e) ≡ delivery_answer from n s
-    → after (acts.Deliver from n) s ≡ Found side e
+    → after_act (acts.Deliver from n) s ≡ FoundAt side e
 undelivered from side n s e answer = by_chars (has_chars from n s) refl
   where
     by_chars : (has : Bool) → has_chars from n s ≡ has
-        → after (acts.Deliver from n) s ≡ Found side e
+        → after_act (acts.Deliver from n) s ≡ FoundAt side e
     by_chars true is =
         let d = delivery_from from n s in
-        let taken : Err (Undetected side e) ≡ taken_by (other_side from) d = answer
-        ∙ ap (λ (b : Bool). if b then taken_by (other_side from) d else Ok Edits.Short) is in
+        let taken : Err (Undetected side e) ≡ delivery_taken (other_side from) d = answer
+        ∙ ap (λ (b : Bool). if b then delivery_taken (other_side from) d else Ok Edits.Short) is in
         ap (λ (b : Bool). if b then reached_by (other_side from) (delivered_from from n s) d else At
         s) is
         ∙ found_is (other_side from) side (delivered_from from n s) d e taken
     by_chars false is =
         let d = delivery_from from n s in
         let short : Err (Undetected side e) ≡ Ok Edits.Short = answer
-        ∙ ap (λ (b : Bool). if b then taken_by (other_side from) d else Ok Edits.Short) is in
+        ∙ ap (λ (b : Bool). if b then delivery_taken (other_side from) d else Ok Edits.Short) is in
         absurd cc
 
 by_end : {W : Type 0} (grew : W → List Note → W → Type 0) (cut : W → Note → W → Type 0)
@@ -141,7 +142,7 @@ by_end : {W : Type 0} (grew : W → List Note → W → Type 0) (cut : W → Not
     → OnGivenUp {T = Edited} (Err end) (Stopped grew cut old (delivery_notes side n before) new)
     → Ends grew cut (part_of side (Deliver n)) before old end new
 by_end grew cut side n before old new (Undetected to e) answer noted stopped =
-    one_comes (acts.Deliver side n) before old new (Found to e)
+    one_comes (acts.Deliver side n) before old new (FoundAt to e)
     (undelivered side to n before e answer) noted
 by_end grew cut side n before old new Failed answer noted stopped =
     one_stops (acts.Deliver side n) before old new stopped

@@ -8,7 +8,7 @@ use Rattle.rio_chars.specs.Written.{Writes}
 use Rattle.rio_chars.specs.declared.outbox.Outbox.{Outbox}
 use Rattle.rio_packets.specs.LinkForm.{LinkForm}
 use Rattle.rio_packets.proofs.FormLaws.{Passes-from_form}
-use Rattle.maint_packets.specs.Requests.{IsGood as IsGoodOp, request_of, request_body}
+use Rattle.maint_packets.specs.Requests.{IsGoodOp, request_of, request_body}
 use Rattle.maint_packets.specs.Responses.{response_of}
 use Rattle.maint_packets.specs.declared.request.Request.{Request}
 use Rattle.maint_packets.specs.declared.response.Response.{Response}
@@ -35,7 +35,7 @@ use Rattle.fabric_ask.proofs.OnWay.{on_request, hop_low}
 use Rattle.fabric_ask.proofs.Laying.{laid_heard}
 use Rattle.fabric_ask.proofs.Uncollected.{nothing_answers, answers-append}
 use Rattle.fabric_ports.specs.Asking.{CanAsk, Returns, Replied, AskEnds, Unwritten}
-use Rattle.fabric_ports.specs.Fetching.{NoneLeaves, AskLeaves, response_or_end, response_in, answer_to}
+use Rattle.fabric_ports.specs.Fetching.{NoneLeaves, AskLeaves, response_or_end, response_in, ask_answer}
 use Rattle.fabric_ports.specs.Ran.{Ran, RanShort, RanEnds}
 use Rattle.fabric_ports.specs.declared.answers.EventEnd.{EventEnd}
 use Rattle.fabric_ports.specs.declared.answers.EventEnd.TheVariants as Ends
@@ -257,7 +257,7 @@ module _ (names : List (List ℕ)) (before after : Option (List ℕ)) (host : �
     pub told_answers : (told : Result (Option (List ℕ)) EventEnd)
         → IsTold names written faults a b host request noise from lines new told
         → ((text : List ℕ) → Writes written faults a b text → Appends before after text)
-        → IsAnswered (answer_to told)
+        → IsAnswered (ask_answer told)
     told_answers (Ok left) ran whole =
         told_whole left ran (whole (trace_text names ran.block) ran.prints)
     told_answers (Err (Ends.Undetected port event)) ran whole =

@@ -12,11 +12,11 @@ use Rattle.switch_core.specs.declared.endpoint.Collected.TheVariants as Collects
 use Rattle.link_wires.specs.declared.edits.Edit.{Edit}
 use Rattle.fabric_model.specs.Network.{port_of, room_out, IsEndpoint}
 use Rattle.fabric_model.specs.Steps.{Take, Leave, AtNode}
-use Rattle.fabric_trace.specs.Blocks.{takes, Asks}
+use Rattle.fabric_trace.specs.Blocks.{take_lines, Asks}
 use Rattle.fabric_trace.specs.Fold.{seen}
 use Rattle.fabric_trace.specs.Known.{Found, Seen}
 use Rattle.fabric_trace.specs.Lines.{Full, TraceLine, Stepped, Lacked}
-use Rattle.fabric_trace.specs.Parts.{Steps, Lacks}
+use Rattle.fabric_trace.specs.Parts.{PartSteps, PartLacks}
 use Rattle.fabric_trace.specs.Rounds.{Follows, NamesNothing}
 use Rattle.fabric_trace.specs.Served.{face_in, collect_lines, IsCollect}
 use Rattle.fabric_trace.proofs.Boards.{seen_board}
@@ -31,7 +31,7 @@ use Rattle.fabric_ask.proofs.Hosting.{one_line}
 use Rattle.fabric_ask.proofs.Quieting.{OnlySteps, all_same, steps_same}
 use Rattle.fabric_ask.proofs.Uncollected.{IsApart, CollectsLast, apart_then, never_by, nothing_answers, nothing_leaves, rounds_apart}
 use Rattle.fabric_ports.specs.Asking.{CanAsk, NeverBefore}
-use Rattle.fabric_ports.specs.Events.{Did, taken}
+use Rattle.fabric_ports.specs.Events.{Did, answer_taken}
 use Rattle.fabric_ports.specs.Fetching.{RoundsLeave, AskLeaves}
 use Rattle.fabric_ports.specs.Places.{IsEndpointAt}
 use Rattle.fabric_ports.specs.Ran.{Ran, RanEnds}
@@ -49,7 +49,7 @@ record IsTaking (host : ℕ) (s : Seen) (lines : List TraceLine) : Type 0 where
   same : (seen s lines).unfaithful ≡ s.unfaithful
 
 taking : (host : ℕ) (s : Seen) (packet : List ℕ) (lines : List TraceLine)
-    → IsEndpoint s.network host → Passes packet → lines ≡ takes s host packet
+    → IsEndpoint s.network host → Passes packet → lines ≡ take_lines s host packet
     → IsTaking host s lines
 taking host s packet lines endpoint passes is =
     by_room (room_out s.network (port_of host) (prio_of packet)) refl
@@ -64,7 +64,8 @@ taking host s packet lines endpoint passes is =
           apart = record {
             nothing = never_by host same (tt, tt);
             made = made_by same (one_part
-                (Steps (Take host packet) (endpoint, passes, room) (few_prio packet passes) refl));
+                (PartSteps (Take host packet) (endpoint, passes, room) (few_prio packet passes)
+                refl));
           };
           same = ap (λ (l : List TraceLine). (seen s l).unfaithful) same;
         }
@@ -75,7 +76,7 @@ taking host s packet lines endpoint passes is =
         record {
           apart = record {
             nothing = never_by host same (tt, tt);
-            made = made_by same (one_part (Lacks Full refl));
+            made = made_by same (one_part (PartLacks Full refl));
           };
           same = ap (λ (l : List TraceLine). (seen s l).unfaithful) same;
         }
@@ -111,7 +112,8 @@ module _ {K : Type 0} (written : K → Option (List ℕ)) (faults : K → ℕ) (
   pub asked : (a b : Outbox K) (from : Seen) (lines : List TraceLine) (old new : Fabric)
       (packet : List ℕ) (happened : Happened) → CanAsk host from lines old
       → LinkForm (request_body request) packet
-      → Did (λ block. (block ≡ takes (seen from lines) host packet) × (happened ≡ taken block))
+      → Did (λ block. (block ≡ take_lines (seen from lines) host packet)
+      × (happened ≡ answer_taken block))
       names written faults a b (seen from lines) new
       → Ran (λ s block. Asks s host request block) names written faults a b from lines new
   asked a b from lines old new packet happened can form did =

@@ -11,16 +11,16 @@ use Rattle.link_wires.specs.Deliveries.{told_of}
 use Rattle.link_machine.specs.Calls.{pump_notes, has_chars, told_notes, delivery_from, delivered_from, delivery_notes, is_silent, time_out_notes}
 use Rattle.link_machine.specs.States.{LinkState}
 use Rattle.link_rest.specs.Acts as acts
-use Rattle.link_rest.specs.Acts.{Act, Reached, At, Found, reached_by, after, act_notes, acts_notes, goes}
+use Rattle.link_rest.specs.Acts.{Act, Reached, At, FoundAt, reached_by, after_act, act_notes, acts_notes, goes}
 use Rattle.link_rest.proofs.Lines.{goes_one}
 use Rattle.fabric_script.specs.declared.ports.PortRef.{PortRef}
 use Rattle.fabric_model.specs.Network.{peer_in, link_in}
 use Rattle.fabric_model.proofs.Peers.{ArePeers}
 use Rattle.fabric_trace.specs.Lines as traced
 use Rattle.fabric_trace.specs.Lines.{TraceLine, Begun, Lacked}
-use Rattle.fabric_trace.specs.Known.{Seen, peer_of, port_at, link_at}
+use Rattle.fabric_trace.specs.Known.{Seen, peer_of, port_seen, link_at}
 use Rattle.fabric_trace.specs.Fold.{seen}
-use Rattle.fabric_trace.specs.Blocks.{port_at_side, lines_of, pumps, delivers, times_out, IsSettle, WithPeer, WithLink, IsBlock}
+use Rattle.fabric_trace.specs.Blocks.{port_at_side, lines_of, pumps, delivers, time_out_lines, IsSettle, WithPeer, WithLink, IsBlock}
 use Rattle.fabric_trace.proofs.Folding.{seen-append}
 use Rattle.fabric_trace.proofs.Making.{sent_round, delivery_round}
 use Rattle.fabric_trace.proofs.Running.{fired_round, silent_round}
@@ -64,7 +64,7 @@ pumps_at : (s : Seen) (a b : PortRef) (side : Side) (n : ℕ)
     → lines_of a b (pump_notes side n (link_at s a b)) ≡ pumps s (port_at_side a b side) n
     (port_at_side a b (other_side side))
 pumps_at s a b A n = refl
-pumps_at s a b B n = sent_round a b (bursts n (port_at s b)).chars
+pumps_at s a b B n = sent_round a b (bursts n (port_seen s b)).chars
 
 delivers_first : (s : Seen) (a b : PortRef) (n : ℕ)
     → lines_of a b (delivery_notes A n (link_at s a b)) ++ lack_lines
@@ -91,7 +91,7 @@ delivers_at s a b B n =
 
 times_first : (s : Seen) (a b : PortRef)
     → lines_of a b (time_out_notes A (link_at s a b)) ++ lack_lines
-    (answer_of A TimeOut (link_at s a b)) ≡ times_out s a b
+    (answer_of A TimeOut (link_at s a b)) ≡ time_out_lines s a b
 times_first s a b =
     elim (is_silent (link_at s a b)) as
     (λ x. lines_of a b (if x then Notes.Fire A ∷ [] else []) ++ lack_lines
@@ -104,7 +104,7 @@ times_first s a b =
 times_at : (s : Seen) (a b : PortRef) (side : Side)
     → lines_of a b (time_out_notes side (link_at s a b)) ++ lack_lines
     (answer_of side TimeOut (link_at s a b))
-    ≡ times_out s (port_at_side a b side) (port_at_side a b (other_side side))
+    ≡ time_out_lines s (port_at_side a b side) (port_at_side a b (other_side side))
 times_at s a b A = times_first s a b
 times_at s a b B =
     (λ i. fired_round a b (link_at s a b) i ++ lack_lines
@@ -156,7 +156,7 @@ block_is s a b side (Deliver n) all peers found part =
     (delivers_at s a b side n) part)
 block_is s a b side TimeOut all peers found part =
     with_peer (peer_of s (port_at_side a b side)) (port_at_side a b (other_side side))
-    (times_out s (port_at_side a b side)) _ (peer_at s.network.links a b side peers)
+    (time_out_lines s (port_at_side a b side)) _ (peer_at s.network.links a b side peers)
     (alone s a b (acts.Fire side) (answer_of side TimeOut (link_at s a b)) all _
     (times_at s a b side) part)
 block_is s a b side Settle all peers found part =
@@ -171,20 +171,20 @@ block_is s a b side Settle all peers found part =
 -- ---- an event that was not sent
 
 found_full : (side : Side) (n : ℕ) (l : LinkState) (to : Side) (e : Event)
-    → after (acts.Deliver side n) l ≡ Found to e → answer_of side (Deliver n) l ≡ Done
+    → after_act (acts.Deliver side n) l ≡ FoundAt to e → answer_of side (Deliver n) l ≡ Done
 found_full side n l to e is = by_chars (has_chars side n l) refl
   where
     by_chars : (has : Bool) → has_chars side n l ≡ has → answer_of side (Deliver n) l ≡ Done
     by_chars true has = ap (λ x. if x then Done else Short) has
     by_chars false has =
-        let stays : after (acts.Deliver side n) l ≡ At l =
+        let stays : after_act (acts.Deliver side n) l ≡ At l =
         ap (λ x. if x then reached_by (other_side side) (delivered_from side n l)
         (delivery_from side n l) else At l) has in
         absurd (cc (stays, is))
 
 -- it is found where something was done
 pub found_done : (side : Side) (action : Action) (l : LinkState) (acts : List Act) (to : Side)
-    (e : Event) → part_of side action (At l) acts → goes (At l) acts ≡ Found to e
+    (e : Event) → part_of side action (At l) acts → goes (At l) acts ≡ FoundAt to e
     → answer_of side action l ≡ Done
 found_done side (Pump n) l all to e part is = refl
 found_done side (Deliver n) l all to e part is =

@@ -18,7 +18,7 @@ use Rattle.fabric_model.specs.Laws.Proper.{AreProper}
 use Rattle.fabric_model.proofs.Joining.{links_stay}
 use Rattle.fabric_model.proofs.Peers.{apart_back}
 use Rattle.fabric_trace.specs.Blocks.{port_at_side, line_of, lines_of}
-use Rattle.fabric_trace.specs.Known.{Seen, peer_of, link_at, port_at, wire_state}
+use Rattle.fabric_trace.specs.Known.{Seen, peer_of, link_at, port_seen, wire_state}
 use Rattle.fabric_trace.specs.Fold.{got_from, fired_from, seen_line, seen}
 use Rattle.fabric_trace.specs.Lines.{TraceLine, steps_of}
 use Rattle.fabric_trace.proofs.Folding.{network_is}
@@ -228,7 +228,7 @@ seen_links s lines = ap (λ (net : Network). net.links) (network_is s lines)
 
 -- ---- the whole fabric
 
-pub port_stays : {s t : Seen} (c : PortRef) → Untouched s t c → port_at t c ≡ port_at s c
+pub port_stays : {s t : Seen} (c : PortRef) → Untouched s t c → port_seen t c ≡ port_seen s c
 port_stays {s} {t} c un =
     λ i. record {
       place = (un.half i).place;

@@ -14,8 +14,8 @@ use Rattle.fabric_trace.proofs.Folding.{seen-append}
 use Rattle.fabric_trace.proofs.Making.{made-append}
 use Rattle.fabric_ask.specs.Noise.{stirred}
 use Rattle.fabric_ports.specs.Blocked.{Blocked, BlockedShort, BlockEnds}
-use Rattle.fabric_ports.specs.Carrying.{AreLinked, WithLeft, Turns, BothTurn, Stirs, BothStir, Carries}
-use Rattle.fabric_ports.specs.Ends.{IsLinked}
+use Rattle.fabric_ports.specs.Carrying.{AreLinked, WithLeft, Turns, BothTurn, Stirs, BothStir, LinkCarries}
+use Rattle.fabric_ports.specs.Ends.{PortIsLinked}
 use Rattle.fabric_ports.specs.Ran.{Kind, Ran, RanShort, RanEnds}
 use Rattle.fabric_ports.specs.Showing.{ShowsFabric}
 use Rattle.fabric_ports.specs.Standing.{Stands}
@@ -40,7 +40,7 @@ linked_on {from} {lines} {more} {old} {new} {ends} is before after = record {
 }
 
 linked : (from : Seen) (lines : List TraceLine) (fabric : Fabric) (p q : PortRef)
-    → Stands from lines fabric → peer_of from p ≡ Some q → IsLinked fabric p
+    → Stands from lines fabric → peer_of from p ≡ Some q → PortIsLinked fabric p
 linked from lines fabric p q stands there = record {
   from = from;
   lines = lines;
@@ -49,14 +49,14 @@ linked from lines fabric p q stands there = record {
 }
 
 pub first_linked : {fabric : Fabric} {ends : PortRef × PortRef} → AreLinked fabric ends
-    → IsLinked fabric ends.0
+    → PortIsLinked fabric ends.0
 first_linked {fabric} {ends} is =
     let found = found_from ends is.stands is.found in
     let peers = link_peers is.from.network.links ends.0 ends is.stands.ready.proper found in
     linked is.from is.lines fabric ends.0 ends.1 is.stands peers.there
 
 pub second_linked : {fabric : Fabric} {ends : PortRef × PortRef} → AreLinked fabric ends
-    → IsLinked fabric ends.1
+    → PortIsLinked fabric ends.1
 second_linked {fabric} {ends} is =
     let found = found_from ends is.stands is.found in
     let peers = link_peers is.from.network.links ends.0 ends is.stands.ready.proper found in
@@ -264,10 +264,10 @@ module _ {K : Type 0} (written : K → Option (List ℕ)) (faults : K → ℕ) (
         (lines ++ first.block) stirred_fabric)
         → Blocked (Settle ends.0) names written faults c d from
         ((lines ++ first.block) ++ second.block) new
-        → Ran (Carries ends noise left) names written faults a d from lines new
+        → Ran (LinkCarries ends noise left) names written faults a d from lines new
     carried a b c d turned stirred_fabric new noise left first second blocked =
         ran_as written faults names (Both (BothTurn ends) (Last noise left))
-        (Carries ends noise left) a d from lines new
+        (LinkCarries ends noise left) a d from lines new
         (λ block own. carry_is ends noise left (seen from lines) block is_open own)
         (ran_both written faults names (BothTurn ends) (Last noise left) a b d from lines turned new
         first
@@ -278,18 +278,18 @@ module _ {K : Type 0} (written : K → Option (List ℕ)) (faults : K → ℕ) (
 
     carry_ends : (a b : Outbox K) (end : EventEnd) (noise left : List Edit)
         → RanEnds (Both (BothTurn ends) (Last noise left)) names written faults a b from lines end
-        → RanEnds (WithLeft (Carries ends noise)) names written faults a b from lines end
+        → RanEnds (WithLeft (LinkCarries ends noise)) names written faults a b from lines end
     carry_ends a b end noise left ended =
         ends_as written faults names (Both (BothTurn ends) (Last noise left))
-        (WithLeft (Carries ends noise)) a b from lines end
+        (WithLeft (LinkCarries ends noise)) a b from lines end
         (λ block own. (left, carry_is ends noise left (seen from lines) block is_open own)) ended
 
     pub carry_unturned : (a b : Outbox K) (end : EventEnd) (noise : List Edit)
         → RanEnds (BothTurn ends) names written faults a b from lines end
-        → RanEnds (WithLeft (Carries ends noise)) names written faults a b from lines end
+        → RanEnds (WithLeft (LinkCarries ends noise)) names written faults a b from lines end
     carry_unturned a b end noise ended =
         ends_as written faults names (Both (BothTurn ends) (WithLeft (Last noise)))
-        (WithLeft (Carries ends noise)) a b from lines end
+        (WithLeft (LinkCarries ends noise)) a b from lines end
         (λ block both. (let left = left_first (BothTurn ends) (Last noise) (seen from lines) block
         both in
         (left.0, carry_is ends noise left.0 (seen from lines) block is_open left.1)))
@@ -301,7 +301,7 @@ module _ {K : Type 0} (written : K → Option (List ℕ)) (faults : K → ℕ) (
         → (first : Ran (BothTurn ends) names written faults a b from lines turned)
         → RanEnds (WithLeft (BothStir ends noise)) names written faults b c from
         (lines ++ first.block) end
-        → RanEnds (WithLeft (Carries ends noise)) names written faults a c from lines end
+        → RanEnds (WithLeft (LinkCarries ends noise)) names written faults a c from lines end
     carry_unstirred a b c turned end noise first ended =
         let own = ends_left (BothStir ends noise) b c from (lines ++ first.block) end ended in
         carry_ends a c end noise own.0
@@ -318,7 +318,7 @@ module _ {K : Type 0} (written : K → Option (List ℕ)) (faults : K → ℕ) (
         (lines ++ first.block) stirred_fabric)
         → BlockEnds (Settle ends.0) names written faults c d from
         ((lines ++ first.block) ++ second.block) end
-        → RanEnds (WithLeft (Carries ends noise)) names written faults a d from lines end
+        → RanEnds (WithLeft (LinkCarries ends noise)) names written faults a d from lines end
     carry_unsettled a b c d turned stirred_fabric end noise left first second ended =
         carry_ends a d end noise left
         (ends_second written faults names (BothTurn ends) (Last noise left) a b d from lines turned

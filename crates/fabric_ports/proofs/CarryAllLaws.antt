@@ -17,7 +17,7 @@ use Rattle.fabric_trace.proofs.Rounds.{AreFound, all_found}
 use Rattle.fabric_ask.specs.Asks.{CarryAll}
 use Rattle.fabric_ask.proofs.Beginning.{carry_all_exist}
 use Rattle.fabric_ask.proofs.Carrying.{has_carried}
-use Rattle.fabric_ports.specs.Carrying.{AreLinked, WithLeft, Carries, LinksCarry}
+use Rattle.fabric_ports.specs.Carrying.{AreLinked, WithLeft, LinkCarries, LinksCarry}
 use Rattle.fabric_ports.specs.Ran.{Ran, RanEnds}
 use Rattle.fabric_ports.specs.Standing.{Stands}
 use Rattle.fabric_ports.specs.declared.answers.EventEnd.{EventEnd}
@@ -42,29 +42,31 @@ carry_append [] ys noise middle left s lines still both =
 carry_append (x ∷ xs) ys noise middle left s lines still both =
     let first = both.3 in
     let next = first.0 in
-    let own : Both (Both (Carries x noise next) (CarryAll xs next middle)) (CarryAll ys middle left)
+    let own : Both (Both (LinkCarries x noise next) (CarryAll xs next middle))
+    (CarryAll ys middle left)
     s lines = (both.0, both.1, both.2, first.1, both.4) in (
       next,
-      both_as (Carries x noise next) (Both (CarryAll xs next middle) (CarryAll ys middle left))
+      both_as (LinkCarries x noise next) (Both (CarryAll xs next middle) (CarryAll ys middle left))
           (CarryAll (xs ++ ys) next left) s lines
           (λ t rest sent more. carry_append xs ys next middle left t rest sent more)
-          (both_assoc (Carries x noise next) (CarryAll xs next middle) (CarryAll ys middle left) s
+          (both_assoc (LinkCarries x noise next) (CarryAll xs next middle)
+          (CarryAll ys middle left) s
           lines own),
     )
 
 carry_one : (link : PortRef × PortRef) (noise left : List Edit) (s : Seen)
-    (lines : List TraceLine) → Carries link noise left s lines
+    (lines : List TraceLine) → LinkCarries link noise left s lines
     → CarryAll (link ∷ []) noise left s lines
 carry_one link noise left s lines own = (
   left,
-  both_as (Carries link noise left) Nothing (CarryAll [] left left) s lines
-      (λ t rest sent none. (none, refl)) (both_nothing (Carries link noise left) s lines own),
+  both_as (LinkCarries link noise left) Nothing (CarryAll [] left left) s lines
+      (λ t rest sent none. (none, refl)) (both_nothing (LinkCarries link noise left) s lines own),
 )
 
 -- ---- made of parts
 
 carries_made : {from : Seen} (link : PortRef × PortRef) (noise left : List Edit) → IsReady from
-    → link_in from.network.links link.0 ≡ Some link → IsMade from (Carries link noise left)
+    → link_in from.network.links link.0 ≡ Some link → IsMade from (LinkCarries link noise left)
 carries_made {from} link noise left ready found lines block made sent own =
     let s = seen from lines in
     let is_open = open_behind link ready found made sent in
@@ -132,7 +134,7 @@ module _ {K : Type 0} (written : K → Option (List ℕ)) (faults : K → ℕ) (
       → Stands from lines old → IsNext from k link
       → (first : Ran (CarryAll (take k from.network.links) noise middle) names written faults a b
       from lines mid)
-      → Ran (Carries link middle left) names written faults b c from (lines ++ first.block) new
+      → Ran (LinkCarries link middle left) names written faults b c from (lines ++ first.block) new
       → Ran (CarryAll (take (k + 1) from.network.links) noise left) names written faults a c from
       lines new
   carried_more a b c from lines old mid new k link noise middle left stands next first own =
@@ -146,7 +148,8 @@ module _ {K : Type 0} (written : K → Option (List ℕ)) (faults : K → ℕ) (
       stands.sent both))
       (ran_both written faults names (CarryAll (take k links) noise middle)
       (CarryAll (link ∷ []) middle left) a b c from lines mid new first
-      (ran_as written faults names (Carries link middle left) (CarryAll (link ∷ []) middle left) b c
+      (ran_as written faults names (LinkCarries link middle left)
+      (CarryAll (link ∷ []) middle left) b c
       from (lines ++ first.block) new
       (λ block carries. carry_one link middle left (seen from (lines ++ first.block)) block carries)
       own))
@@ -157,25 +160,25 @@ module _ {K : Type 0} (written : K → Option (List ℕ)) (faults : K → ℕ) (
       (end : EventEnd) → Stands from lines old → IsNext from k link
       → (first : Ran (CarryAll (take k from.network.links) noise middle) names written faults a b
       from lines mid)
-      → RanEnds (WithLeft (Carries link middle)) names written faults b c from
+      → RanEnds (WithLeft (LinkCarries link middle)) names written faults b c from
       (lines ++ first.block) end
       → RanEnds (WithLeft (LinksCarry noise)) names written faults a c from lines end
   carried_short a b c from lines old mid k link noise middle end stands next first ended =
       let links = from.network.links in
       let rest = drop (k + 1) links in
-      let own = ends_left written faults names (Carries link middle) b c from
+      let own = ends_left written faults names (LinkCarries link middle) b c from
       (lines ++ first.block) end ended in
       let on : GoesOn from (WithLeft (CarryAll rest own.0)) =
       λ more made sent. (let exist = carry_all_exist rest links own.0 (seen from more)
       (good_behind stands.ready made) sent (seen_links from more)
       (found_drop links links (k + 1) (all_found links stands.ready.proper)) in
       (exist.exists.lines, (exist.left, exist.exists.is))) in
-      let inner = ends_first written faults names (Carries link middle own.0)
+      let inner = ends_first written faults names (LinkCarries link middle own.0)
       (WithLeft (CarryAll rest own.0)) b c from (lines ++ first.block) mid end
       (carries_made link middle own.0 stands.ready next.found) on first.stands own.1 in
       ends_as written faults names
       (Both (CarryAll (take k links) noise middle)
-      (Both (Carries link middle own.0) (WithLeft (CarryAll rest own.0))))
+      (Both (LinkCarries link middle own.0) (WithLeft (CarryAll rest own.0))))
       (WithLeft (LinksCarry noise)) a c from lines end
       (λ block both. (let all = both_left own.0 (seen from lines) block both in (
         all.0,
@@ -185,12 +188,13 @@ module _ {K : Type 0} (written : K → Option (List ℕ)) (faults : K → ℕ) (
             stands.sent all.1),
       )))
       (ends_second written faults names (CarryAll (take k links) noise middle)
-      (Both (Carries link middle own.0) (WithLeft (CarryAll rest own.0))) a b c from lines mid end
+      (Both (LinkCarries link middle own.0) (WithLeft (CarryAll rest own.0))) a b c from lines mid
+      end
       first inner)
     where
       both_left : (next : List Edit) (s : Seen) (block : List TraceLine)
           → Both (CarryAll (take k from.network.links) noise middle)
-          (Both (Carries link middle next)
+          (Both (LinkCarries link middle next)
           (WithLeft (CarryAll (drop (k + 1) from.network.links) next))) s block
           → (left : List Edit) × Both (CarryAll (take k from.network.links) noise middle)
           (CarryAll (link ∷ drop (k + 1) from.network.links) middle left) s block
@@ -199,9 +203,9 @@ module _ {K : Type 0} (written : K → Option (List ℕ)) (faults : K → ℕ) (
           left_first (CarryAll (take k from.network.links) noise middle)
           (CarryAll (link ∷ rest) middle) s block
           (both_as (CarryAll (take k from.network.links) noise middle)
-          (Both (Carries link middle next) (WithLeft (CarryAll rest next)))
+          (Both (LinkCarries link middle next) (WithLeft (CarryAll rest next)))
           (WithLeft (CarryAll (link ∷ rest) middle)) s block
-          (λ t lines sent more. (let own = left_first (Carries link middle next)
+          (λ t lines sent more. (let own = left_first (LinkCarries link middle next)
           (CarryAll rest next) t lines more in (own.0, (next, own.1)))) both)
 
   -- all links have carried what they can

@@ -17,7 +17,7 @@ use Rattle.fabric_trace.proofs.Making.{made-append, made_by}
 use Rattle.fabric_trace.proofs.Walks.{peers_round}
 use Rattle.fabric_ask.specs.Noise.{stirred}
 use Rattle.fabric_ask.proofs.Carrying.{KeepsOn, turn_goes, stirred_goes}
-use Rattle.fabric_ports.specs.Carrying.{WithLeft, Turns, BothTurn, Stirs, BothStir, Carries}
+use Rattle.fabric_ports.specs.Carrying.{WithLeft, Turns, BothTurn, Stirs, BothStir, LinkCarries}
 use Rattle.fabric_ports.specs.Ran.{Kind}
 use Rattle.fabric_ports.specs.Showing.{ends_of}
 use Rattle.fabric_ports.specs.Standing.{Stands}
@@ -148,7 +148,7 @@ both_stir_fair {s} {lines} ends noise left is_open both =
 pub carry_is : (ends : PortRef × PortRef) (noise left : List Edit) (s : Seen)
     (lines : List TraceLine) → IsOpen s ends.0 ends.1
     → Both (BothTurn ends) (Both (BothStir ends noise left) (Settles ends)) s lines
-    → Carries ends noise left s lines
+    → LinkCarries ends noise left s lines
 carry_is ends noise left s lines is_open both =
     let a = ends.0 in
     let b = ends.1 in

@@ -10,20 +10,20 @@ use Rattle.maint_packets.specs.Requests.{request_of}
 use Rattle.maint_registers.specs.Devices.{Device, IsSameDevice, is_switch}
 use Rattle.switch_core.specs.declared.endpoint.Collected.{Collected}
 use Rattle.switch_core.specs.declared.endpoint.Collected.TheVariants as Collects
-use Rattle.switch_core.specs.EndpointSteps.{collected as collects, face_after, answered_on_0, device_after}
+use Rattle.switch_core.specs.EndpointSteps.{collected, face_after, answered_on_0, endpoint_after}
 use Rattle.switch_core.specs.Faces.{with_packet}
 use Rattle.fabric_script.specs.declared.ports.PortRef.{PortRef}
 use Rattle.fabric_model.specs.Network.{Network, port_of, same_port}
-use Rattle.fabric_model.specs.Serving.{device_after as answered_at}
+use Rattle.fabric_model.specs.Serving.{device_after}
 use Rattle.fabric_model.specs.Steps.{Leave, Answer, AtNode, ByDevice, without_first, item_of, after}
 use Rattle.fabric_trace.specs.Fold.{seen}
-use Rattle.fabric_trace.specs.Known.{Seen, port_at}
+use Rattle.fabric_trace.specs.Known.{Seen, port_seen}
 use Rattle.fabric_trace.specs.Served.{face_in, collect_lines, HasResponseForm, IsCollect}
 use Rattle.fabric_trace.specs.Text.{trace_text}
 use Rattle.fabric_trace.proofs.Keeping.{few_prio}
 use Rattle.fabric_ports.specs.declared.answers.Happened.{Happened}
 use Rattle.fabric_ports.specs.declared.fabric.Fabric.{Fabric}
-use Rattle.fabric_ports.specs.Events.{Did, collected}
+use Rattle.fabric_ports.specs.Events.{Did, answer_collected}
 use Rattle.fabric_ports.specs.Places.{IsEndpointAt}
 use Rattle.fabric_ports.specs.Showing.{ShowsFabric}
 use Rattle.fabric_ports.proofs.Changes.{set-change}
@@ -104,18 +104,18 @@ collect_others net n Collects.Empty q apart = refl
 collect_others net n Collects.Full q apart = refl
 
 pub answered_is : (device : Device) (request : Option Request)
-    → answered_at 0 request device ≡ answered_on_0 device request
+    → device_after 0 request device ≡ answered_on_0 device request
 answered_is device None = refl
 answered_is device (Some request) = refl
 
 collect_registers : (net : Network) (n : ℕ) (device : Device) (told : Collected)
     → slice_get net.registers n ≡ Some device
-    → (after_collect net n told).registers ≡ slice_set net.registers n (device_after device told)
+    → (after_collect net n told).registers ≡ slice_set net.registers n (endpoint_after device told)
 unfolding after_collect
 collect_registers net n device (Collects.Left packet) stands =
     sym (set_same net.registers n device stands)
 collect_registers net n device (Collects.Answered request response) stands =
-    sym (set-change net.registers n device (answered_at 0 (request_of request)) stands)
+    sym (set-change net.registers n device (device_after 0 (request_of request)) stands)
     ∙ ap (slice_set net.registers n) (answered_is device (request_of request))
 collect_registers net n device Collects.Empty stands = sym (set_same net.registers n device stands)
 collect_registers net n device Collects.Full stands = sym (set_same net.registers n device stands)
@@ -124,9 +124,9 @@ collect_registers net n device Collects.Full stands = sym (set_same net.register
 
 -- what was collected, as the call was told
 pub record WasCollected (device next : Device) (x y : PortState) (told : Collected) : Type 0 where
-  pub by_lists : told ≡ collects device (face_of_port x)
+  pub by_lists : told ≡ collected device (face_of_port x)
   pub face : face_of_port y ≡ face_after (face_of_port x) told
-  pub registers : next ≡ device_after device told
+  pub registers : next ≡ endpoint_after device told
   pub same : IsSameDevice device next
   pub alike : AreAlike x y
   pub forms : AreForms told
@@ -135,11 +135,12 @@ pub did_collect : (names : List (List ℕ)) {K : Type 0} (written : K → Option
     (faults : K → ℕ) (b b2 : Outbox K) (s : Seen) (old new : Fabric) (n : ℕ)
     (device next : Device) (x y : PortState) (told : Collected) (happens : Happened)
     → ShowsFabric old s → s.unfaithful ≡ None → IsEndpointAt old.devices.items n
-    → slice_get old.devices.items n ≡ Some device → port_at s (port_of n) ≡ x
+    → slice_get old.devices.items n ≡ Some device → port_seen s (port_of n) ≡ x
     → WasCollected device next x y told → HasBoth old new n next (port_of n) y
-    → happens ≡ collected (collect_lines n told)
+    → happens ≡ answer_collected (collect_lines n told)
     → Writes written faults b b2 (trace_text names (collect_lines n told))
-    → Did (λ block. IsCollect s.network n block × (happens ≡ collected block)) names written faults
+    → Did (λ block. IsCollect s.network n block
+    × (happens ≡ answer_collected block)) names written faults
     b b2 s new
 did_collect names written faults b b2 s old new n device next x y told happens shows sent at stands
     is was has answers prints =
@@ -148,12 +149,12 @@ did_collect names written faults b b2 s old new n device next x y told happens s
     let later = after_collect net n told in
     let t : Seen = record s { network = later } in
     let known = ap (λ (l : List Device). slice_get l n) shows.registers ∙ stands in
-    let whole : told ≡ collects device (face_in net p) =
-    was.by_lists ∙ ap (λ (z : PortState). collects device (face_of_port z)) (sym is) in
+    let whole : told ≡ collected device (face_in net p) =
+    was.by_lists ∙ ap (λ (z : PortState). collected device (face_of_port z)) (sym is) in
     let own : face_of_port y ≡ face_in later p = was.face
     ∙ ap (λ (z : PortState). face_after (face_of_port z) told) (sym is)
     ∙ sym (collect_face net n told was.forms) in
-    let becomes : port_at t p ≡ y = port_faced s later p y (plans_stay net n told)
+    let becomes : port_seen t p ≡ y = port_faced s later p y (plans_stay net n told)
     (subst (λ z. AreAlike z y) (sym is) was.alike) own in
     let showing : ShowsFabric new t = port_shows old new s t n device next y shows at stands
     was.same has becomes

@@ -2,11 +2,11 @@
 use Rattle.std.proofs.Common.{◌≡◌, ℕ, zero, suc, ◌+◌, ◌<◌, true, false, List, [], ◌∷◌, Some, option_map, slice_get, slice_set, refl, sym, ap, ◌∙◌, subst, arith}
 use Rattle.maint_registers.specs.Devices.{Device, IsSameDevice, is_switch}
 use Rattle.maint_registers.specs.declared.registers.Kind.{Kind}
-use Rattle.switch_core.specs.Faces.{AreAlike}
+use Rattle.switch_core.specs.Faces.{AllAlike}
 use Rattle.fabric_ports.specs.Places.{AreFirsts, port_count, HasPort, IsEndpointAt, IsSwitchAt}
 
 abbrev pub AreSameDevices : List Device → List Device → Type 0
-AreSameDevices old new = AreAlike IsSameDevice old new
+AreSameDevices old new = AllAlike IsSameDevice old new
 
 pub same_device : (device : Device) → IsSameDevice device device
 same_device device = record { kind = refl; ports = refl; linked = refl; large_id = refl }

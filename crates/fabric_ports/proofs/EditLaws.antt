@@ -9,7 +9,7 @@ use Rattle.rio_chars.proofs.WrittenLaws.{Writes-nil}
 use Rattle.link_port.specs.Ports.{PortState}
 use Rattle.link_watch.specs.declared.side.Side.{Side}
 use Rattle.link_watch.specs.declared.side.Side.TheVariants.{A, B}
-use Rattle.link_wires.specs.Wires.{fits, edited, after_edit, answered}
+use Rattle.link_wires.specs.Wires.{fits, edited, after_edit, edit_answered}
 use Rattle.link_wires.specs.declared.edits.Edit.{Edit}
 use Rattle.link_wires.specs.declared.edits.Edited.{Edited}
 use Rattle.link_machine.specs.Calls.{edited_from}
@@ -21,14 +21,14 @@ use Rattle.fabric_model.specs.Network.{same_port}
 use Rattle.fabric_model.proofs.Peers.{apart_back}
 use Rattle.fabric_trace.specs.Blocks.{port_at_side, edits, IsBlock}
 use Rattle.fabric_trace.specs.Fold.{edit_of, changed, edited_by, seen}
-use Rattle.fabric_trace.specs.Known.{Wire, Seen, wire_state, port_at, link_at}
+use Rattle.fabric_trace.specs.Known.{Wire, Seen, wire_state, port_seen, link_at}
 use Rattle.fabric_trace.specs.Lines as traced
 use Rattle.fabric_trace.specs.Lines.{TraceLine, Begun, Lacked}
 use Rattle.fabric_trace.specs.Text.{trace_text}
 use Rattle.fabric_trace.proofs.Folding.{wire_own, wire_other}
 use Rattle.fabric_trace.proofs.Making.{AreOthers}
 use Rattle.fabric_trace.proofs.Walks.{elsewhere_here}
-use Rattle.fabric_ports.specs.Acting.{lack_lines, acted}
+use Rattle.fabric_ports.specs.Acting.{lack_lines, edit_acted}
 use Rattle.fabric_ports.specs.Blocked.{Blocked, BlockedShort}
 use Rattle.fabric_ports.specs.Ends.{IsPlaceOf}
 use Rattle.fabric_ports.specs.Places.{place_of}
@@ -75,7 +75,7 @@ edit_block s (Collect node) port edit block is same = absurd cc
 edit_block s (Run n) port edit block is same = absurd cc
 
 lacks_is : (x : Bool)
-    → lack_lines (acted (answered x)) ≡ (if x then [] else Lacked traced.Short ∷ [])
+    → lack_lines (edit_acted (edit_answered x)) ≡ (if x then [] else Lacked traced.Short ∷ [])
 lacks_is true = refl
 lacks_is false = refl
 
@@ -103,12 +103,12 @@ edited_at s a b A edit apart =
     let wire = record (s.wires a) { chars = changed edit (s.wires a).chars } in
     let own = ap wire_state (wire_own s.wires a wire) ∙ edited_state edit (s.wires a) in
     let other = ap wire_state (wire_other s.wires a wire b (apart_back a b apart)) in
-    λ i. record { a = port_at s a; b = port_at s b; wire_a = own i; wire_b = other i }
+    λ i. record { a = port_seen s a; b = port_seen s b; wire_a = own i; wire_b = other i }
 edited_at s a b B edit apart =
     let wire = record (s.wires b) { chars = changed edit (s.wires b).chars } in
     let own = ap wire_state (wire_own s.wires b wire) ∙ edited_state edit (s.wires b) in
     let other = ap wire_state (wire_other s.wires b wire a apart) in
-    λ i. record { a = port_at s a; b = port_at s b; wire_a = other i; wire_b = own i }
+    λ i. record { a = port_seen s a; b = port_seen s b; wire_a = other i; wire_b = own i }
 
 edit_others : (s : Seen) (a b : PortRef) (side : Side) (edit : Edit)
     → AreOthers s (edited_by s (Some (port_at_side a b side, edit))) a b
@@ -174,13 +174,13 @@ links_changed fabric k cable wires x y at_x at_y = record {
 edit_known : {from : Seen} {lines : List TraceLine} {fabric : Fabric} {port : PortRef}
     {place : LinkPlace} → Stands from lines fabric → (p : IsPlaceOf fabric port place)
     → IsKnown from lines fabric port place p.is.cable
-    (port_at (seen from lines) p.is.cable.a)
-    (port_at (seen from lines) p.is.cable.b)
+    (port_seen (seen from lines) p.is.cable.a)
+    (port_seen (seen from lines) p.is.cable.b)
 edit_known {from} {lines} {fabric} {port} {place} stands p =
     let s = seen from lines in
     let d = p.is.cable in
     let shown = cable_shown place.cable d stands p.is.at in
-    known (port_at s d.a) (port_at s d.b) stands p (ap (slice_get fabric.ports.items) p.first
+    known (port_seen s d.a) (port_seen s d.b) stands p (ap (slice_get fabric.ports.items) p.first
     ∙ stands.shows.ports d.a shown.port_a)
     (ap (slice_get fabric.ports.items) p.second ∙ stands.shows.ports d.b shown.port_b)
 
@@ -195,8 +195,8 @@ module _ (fabric : Fabric) (port : PortRef) (place : LinkPlace) (p : IsPlaceOf f
       let d = p.is.cable in
       let same = cable_is fabric.cables.items port place.cable place.side p.is cable met in
       let k = edit_known stands p in
-      let x = port_at s d.a in
-      let y = port_at s d.b in
+      let x = port_seen s d.a in
+      let y = port_seen s d.b in
       wire_chars s d.a d.b place.side cable.link x y
       (ap (λ (c : Cable). link c.link x y) same ∙ k.shown)
       ∙ ap (λ (q : PortRef). (s.wires q).chars) (sym k.end)
@@ -213,8 +213,8 @@ module _ (fabric : Fabric) (port : PortRef) (place : LinkPlace) (p : IsPlaceOf f
       let same : cable ≡ d = cable_is fabric.cables.items port place.cable place.side p.is cable
       met in
       let k = edit_known stands p in
-      let x = port_at s d.a in
-      let y = port_at s d.b in
+      let x = port_seen s d.a in
+      let y = port_seen s d.b in
       let t = edited_by s (Some (port, edit)) in
       let shown : link cable.link x y ≡ link_at s d.a d.b = ap (λ (c : Cable). link c.link x y) same
       ∙ k.shown in
@@ -239,10 +239,10 @@ pub edit_done : {K : Type 0} (written : K → Option (List ℕ)) (faults : K →
     (port : PortRef) (place : LinkPlace) (p : IsPlaceOf fabric port place) (cable : Cable)
     → cable ≡ slice_index_or fabric.cables.items place.cable cable → (edit : Edit) (wires : Wires)
     → ((x y : PortState) → link wires x y ≡ edited_from place.side edit (link cable.link x y))
-    → (answer : Edited) → answer ≡ answered (fits edit (wire_at place.side cable.link).chars)
+    → (answer : Edited) → answer ≡ edit_answered (fits edit (wire_at place.side cable.link).chars)
     → (old new : Outbox K)
     → ((names : List (List ℕ))
-    → Writes written faults old new (trace_text names (lack_lines (acted answer))))
+    → Writes written faults old new (trace_text names (lack_lines (edit_acted answer))))
     → (names : List (List ℕ)) (line : Line) → edit_of line ≡ Some (port, edit)
     → (from : Seen) (lines : List TraceLine) → Stands from lines fabric
     → Blocked line names written faults old new from lines
@@ -252,14 +252,14 @@ edit_done written faults fabric port place p cable met edit wires becomes answer
     let s = seen from lines in
     let new_fabric = fabric_edited fabric place.cable cable wires in
     let t = edited_by s (Some (port, edit)) in
-    let block = lack_lines (acted answer) in
+    let block = lack_lines (edit_acted answer) in
     let block_is : block ≡ edits s (Some (port, edit)) =
-    ap (λ z. lack_lines (acted z)) answers
+    ap (λ z. lack_lines (edit_acted z)) answers
     ∙ lacks_is (fits edit (wire_at place.side cable.link).chars)
     ∙ ap (λ z. if fits edit z then [] else Lacked traced.Short ∷ [])
     (edit_chars fabric port place p cable met from lines stands) in
     let begun : seen s (Begun line ∷ block) ≡ t = ap (λ e. seen (edited_by s e) block) is
-    ∙ lack_same t (acted answer) in
+    ∙ lack_same t (edit_acted answer) in
     let shows = edit_shows fabric port place p cable met edit wires becomes from lines stands in
     let is_block = edit_block s line port edit block is block_is in
     record {

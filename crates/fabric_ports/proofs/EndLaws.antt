@@ -8,7 +8,7 @@ use Rattle.fabric_trace.specs.Blocks.{port_at_side}
 use Rattle.fabric_model.specs.Network.{same_port, link_in, peer_in}
 use Rattle.fabric_model.specs.Laws.Proper.{AreProper}
 use Rattle.fabric_model.proofs.Peers.{port_is}
-use Rattle.fabric_ports.specs.Ends.{IsLinked, side_in, IsEndOf, IsPlaceOf}
+use Rattle.fabric_ports.specs.Ends.{PortIsLinked, side_in, IsEndOf, IsPlaceOf}
 use Rattle.fabric_ports.specs.Places.{IsPortOf, place_of}
 use Rattle.fabric_ports.specs.Showing.{ends_of, ShowsCable}
 use Rattle.fabric_ports.specs.Standing.{Stands}
@@ -97,7 +97,7 @@ pub links_stand : {from : Seen} {lines : List TraceLine} {fabric : Fabric}
 links_stand {from} {lines} {fabric} stands = stands.shows.links ∙ seen_links from lines
 
 -- a port with a link has one of the fabric
-pub cable_of : (fabric : Fabric) (port : PortRef) → IsLinked fabric port
+pub cable_of : (fabric : Fabric) (port : PortRef) → PortIsLinked fabric port
     → HasCable fabric.cables.items port
 cable_of fabric port is =
     has_cable fabric.cables.items port
@@ -133,7 +133,7 @@ at_side P a b A first second = first
 at_side P a b B first second = second
 
 -- a port with a link is one of the devices
-pub linked_port : (fabric : Fabric) (port : PortRef) → IsLinked fabric port
+pub linked_port : (fabric : Fabric) (port : PortRef) → PortIsLinked fabric port
     → IsPortOf fabric.devices.items port
 linked_port fabric port is =
     let own = cable_of fabric port is in
@@ -148,7 +148,7 @@ IsNumber fabric n port =
     slice_get fabric.cable_at.items (place_of fabric.firsts.items port) ≡ Some n
 
 -- it leads to the port's link
-pub number_at : (fabric : Fabric) (port : PortRef) (is : IsLinked fabric port)
+pub number_at : (fabric : Fabric) (port : PortRef) (is : PortIsLinked fabric port)
     → slice_get fabric.cable_at.items (place_of fabric.firsts.items port)
     ≡ Some (cable_of fabric port is).place
 number_at fabric port is =
@@ -162,7 +162,7 @@ number_at fabric port is =
     leads.1)
 
 -- the number that was read there
-pub number_is : (fabric : Fabric) (port : PortRef) (is : IsLinked fabric port) (place n : ℕ)
+pub number_is : (fabric : Fabric) (port : PortRef) (is : PortIsLinked fabric port) (place n : ℕ)
     → place ≡ place_of fabric.firsts.items port → n ≡ slice_index_or fabric.cable_at.items place n
     → n ≡ (cable_of fabric port is).place
 number_is fabric port is place n stands read =
@@ -171,7 +171,7 @@ number_is fabric port is place n stands read =
     (cable_of fabric port is).place n (number_at fabric port is)
 
 -- the link that stands there, and the end of it
-pub cable_read : (fabric : Fabric) (port : PortRef) (is : IsLinked fabric port) (n : ℕ)
+pub cable_read : (fabric : Fabric) (port : PortRef) (is : PortIsLinked fabric port) (n : ℕ)
     (cable : Cable) → n ≡ (cable_of fabric port is).place
     → cable ≡ slice_index_or fabric.cables.items n cable → cable ≡ (cable_of fabric port is).cable
 cable_read fabric port is n cable number read =
@@ -179,7 +179,7 @@ cable_read fabric port is n cable number read =
     read ∙ get_or_from_slice_get fabric.cables.items n own.cable cable
     (ap (slice_get fabric.cables.items) number ∙ own.at)
 
-pub end_read : (fabric : Fabric) (port : PortRef) (is : IsLinked fabric port) (n : ℕ)
+pub end_read : (fabric : Fabric) (port : PortRef) (is : PortIsLinked fabric port) (n : ℕ)
     (cable : Cable) (side : Side) → n ≡ (cable_of fabric port is).place
     → cable ≡ slice_index_or fabric.cables.items n cable → side ≡ side_in cable.a port
     → IsEndOf fabric.cables.items port n side
@@ -201,7 +201,7 @@ pub cable_is : (cables : List Cable) (port : PortRef) (k : ℕ) (side : Side)
 cable_is cables port k side e cable is = is ∙ get_or_from_slice_get cables k e.cable cable e.at
 
 pub places_found : (fabric : Fabric) (port : PortRef) (place : LinkPlace) (cable : Cable)
-    → IsLinked fabric port → IsEndOf fabric.cables.items port place.cable place.side
+    → PortIsLinked fabric port → IsEndOf fabric.cables.items port place.cable place.side
     → cable ≡ slice_index_or fabric.cables.items place.cable cable
     → place.a ≡ place_of fabric.firsts.items cable.a
     → place.b ≡ place_of fabric.firsts.items cable.b

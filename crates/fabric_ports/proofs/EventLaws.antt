@@ -18,7 +18,7 @@ use Rattle.fabric_script.specs.declared.lines.Line.{Line}
 use Rattle.fabric_script.specs.declared.lines.Line.TheVariants.{Pump, Deliver, Alter, Insert, Erase, Timeout, Settle, Move, Collect, Run}
 use Rattle.fabric_script.specs.Lines.{is_event}
 use Rattle.fabric_model.specs.Network.{Network, IsEndpoint, IsSwitch, sender_id, id_of, peer_in}
-use Rattle.fabric_trace.specs.Blocks.{takes, Sends, IsBlock}
+use Rattle.fabric_trace.specs.Blocks.{take_lines, SendsBody, IsBlock}
 use Rattle.fabric_trace.specs.Events.{HasLink, IsThere}
 use Rattle.fabric_trace.specs.Fold.{edit_of, edited_by, seen}
 use Rattle.fabric_trace.specs.Known.{Seen}
@@ -30,10 +30,10 @@ use Rattle.fabric_ports.specs.declared.answers.EventEnd.TheVariants.{Undetected,
 use Rattle.fabric_ports.specs.declared.answers.Happened.{Happened}
 use Rattle.fabric_ports.specs.declared.answers.Happened.TheVariants.{Other}
 use Rattle.fabric_ports.specs.Blocked.{Blocked, BlockedShort, BlockEnds}
-use Rattle.fabric_ports.specs.Ends.{IsLinked}
+use Rattle.fabric_ports.specs.Ends.{PortIsLinked}
 use Rattle.fabric_ports.specs.declared.fabric.Fabric.{Fabric}
 use Rattle.fabric_trace.proofs.Unique.{block_one}
-use Rattle.fabric_ports.specs.Events.{body_in, request_by, taken, happened, Did, Evented, CutShort, EventEnds, IsAtLink}
+use Rattle.fabric_ports.specs.Events.{body_in, request_by, answer_taken, happened, Did, Evented, CutShort, EventEnds, IsAtLink}
 use Rattle.fabric_ports.specs.Places.{IsEndpointAt, IsSwitchAt}
 use Rattle.fabric_ports.specs.Showing.{ShowsFabric}
 use Rattle.fabric_ports.specs.Standing.{Stands}
@@ -140,13 +140,13 @@ pub record IsTaken (line : Line) (node : ℕ) : Type 0 where
   pub edits : edit_of line ≡ None
   pub there : (net : Network) → IsThere net line → IsEndpoint net node
   pub block : (s : Seen) (packet : List ℕ) (block : List TraceLine) → IsEndpoint s.network node
-      → LinkForm (body_in line (id_of s.network node)) packet → block ≡ takes s node packet
+      → LinkForm (body_in line (id_of s.network node)) packet → block ≡ take_lines s node packet
       → IsBlock s line block
-  pub answers : (block : List TraceLine) → happened line block ≡ taken block
+  pub answers : (block : List TraceLine) → happened line block ≡ answer_taken block
 
 sends : (s : Seen) (node : ℕ) {body : List ℕ} (packet : List ℕ) (block : List TraceLine)
-    → IsEndpoint s.network node → LinkForm body packet → block ≡ takes s node packet
-    → Sends s node body block
+    → IsEndpoint s.network node → LinkForm body packet → block ≡ take_lines s node packet
+    → SendsBody s node body block
 sends s node packet block endpoint form is =
     record { packet = packet; endpoint = endpoint; form = form; lines = is }
 
@@ -197,7 +197,7 @@ taken_line line given is = subst (λ (l : Line). IsTaken l given.node) (sym is)
 pub sent_block : (s : Seen) (line : Line) (node : ℕ) (ids : Bool → ℕ) (packet : List ℕ)
     (told : Happened) → IsTaken line node → IsEndpoint s.network node
     → ids ≡ id_of s.network node → LinkForm (body_in line ids) packet
-    → (block : List TraceLine) → (block ≡ takes s node packet) × (told ≡ taken block)
+    → (block : List TraceLine) → (block ≡ take_lines s node packet) × (told ≡ answer_taken block)
     → IsBlock s line block × (told ≡ happened line block)
 sent_block s line node ids packet told takes_it endpoint same form block is = (
   takes_it.block s packet block endpoint
@@ -263,7 +263,7 @@ ends_on line names written faults b b2 b3 from lines NoMemory begun all =
 -- a port that has a link now had one when the fabric was made
 pub is_linked : (fabric : Fabric) (from : Seen) (lines : List TraceLine) (port : PortRef)
     → Stands from lines fabric → HasLink (seen from lines).network port
-    → IsLinked fabric port
+    → PortIsLinked fabric port
 is_linked fabric from lines port stands has = record {
   from = from;
   lines = lines;

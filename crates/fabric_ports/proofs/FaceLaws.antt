@@ -9,7 +9,7 @@ use Rattle.fabric_script.specs.declared.ports.PortRef.{PortRef}
 use Rattle.fabric_model.specs.Network.{Item, Network, same_port, with_lane}
 use Rattle.fabric_model.specs.Steps.{behind_first, without_first, with_waiting}
 use Rattle.fabric_model.proofs.Peers.{port_is, same_port-refl}
-use Rattle.fabric_trace.specs.Known.{Seen, port_at}
+use Rattle.fabric_trace.specs.Known.{Seen, port_seen}
 use Rattle.fabric_trace.specs.Served.{face_in}
 use Rattle.fabric_trace.specs.Views.{packets_in, lists_in, queue}
 use Rattle.fabric_trace.proofs.Lanes.{packets-append, behind_is, lane_at, lists_set, lane_other}
@@ -168,8 +168,8 @@ SamePlans next net = (next.buffers ≡ net.buffers) × (next.tells ≡ net.tells
 -- a port that is alike to what it was, and has the lists of another network, is the one that is
 -- known there
 pub port_faced : (s : Seen) (next : Network) (p : PortRef) (y : PortState)
-    → SamePlans next s.network → AreAlike (port_at s p) y
-    → face_of_port y ≡ face_in next p → port_at (record s { network = next }) p ≡ y
+    → SamePlans next s.network → AreAlike (port_seen s p) y
+    → face_of_port y ≡ face_in next p → port_seen (record s { network = next }) p ≡ y
 port_faced s next p y plans alike face =
     let own = sym face in
     let many = ap (λ (f : PortRef → ℕ). f p) plans.0 ∙ alike.0 in
@@ -186,6 +186,6 @@ port_faced s next p y plans alike face =
 -- a port whose lists are as they were stays
 pub port_stays : (s : Seen) (next : Network) (p : PortRef) → SamePlans next s.network
     → face_in next p ≡ face_in s.network p
-    → port_at (record s { network = next }) p ≡ port_at s p
+    → port_seen (record s { network = next }) p ≡ port_seen s p
 port_stays s next p plans face =
-    port_faced s next p (port_at s p) plans (refl, refl, refl, refl, refl) (sym face)
+    port_faced s next p (port_seen s p) plans (refl, refl, refl, refl, refl) (sym face)

@@ -19,7 +19,7 @@ use Rattle.fabric_ask.proofs.Collecting.{collect_lines_made}
 use Rattle.fabric_ask.proofs.Gathering.{stays_endpoint}
 use Rattle.fabric_ask.proofs.Uncollected.{round_apart, unheld_apart}
 use Rattle.fabric_ports.specs.Carrying.{WithLeft}
-use Rattle.fabric_ports.specs.Events.{Did, collected}
+use Rattle.fabric_ports.specs.Events.{Did, answer_collected}
 use Rattle.fabric_ports.specs.Fetching.{left_of, RoundsLeave}
 use Rattle.fabric_ports.specs.Ran.{Kind, Ran, RanShort, RanEnds}
 use Rattle.fabric_ports.specs.Standing.{Stands}
@@ -224,7 +224,7 @@ module _ {K : Type 0} (written : K → Option (List ℕ)) (faults : K → ℕ) (
       (lines ++ first.block) next)
       → holds_some host (seen from ((lines ++ first.block) ++ round.block)) ≡ true
       → Did (λ block. IsCollect (seen from ((lines ++ first.block) ++ round.block)).network host
-      block × (happened ≡ collected block)) names written faults c d
+      block × (happened ≡ answer_collected block)) names written faults c d
       (seen from ((lines ++ first.block) ++ round.block)) new
       → Ran (RoundsLeave host n noise (left_of happened)) names written faults a d from lines new
   fetched a b c d from lines old mid next new k n noise left last happened less stands is first

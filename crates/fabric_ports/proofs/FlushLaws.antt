@@ -16,7 +16,7 @@ use Rattle.fabric_trace.specs.Lines.{TraceLine}
 use Rattle.fabric_trace.proofs.Existing.{ready_on}
 use Rattle.fabric_ask.proofs.Beginning.{ask_exists}
 use Rattle.fabric_ports.specs.Asking.{CanAsk, Replied, AskEnds, Unwritten}
-use Rattle.fabric_ports.specs.Fetching.{response_or_end, response_in, answer_to}
+use Rattle.fabric_ports.specs.Fetching.{response_or_end, response_in, ask_answer}
 use Rattle.fabric_ports.specs.declared.answers.EventEnd.{EventEnd}
 use Rattle.fabric_ports.specs.declared.answers.EventEnd.TheVariants as Ends
 use Rattle.fabric_ports.specs.declared.asking.AskEnd.{AskEnd}
@@ -45,7 +45,7 @@ module _ (names : List (List ℕ)) {K : Type 0} (written : K → Option (List �
       (some.0, flushed_text some.0 some.1)
 
   pub all_told : c.failed ≡ false → c.buffer.now ≡ [] → (result : Result Response AskEnd)
-      → result ≡ answer_to told → (from : Seen) (lines : List TraceLine)
+      → result ≡ ask_answer told → (from : Seen) (lines : List TraceLine)
       → CanAsk host from lines old
       → IsAnswered names (written a.sink.now) (written c.sink.now) host request noise from lines old
       new result
@@ -57,7 +57,7 @@ module _ (names : List (List ℕ)) {K : Type 0} (written : K → Option (List �
       (λ text own. Writes-whole written faults a c text empty (flushed_text text own) went none))
 
   -- it is no fault of a write
-  pub no_fault : c.failed ≡ false → (result : Result Response AskEnd) → result ≡ answer_to told
+  pub no_fault : c.failed ≡ false → (result : Result Response AskEnd) → result ≡ ask_answer told
       → IsErrOf result AskEnd.WriteFault → (from : Seen) (lines : List TraceLine)
       → CanAsk host from lines old → ⊥
   no_fault went result is fault from lines can =
@@ -70,7 +70,7 @@ module _ (names : List (List ℕ)) {K : Type 0} (written : K → Option (List �
 
       by_told : (t : Result (Option (List ℕ)) EventEnd)
           → IsTold names written faults a b host request noise from lines new t
-          → IsErrOf (answer_to t) AskEnd.WriteFault → ⊥
+          → IsErrOf (ask_answer t) AskEnd.WriteFault → ⊥
       by_told (Ok left) ran same = by_response (response_in left) same
       by_told (Err (Ends.Undetected port event)) ran same = absurd cc
       by_told (Err Ends.Failed) ran same = true≢false (sym (flushed.stays ran.1).0 ∙ went)

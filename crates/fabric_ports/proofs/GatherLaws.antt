@@ -6,24 +6,24 @@ use Rattle.link_port.specs.Ports.{PortState}
 use Rattle.maint_registers.specs.Devices.{Device, is_switch}
 use Rattle.switch_core.specs.Faces.{Face, head_of}
 use Rattle.switch_core.specs.Order.{greatest_first}
-use Rattle.switch_core.specs.EndpointSteps.{first_held, collected as collects, collected_head}
+use Rattle.switch_core.specs.EndpointSteps.{first_held, collected, collected_head}
 use Rattle.switch_core.specs.declared.endpoint.Collected.{Collected}
 use Rattle.switch_core.specs.declared.endpoint.Collected.TheVariants as Collects
 use Rattle.fabric_model.specs.Network.{Item, Network, port_of, held, IsEndpoint}
 use Rattle.fabric_model.specs.Steps.{Step, Leave, Answer, AtNode, ByDevice}
 use Rattle.fabric_trace.specs.Fold.{seen, seen_line}
-use Rattle.fabric_trace.specs.Known.{Seen, port_at}
+use Rattle.fabric_trace.specs.Known.{Seen, port_seen}
 use Rattle.fabric_trace.specs.Lines.{Full as NoRoom, Empty as NoPacket, TraceLine, Stepped, Lacked}
 use Rattle.fabric_trace.specs.Served.{face_in, collect_lines, IsCollect}
 use Rattle.fabric_trace.specs.Views.{lists_in}
 use Rattle.fabric_trace.proofs.Existing.{ready_on}
 use Rattle.fabric_trace.proofs.Folding.{seen-append}
 use Rattle.fabric_trace.proofs.Keeping.{IsGood}
-use Rattle.fabric_ask.specs.Asks.{CollectsAll, holds_some}
+use Rattle.fabric_ask.specs.Asks.{CollectsAll, holds_some, CollectGoes, CollectStops, CollectRests}
 use Rattle.fabric_ask.proofs.Collecting.{none_first_held, collect_lines_made}
 use Rattle.fabric_ask.proofs.Gathering.{collect_exists, stays_endpoint, collected_fewer}
 use Rattle.fabric_ask.proofs.Serving.{greatest-none}
-use Rattle.fabric_ports.specs.Events.{Did, collected}
+use Rattle.fabric_ports.specs.Events.{Did, answer_collected}
 use Rattle.fabric_ports.specs.Gathering.{has_packets, Collects as CollectsAt}
 use Rattle.fabric_ports.specs.Places.{IsEndpointAt, place_of}
 use Rattle.fabric_ports.specs.Ran.{Kind, Ran}
@@ -54,7 +54,7 @@ lists_held s node =
     has_some (lists_in lanes) ∙ ap (nat_lt 0) (held_lanes lanes)
 
 -- a port that is known has a packet if the node holds one
-pub holds_is : (s : Seen) (node : ℕ) (x : PortState) → port_at s (port_of node) ≡ x
+pub holds_is : (s : Seen) (node : ℕ) (x : PortState) → port_seen s (port_of node) ≡ x
     → has_packets x.received.lists ≡ holds_some node s
 holds_is s node x is =
     ap (λ (z : PortState). has_packets z.received.lists) (sym is) ∙ lists_held s node
@@ -132,26 +132,26 @@ none_held queued = refl
 
 -- an endpoint that holds nothing collects nothing
 holds_none : (s : Seen) (node : ℕ) (device : Device) → holds_some node s ≡ false
-    → collects device (face_in s.network (port_of node)) ≡ Collects.Empty
+    → collected device (face_in s.network (port_of node)) ≡ Collects.Empty
 holds_none s node device none =
     let queued = (face_in s.network (port_of node)).queued in
     let lists = four_empty (s.network.received (port_of node)) (lists_held s node ∙ none) in
     let empty : Face = record { received = [] ∷ [] ∷ [] ∷ [] ∷ []; queued = queued } in
     ap (λ (l : List (List (List ℕ))).
-    collects device (record { received = l; queued = queued })) lists
+    collected device (record { received = l; queued = queued })) lists
     ∙ ap (collected_head device empty) (none_held queued)
 
 -- ---- what is collected, by what the call answers
 
 -- a packet is held: it leaves or is answered, or there is no room for a response
 pub collected_step : (s : Seen) (node : ℕ) (block : List TraceLine) (told : Happened)
-    → holds_some node s ≡ true → IsCollect s.network node block → told ≡ collected block
+    → holds_some node s ≡ true → IsCollect s.network node block → told ≡ answer_collected block
     → told ≢ Full → (step : Step) × (block ≡ Stepped step ∷ [])
 collected_step s node block told some is answers other =
-    by_made (collects is.device (face_in s.network (port_of node))) refl is.lines
+    by_made (collected is.device (face_in s.network (port_of node))) refl is.lines
   where
     by_made : (made : Collected)
-        → collects is.device (face_in s.network (port_of node)) ≡ made
+        → collected is.device (face_in s.network (port_of node)) ≡ made
         → block ≡ collect_lines node made → (step : Step) × (block ≡ Stepped step ∷ [])
     by_made (Collects.Left packet) there lines = (AtNode (Leave node packet), lines)
     by_made (Collects.Answered request response) there lines =
@@ -160,24 +160,24 @@ collected_step s node block told some is answers other =
         let none = lists_empty s.network node
         (none_first_held is.device (face_in s.network (port_of node)) there) in
         let held = lists_held s node in absurd (cc (some, none, held))
-    by_made Collects.Full there lines = absurd (other (answers ∙ ap collected lines))
+    by_made Collects.Full there lines = absurd (other (answers ∙ ap answer_collected lines))
 
 -- no room
 pub collected_full : (s : Seen) (node : ℕ) (block : List TraceLine) (told : Happened)
-    → IsCollect s.network node block → told ≡ collected block → told ≡ Full
+    → IsCollect s.network node block → told ≡ answer_collected block → told ≡ Full
     → block ≡ Lacked NoRoom ∷ []
 collected_full s node block told is answers full =
-    by_made (collects is.device (face_in s.network (port_of node))) is.lines
+    by_made (collected is.device (face_in s.network (port_of node))) is.lines
     (sym full ∙ answers)
   where
-    by_made : (made : Collected) → block ≡ collect_lines node made → Full ≡ collected block
+    by_made : (made : Collected) → block ≡ collect_lines node made → Full ≡ answer_collected block
         → block ≡ Lacked NoRoom ∷ []
     by_made (Collects.Left packet) lines own =
-        let told : Full ≡ Left packet = own ∙ ap collected lines in absurd cc
+        let told : Full ≡ Left packet = own ∙ ap answer_collected lines in absurd cc
     by_made (Collects.Answered request response) lines own =
-        let told : Full ≡ Answered = own ∙ ap collected lines in absurd cc
+        let told : Full ≡ Answered = own ∙ ap answer_collected lines in absurd cc
     by_made Collects.Empty lines own =
-        let told : Full ≡ Empty = own ∙ ap collected lines in absurd cc
+        let told : Full ≡ Empty = own ∙ ap answer_collected lines in absurd cc
     by_made Collects.Full lines own = lines
 
 -- ---- an endpoint stays one
@@ -215,7 +215,7 @@ held_is fabric s node shows at =
 pub gathered_fewer : (s : Seen) (old new : Fabric) (node : ℕ) (block : List TraceLine)
     (told : Happened) → IsGood s → ShowsFabric old s → ShowsFabric new (seen s block)
     → IsEndpointAt old.devices.items node → holds_some node s ≡ true
-    → IsCollect s.network node block → told ≡ collected block → told ≢ Full
+    → IsCollect s.network node block → told ≡ answer_collected block → told ≢ Full
     → held_at new node < held_at old node
 gathered_fewer s old new node block told good shows later at some is answers other =
     let still = later.endpoints node (stays_endpoint s node block is.endpoint) in
@@ -248,7 +248,7 @@ first_more node s first second own one = λ rest more.
     subst (λ (b : List TraceLine). CollectsAll (seen t b) node rest) made.1
     (subst (λ (u : Seen). CollectsAll u node rest) (seen-append s first second) more) in
     let goes : CollectsAll t node (second ++ rest) =
-    CollectsAll.Goes made.0 rest (subst (IsCollect t.network node) made.1 one.0)
+    CollectGoes made.0 rest (subst (IsCollect t.network node) made.1 one.0)
     (ap (λ (l : List TraceLine). l ++ rest) made.1) behind in
     subst (CollectsAll s node) (sym (append_assoc first second rest)) (own (second ++ rest) goes)
 
@@ -259,7 +259,7 @@ Stop node s block = IsCollect s.network node block × (block ≡ Lacked NoRoom �
 all_stopped : (node : ℕ) (s : Seen) (first second : List TraceLine) → CollectsFirst node s first
     → Stop node (seen s first) second → CollectsAt node s (first ++ second)
 all_stopped node s first second own last =
-    own second (CollectsAll.Stops (subst (IsCollect (seen s first).network node) last.1 last.0)
+    own second (CollectStops (subst (IsCollect (seen s first).network node) last.1 last.0)
     last.1)
 
 -- ---- what was written
@@ -279,7 +279,8 @@ module _ {K : Type 0} (written : K → Option (List ℕ)) (faults : K → ℕ) (
       → (first : Ran (CollectsFirst node) names written faults a b from lines mid)
       → holds_some node (seen from (lines ++ first.block)) ≡ true → told ≢ Full
       → Did (λ block. IsCollect (seen from (lines ++ first.block)).network node block
-      × (told ≡ collected block)) names written faults b c (seen from (lines ++ first.block)) new
+      × (told ≡ answer_collected block)) names written faults b c (seen from (lines
+      ++ first.block)) new
       → Ran (CollectsFirst node) names written faults a c from lines new
   gather_more a b c from lines mid new node told first some other did =
       let s = seen from (lines ++ first.block) in
@@ -288,7 +289,8 @@ module _ {K : Type 0} (written : K → Option (List ℕ)) (faults : K → ℕ) (
       from lines mid new
       (λ x y own still one. first_more node (seen from lines) x y own one) first
       (did_ran written faults names
-      (λ block. IsCollect s.network node block × (told ≡ collected block)) (One node) b c from
+      (λ block. IsCollect s.network node block
+      × (told ≡ answer_collected block)) (One node) b c from
       (lines ++ first.block) mid new first.stands
       (λ block is. (
         (is.0, collected_step s node block told some is.0 is.1 other),
@@ -300,7 +302,8 @@ module _ {K : Type 0} (written : K → Option (List ℕ)) (faults : K → ℕ) (
       (node : ℕ) (told : Happened)
       → (first : Ran (CollectsFirst node) names written faults a b from lines mid) → told ≡ Full
       → Did (λ block. IsCollect (seen from (lines ++ first.block)).network node block
-      × (told ≡ collected block)) names written faults b c (seen from (lines ++ first.block)) new
+      × (told ≡ answer_collected block)) names written faults b c (seen from (lines
+      ++ first.block)) new
       → Ran (CollectsAt node) names written faults a c from lines new
   gather_stops a b c from lines mid new node told first full did =
       let s = seen from (lines ++ first.block) in
@@ -309,7 +312,8 @@ module _ {K : Type 0} (written : K → Option (List ℕ)) (faults : K → ℕ) (
       lines mid new
       (λ x y own still last. all_stopped node (seen from lines) x y own last) first
       (did_ran written faults names
-      (λ block. IsCollect s.network node block × (told ≡ collected block)) (Stop node) b c from
+      (λ block. IsCollect s.network node block
+      × (told ≡ answer_collected block)) (Stop node) b c from
       (lines ++ first.block) mid new first.stands
       (λ block is. (
         (is.0, collected_full s node block told is.0 is.1 full),
@@ -331,7 +335,7 @@ module _ {K : Type 0} (written : K → Option (List ℕ)) (faults : K → ℕ) (
       let is : IsCollect s.network node (Lacked NoPacket ∷ []) =
       subst (λ (c : Collected). IsCollect s.network node (collect_lines node c))
       (holds_none s node found.device none) found.is in
-      let rests : CollectsAll s node [] = CollectsAll.Rests is refl in
+      let rests : CollectsAll s node [] = CollectRests is refl in
       record {
         block = first.block;
         prints = first.prints;

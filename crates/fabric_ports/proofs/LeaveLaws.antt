@@ -5,7 +5,7 @@ use Rattle.rio_chars.specs.declared.outbox.Outbox.{Outbox}
 use Rattle.maint_registers.specs.Devices.{Device, is_switch}
 use Rattle.switch_core.specs.declared.endpoint.Collected.{Collected}
 use Rattle.switch_core.specs.declared.endpoint.Collected.TheVariants as Collects
-use Rattle.switch_core.specs.EndpointSteps.{collected as collects}
+use Rattle.switch_core.specs.EndpointSteps.{collected}
 use Rattle.fabric_model.specs.Network.{Network, port_of, IsEndpoint}
 use Rattle.fabric_model.specs.Steps.{Leave, AtNode, Linked, ByDevice, Take}
 use Rattle.fabric_trace.specs.Fold.{seen}
@@ -17,7 +17,7 @@ use Rattle.fabric_trace.proofs.Boards.{seen_board}
 use Rattle.fabric_trace.proofs.Folding.{seen-append}
 use Rattle.fabric_trace.proofs.Making.{made-append}
 use Rattle.fabric_ask.specs.Own.{IsElsewhere, CollectsNothing}
-use Rattle.fabric_ports.specs.Events.{Did, collected}
+use Rattle.fabric_ports.specs.Events.{Did, answer_collected}
 use Rattle.fabric_ports.specs.Fetching.{left_of, NoLeave, NoneLeaves, Leaves}
 use Rattle.fabric_ports.specs.Places.{IsEndpointAt}
 use Rattle.fabric_ports.specs.Showing.{ShowsFabric}
@@ -66,18 +66,19 @@ nothing_leaves host (line ∷ lines) nothing =
 
 -- what leaves is what was collected
 collect_leaves : (host : ℕ) (told : Collected)
-    → Leaves host (left_of (collected (collect_lines host told))) (collect_lines host told)
+    → Leaves host (left_of (answer_collected (collect_lines host told))) (collect_lines host told)
 collect_leaves host (Collects.Left packet) = ([], refl)
 collect_leaves host (Collects.Answered request response) = (tt, tt)
 collect_leaves host Collects.Empty = (tt, tt)
 collect_leaves host Collects.Full = (tt, tt)
 
 pub left_leaves : (net : Network) (host : ℕ) (block : List TraceLine) (happened : Happened)
-    → IsCollect net host block → happened ≡ collected block → Leaves host (left_of happened) block
+    → IsCollect net host block → happened ≡ answer_collected block
+    → Leaves host (left_of happened) block
 left_leaves net host block happened is same =
     subst (λ h. Leaves host (left_of h) block) (sym same)
-    (subst (λ l. Leaves host (left_of (collected l)) l) (sym is.lines)
-    (collect_leaves host (collects is.device (face_in net (port_of host)))))
+    (subst (λ l. Leaves host (left_of (answer_collected l)) l) (sym is.lines)
+    (collect_leaves host (collected is.device (face_in net (port_of host)))))
 
 -- ---- what was written
 

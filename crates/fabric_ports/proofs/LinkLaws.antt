@@ -11,13 +11,13 @@ use Rattle.link_watch.specs.declared.note.Note.{Note}
 use Rattle.link_watch.specs.declared.side.Side.{Side}
 use Rattle.link_machine.specs.Sound.{IsSoundLink}
 use Rattle.link_machine.specs.States.{Wires, LinkState, link}
-use Rattle.link_rest.specs.Acts.{Act, At, Found, goes, acts_notes}
+use Rattle.link_rest.specs.Acts.{Act, At, FoundAt, goes, acts_notes}
 use Rattle.link_law.specs.Does.{Comes, Stops}
 use Rattle.fabric_script.specs.declared.ports.PortRef.{PortRef}
 use Rattle.fabric_model.specs.Network.{link_in}
 use Rattle.fabric_model.proofs.Peers.{ArePeers, link_peers}
 use Rattle.fabric_trace.specs.Fold.{seen}
-use Rattle.fabric_trace.specs.Known.{Seen, port_at, link_at}
+use Rattle.fabric_trace.specs.Known.{Seen, port_seen, link_at}
 use Rattle.fabric_trace.specs.Lines.{TraceLine, Begun}
 use Rattle.fabric_trace.specs.Blocks.{port_at_side, lines_of, IsBlock}
 use Rattle.fabric_trace.specs.Text.{trace_text}
@@ -76,9 +76,11 @@ known {from} {lines} {fabric} {port} {place} x y stands p at_x at_y =
     let found = subst (λ (l : List (PortRef × PortRef)). link_in l port ≡ Some (d.a, d.b))
     stands.shows.links p.is.found in
     let shown = cable_shown place.cable d stands p.is.at in
-    let own_x : x ≡ port_at s d.a = some_is (slice_get fabric.ports.items place.a) x (port_at s d.a)
+    let own_x : x
+    ≡ port_seen s d.a = some_is (slice_get fabric.ports.items place.a) x (port_seen s d.a)
     at_x (ap (slice_get fabric.ports.items) p.first ∙ stands.shows.ports d.a shown.port_a) in
-    let own_y : y ≡ port_at s d.b = some_is (slice_get fabric.ports.items place.b) y (port_at s d.b)
+    let own_y : y
+    ≡ port_seen s d.b = some_is (slice_get fabric.ports.items place.b) y (port_seen s d.b)
     at_y (ap (slice_get fabric.ports.items) p.second ∙ stands.shows.ports d.b shown.port_b) in
     record {
       stands = stands;
@@ -162,7 +164,7 @@ known_stands {from} {lines} {fabric} {new} {port} {place} {d} {x} {y} action all
 known_found : {from : Seen} {lines : List TraceLine} {fabric : Fabric} {port : PortRef}
     {place : LinkPlace} {d : Cable} {x y : PortState} (action : Action) (all : List Act)
     (side : Side) (e : Event) (answer : Acted) → IsKnown from lines fabric port place d x y
-    → goes (At (link d.link x y)) all ≡ Found side e
+    → goes (At (link d.link x y)) all ≡ FoundAt side e
     → (seen from
     (lines ++ Begun (line_for port action) ∷ block_of d.a d.b (link d.link x y) all
     answer)).unfaithful ≡ Some (record { port = port_at_side d.a d.b side; event = e })
@@ -237,7 +239,7 @@ pub link_exposed : {K : Type 0} {written : K → Option (List ℕ)} {faults : K 
     (names : List (List ℕ)) (action : Action) (side : Side) (e : Event) (before after : LinkLines K)
     → IsKnown from lines fabric port place d x y
     → Comes (WritesNotes written faults) (part_of place.side action) (link d.link x y) before
-    (Found side e) after
+    (FoundAt side e) after
     → before.names.now ≡ names → before.a ≡ d.a → before.b ≡ d.b
     → BlockedAt (line_for port action) names written faults before.outbox.now after.outbox.now from
     lines (port_at_side d.a d.b side) e

@@ -5,7 +5,7 @@ use Rattle.std.proofs.lemmas.List.Elements.{All-head, All-tail, All-weaker}
 use Rattle.std.proofs.lemmas.Option.{same_Some, slice_get-map}
 use Rattle.std.specs.List.{slice_get}
 use Rattle.rio_packets.specs.Fields.{prio_of}
-use Rattle.link_model.specs.Places.{start as place_start}
+use Rattle.link_model.specs.Places.{place_start}
 use Rattle.link_model.specs.Output as out
 use Rattle.link_model.specs.Input as in_half
 use Rattle.link_model.specs.Outstanding.{from_ack}
@@ -16,12 +16,12 @@ use Rattle.fabric_script.specs.declared.lines.Line.TheVariants.{Endpoint, Switch
 use Rattle.fabric_script.specs.declared.lines.Numbered.{Numbered}
 use Rattle.fabric_script.specs.Known.{Known, nothing, names_after, known_after}
 use Rattle.fabric_script.specs.Lines.{new_name}
-use Rattle.fabric_script.specs.Scripts.{PassesFrom, Passes}
+use Rattle.fabric_script.specs.Scripts.{PassesFrom, ScriptPasses}
 use Rattle.fabric_model.specs.Network.{Network}
 use Rattle.fabric_model.specs.Laws.History.{IsEmptyNetwork}
 use Rattle.fabric_model.specs.Laws.Proper.{AreProper}
 use Rattle.fabric_trace.specs.Events.{ArePorts, counts_after, counts_after_all, port_counts}
-use Rattle.fabric_trace.specs.Known.{port_at}
+use Rattle.fabric_trace.specs.Known.{port_seen}
 use Rattle.fabric_trace.specs.Parts.{Done}
 use Rattle.fabric_trace.specs.Runs.{bare, set_up, set_up_all, begins}
 use Rattle.fabric_trace.specs.SetUps.{MaySetUp, MaySetUpAll}
@@ -43,11 +43,11 @@ use Rattle.fabric_ports.specs.declared.plans.PortPlan.{PortPlan}
 
 -- the view of a port where no packet was taken is a new port
 new_view : (net : Network) (p : PortRef) → IsEmptyNetwork net
-    → port_at (begins net) p ≡ planned_port (port_plan net p)
+    → port_seen (begins net) p ≡ planned_port (port_plan net p)
 new_view net p empty = λ i. record {
   place = place_start;
   output = out.Output.Ok (from_ack 0 None);
-  input = in_half.Input.Ok 0;
+  input = in_half.InputOk 0;
   queued =
       packets_in (filter (λ item. prio_of item.now == 0) (empty.lent p i) ++ empty.waiting p 0 i)
       ∷ packets_in (filter (λ item. prio_of item.now == 1) (empty.lent p i) ++ empty.waiting p 1 i)
@@ -103,7 +103,7 @@ new_shows fabric plans net empty l ports lead = record {
 }
 
 pub new_stands : (names : List (List ℕ)) (lines : List Numbered) (plan : Plan) (fabric : Fabric)
-    → Passes names lines → PlansFor plan (set_up_all bare lines)
+    → ScriptPasses names lines → PlansFor plan (set_up_all bare lines)
     → fabric.devices.items ≡ plan.devices.items → fabric.firsts.items ≡ plan.firsts.items
     → fabric.cables.items ≡ plan.cables.items
     → fabric.ports.items ≡ map planned_port plan.ports.items
@@ -126,7 +126,7 @@ new_stands names lines plan fabric passes is d f c ports lead =
 
 -- the links of a plan for a script that passes
 pub plan_proper : (names : List (List ℕ)) (lines : List Numbered) (plan : Plan)
-    → Passes names lines → PlansFor plan (set_up_all bare lines)
+    → ScriptPasses names lines → PlansFor plan (set_up_all bare lines)
     → AreProper (map ends_of plan.cables.items)
 plan_proper names lines plan passes is =
     subst AreProper (sym is.links) (set_up_bare lines (may_set_up names lines passes)).proper
@@ -165,16 +165,16 @@ pub record PlansFirst (plan : Plan) (lines : List Numbered) (i : ℕ) : Type 0 w
 
 -- the ports of the next line are those of the plan
 pub next_ports : (names : List (List ℕ)) (lines : List Numbered) (i : ℕ) (line : Numbered)
-    (plan : Plan) → Passes names lines → i < length lines → line ≡ get_or lines i line
+    (plan : Plan) → ScriptPasses names lines → i < length lines → line ≡ get_or lines i line
     → PlansFirst plan lines i → ArePorts (counts_of plan.devices.items) line.line
 next_ports names lines i line plan passes within at first =
     subst (λ counts. ArePorts counts line.line) (sym first.counts)
     (ports_there names (take i lines) (drop (i + 1) lines) line
-    (subst (Passes names) (split_at lines i line within at) passes))
+    (subst (ScriptPasses names) (split_at lines i line within at) passes))
 
 -- the next line may be set up
 next_set_up : (names : List (List ℕ)) (lines : List Numbered) (i : ℕ) (line : Numbered)
-    → Passes names lines → i < length lines → line ≡ get_or lines i line
+    → ScriptPasses names lines → i < length lines → line ≡ get_or lines i line
     → MaySetUp (set_up_all bare (take i lines)) line.line
 next_set_up names lines i line passes within at =
     may_at bare (take i lines) (drop (i + 1) lines) line
@@ -182,7 +182,7 @@ next_set_up names lines i line passes within at =
 
 -- and added to the plan
 pub next_may : (names : List (List ℕ)) (lines : List Numbered) (i : ℕ) (line : Numbered)
-    (plan : Plan) → Passes names lines → i < length lines → line ≡ get_or lines i line
+    (plan : Plan) → ScriptPasses names lines → i < length lines → line ≡ get_or lines i line
     → PlansFirst plan lines i → MayAdd plan line.line
 next_may names lines i line plan passes within at first = record {
   net = set_up_all bare (take i lines);
@@ -191,7 +191,7 @@ next_may names lines i line plan passes within at first = record {
 }
 
 pub next_plan : (names : List (List ℕ)) (lines : List Numbered) (i : ℕ) (line : Numbered)
-    (old new : Plan) → Passes names lines → i < length lines → line ≡ get_or lines i line
+    (old new : Plan) → ScriptPasses names lines → i < length lines → line ≡ get_or lines i line
     → PlansFirst old lines i
     → ((net : Network) → PlansFor old net → MaySetUp net line.line
     → PlansFor new (set_up net line.line))
@@ -241,7 +241,8 @@ names_count known names counts (line ∷ lines) same passes =
     one_more _ = same
 
 pub devices_named : (names : List (List ℕ)) (lines : List Numbered) (devices : List Device)
-    → Passes names lines → counts_of devices ≡ port_counts lines → length devices ≡ length names
+    → ScriptPasses names lines → counts_of devices ≡ port_counts lines
+    → length devices ≡ length names
 devices_named names lines devices passes counts =
     sym (length-map devices (λ (device : Device). device.ports)) ∙ ap length counts
     ∙ names_count nothing names [] lines refl passes

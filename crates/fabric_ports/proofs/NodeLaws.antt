@@ -7,7 +7,7 @@ use Rattle.link_port.specs.Ports.{PortState}
 use Rattle.maint_registers.specs.Devices.{Device, IsSameDevice, is_switch}
 use Rattle.fabric_script.specs.declared.ports.PortRef.{PortRef}
 use Rattle.fabric_model.specs.Network.{IsEndpoint, same_port, port_of}
-use Rattle.fabric_trace.specs.Known.{Wire, Seen, port_at, wire_state}
+use Rattle.fabric_trace.specs.Known.{Wire, Seen, port_seen, wire_state}
 use Rattle.fabric_ports.specs.declared.fabric.Fabric.{Fabric}
 use Rattle.fabric_ports.specs.Places.{AreFirsts, IsPortOf, IsEndpointAt, place_of}
 use Rattle.fabric_ports.specs.Showing.{ends_of, ShowsCable, ShowsFabric}
@@ -95,8 +95,8 @@ endpoint_port devices n at = rw at.stands at.has_port
 pub port_shows : (old new : Fabric) (s t : Seen) (n : ℕ) (device next : Device) (y : PortState)
     → ShowsFabric old s → IsEndpointAt old.devices.items n
     → slice_get old.devices.items n ≡ Some device → IsSameDevice device next
-    → HasBoth old new n next (port_of n) y → port_at t (port_of n) ≡ y
-    → ((q : PortRef) → same_port q (port_of n) ≡ false → port_at t q ≡ port_at s q)
+    → HasBoth old new n next (port_of n) y → port_seen t (port_of n) ≡ y
+    → ((q : PortRef) → same_port q (port_of n) ≡ false → port_seen t q ≡ port_seen s q)
     → t.wires ≡ s.wires → t.network.links ≡ s.network.links
     → t.network.registers ≡ slice_set s.network.registers n next → ShowsFabric new t
 port_shows old new s t n device next y shows at stands same has becomes others wires links
@@ -119,11 +119,11 @@ port_shows old new s t n device next y shows at stands same has becomes others w
 pub port_read : (fabric : Fabric) (s : Seen) (n place : ℕ) (x : PortState) → ShowsFabric fabric s
     → IsEndpointAt fabric.devices.items n
     → place ≡ place_of fabric.firsts.items (port_of n) → x ≡ get_or fabric.ports.items place x
-    → port_at s (port_of n) ≡ x
+    → port_seen s (port_of n) ≡ x
 port_read fabric s n place x shows at is value =
     let there = shows.ports (port_of n) (endpoint_port fabric.devices.items n at) in
     sym (get_or_from_slice_get fabric.ports.items (place_of fabric.firsts.items (port_of n))
-    (port_at s (port_of n)) x there)
+    (port_seen s (port_of n)) x there)
     ∙ ap (λ i. get_or fabric.ports.items i x) (sym is) ∙ sym value
 
 -- the fabric with this port at a place, and this device at another

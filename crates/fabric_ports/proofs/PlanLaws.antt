@@ -9,7 +9,7 @@ use Rattle.maint_registers.specs.Devices.{Device, with_link}
 use Rattle.fabric_script.specs.declared.ports.PortRef.{PortRef}
 use Rattle.fabric_script.specs.declared.lines.Line.TheVariants.{Link}
 use Rattle.fabric_model.specs.Network.{Network, with_device}
-use Rattle.fabric_trace.specs.Events.{IsPort}
+use Rattle.fabric_trace.specs.Events.{IsNodePort}
 use Rattle.fabric_trace.specs.Runs.{bare, set_up}
 use Rattle.fabric_trace.specs.Settings.{with_node, with_change, with_end}
 use Rattle.fabric_ports.specs.Places.{AreFirsts, port_count, HasPort, IsPortOf, place_of}
@@ -289,7 +289,7 @@ counts-end devices p =
 
 -- ---- ports by their counts
 
-pub port_by_count : (devices : List Device) (p : PortRef) → IsPort (counts_of devices) p
+pub port_by_count : (devices : List Device) (p : PortRef) → IsNodePort (counts_of devices) p
     → IsPortOf devices p
 port_by_count devices p is = at devices p.node is
   where

@@ -12,7 +12,7 @@ use Rattle.fabric_model.specs.Network.{Network, same_port}
 use Rattle.fabric_model.proofs.Peers.{port_is, same_port-refl}
 use Rattle.fabric_trace.specs.Runs.{set_up}
 use Rattle.fabric_ports.specs.Places.{IsPortOf, place_of}
-use Rattle.fabric_ports.specs.Plans.{HasBuffers, PlansFor, plain_port, port_plan, with_port}
+use Rattle.fabric_ports.specs.Plans.{HasBuffers, PlansFor, plain_port, port_plan, with_plan}
 use Rattle.fabric_ports.specs.declared.fabric.Cable.{Cable}
 use Rattle.fabric_ports.specs.declared.plans.Plan.{Plan}
 use Rattle.fabric_ports.specs.declared.plans.PortPlan.{PortPlan}
@@ -34,7 +34,7 @@ port_here : (devices : List Device) (firsts : List ℕ) (ports : List PortPlan)
     (cables : List Cable) (net : Network) (port : PortRef) (change : PortPlan → PortPlan)
     → IsPortOf devices port → Lists devices firsts ports cables net → (p : PortRef)
     → IsPortOf devices p
-    → slice_get (with_port ports (place_of firsts port) change) (place_of firsts p) ≡ Some
+    → slice_get (with_plan ports (place_of firsts port) change) (place_of firsts p) ≡ Some
     (if same_port p port then change (port_plan net p) else port_plan net p)
 port_here devices firsts ports cables net port change is l p is_p =
     let at = placed devices firsts port l.rows is in
@@ -64,7 +64,7 @@ port_lists : (devices : List Device) (firsts : List ℕ) (ports : List PortPlan)
     → IsPortOf devices port → ChangesPort net next port change
     → HasBuffers (change (port_plan net port))
     → Lists devices firsts ports cables net
-    → Lists devices firsts (with_port ports (place_of firsts port) change) cables next
+    → Lists devices firsts (with_plan ports (place_of firsts port) change) cables next
 port_lists devices firsts ports cables net next port change is changes few l =
     let place = place_of firsts port in
     let old = get_or-found ports place plain_port (port_plan net port) (l.here port is) in
@@ -91,12 +91,12 @@ plan-port : (old new : Plan) (net next : Network) (port : PortRef)
     (change : PortPlan → PortPlan) → IsPortOf old.devices.items port
     → ChangesPort net next port change → HasBuffers (change (port_plan net port))
     → new.devices.items ≡ old.devices.items → new.firsts.items ≡ old.firsts.items
-    → new.ports.items ≡ with_port old.ports.items (place_of old.firsts.items port) change
+    → new.ports.items ≡ with_plan old.ports.items (place_of old.firsts.items port) change
     → new.cables.items ≡ old.cables.items → PlansFor old net → PlansFor new next
 plan-port old new net next port change is changes few d f b c plans =
     plan_of new next
     (lists_same old.devices.items new.devices.items old.firsts.items new.firsts.items
-    (with_port old.ports.items (place_of old.firsts.items port) change) new.ports.items
+    (with_plan old.ports.items (place_of old.firsts.items port) change) new.ports.items
     old.cables.items new.cables.items next d f b c
     (port_lists old.devices.items old.firsts.items old.ports.items old.cables.items net next port
     change is changes few (lists_of old net plans)))
@@ -114,7 +114,7 @@ buffers_plan false n m tells = refl
 pub plan-buffers : (old new : Plan) (net : Network) (port : PortRef) (n : ℕ)
     → IsPortOf old.devices.items port → AreBuffers n → new.devices.items ≡ old.devices.items
     → new.firsts.items ≡ old.firsts.items
-    → new.ports.items ≡ with_port old.ports.items (place_of old.firsts.items port)
+    → new.ports.items ≡ with_plan old.ports.items (place_of old.firsts.items port)
     (λ plan. record plan { buffers = n })
     → new.cables.items ≡ old.cables.items → PlansFor old net
     → PlansFor new (set_up net (Buffers port n))
@@ -134,7 +134,7 @@ tells_plan false n tells = refl
 pub plan-telling : (old new : Plan) (net : Network) (port : PortRef)
     → IsPortOf old.devices.items port → new.devices.items ≡ old.devices.items
     → new.firsts.items ≡ old.firsts.items
-    → new.ports.items ≡ with_port old.ports.items (place_of old.firsts.items port)
+    → new.ports.items ≡ with_plan old.ports.items (place_of old.firsts.items port)
     (λ plan. record plan { tells = true })
     → new.cables.items ≡ old.cables.items → PlansFor old net
     → PlansFor new (set_up net (Credits port))

@@ -7,7 +7,7 @@ use Rattle.std.proofs.lemmas.Option.{slice_get_within}
 use Rattle.link_port.specs.Ports.{PortState}
 use Rattle.maint_registers.specs.Devices.{Device}
 use Rattle.fabric_script.specs.declared.ports.PortRef.{PortRef}
-use Rattle.fabric_trace.specs.Known.{Seen, port_at}
+use Rattle.fabric_trace.specs.Known.{Seen, port_seen}
 use Rattle.fabric_ports.specs.Places.{AreFirsts, port_count, HasPort, IsPortOf, place_of}
 use Rattle.fabric_ports.proofs.FaceLaws.{port}
 use Rattle.fabric_ports.proofs.Rows.{get-append, placed}
@@ -173,8 +173,8 @@ pub row_set : (devices : List Device) (firsts : List ℕ) (ports own : List Port
     → AreFirsts 0 devices firsts → length ports ≡ port_count devices
     → ArePorts devices firsts ports s → slice_get devices node ≡ Some device
     → length own ≡ device.ports
-    → ((j : ℕ) → j < device.ports → slice_get own j ≡ Some (port_at t (port node j)))
-    → ((q : PortRef) → q.node ≢ node → port_at t q ≡ port_at s q)
+    → ((j : ℕ) → j < device.ports → slice_get own j ≡ Some (port_seen t (port node j)))
+    → ((q : PortRef) → q.node ≢ node → port_seen t q ≡ port_seen s q)
     → ArePorts devices firsts (replaced ports own (slice_index_or firsts node 0) device.ports) t
 row_set devices firsts ports own s t node device are count shown stands many becomes others q has =
     by_node (cases_eq q.node node)
@@ -187,18 +187,18 @@ row_set devices firsts ports own s t node device are count shown stands many bec
     all = replaced ports own (slice_index_or firsts node 0) device.ports
 
     stays : q.node ≢ node → slice_get all (place_of firsts q) ≡ slice_get ports (place_of firsts q)
-        → slice_get all (place_of firsts q) ≡ Some (port_at t q)
+        → slice_get all (place_of firsts q) ≡ Some (port_seen t q)
     stays apart same = same ∙ shown q has ∙ ap Some (sym (others q apart))
 
     by_node : ((q.node ≡ node) ⊎ (q.node ≡ node → ⊥))
-        → slice_get all (place_of firsts q) ≡ Some (port_at t q)
+        → slice_get all (place_of firsts q) ≡ Some (port_seen t q)
     by_node (inl same) =
         let below : q.port < device.ports =
         subst (λ o. HasPort o q.port) (ap (slice_get devices) same ∙ stands) has in
         ap (λ n. slice_get all (slice_index_or firsts n 0 + q.port)) same
         ∙ get-replaced ports own (slice_index_or firsts node 0) device.ports within many q.port
         below
-        ∙ becomes q.port below ∙ ap (λ n. Some (port_at t (port n q.port))) (sym same)
+        ∙ becomes q.port below ∙ ap (λ n. Some (port_seen t (port n q.port))) (sym same)
     by_node (inr apart) =
         elim (apart_from_row devices firsts node device q are stands has apart) [
           | inl low ↦ stays apart

@@ -8,15 +8,15 @@ use Rattle.link_port.specs.Ports.{PortState, AreAlike}
 use Rattle.switch_core.specs.Faces.{with_packet}
 use Rattle.fabric_model.specs.Network.{port_of, room_out}
 use Rattle.fabric_model.specs.Steps.{Take, AtNode, item_of, after}
-use Rattle.fabric_trace.specs.Blocks.{takes}
+use Rattle.fabric_trace.specs.Blocks.{take_lines}
 use Rattle.fabric_trace.specs.Fold.{seen_line}
-use Rattle.fabric_trace.specs.Known.{Seen, port_at}
+use Rattle.fabric_trace.specs.Known.{Seen, port_seen}
 use Rattle.fabric_trace.specs.Lines.{TraceLine, Full as NoRoom, Stepped, Lacked}
 use Rattle.fabric_trace.specs.Served.{face_in}
 use Rattle.fabric_trace.specs.Text.{trace_line_text, trace_text}
 use Rattle.fabric_ports.specs.declared.answers.Happened.TheVariants.{Took, Full}
 use Rattle.fabric_ports.specs.declared.fabric.Fabric.{Fabric}
-use Rattle.fabric_ports.specs.Events.{Did, taken}
+use Rattle.fabric_ports.specs.Events.{Did, answer_taken}
 use Rattle.fabric_ports.specs.Places.{IsEndpointAt}
 use Rattle.fabric_ports.specs.Showing.{ShowsFabric}
 use Rattle.fabric_ports.proofs.DeviceLaws.{same_device}
@@ -37,7 +37,8 @@ module _ (names : List (List ℕ)) {K : Type 0} (written : K → Option (List �
   pub did_full : ShowsFabric old s → s.unfaithful ≡ None
       → room_out s.network (port_of n) (prio_of packet) ≡ false
       → Writes written faults b b2 (trace_line_text [] (Lacked NoRoom) ++ 10 ∷ [])
-      → Did (λ block. (block ≡ takes s n packet) × (Full ≡ taken block)) names written faults b b2 s
+      → Did (λ block. (block ≡ take_lines s n packet)
+      × (Full ≡ answer_taken block)) names written faults b b2 s
       old
   did_full shows sent none prints = record {
     block = Lacked NoRoom ∷ [];
@@ -54,13 +55,14 @@ module _ (names : List (List ℕ)) {K : Type 0} (written : K → Option (List �
   -- it is taken
   pub did_take : (new : Fabric) (x y : PortState) → ShowsFabric old s → s.unfaithful ≡ None
       → room_out s.network (port_of n) (prio_of packet) ≡ true → prio_of packet < 4
-      → (at : IsEndpointAt old.devices.items n) → port_at s (port_of n) ≡ x
+      → (at : IsEndpointAt old.devices.items n) → port_seen s (port_of n) ≡ x
       → HasBoth old new n at.device (port_of n) y
       → AreAlike x y → y.queued ≡ appended x.queued (prio_of packet) packet
       → y.received.lists ≡ x.received.lists
       → Writes written faults b b2
       (trace_line_text names (Stepped (AtNode (Take n packet))) ++ 10 ∷ [])
-      → Did (λ block. (block ≡ takes s n packet) × (Took ≡ taken block)) names written faults b b2 s
+      → Did (λ block. (block ≡ take_lines s n packet)
+      × (Took ≡ answer_taken block)) names written faults b b2 s
       new
   did_take new x y shows sent room few at is has alike put same prints =
       let net = s.network in
@@ -72,7 +74,7 @@ module _ (names : List (List ℕ)) {K : Type 0} (written : K → Option (List �
       let own : face_of_port y ≡ face_in next p = face
       ∙ ap (λ (z : PortState). with_packet (face_of_port z) packet) (sym is)
       ∙ sym (more_own net p (item_of net p packet) few) in
-      let becomes : port_at t p ≡ y =
+      let becomes : port_seen t p ≡ y =
       port_faced s next p y (refl, refl) (subst (λ z. AreAlike z y) (sym is) alike) own in
       let stands = ap (λ l. slice_get l n) shows.registers ∙ at.stands in
       record {

@@ -15,7 +15,7 @@ use Rattle.fabric_trace.specs.Fold.{seen}
 use Rattle.fabric_trace.specs.Known.{Seen}
 use Rattle.fabric_trace.specs.Lines.{NoStep, TraceLine, Stepped, Lacked}
 use Rattle.fabric_trace.specs.Parts.{Made, Done}
-use Rattle.fabric_trace.specs.Rounds.{ServesAll, Rests, Goes}
+use Rattle.fabric_trace.specs.Rounds.{ServesAll, ServeRests, ServeGoes}
 use Rattle.fabric_trace.specs.Served.{faces_in, step_lines, IsMove}
 use Rattle.fabric_trace.specs.Views.{lists_in}
 use Rattle.fabric_trace.proofs.Folding.{seen-append}
@@ -23,7 +23,7 @@ use Rattle.fabric_trace.proofs.Keeping.{IsGood}
 use Rattle.fabric_trace.proofs.Making.{made-append}
 use Rattle.fabric_trace.proofs.RoundsEnd.{move_empties}
 use Rattle.fabric_trace.proofs.Running.{move_made}
-use Rattle.fabric_ports.specs.Events.{Did, IsStep}
+use Rattle.fabric_ports.specs.Events.{Did, IsSwitchStep}
 use Rattle.fabric_ports.specs.Places.{place_of}
 use Rattle.fabric_ports.specs.Ran.{Kind, Ran, Serves}
 use Rattle.fabric_ports.specs.Showing.{ShowsFabric}
@@ -159,14 +159,14 @@ first_more node s first second own one = λ rest more.
     subst (λ (b : List TraceLine). ServesAll (seen t b) node rest) made.1
     (subst (λ (u : Seen). ServesAll u node rest) (seen-append s first second) more) in
     let goes : ServesAll t node (second ++ rest) =
-    Goes made.0 rest (subst (IsMove t.network node) made.1 move)
+    ServeGoes made.0 rest (subst (IsMove t.network node) made.1 move)
     (ap (λ (l : List TraceLine). l ++ rest) made.1) behind in
     subst (ServesAll s node) (sym (append_assoc first second rest)) (own (second ++ rest) goes)
 
 all_served : (node : ℕ) (s : Seen) (first second : List TraceLine) → ServesFirst node s first
     → Last node (seen s first) second → Serves node s (first ++ second)
 all_served node s first second own last =
-    own second (Rests last.0 last.1)
+    own second (ServeRests last.0 last.1)
 
 -- ---- what was written
 
@@ -203,7 +203,7 @@ module _ {K : Type 0} (written : K → Option (List ℕ)) (faults : K → ℕ) (
   pub serves_more : (a b c : Outbox K) (from : Seen) (lines : List TraceLine) (mid new : Fabric)
       (node : ℕ) (result : Bool) → result ≡ true
       → (first : Ran (ServesFirst node) names written faults a b from lines mid)
-      → Did (IsStep (seen from (lines ++ first.block)).network node result) names written
+      → Did (IsSwitchStep (seen from (lines ++ first.block)).network node result) names written
       faults b c (seen from (lines ++ first.block)) new
       → Ran (ServesFirst node) names written faults a c from lines new
   serves_more a b c from lines mid new node result told first did =
@@ -212,15 +212,16 @@ module _ {K : Type 0} (written : K → Option (List ℕ)) (faults : K → ℕ) (
       ran_joined written faults names (ServesFirst node) (One node) (ServesFirst node) a b c from
       lines mid new
       (λ x y own still one. first_more node (seen from lines) x y own one) first
-      (did_ran (IsStep s.network node result) (One node) b c from (lines ++ first.block) mid new
+      (did_ran (IsSwitchStep s.network node result) (One node) b c from (lines ++ first.block) mid
+      new
       first.stands
-      (λ block is. (let own = subst (λ r. IsStep s.network node r block) told is in
+      (λ block is. (let own = subst (λ r. IsSwitchStep s.network node r block) told is in
       (own, move_made s node block good own.0))) did)
 
   pub serves_end : (a b c : Outbox K) (from : Seen) (lines : List TraceLine) (mid new : Fabric)
       (node : ℕ) (result : Bool) → result ≡ false
       → (first : Ran (ServesFirst node) names written faults a b from lines mid)
-      → Did (IsStep (seen from (lines ++ first.block)).network node result) names written
+      → Did (IsSwitchStep (seen from (lines ++ first.block)).network node result) names written
       faults b c (seen from (lines ++ first.block)) new
       → Ran (Serves node) names written faults a c from lines new
   serves_end a b c from lines mid new node result told first did =
@@ -228,7 +229,8 @@ module _ {K : Type 0} (written : K → Option (List ℕ)) (faults : K → ℕ) (
       ran_joined written faults names (ServesFirst node) (Last node) (Serves node) a b c from lines
       mid new
       (λ x y own still last. all_served node (seen from lines) x y own last) first
-      (did_ran (IsStep s.network node result) (Last node) b c from (lines ++ first.block) mid new
+      (did_ran (IsSwitchStep s.network node result) (Last node) b c from (lines ++ first.block) mid
+      new
       first.stands
-      (λ block is. (let own = subst (λ r. IsStep s.network node r block) told is in
+      (λ block is. (let own = subst (λ r. IsSwitchStep s.network node r block) told is in
       (own, Done own.1))) did)

@@ -24,7 +24,7 @@ use Rattle.fabric_trace.proofs.Making.{made-append}
 use Rattle.fabric_trace.proofs.Rounds.{AreFound, all_found}
 use Rattle.fabric_trace.proofs.Running.{link_made}
 use Rattle.fabric_ports.specs.Blocked.{Blocked, BlockedShort, BlockEnds}
-use Rattle.fabric_ports.specs.Ends.{IsLinked}
+use Rattle.fabric_ports.specs.Ends.{PortIsLinked}
 use Rattle.fabric_ports.specs.Places.{IsSwitchAt}
 use Rattle.fabric_ports.specs.Ran.{Kind, Ran, RanShort, RanEnds, LinksSettle}
 use Rattle.fabric_ports.specs.Showing.{ends_of, ShowsFabric}
@@ -166,7 +166,7 @@ next_link {from} {lines} {fabric} k cable stands at within =
 
 pub is_linked : {from : Seen} {lines : List TraceLine} {fabric : Fabric} (k : ℕ)
     (link : PortRef × PortRef) → Stands from lines fabric → IsNext from k link
-    → IsLinked fabric link.0
+    → PortIsLinked fabric link.0
 is_linked {from} {lines} {fabric} k link stands next =
     let peers = link_peers from.network.links link.0 link stands.ready.proper next.found in
     record {

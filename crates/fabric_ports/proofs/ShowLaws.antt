@@ -5,7 +5,7 @@ use Rattle.fabric_script.specs.declared.ports.PortRef.{PortRef}
 use Rattle.fabric_model.specs.Network.{same_port}
 use Rattle.fabric_model.proofs.Peers.{port_is}
 use Rattle.maint_registers.specs.Devices.{Device}
-use Rattle.fabric_trace.specs.Known.{Seen, port_at}
+use Rattle.fabric_trace.specs.Known.{Seen, port_seen}
 use Rattle.fabric_ports.specs.Places.{AreFirsts, port_count, IsPortOf, place_of}
 use Rattle.fabric_ports.specs.Showing.{LeadToLinks}
 use Rattle.fabric_ports.proofs.PlaceLaws.{place_within, places_apart}
@@ -41,27 +41,28 @@ lead_same links links2 firsts firsts2 numbers numbers2 l f n lead =
 -- the ports of devices stand in a list as they are known
 abbrev pub ArePorts : List Device → List ℕ → List PortState → Seen → Type 0
 ArePorts devices firsts ports s = (p : PortRef) → IsPortOf devices p
-    → slice_get ports (place_of firsts p) ≡ Some (port_at s p)
+    → slice_get ports (place_of firsts p) ≡ Some (port_seen s p)
 
 -- one port has changed
 pub one_set : (devices : List Device) (firsts : List ℕ) (ports : List PortState) (s t : Seen)
     (p : PortRef) (x : PortState)
     → AreFirsts 0 devices firsts → length ports ≡ port_count devices
     → ArePorts devices firsts ports s → IsPortOf devices p
-    → port_at t p ≡ x → ((q : PortRef) → same_port q p ≡ false → port_at t q ≡ port_at s q)
+    → port_seen t p ≡ x → ((q : PortRef) → same_port q p ≡ false → port_seen t q ≡ port_seen s q)
     → ArePorts devices firsts (slice_set ports (place_of firsts p) x) t
 one_set devices firsts ports s t p x are count shown has becomes others q has_q =
     by_port (same_port q p) refl
   where
     by_port : (b : Bool) → same_port q p ≡ b
-        → slice_get (slice_set ports (place_of firsts p) x) (place_of firsts q) ≡ Some (port_at t q)
+        → slice_get (slice_set ports (place_of firsts p) x) (place_of firsts q)
+        ≡ Some (port_seen t q)
     by_port true same =
         let one = port_is q p same in
         let within : place_of firsts p < length ports =
         subst (λ n. place_of firsts p < n) (sym count)
         (place_within devices firsts p are has) in
         subst (λ c. slice_get (slice_set ports (place_of firsts p) x) (place_of firsts c) ≡ Some
-        (port_at t c)) (sym one)
+        (port_seen t c)) (sym one)
         (get_set ports (place_of firsts p) x within ∙ ap Some (sym becomes))
     by_port false apart =
         get_other ports (place_of firsts p) (place_of firsts q) x
@@ -74,8 +75,9 @@ pub two_set : (devices : List Device) (firsts : List ℕ) (ports : List PortStat
     → AreFirsts 0 devices firsts → length ports ≡ port_count devices
     → ArePorts devices firsts ports s
     → IsPortOf devices p → IsPortOf devices q → same_port q p ≡ false
-    → port_at t p ≡ x → port_at t q ≡ y
-    → ((c : PortRef) → same_port c p ≡ false → same_port c q ≡ false → port_at t c ≡ port_at s c)
+    → port_seen t p ≡ x → port_seen t q ≡ y
+    → ((c : PortRef) → same_port c p ≡ false → same_port c q ≡ false
+    → port_seen t c ≡ port_seen s c)
     → ArePorts devices firsts
     (slice_set (slice_set ports (place_of firsts p) x) (place_of firsts q) y) t
 two_set devices firsts ports s t p q x y are count shown has_p has_q apart first second others c
@@ -83,7 +85,7 @@ two_set devices firsts ports s t p q x y are count shown has_p has_q apart first
   where
     by_first : (a b : Bool) → same_port c q ≡ a → same_port c p ≡ b
         → slice_get (slice_set (slice_set ports (place_of firsts p) x) (place_of firsts q) y)
-        (place_of firsts c) ≡ Some (port_at t c)
+        (place_of firsts c) ≡ Some (port_seen t c)
     by_first true b is_q is_p =
         let one = port_is c q is_q in
         let counted = length_set ports (place_of firsts p) x in
@@ -92,7 +94,7 @@ two_set devices firsts ports s t p q x y are count shown has_p has_q apart first
         (place_within devices firsts q are has_q) in
         subst (λ e. slice_get
         (slice_set (slice_set ports (place_of firsts p) x) (place_of firsts q) y)
-        (place_of firsts e) ≡ Some (port_at t e)) (sym one)
+        (place_of firsts e) ≡ Some (port_seen t e)) (sym one)
         (get_set (slice_set ports (place_of firsts p) x) (place_of firsts q) y within
         ∙ ap Some (sym second))
       where
@@ -109,7 +111,7 @@ two_set devices firsts ports s t p q x y are count shown has_p has_q apart first
         get_other (slice_set ports (place_of firsts p) x) (place_of firsts q) (place_of firsts c) y
         (places_apart devices firsts c q are has_c has_q is_q)
         ∙ subst (λ e. slice_get (slice_set ports (place_of firsts p) x) (place_of firsts e) ≡ Some
-        (port_at t e)) (sym one)
+        (port_seen t e)) (sym one)
         (get_set ports (place_of firsts p) x within ∙ ap Some (sym first))
     by_first false false is_q is_p =
         get_other (slice_set ports (place_of firsts p) x) (place_of firsts q) (place_of firsts c) y

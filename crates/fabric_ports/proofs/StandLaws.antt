@@ -5,7 +5,7 @@ use Rattle.fabric_trace.specs.Blocks.{IsBlock}
 use Rattle.fabric_trace.specs.Fold.{seen}
 use Rattle.fabric_trace.specs.Known.{Seen}
 use Rattle.fabric_trace.specs.Lines.{TraceLine, Begun}
-use Rattle.fabric_trace.specs.Parts.Part.{Begins}
+use Rattle.fabric_trace.specs.Parts.Part.{PartBegins}
 use Rattle.fabric_trace.proofs.Folding.{seen-append}
 use Rattle.fabric_trace.proofs.Existing.{good_of}
 use Rattle.fabric_trace.proofs.Keeping.{made_keeps}
@@ -31,7 +31,7 @@ stands_on from lines old new line block stands is sent shows =
     record {
       ready = stands.ready;
       made = made-append stands.made
-          (made-append {s = s} {xs = Begun line ∷ []} {ys = block} (one_part (Begins line refl))
+          (made-append {s = s} {xs = Begun line ∷ []} {ys = block} (one_part (PartBegins line refl))
           made);
       sent = ap (λ (t : Seen). t.unfaithful) joined ∙ sent;
       shows = subst (ShowsFabric new) (sym joined) shows;

@@ -15,25 +15,25 @@ use Rattle.maint_packets.specs.Requests.{request_of}
 use Rattle.maint_registers.specs.Devices.{Device, is_switch}
 use Rattle.switch_core.specs.Faces as faces
 use Rattle.switch_core.specs.Faces.{Face, face_at, put_at, taken_at}
-use Rattle.switch_core.specs.SwitchSteps.{step_of, faces_after, answered_by, device_after}
+use Rattle.switch_core.specs.SwitchSteps.{step_of, faces_after, answered_by, switch_after}
 use Rattle.switch_core.specs.declared.switch.Step as switch
 use Rattle.switch_core.specs.declared.switch.Step.TheVariants.{Moved, Dropped, Answered, Nothing}
 use Rattle.fabric_script.specs.declared.ports.PortRef.{PortRef}
 use Rattle.fabric_model.specs.Laws.Priorities.{ByPriority}
 use Rattle.fabric_model.specs.Network.{Network, IsSwitch}
-use Rattle.fabric_model.specs.Serving.{device_after as answered_at}
+use Rattle.fabric_model.specs.Serving.{device_after}
 use Rattle.fabric_model.specs.Steps.{Move, Drop, Answer, ByDevice, Needs, only_first, moved_item, without_first, with_waiting, item_of, after}
 use Rattle.fabric_model.proofs.Boards.{first_item}
 use Rattle.fabric_model.proofs.Moving.{moves_on, named_goes, sent_by}
 use Rattle.fabric_trace.specs.Fold.{seen}
-use Rattle.fabric_trace.specs.Known.{Seen, port_at}
+use Rattle.fabric_trace.specs.Known.{Seen, port_seen}
 use Rattle.fabric_trace.specs.Lines.{TraceLine, NoStep, Lacked}
-use Rattle.fabric_trace.specs.Served.{face_in, faces_from, faces_in, step_lines, HasForm, IsMove}
+use Rattle.fabric_trace.specs.Served.{face_in, faces_from, faces_in, step_lines, ResponseHasForm, IsMove}
 use Rattle.fabric_trace.specs.Text.{trace_line_text, trace_text}
 use Rattle.fabric_trace.proofs.Faces.{face_is, StepNeeds, step_needs}
 use Rattle.fabric_trace.proofs.Keeping.{few_prio}
 use Rattle.fabric_ports.specs.declared.fabric.Fabric.{Fabric}
-use Rattle.fabric_ports.specs.Events.{Did, IsStep}
+use Rattle.fabric_ports.specs.Events.{Did, IsSwitchStep}
 use Rattle.fabric_ports.specs.Showing.{ShowsFabric}
 use Rattle.fabric_ports.specs.Switching.{faces_at, own_ports, AreForms, MadeStep, is_step, written_lines}
 use Rattle.fabric_ports.proofs.Changes.{set-change}
@@ -43,7 +43,7 @@ use Rattle.fabric_ports.proofs.NodeLaws.{set_same, served_shows}
 use Rattle.fabric_ports.proofs.RowLaws.{row_within, row_set, replaced, length-replaced, get-own, own-length}
 use Rattle.fabric_ports.proofs.SendLaws.{one_line}
 
-has_form : (step : switch.Step) → AreForms step → HasForm step
+has_form : (step : switch.Step) → AreForms step → ResponseHasForm step
 has_form (Moved from to packet) forms = tt
 has_form (Dropped from packet) forms = tt
 has_form (Answered at request response) forms = forms.1
@@ -144,21 +144,21 @@ step_others net node (Answered at request response) q apart =
 step_others net node Nothing q apart = refl
 
 answered_is : (device : Device) (at : ℕ) (request : Option Request)
-    → answered_at at request device ≡ answered_by device at request
+    → device_after at request device ≡ answered_by device at request
 answered_is device at None = refl
 answered_is device at (Some request) = refl
 
 step_registers : (net : Network) (node : ℕ) (device : Device) (step : switch.Step)
     → slice_get net.registers node ≡ Some device
     → (after_step net node step).registers
-    ≡ slice_set net.registers node (device_after device step)
+    ≡ slice_set net.registers node (switch_after device step)
 unfolding after_step
 step_registers net node device (Moved from to packet) stands =
     sym (set_same net.registers node device stands)
 step_registers net node device (Dropped from packet) stands =
     sym (set_same net.registers node device stands)
 step_registers net node device (Answered at request response) stands =
-    sym (set-change net.registers node device (answered_at at (request_of request)) stands)
+    sym (set-change net.registers node device (device_after at (request_of request)) stands)
     ∙ ap (slice_set net.registers node) (answered_is device at (request_of request))
 step_registers net node device Nothing stands =
     sym (set_same net.registers node device stands)
@@ -167,18 +167,18 @@ step_registers net node device Nothing stands =
 
 -- the lists of ports that are known
 faces_known : (ports : List PortState) (s : Seen) (node from n : ℕ) → length ports ≡ n
-    → ((j : ℕ) → j < n → slice_get ports j ≡ Some (port_at s (port node (from + j))))
+    → ((j : ℕ) → j < n → slice_get ports j ≡ Some (port_seen s (port node (from + j))))
     → faces_at ports ≡ faces_from s.network node from n
 faces_known [] s node from zero many known = refl
 faces_known [] s node from (suc n) many known = absurd (omega (arith, many))
 faces_known (x ∷ ports) s node from zero many known = absurd (omega (arith, many))
 faces_known (x ∷ ports) s node from (suc n) many known =
-    let first : x ≡ port_at s (port node (from + 0)) = (let h = known 0 (omega arith) in cc) in
+    let first : x ≡ port_seen s (port node (from + 0)) = (let h = known 0 (omega arith) in cc) in
     let here : from + 0 ≡ from = omega arith in
     let rest = faces_known ports s node (suc from) n (omega (arith, many))
     (λ j below. known (suc j) (omega (arith, below))
-    ∙ ap (λ k. Some (port_at s (port node k))) (omega arith)) in
-    λ i. face_of_port ((first ∙ ap (λ k. port_at s (port node k)) here) i) ∷ rest i
+    ∙ ap (λ k. Some (port_seen s (port node k))) (omega arith)) in
+    λ i. face_of_port ((first ∙ ap (λ k. port_seen s (port node k)) here) i) ∷ rest i
 
 -- a port that is alike to what it was
 record IsLike (ports : List PortState) (j : ℕ) (x : PortState) : Type 0 where
@@ -187,7 +187,7 @@ record IsLike (ports : List PortState) (j : ℕ) (x : PortState) : Type 0 where
   pub alike : AreAlike x y
   pub face : face_at (faces_at ports) j ≡ face_of_port y
 
-like_at : (old new : List PortState) (j : ℕ) (x : PortState) → faces.AreAlike AreAlike old new
+like_at : (old new : List PortState) (j : ℕ) (x : PortState) → faces.AllAlike AreAlike old new
     → slice_get old j ≡ Some x → IsLike new j x
 like_at [] [] j x alike is = absurd cc
 like_at (a ∷ old) (b ∷ new) zero x alike is =
@@ -199,7 +199,7 @@ like_at (a ∷ old) (b ∷ new) (suc j) x alike is =
 like_at [] (b ∷ new) j x alike is = absurd alike
 like_at (a ∷ old) [] j x alike is = absurd alike
 
-like_many : (old new : List PortState) → faces.AreAlike AreAlike old new → length new ≡ length old
+like_many : (old new : List PortState) → faces.AllAlike AreAlike old new → length new ≡ length old
 like_many [] [] alike = refl
 like_many (a ∷ old) (b ∷ new) alike = ap suc (like_many old new alike.1)
 like_many [] (b ∷ new) alike = absurd alike
@@ -255,7 +255,8 @@ module _ (s : Seen) (old new : Fabric) (node first : ℕ) (device next : Device)
       omega (arith, row, count, place)
 
   own_known : (j : ℕ) → j < device.ports
-      → slice_get (own_ports old.ports.items first device.ports) j ≡ Some (port_at s (port node j))
+      → slice_get (own_ports old.ports.items first device.ports) j
+      ≡ Some (port_seen s (port node j))
   own_known j below =
       get-own old.ports.items first device.ports j within below
       ∙ ap (λ n. slice_get old.ports.items (n + j)) has.place
@@ -266,7 +267,7 @@ module _ (s : Seen) (old new : Fabric) (node first : ℕ) (device next : Device)
   lists_known =
       faces_known (own_ports old.ports.items first device.ports) s node 0 device.ports
       (own-length old.ports.items first device.ports within)
-      (λ j below. own_known j below ∙ ap (λ k. Some (port_at s (port node k))) (omega arith))
+      (λ j below. own_known j below ∙ ap (λ k. Some (port_seen s (port node k))) (omega arith))
 
   step_is : step ≡ step_of device (faces_in s.network node device)
   step_is = has.made.made ∙ ap (step_of device) lists_known
@@ -284,10 +285,10 @@ module _ (s : Seen) (old new : Fabric) (node first : ℕ) (device next : Device)
       ))
 
   own_later : (j : ℕ) → j < device.ports → slice_get has.made.own j
-      ≡ Some (port_at (record s { network = after_step s.network node step }) (port node j))
+      ≡ Some (port_seen (record s { network = after_step s.network node step }) (port node j))
   own_later j below =
       let like = like_at (own_ports old.ports.items first device.ports) has.made.own j
-      (port_at s (port node j)) has.made.alike (own_known j below) in
+      (port_seen s (port node j)) has.made.alike (own_known j below) in
       like.there
       ∙ ap Some (sym (port_faced s (after_step s.network node step) (port node j) like.y
       (plans_stay s.network node step) like.alike (sym like.face ∙ sym (later.1 j below))))
@@ -324,13 +325,13 @@ module _ (s : Seen) (old new : Fabric) (node first : ℕ) (device next : Device)
     switch = is_one;
     device = device;
     stands = known;
-    form = subst HasForm step_is (has_form step forms);
+    form = subst ResponseHasForm step_is (has_form step forms);
     lines = is ∙ ap (step_lines node) step_is;
   }
 
 is_step_by : (net : Network) (node : ℕ) (step : switch.Step)
     → ((block : List TraceLine) → block ≡ step_lines node step → IsMove net node block)
-    → IsStep net node (is_step step) (written_lines node step)
+    → IsSwitchStep net node (is_step step) (written_lines node step)
 is_step_by net node (Moved from to packet) move = (move _ refl, λ same. absurd cc)
 is_step_by net node (Dropped from packet) move = (move _ refl, λ same. absurd cc)
 is_step_by net node (Answered at request response) move = (move _ refl, λ same. absurd cc)
@@ -342,14 +343,14 @@ pub did_step : (names : List (List ℕ)) {K : Type 0} (written : K → Option (L
     → ShowsFabric old s → s.unfaithful ≡ None → ByPriority s.network → is_switch device ≡ true
     → HasStepped old new node first device next step → AreForms step → result ≡ is_step step
     → Writes written faults b b2 (trace_text names (written_lines node step))
-    → Did (IsStep s.network node result) names written faults b b2 s new
+    → Did (IsSwitchStep s.network node result) names written faults b b2 s new
 did_step names written faults b b2 s old new node first device next step result shows sent by
     switches has forms told prints =
     let seen_is = seen_after s node step in
     record {
       block = written_lines node step;
       prints = prints;
-      is = subst (λ r. IsStep s.network node r (written_lines node step)) (sym told)
+      is = subst (λ r. IsSwitchStep s.network node r (written_lines node step)) (sym told)
           (is_step_by s.network node step
           (is_move s old new node first device next step shows by switches has forms));
       sent = ap (λ (u : Seen). u.unfaithful) seen_is ∙ sent;
@@ -360,11 +361,11 @@ did_step names written faults b b2 s old new node first device next step result 
 -- no step was made, and that is written
 pub did_none : (names : List (List ℕ)) {K : Type 0} (written : K → Option (List ℕ))
     (faults : K → ℕ) (b b2 b3 : Outbox K) (s : Seen) (new : Fabric) (node : ℕ) (result : Bool)
-    → Did (IsStep s.network node result) names written faults b b2 s new → result ≡ false
+    → Did (IsSwitchStep s.network node result) names written faults b b2 s new → result ≡ false
     → Writes written faults b2 b3 (trace_line_text [] (Lacked NoStep) ++ 10 ∷ [])
     → Did (IsMove s.network node) names written faults b b3 s new
 did_none names written faults b b2 b3 s new node result did told prints =
-    let is = subst (λ r. IsStep s.network node r did.block) told did.is in
+    let is = subst (λ r. IsSwitchStep s.network node r did.block) told did.is in
     record {
       block = Lacked NoStep ∷ [];
       prints = Writes-then [] (trace_text names (Lacked NoStep ∷ []))

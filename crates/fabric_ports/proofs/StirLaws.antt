@@ -16,7 +16,7 @@ use Rattle.fabric_model.proofs.Peers.{port_is}
 use Rattle.fabric_trace.specs.Fold.{changed, edited_by, seen}
 use Rattle.fabric_trace.specs.Known.{Seen}
 use Rattle.fabric_trace.specs.Lines.{TraceLine, Begun}
-use Rattle.fabric_trace.specs.Parts.Part.{Begins}
+use Rattle.fabric_trace.specs.Parts.Part.{PartBegins}
 use Rattle.fabric_trace.specs.Text.{trace_text}
 use Rattle.fabric_trace.proofs.Folding.{seen-append}
 use Rattle.fabric_trace.proofs.Making.{one_part, made-append}
@@ -90,7 +90,7 @@ edit_stands p edit from lines old new true is stands shows =
     seen-append from lines (line ∷ []) ∙ ap (edited_by s) (edit_is p edit) in
     record {
       ready = stands.ready;
-      made = made-append stands.made (one_part (Begins (edit_line p edit) refl));
+      made = made-append stands.made (one_part (PartBegins (edit_line p edit) refl));
       sent = ap (λ (t : Seen). t.unfaithful) joined ∙ stands.sent;
       shows = subst (ShowsFabric new) (sym joined) shows;
     }

@@ -9,7 +9,7 @@ use Rattle.link_machine.specs.States.{LinkState}
 use Rattle.link_rest.specs.Acts as acts
 use Rattle.link_rest.specs.Acts.{At}
 use Rattle.link_rest.specs.Schedules.{Is}
-use Rattle.link_rest.specs.Settling.{Part, Settles}
+use Rattle.link_rest.specs.Settling.{SchedulePart, Settles}
 use Rattle.link_law.specs.Does.{Comes, Ends}
 use Rattle.link_law.specs.declared.answers.LinkEnd.{LinkEnd}
 use Rattle.link_law.specs.declared.answers.LinkEnd.TheVariants.{Undetected, Failed, NoMemory}
@@ -41,7 +41,7 @@ AsksForSome TimeOut = Unit {0}
 AsksForSome Settle = Unit {0}
 
 -- what is done for it at this end
-abbrev pub part_of : Side → Action → Part
+abbrev pub part_of : Side → Action → SchedulePart
 part_of side (Pump turns) = Is (λ reached. acts.Pump side turns ∷ [])
 part_of side (Deliver count) = Is (λ reached. acts.Deliver side count ∷ [])
 part_of side TimeOut = Is (λ reached. acts.Fire side ∷ [])
@@ -61,9 +61,9 @@ lack_lines Short = Lacked traced.Short ∷ []
 lack_lines Early = Lacked traced.Early ∷ []
 
 -- the answer of an edit, as that of an action
-abbrev pub acted : Edited → Acted
-acted Edits.Done = Done
-acted Edits.Short = Short
+abbrev pub edit_acted : Edited → Acted
+edit_acted Edits.Done = Done
+edit_acted Edits.Short = Short
 
 -- why an event at the link of two ports ended
 abbrev pub event_end : PortRef → PortRef → LinkEnd → EventEnd
@@ -74,7 +74,7 @@ event_end a b NoMemory = EventEnds.NoMemory
 
 -- a call does this part, by what it answers
 abbrev pub Acts : {W : Type 0} → (W → List Note → W → Type 0) → (W → Note → W → Type 0)
-    → Part → LinkState → W → Result Acted LinkEnd → LinkState → W → Type 0
+    → SchedulePart → LinkState → W → Result Acted LinkEnd → LinkState → W → Type 0
 Acts grew cut P before old (Ok answer) next new = Comes grew P before old (At next) new
 Acts grew cut P before old (Err end) next new = Ends grew cut P before old end new
 

@@ -47,8 +47,8 @@ BothStir ends noise left s lines = (mid : List Edit)
     × Joined (Stirs ends.0 noise mid s) (Stirs ends.1 mid left) s lines
 
 -- a link carries what it can
-abbrev pub Carries : PortRef × PortRef → List Edit → List Edit → Kind
-Carries ends noise left s lines = IsCarry noise left s ends.0 ends.1 lines
+abbrev pub LinkCarries : PortRef × PortRef → List Edit → List Edit → Kind
+LinkCarries ends noise left s lines = IsCarry noise left s ends.0 ends.1 lines
 
 -- every link does, in the order of the links
 abbrev pub LinksCarry : List Edit → List Edit → Kind

@@ -16,7 +16,7 @@ use Rattle.fabric_ports.specs.declared.fabric.Cable.{Cable}
 use Rattle.fabric_ports.specs.declared.fabric.Fabric.{Fabric}
 
 -- the fabric stands for some lines, and the port has a link
-pub record IsLinked (fabric : Fabric) (port : PortRef) : Type 0 where
+pub record PortIsLinked (fabric : Fabric) (port : PortRef) : Type 0 where
   pub from : Seen
   pub lines : List TraceLine
   pub stands : Stands from lines fabric

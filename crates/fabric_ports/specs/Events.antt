@@ -83,26 +83,26 @@ IsAtLink _ = ⊥
 -- ---- afterwards
 
 -- what a line answers that has a packet taken, by the lines of its block
-abbrev pub taken : List TraceLine → Happened
-taken (Lacked NoRoom ∷ block) = Full
-taken _ = Took
+abbrev pub answer_taken : List TraceLine → Happened
+answer_taken (Lacked NoRoom ∷ block) = Full
+answer_taken _ = Took
 
 -- what a `collect` answers
-abbrev pub collected : List TraceLine → Happened
-collected (Stepped (AtNode (Leave n packet)) ∷ block) = Left packet
-collected (Stepped (ByDevice (Answer port packet response)) ∷ block) = Answered
-collected (Lacked NoRoom ∷ block) = Full
-collected _ = Empty
+abbrev pub answer_collected : List TraceLine → Happened
+answer_collected (Stepped (AtNode (Leave n packet)) ∷ block) = Left packet
+answer_collected (Stepped (ByDevice (Answer port packet response)) ∷ block) = Answered
+answer_collected (Lacked NoRoom ∷ block) = Full
+answer_collected _ = Empty
 
 -- what an event answers, by the lines of its block
 abbrev pub happened : Line → List TraceLine → Happened
-happened (Send node prio ftype dest hex) block = taken block
-happened (Read node prio dest hop tid offset) block = taken block
-happened (Write node prio dest hop tid offset value) block = taken block
-happened (Send16 node prio ftype dest hex) block = taken block
-happened (Read16 node prio dest hop tid offset) block = taken block
-happened (Write16 node prio dest hop tid offset value) block = taken block
-happened (Collect node) block = collected block
+happened (Send node prio ftype dest hex) block = answer_taken block
+happened (Read node prio dest hop tid offset) block = answer_taken block
+happened (Write node prio dest hop tid offset value) block = answer_taken block
+happened (Send16 node prio ftype dest hex) block = answer_taken block
+happened (Read16 node prio dest hop tid offset) block = answer_taken block
+happened (Write16 node prio dest hop tid offset value) block = answer_taken block
+happened (Collect node) block = answer_collected block
 happened _ block = Other
 
 -- A call wrote lines which are such, and the fabric shows what is known after them. `s` is what was
@@ -117,9 +117,9 @@ pub record Did (Is : List TraceLine → Type 0) (names : List (List ℕ)) {K : T
   pub shows : ShowsFabric fabric (seen s block)
 
 -- A switch made a step, which is this block; or it can make none, and nothing was written.
-abbrev pub IsStep : Network → ℕ → Bool → List TraceLine → Type 0
-IsStep net node true block = IsMove net node block × (block ≢ Lacked NoStep ∷ [])
-IsStep net node false block = IsMove net node (Lacked NoStep ∷ []) × (block ≡ [])
+abbrev pub IsSwitchStep : Network → ℕ → Bool → List TraceLine → Type 0
+IsSwitchStep net node true block = IsMove net node block × (block ≢ Lacked NoStep ∷ [])
+IsSwitchStep net node false block = IsMove net node (Lacked NoStep ∷ []) × (block ≡ [])
 
 -- the event has no other block
 abbrev pub IsOnlyBlock : Seen → Line → List TraceLine → Type 0

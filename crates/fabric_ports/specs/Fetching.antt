@@ -59,8 +59,8 @@ response_in None = None
 response_in (Some packet) = response_of packet
 
 -- by what left at the host, or why its lines have ended
-abbrev pub answer_to : Result (Option (List ℕ)) EventEnd → Result Response AskEnd
-answer_to (Ok left) = response_or_end (response_in left)
-answer_to (Err (Ends.Undetected port event)) = Err (Undetected port event)
-answer_to (Err Ends.Failed) = Err WriteFault
-answer_to (Err Ends.NoMemory) = Err NoMemory
+abbrev pub ask_answer : Result (Option (List ℕ)) EventEnd → Result Response AskEnd
+ask_answer (Ok left) = response_or_end (response_in left)
+ask_answer (Err (Ends.Undetected port event)) = Err (Undetected port event)
+ask_answer (Err Ends.Failed) = Err WriteFault
+ask_answer (Err Ends.NoMemory) = Err NoMemory

@@ -40,8 +40,8 @@ abbrev pub planned_port : PortPlan → PortState
 planned_port port = new_port port.tells port.buffers
 
 -- the plans, of which the one at this place is changed
-abbrev pub with_port : List PortPlan → ℕ → (PortPlan → PortPlan) → List PortPlan
-with_port plans place change =
+abbrev pub with_plan : List PortPlan → ℕ → (PortPlan → PortPlan) → List PortPlan
+with_plan plans place change =
     slice_set plans place (change (get_or plans place plain_port))
 
 -- Each device of a plan has a port, their ports stand in rows, and the plan says of each what it

@@ -4,7 +4,7 @@ use Rattle.link_machine.specs.States.{Wires}
 use Rattle.fabric_script.specs.declared.ports.PortRef.{PortRef}
 use Rattle.fabric_model.specs.Network.{Network, IsEndpoint}
 use Rattle.maint_registers.specs.Devices.{Device}
-use Rattle.fabric_trace.specs.Known.{Seen, port_at, wire_state}
+use Rattle.fabric_trace.specs.Known.{Seen, port_seen, wire_state}
 use Rattle.fabric_ports.specs.Places.{AreFirsts, port_count, IsPortOf, IsEndpointAt, place_of}
 use Rattle.fabric_ports.specs.declared.fabric.Cable.{Cable}
 use Rattle.fabric_ports.specs.declared.fabric.Fabric.{Fabric}
@@ -39,7 +39,7 @@ pub record ShowsFabric (fabric : Fabric) (s : Seen) : Type 0 where
   pub firsts : AreFirsts 0 fabric.devices.items fabric.firsts.items
   pub count : length fabric.ports.items ≡ port_count fabric.devices.items
   pub ports : (p : PortRef) → IsPortOf fabric.devices.items p
-      → slice_get fabric.ports.items (place_of fabric.firsts.items p) ≡ Some (port_at s p)
+      → slice_get fabric.ports.items (place_of fabric.firsts.items p) ≡ Some (port_seen s p)
   pub cables : All (ShowsCable fabric.devices.items s) fabric.cables.items
   pub links : map ends_of fabric.cables.items ≡ s.network.links
   pub lead : LeadToLinks s.network.links fabric.firsts.items fabric.cable_at.items

@@ -6,7 +6,7 @@ use Rattle.rio_packets.specs.LinkForm.{Passes}
 use Rattle.link_port.specs.Ports.{PortState, AreAlike}
 use Rattle.maint_registers.specs.Devices.{Device, IsSameDevice}
 use Rattle.switch_core.specs.Faces as faces
-use Rattle.switch_core.specs.SwitchSteps.{step_of, faces_after, device_after}
+use Rattle.switch_core.specs.SwitchSteps.{step_of, faces_after, switch_after}
 use Rattle.switch_core.specs.declared.switch.Step.{Step}
 use Rattle.switch_core.specs.declared.switch.Step.TheVariants.{Moved, Dropped, Answered, Nothing}
 use Rattle.fabric_trace.specs.Lines.{TraceLine}
@@ -37,9 +37,9 @@ pub record MadeStep (first : ℕ) (device next : Device) (old new : List PortSta
   pub own : List PortState
   pub made : step ≡ step_of device (faces_at (own_ports old first device.ports))
   pub lists : faces_at own ≡ faces_after (faces_at (own_ports old first device.ports)) step
-  pub alike : faces.AreAlike AreAlike (own_ports old first device.ports) own
+  pub alike : faces.AllAlike AreAlike (own_ports old first device.ports) own
   pub ports : new ≡ take first old ++ (own ++ drop (first + device.ports) old)
-  pub registers : next ≡ device_after device step
+  pub registers : next ≡ switch_after device step
   pub same : IsSameDevice device next
 
 -- whether it is a step

@@ -11,7 +11,7 @@ ghost use Rattle.link_machine.specs.States.{link};
 ghost use Rattle.link_port.specs.Ports.{PortState};
 ghost use Rattle.fabric_ports.specs.Acting.{line_for, AsksForSome, part_of, answer_of, lack_lines, event_end, Acts, AtTwo};
 ghost use Rattle.fabric_ports.specs.Blocked.{Blocked, BlockEnds};
-ghost use Rattle.fabric_ports.specs.Ends.{IsLinked};
+ghost use Rattle.fabric_ports.specs.Ends.{PortIsLinked};
 ghost use Rattle.fabric_ports.specs.Standing.{Stands};
 
 use crate::answers::EventEnd;
@@ -59,7 +59,7 @@ impl Fabric {
         action: Action,
         outbox: &mut Outbox<K>,
     ) -> Result<(), EventEnd>
-        requires linked { IsLinked self.old port }
+        requires linked { PortIsLinked self.old port }
         requires named { length self.old.devices.items ≤ length names.now }
         requires some { AsksForSome action }
         ensures done { OnOk result ((from : Seen) (lines : List TraceLine)

@@ -2,12 +2,12 @@
 ghost use Rattle.std.specs.Prelude.{◌≡◌, ◌≤◌, ◌<◌, ℕ, [], false, List, length, IfOk, IfErr, IsErrOf};
 ghost use Rattle.rio_chars.specs.Faults.{Rose};
 ghost use Rattle.rio_packets.specs.LinkForm.{LinkForm};
-ghost use Rattle.maint_packets.specs.Requests.{IsGood, request_body};
+ghost use Rattle.maint_packets.specs.Requests.{IsGoodOp, request_body};
 ghost use Rattle.fabric_ask.specs.Asks.{AskRounds, IsAsk};
 ghost use Rattle.fabric_trace.specs.Known.{Seen};
 ghost use Rattle.fabric_trace.specs.Lines.{TraceLine};
 ghost use Rattle.fabric_ports.specs.Asking.{CanAsk, Replied, AskEnds};
-ghost use Rattle.fabric_ports.specs.Fetching.{left_of, RoundsLeave, AskLeaves, response_in, answer_to};
+ghost use Rattle.fabric_ports.specs.Fetching.{left_of, RoundsLeave, AskLeaves, response_in, ask_answer};
 ghost use Rattle.fabric_ports.specs.Places.{IsEndpointAt};
 ghost use Rattle.fabric_ports.specs.Ran.{Ran, RanEnds};
 ghost use Rattle.fabric_ports.specs.Standing.{Stands};
@@ -75,7 +75,7 @@ impl Fabric {
         requires can { (from : Seen) × (lines : List TraceLine) × CanAsk host from lines self.old }
         requires named { length self.old.devices.items ≤ length names.now }
         requires few { length names.now ≤ 256 }
-        requires op { IsGood request.now.op }
+        requires op { IsGoodOp request.now.op }
         requires prio { request.now.prio < 4 }
         requires offset { request.now.offset < 0x1000000 }
         requires dest { request.now.large ≡ false → request.now.dest < 256 }
@@ -113,7 +113,7 @@ impl Fabric {
         requires can { (from : Seen) × (lines : List TraceLine) × CanAsk host from lines self.old }
         requires named { length self.old.devices.items ≤ length names.now }
         requires few { length names.now ≤ 256 }
-        requires op { IsGood request.now.op }
+        requires op { IsGoodOp request.now.op }
         requires prio { request.now.prio < 4 }
         requires offset { request.now.offset < 0x1000000 }
         requires dest { request.now.large ≡ false → request.now.dest < 256 }
@@ -156,7 +156,7 @@ impl Fabric {
         requires can { (from : Seen) × (lines : List TraceLine) × CanAsk host from lines self.old }
         requires named { length self.old.devices.items ≤ length names.now }
         requires few { length names.now ≤ 256 }
-        requires op { IsGood request.now.op }
+        requires op { IsGoodOp request.now.op }
         requires prio { request.now.prio < 4 }
         requires offset { request.now.offset < 0x1000000 }
         requires dest { request.now.large ≡ false → request.now.dest < 256 }
@@ -210,7 +210,7 @@ impl Fabric {
 
 /// Says of a request that may be sent what is true of every one: a packet carries it.
 fn show_request(request: &Request)
-    requires op { IsGood request.now.op }
+    requires op { IsGoodOp request.now.op }
     requires prio { request.now.prio < 4 }
     requires offset { request.now.offset < 0x1000000 }
     requires dest { request.now.large ≡ false → request.now.dest < 256 }
@@ -233,7 +233,7 @@ fn left_of(happened: Happened) -> Option<Packet>
 /// What is answered: the response that left at the host. Its own registers answer a request that
 /// came home, and then none left.
 fn answer(told: Result<Option<Packet>, EventEnd>) -> Result<Response, AskEnd>
-    ensures { result ≡ answer_to told }
+    ensures { result ≡ ask_answer told }
 {
     match told {
         Ok(left) => response_in(left).ok_or(AskEnd::Unanswered),

@@ -2,14 +2,14 @@
 ghost use Rattle.std.specs.Prelude.{◌≡◌, ◌≤◌, ◌<◌, List, length, map, slice_get, Some, OnOk, IfErr};
 ghost use Rattle.rio_chars.specs.Written.{Writes};
 ghost use Rattle.rio_chars.specs.declared.chars.Char.{Char};
-ghost use Rattle.link_wires.specs.Wires.{fits, answered};
+ghost use Rattle.link_wires.specs.Wires.{fits, edit_answered};
 ghost use Rattle.fabric_trace.specs.Fold.{seen};
 ghost use Rattle.fabric_trace.specs.Known.{Seen};
 ghost use Rattle.fabric_trace.specs.Lines.{TraceLine};
 ghost use Rattle.fabric_trace.specs.Text.{trace_text};
 ghost use Rattle.fabric_ask.specs.Noise.{edit_line, edit_lines, is_idle};
-ghost use Rattle.fabric_ports.specs.Carrying.{AreLinked, WithLeft, BothTurn, Stirs, Edits, BothStir, Carries, LinksCarry};
-ghost use Rattle.fabric_ports.specs.Ends.{IsLinked};
+ghost use Rattle.fabric_ports.specs.Carrying.{AreLinked, WithLeft, BothTurn, Stirs, Edits, BothStir, LinkCarries, LinksCarry};
+ghost use Rattle.fabric_ports.specs.Ends.{PortIsLinked};
 ghost use Rattle.fabric_ports.specs.Ran.{Ran, RanEnds};
 ghost use Rattle.fabric_ports.specs.Showing.{ends_of};
 ghost use Rattle.fabric_ports.specs.Standing.{Stands};
@@ -67,11 +67,11 @@ impl Fabric {
         requires named { length self.old.devices.items ≤ length names.now }
         ensures done { OnOk result ((from : Seen) (lines : List TraceLine)
             → Stands from lines self.old
-            → Ran (Carries ends (N.edits noise.old) (N.edits noise.new)) names.now
+            → Ran (LinkCarries ends (N.edits noise.old) (N.edits noise.new)) names.now
             K.written K.faults outbox.old outbox.new from lines self.new) }
         ensures ended { IfErr result (λ end. (from : Seen) (lines : List TraceLine)
             → Stands from lines self.old
-            → RanEnds (WithLeft (Carries ends (N.edits noise.old))) names.now
+            → RanEnds (WithLeft (LinkCarries ends (N.edits noise.old))) names.now
             K.written K.faults outbox.old outbox.new from lines end) }
     {
         if self.is_idle(place) {
@@ -94,11 +94,11 @@ impl Fabric {
         requires named { length self.old.devices.items ≤ length names.now }
         ensures done { OnOk result ((from : Seen) (lines : List TraceLine)
             → Stands from lines self.old
-            → Ran (Carries ends (N.edits noise.old) (N.edits noise.new)) names.now
+            → Ran (LinkCarries ends (N.edits noise.old) (N.edits noise.new)) names.now
             K.written K.faults outbox.old outbox.new from lines self.new) }
         ensures ended { IfErr result (λ end. (from : Seen) (lines : List TraceLine)
             → Stands from lines self.old
-            → RanEnds (WithLeft (Carries ends (N.edits noise.old))) names.now
+            → RanEnds (WithLeft (LinkCarries ends (N.edits noise.old))) names.now
             K.written K.faults outbox.old outbox.new from lines end) }
     {
         self.turn_both(alloc, names, ends, outbox)?;
@@ -160,7 +160,7 @@ impl Fabric {
         noise: &mut N,
         outbox: &mut Outbox<K>,
     ) -> Result<(), EventEnd>
-        requires linked { IsLinked self.old port }
+        requires linked { PortIsLinked self.old port }
         requires named { length self.old.devices.items ≤ length names.now }
         ensures done { OnOk result ((from : Seen) (lines : List TraceLine)
             → Stands from lines self.old
@@ -183,7 +183,7 @@ impl Fabric {
 
     /// The number of characters on the wire of a port.
     fn length(&self, port: PortRef) -> usize
-        requires { IsLinked self.now port }
+        requires { PortIsLinked self.now port }
         ensures { (from : Seen) (lines : List TraceLine) → Stands from lines self.now
             → result ≡ length ((seen from lines).wires port).chars }
     {
@@ -201,7 +201,7 @@ impl Fabric {
         edit: &Edit,
         outbox: &mut Outbox<K>,
     ) -> Result<(), EventEnd>
-        requires linked { IsLinked self.old port }
+        requires linked { PortIsLinked self.old port }
         requires named { length self.old.devices.items ≤ length names.now }
         ensures done { OnOk result ((from : Seen) (lines : List TraceLine)
             → Stands from lines self.old → Ran (Edits port edit.now) names.now
@@ -231,7 +231,7 @@ fn write_edit<K: Sink>(
     edited: Edited,
 )
     requires { port.node < length names.now }
-    ensures { (chars : List Char) → edited ≡ answered (fits edit.now chars)
+    ensures { (chars : List Char) → edited ≡ edit_answered (fits edit.now chars)
         → Writes K.written K.faults outbox.old outbox.new
         (trace_text names.now (edit_lines port edit.now chars)) }
 {

@@ -5,9 +5,9 @@ ghost use Rattle.fabric_script.specs.declared.lines.Line.{Line};
 ghost use Rattle.fabric_trace.specs.Fold.{edit_of};
 ghost use Rattle.fabric_trace.specs.Known.{Seen};
 ghost use Rattle.fabric_trace.specs.Lines.{TraceLine};
-ghost use Rattle.fabric_ports.specs.Acting.{acted};
+ghost use Rattle.fabric_ports.specs.Acting.{edit_acted};
 ghost use Rattle.fabric_ports.specs.Blocked.{Blocked, BlockEnds};
-ghost use Rattle.fabric_ports.specs.Ends.{IsLinked};
+ghost use Rattle.fabric_ports.specs.Ends.{PortIsLinked};
 ghost use Rattle.fabric_ports.specs.Standing.{Stands};
 
 use crate::actions::{Acted, write_lack};
@@ -27,7 +27,7 @@ impl Fabric {
         edit: &Edit,
         outbox: &mut Outbox<K>,
     ) -> Result<(), EventEnd>
-        requires { IsLinked self.old port }
+        requires { PortIsLinked self.old port }
         ensures done { (names : List (List ℕ)) (line : Line) → edit_of line ≡ Some (port, edit.now)
             → OnOk result ((from : Seen) (lines : List TraceLine) → Stands from lines self.old
             → Blocked line names K.written K.faults outbox.old outbox.new from lines self.new) }
@@ -50,7 +50,7 @@ impl Fabric {
 
 /// The answer of an edit, as that of an action.
 fn as_acted(edited: Edited) -> Acted
-    ensures { result ≡ acted edited }
+    ensures { result ≡ edit_acted edited }
 {
     match edited {
         Edited::Done => Acted::Done,

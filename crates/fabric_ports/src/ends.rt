@@ -2,7 +2,7 @@
 ghost use Rattle.std.specs.Prelude.{◌≡◌, ◌≢◌, ◌<◌, length, slice_get, slice_set, map, Some};
 ghost use Rattle.std.specs.Borrow.{sem, LendsBoth, Array};
 ghost use Rattle.link_port.specs.contracts.port.Port.{the_row};
-ghost use Rattle.fabric_ports.specs.Ends.{IsLinked, IsPlaceOf, side_in};
+ghost use Rattle.fabric_ports.specs.Ends.{PortIsLinked, IsPlaceOf, side_in};
 ghost use Rattle.fabric_ports.specs.Showing.{ends_of, ShowsFabric};
 ghost use Rattle.fabric_script.specs.declared.ports.PortRef.{PortRef};
 ghost use Rattle.fabric_trace.specs.Known.{Seen, link_at};
@@ -25,7 +25,7 @@ pub(crate) struct LinkPlace {
 impl Fabric {
     /// Finds the link of a port.
     pub(crate) fn link_of(&self, port: PortRef) -> LinkPlace
-        requires { IsLinked self.now port }
+        requires { PortIsLinked self.now port }
         ensures { IsPlaceOf self.now port result }
     {
         let number = self.cable_at[self.place(port)];

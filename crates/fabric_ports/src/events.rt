@@ -2,7 +2,7 @@
 ghost use Rattle.std.specs.Prelude.{◌≡◌, ◌<◌, false, List, length, IfOk, IfErr};
 ghost use Rattle.rio_packets.specs.LinkForm.{LinkForm};
 ghost use Rattle.rio_packets.specs.Fields.{body_of};
-ghost use Rattle.maint_packets.specs.Requests.{IsGood, request_body};
+ghost use Rattle.maint_packets.specs.Requests.{IsGoodOp, request_body};
 ghost use Rattle.fabric_script.specs.GivenPackets.{line_giving};
 ghost use Rattle.fabric_model.specs.Network.{Network, sender_id};
 ghost use Rattle.fabric_trace.specs.Events.{IsInRange, IsDataLength};
@@ -124,7 +124,7 @@ fn sent(header: &Header, hex: &[u8]) -> Packet
 
 /// The packet of a request to read or write a register, from a source ID.
 fn asked(given: &GivenPacket, source: u16, head: RequestHead, op: Op) -> Packet
-    requires op { IsGood op }
+    requires op { IsGoodOp op }
     requires prio { given.now.prio < 4 }
     requires dest { given.now.large ≡ false → given.now.dest < 256 }
     requires source { given.now.large ≡ false → source < 256 }

@@ -2,8 +2,8 @@
 ghost use Rattle.std.specs.Prelude.{◌≡◌, ◌<◌, length, None};
 ghost use Rattle.rio_packets.specs.LinkForm.{Passes};
 ghost use Rattle.fabric_model.specs.Laws.Priorities.{ByPriority};
-ghost use Rattle.fabric_trace.specs.Blocks.{takes};
-ghost use Rattle.fabric_ports.specs.Events.{Did, taken, collected};
+ghost use Rattle.fabric_trace.specs.Blocks.{take_lines};
+ghost use Rattle.fabric_ports.specs.Events.{Did, answer_taken, answer_collected};
 ghost use Rattle.fabric_ports.specs.Places.{IsEndpointAt};
 ghost use Rattle.fabric_ports.specs.Showing.{ShowsFabric};
 ghost use Rattle.fabric_trace.specs.Known.{Seen};
@@ -31,7 +31,8 @@ impl Fabric {
         requires shown { (s : Seen) × ShowsFabric self.old s }
         requires endpoint { IsEndpointAt self.old.devices.items node }
         ensures { (s : Seen) → ShowsFabric self.old s → s.unfaithful ≡ None
-            → Did (λ block. (block ≡ takes s node packet) × (result ≡ taken block)) names.now
+            → Did (λ block. (block ≡ take_lines s node packet)
+            × (result ≡ answer_taken block)) names.now
             K.written K.faults outbox.old outbox.new s self.new }
     {
         let place = self.place(PortRef { node, port: 0 });
@@ -56,7 +57,7 @@ impl Fabric {
         requires endpoint { IsEndpointAt self.old.devices.items node }
         ensures { (s : Seen) → ShowsFabric self.old s → s.unfaithful ≡ None
             → ByPriority s.network → Did (λ block. IsCollect s.network node block
-            × (result ≡ collected block)) names.now
+            × (result ≡ answer_collected block)) names.now
             K.written K.faults outbox.old outbox.new s self.new }
     {
         let port = PortRef { node, port: 0 };

@@ -4,12 +4,12 @@ ghost use Rattle.link_machine.specs.States.{empty_wires};
 ghost use Rattle.maint_registers.specs.Devices.{new_endpoint, new_switch, with_link};
 ghost use Rattle.fabric_model.specs.Laws.Proper.{AreProper};
 ghost use Rattle.fabric_model.specs.Network.{Network};
-ghost use Rattle.fabric_script.specs.Scripts.{Passes};
+ghost use Rattle.fabric_script.specs.Scripts.{ScriptPasses};
 ghost use Rattle.fabric_trace.specs.Events.{ArePorts, counts_after};
 ghost use Rattle.fabric_trace.specs.Runs.{bare, set_up, set_up_all, begins};
 ghost use Rattle.fabric_trace.specs.SetUps.{MaySetUp};
 ghost use Rattle.fabric_ports.specs.Places.{IsPortOf, place_of};
-ghost use Rattle.fabric_ports.specs.Plans.{IsPlan, IsNewCable, PlansFor, MayAdd, HasBuffers, plain_port, planned_port, with_port, counts_of, with_end_at, is_new};
+ghost use Rattle.fabric_ports.specs.Plans.{IsPlan, IsNewCable, PlansFor, MayAdd, HasBuffers, plain_port, planned_port, with_plan, counts_of, with_end_at, is_new};
 ghost use Rattle.fabric_ports.specs.Showing.{ends_of, LeadToLinks};
 ghost use Rattle.fabric_ports.specs.Standing.{Stands};
 
@@ -32,7 +32,7 @@ impl Fabric {
     /// its wires. The script passes. All memory of the ports is taken here; `NoMemory` is the only
     /// other answer.
     pub fn new(alloc: Global, script: &Script) -> Result<Fabric, NoMemory>
-        requires passes { Passes script.now.names.items script.now.lines.items }
+        requires passes { ScriptPasses script.now.names.items script.now.lines.items }
         ensures stands { IfOk result (λ fabric.
             Stands (begins (set_up_all bare script.now.lines.items)) [] fabric) }
         ensures named { IfOk result (λ fabric.
@@ -203,7 +203,7 @@ impl Plan {
     fn set_buffers(&mut self, port: PortRef, n: u8)
         requires plan { IsPlan self.old }
         requires port { IsPortOf self.old.devices.items port }
-        ensures ports { self.new.ports.items ≡ with_port self.old.ports.items
+        ensures ports { self.new.ports.items ≡ with_plan self.old.ports.items
             (place_of self.old.firsts.items port) (λ plan. record plan { buffers = n }) }
         ensures rest { self.new ≡ record self.old { ports = self.new.ports } }
     {
@@ -215,7 +215,7 @@ impl Plan {
     fn set_telling(&mut self, port: PortRef)
         requires plan { IsPlan self.old }
         requires port { IsPortOf self.old.devices.items port }
-        ensures ports { self.new.ports.items ≡ with_port self.old.ports.items
+        ensures ports { self.new.ports.items ≡ with_plan self.old.ports.items
             (place_of self.old.firsts.items port) (λ plan. record plan { tells = true }) }
         ensures rest { self.new ≡ record self.old { ports = self.new.ports } }
     {

@@ -7,7 +7,7 @@ ghost use Rattle.fabric_trace.specs.Known.{Seen};
 ghost use Rattle.fabric_trace.specs.Lines.{TraceLine};
 ghost use Rattle.fabric_trace.specs.Rounds.{Rounds};
 ghost use Rattle.fabric_ports.specs.Blocked.{Blocked, BlockEnds};
-ghost use Rattle.fabric_ports.specs.Ends.{IsLinked};
+ghost use Rattle.fabric_ports.specs.Ends.{PortIsLinked};
 ghost use Rattle.fabric_ports.specs.Places.{IsSwitchAt};
 ghost use Rattle.fabric_ports.specs.Ran.{Ran, RanEnds, LinksSettle, SwitchesServe, Serves};
 ghost use Rattle.fabric_ports.specs.Standing.{Stands};
@@ -82,7 +82,7 @@ impl Fabric {
         port: PortRef,
         outbox: &mut Outbox<K>,
     ) -> Result<(), EventEnd>
-        requires linked { IsLinked self.old port }
+        requires linked { PortIsLinked self.old port }
         requires named { length self.old.devices.items ≤ length names.now }
         ensures done { OnOk result ((from : Seen) (lines : List TraceLine)
             → Stands from lines self.old → Blocked (Settle port) names.now

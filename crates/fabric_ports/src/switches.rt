@@ -1,14 +1,14 @@
 //! The step of a switch.
 ghost use Rattle.std.specs.Prelude.{◌≡◌, ◌<◌, ◌+◌, ◌≤◌, length, true, None};
-ghost use Rattle.link_port.specs.Ports.{AreAlike as IsAlike};
+ghost use Rattle.link_port.specs.Ports.{AreAlike};
 ghost use Rattle.maint_registers.specs.Devices.{IsSameDevice};
-ghost use Rattle.switch_core.specs.Faces.{AreAlike};
+ghost use Rattle.switch_core.specs.Faces.{AllAlike};
 ghost use Rattle.switch_core.specs.Goings.{Goes};
-ghost use Rattle.switch_core.specs.SwitchSteps.{step_of, faces_after, device_after};
+ghost use Rattle.switch_core.specs.SwitchSteps.{step_of, faces_after, switch_after};
 ghost use Rattle.fabric_model.specs.Laws.Priorities.{ByPriority};
 ghost use Rattle.fabric_trace.specs.Known.{Seen};
 ghost use Rattle.fabric_trace.specs.Served.{IsMove};
-ghost use Rattle.fabric_ports.specs.Events.{Did, IsStep};
+ghost use Rattle.fabric_ports.specs.Events.{Did, IsSwitchStep};
 ghost use Rattle.fabric_ports.specs.Places.{IsSwitchAt};
 ghost use Rattle.fabric_ports.specs.Showing.{ShowsFabric};
 ghost use Rattle.fabric_ports.specs.Switching.{MadeStep, Wrote, faces_at, own_ports};
@@ -46,7 +46,7 @@ impl Fabric {
         requires shown { (s : Seen) × ShowsFabric self.old s }
         requires switch { IsSwitchAt self.old.devices.items node }
         ensures { (s : Seen) → ShowsFabric self.old s → s.unfaithful ≡ None → ByPriority s.network
-            → Did (IsStep s.network node result) names.now
+            → Did (IsSwitchStep s.network node result) names.now
             K.written K.faults outbox.old outbox.new s self.new }
     {
         let first = self.firsts[usize::from(node)];
@@ -92,9 +92,9 @@ fn step_own<K: Sink>(
     ensures lists { faces_at own.new
         ≡ faces_after (faces_at own.old) (step_of registers.old (faces_at own.old)) }
     ensures registers { registers.new
-        ≡ device_after registers.old (step_of registers.old (faces_at own.old)) }
+        ≡ switch_after registers.old (step_of registers.old (faces_at own.old)) }
     ensures same { IsSameDevice registers.old registers.new }
-    ensures alike { AreAlike IsAlike own.old own.new }
+    ensures alike { AllAlike AreAlike own.old own.new }
     ensures wrote { Wrote names.now node (step_of registers.old (faces_at own.old))
         K.written K.faults outbox.old outbox.new result }
 {
@@ -119,9 +119,9 @@ fn make_step<K: Sink>(
     ensures lists { faces_at own.new
         ≡ faces_after (faces_at own.old) (step_of registers.old (faces_at own.old)) }
     ensures registers { registers.new
-        ≡ device_after registers.old (step_of registers.old (faces_at own.old)) }
+        ≡ switch_after registers.old (step_of registers.old (faces_at own.old)) }
     ensures same { IsSameDevice registers.old registers.new }
-    ensures alike { AreAlike IsAlike own.old own.new }
+    ensures alike { AllAlike AreAlike own.old own.new }
     ensures wrote { Wrote names.now node (step_of registers.old (faces_at own.old))
         K.written K.faults outbox.old outbox.new true }
 {

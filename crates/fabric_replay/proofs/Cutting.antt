@@ -2,7 +2,7 @@
 use Rattle.std.proofs.Common.{◌≡◌, ◌≢◌, ℕ, List, [], ◌∷◌, ◌++◌, codes, refl, sym, ap, ◌∙◌, subst, append_assoc}
 use Rattle.fabric_trace.specs.Lines.{TraceLine}
 use Rattle.fabric_trace.specs.Text.{trace_line_text, trace_text}
-use Rattle.fabric_replay.specs.Replaying.{IsPart}
+use Rattle.fabric_replay.specs.Replaying.{IsPartOfLine}
 
 -- of two ways to cut a list: the first list is less than the second, or the second is its front
 data Cuts (xs ys us vs : List ℕ) : Type 0 where
@@ -29,7 +29,7 @@ pub record IsCutText (names : List (List ℕ)) (all : List TraceLine) (front : L
   pub part : List ℕ
   pub whole : all ≡ lines ++ behind
   pub text : front ≡ trace_text names lines ++ part
-  pub cut : IsPart names behind part
+  pub cut : IsPartOfLine names behind part
 
 cut_more : (names : List (List ℕ)) (line : TraceLine) (all : List TraceLine) (front more : List ℕ)
     → front ≡ (trace_line_text names line ++ codes "\n") ++ more → IsCutText names all more
@@ -77,12 +77,12 @@ never_nothing : (xs : List ℕ) (x : ℕ) → xs ++ x ∷ [] ≢ []
 never_nothing [] x none = absurd cc
 never_nothing (y ∷ xs) x none = absurd cc
 
-no_part : (names : List (List ℕ)) (lines : List TraceLine) → IsPart names lines []
+no_part : (names : List (List ℕ)) (lines : List TraceLine) → IsPartOfLine names lines []
 no_part names [] = refl
 no_part names (line ∷ lines) =
     (trace_line_text names line ++ codes "\n", never_nothing (trace_line_text names line) 10, refl)
 
 pub part_more : (names : List (List ℕ)) (lines more : List TraceLine) (bytes : List ℕ)
-    → IsPart names lines bytes → IsPart names (lines ++ more) bytes
-part_more names [] more bytes none = subst (IsPart names more) (sym none) (no_part names more)
+    → IsPartOfLine names lines bytes → IsPartOfLine names (lines ++ more) bytes
+part_more names [] more bytes none = subst (IsPartOfLine names more) (sym none) (no_part names more)
 part_more names (line ∷ lines) more bytes part = part

@@ -4,7 +4,7 @@ use Rattle.rio_chars.specs.Written.{Writes}
 use Rattle.rio_chars.specs.declared.outbox.Outbox.{Outbox}
 use Rattle.link_model.specs.declared.event.Event.{Event}
 use Rattle.fabric_script.specs.Lines.{is_event}
-use Rattle.fabric_script.specs.Scripts.{Passes}
+use Rattle.fabric_script.specs.Scripts.{ScriptPasses}
 use Rattle.fabric_script.specs.declared.ports.PortRef.{PortRef}
 use Rattle.fabric_script.specs.declared.lines.Line.{Line}
 use Rattle.fabric_script.specs.declared.lines.Numbered.{Numbered}
@@ -17,7 +17,7 @@ use Rattle.fabric_ports.specs.Standing.{Stands}
 use Rattle.fabric_ports.specs.declared.answers.EventEnd.{EventEnd}
 use Rattle.fabric_ports.specs.declared.answers.EventEnd.TheVariants as Early
 use Rattle.fabric_ports.specs.declared.fabric.Fabric.{Fabric}
-use Rattle.fabric_replay.specs.Ending.{IsNamed, EndsBy}
+use Rattle.fabric_replay.specs.Ending.{EndIsNamed, EndsBy}
 use Rattle.fabric_replay.specs.declared.replaying.ReplayEnd.{ReplayEnd}
 use Rattle.fabric_replay.specs.declared.replaying.ReplayEnd.TheVariants as Ends
 use Rattle.fabric_replay.specs.Going.{Going, ToldUntil, ToldFront, ToldWhole}
@@ -34,9 +34,9 @@ EventEnds-names line read names written faults out out2 from lines end same e =
 
 pub end_named : (names read : List (List ℕ)) (script : List Numbered) {K : Type 0}
     (written : K → Option (List ℕ)) (faults : K → ℕ) (out out2 : Outbox K) (lines : List TraceLine)
-    (line : Line) (fabric : Fabric) (end : EventEnd) → Passes names script → read ≡ names
+    (line : Line) (fabric : Fabric) (end : EventEnd) → ScriptPasses names script → read ≡ names
     → Stands (start script) lines fabric → EventEnds line names written faults out out2
-    (start script) lines end → IsNamed read end
+    (start script) lines end → EndIsNamed read end
 end_named names read script written faults out out2 lines line fabric (Early.Undetected port event)
     passes same stands ends =
     subst (λ n. port.node < length n) (sym same)

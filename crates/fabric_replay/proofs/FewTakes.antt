@@ -14,7 +14,7 @@ use Rattle.switch_core.specs.declared.switch.Step.TheVariants.{Moved, Dropped, A
 use Rattle.maint_registers.specs.Devices.{Device, is_switch}
 use Rattle.fabric_script.specs.Known.{Known, one_event, nothing, known_after, cost_of}
 use Rattle.fabric_script.specs.Lines.{is_event, new_name}
-use Rattle.fabric_script.specs.Scripts.{PassesFrom, Passes}
+use Rattle.fabric_script.specs.Scripts.{PassesFrom, ScriptPasses}
 use Rattle.fabric_script.specs.declared.lines.Line.{Line}
 use Rattle.fabric_script.specs.declared.lines.Line.TheVariants as Lines
 use Rattle.fabric_script.specs.declared.lines.Numbered.{Numbered}
@@ -24,11 +24,11 @@ use Rattle.fabric_model.specs.Laws.Stock.{takes_by, steps_in}
 use Rattle.fabric_model.specs.Network.{room_out, port_of, link_in}
 use Rattle.fabric_model.specs.Steps.{Take, Step, AtNode}
 use Rattle.rio_packets.specs.Fields.{prio_of}
-use Rattle.fabric_trace.specs.Blocks.{Sends, lines_of, IsSettle, WithPeer, WithLink, edits, IsBlock}
+use Rattle.fabric_trace.specs.Blocks.{SendsBody, lines_of, IsSettle, WithPeer, WithLink, edits, IsBlock}
 use Rattle.fabric_trace.specs.Fold.{edit_of, seen}
 use Rattle.fabric_trace.specs.Known.{Found, Seen, peer_of, link_at}
 use Rattle.fabric_trace.specs.Lines.{Full, Short, TraceLine, Begun, Stepped, Lacked, steps_of}
-use Rattle.fabric_trace.specs.Rounds.{Follows, NamesNothing, Joined, SettleAll, ServesAll, Rests, Goes, ServeNodes, Round, Rounds}
+use Rattle.fabric_trace.specs.Rounds.{Follows, NamesNothing, Joined, SettleAll, ServesAll, ServeRests, ServeGoes, ServeNodes, Round, Rounds}
 use Rattle.fabric_trace.specs.Runs.{start, EventThen, Names, RunsFrom, Runs}
 use Rattle.fabric_trace.specs.Served.{step_lines, collect_lines}
 use Rattle.fabric_trace.proofs.Keeping.{steps_of-append}
@@ -118,8 +118,8 @@ all_settle (link ∷ links) s lines is = joined (IsSettle s link.0 link.1) (Sett
     s lines (λ first. settled s link.0 link.1 first) (all_settle links) is
 
 serves : {s : Seen} {node : ℕ} {lines : List TraceLine} → ServesAll s node lines → taken lines ≡ 0
-serves {s} {node} {lines} (Rests move is) = none_of lines [] is refl
-serves {s} {node} {lines} (Goes step rest move is more) = let none = serves more in ap taken is
+serves {s} {node} {lines} (ServeRests move is) = none_of lines [] is refl
+serves {s} {node} {lines} (ServeGoes step rest move is more) = let none = serves more in ap taken is
     ∙ omega (arith, none)
 
 served : (switch : Bool) (First : List TraceLine → Type 0) (More : Seen → List TraceLine
@@ -149,7 +149,7 @@ rounds (suc n) s lines is = joined (Round IsSettle s) (Rounds IsSettle n) s line
 -- ---- every block takes no more than its event costs
 
 one_at_most : (s : Seen) (node : ℕ) (body : List ℕ) (block : List TraceLine)
-    → Sends s node body block → taken block ≤ 1
+    → SendsBody s node body block → taken block ≤ 1
 one_at_most s node body block sends = subst (λ n. n ≤ 1) (sym (ap taken sends.lines))
     (by (room_out s.network (port_of node) (prio_of sends.packet)))
   where
@@ -233,6 +233,6 @@ few_from known names (line ∷ script) s lines apart few passes runs =
     script t rest apart cost passes.2 more) runs
 
 pub few_takes : (names : List (List ℕ)) (script : List Numbered) (lines : List TraceLine)
-    → Passes names script → Runs script lines → steps_in takes_by (steps_of lines) ≤ 100000
+    → ScriptPasses names script → Runs script lines → steps_in takes_by (steps_of lines) ≤ 100000
 few_takes names script lines passes runs = let few = few_from nothing names script (start script)
     lines (λ is. absurd cc) (omega arith) passes runs in omega arith

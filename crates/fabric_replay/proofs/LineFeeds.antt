@@ -17,7 +17,7 @@ use Rattle.fabric_script.specs.Forms.{keyword_of}
 use Rattle.fabric_script.specs.Known.{Known, IsOrderly, nothing, known_after}
 use Rattle.fabric_script.specs.Lines.{form_of, values_of, new_name, line_text}
 use Rattle.fabric_script.specs.Names.{is_name, name_of}
-use Rattle.fabric_script.specs.Scripts.{PassesFrom, Passes}
+use Rattle.fabric_script.specs.Scripts.{PassesFrom, ScriptPasses}
 use Rattle.fabric_script.specs.Texts.{value_text, port_text, hex_text, digits_text}
 use Rattle.fabric_script.specs.declared.known.Mode.TheVariants as Mode
 use Rattle.fabric_script.specs.declared.lines.Line.{Line}
@@ -123,7 +123,7 @@ named_end known names (line ∷ script) orderly passes n within =
     named_end (known_after known new line.line) names script (orderly-after known new line.line
     orderly passes.0) passes.2 n within
 
-pub names_feedless : (names : List (List ℕ)) (script : List Numbered) → Passes names script
+pub names_feedless : (names : List (List ℕ)) (script : List Numbered) → ScriptPasses names script
     → AreFeedless names
 names_feedless names script passes n = elim (cases_lt n (length names)) [
   | inl within ↦ of_lacks (name_of names n) (lacks_low 10 (name_of names n) (omega arith)

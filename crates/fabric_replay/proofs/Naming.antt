@@ -10,7 +10,7 @@ use Rattle.fabric_script.specs.declared.lines.Numbered.{Numbered}
 use Rattle.fabric_script.specs.Known.{Known, one_event, nothing, known_after}
 use Rattle.fabric_script.specs.Lines.{new_name}
 use Rattle.fabric_script.specs.Reading.{IsFree}
-use Rattle.fabric_script.specs.Scripts.{PassesFrom, Passes}
+use Rattle.fabric_script.specs.Scripts.{PassesFrom, ScriptPasses}
 use Rattle.fabric_script.proofs.KnownLaws.{within_nodes}
 use Rattle.fabric_model.specs.Network.{Network, same_port, peer_in}
 use Rattle.fabric_model.proofs.Peers.{port_is}
@@ -89,7 +89,7 @@ few_from known names (line ∷ lines) apart few passes =
     few_from (known_after known (new_name names line.line) line.line) names lines apart
     (more_names known (new_name names line.line) line.line apart passes.1 few) passes.2
 
-pub names_few : (names : List (List ℕ)) (script : List Numbered) → Passes names script
+pub names_few : (names : List (List ℕ)) (script : List Numbered) → ScriptPasses names script
     → length names ≤ 256
 names_few names script passes =
     let few = few_from nothing names script (λ is. absurd cc) (omega arith) passes
@@ -133,7 +133,7 @@ cable_port devices s (cable ∷ cables) port p shown linked =
 -- ---- of a fabric that stands
 
 pub names_suffice : (names : List (List ℕ)) (script : List Numbered) (lines : List TraceLine)
-    (fabric : Fabric) → Passes names script → Stands (start script) lines fabric
+    (fabric : Fabric) → ScriptPasses names script → Stands (start script) lines fabric
     → length fabric.devices.items ≤ length names
 names_suffice names script lines fabric passes stands =
     let net = set_up_all bare script in
@@ -142,7 +142,8 @@ names_suffice names script lines fabric passes stands =
     omega (arith, few, known)
 
 pub found_named : (names : List (List ℕ)) (script : List Numbered) (lines all : List TraceLine)
-    (fabric : Fabric) (found : Found) → Passes names script → Stands (start script) lines fabric
+    (fabric : Fabric) (found : Found) → ScriptPasses names script
+    → Stands (start script) lines fabric
     → (seen (begins (set_up_all bare script)) all).unfaithful ≡ Some found → found.port.node
     < length names
 found_named names script lines all fabric found passes stands finds =

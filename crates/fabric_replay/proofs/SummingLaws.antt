@@ -2,7 +2,7 @@
 use Rattle.std.proofs.Common.{◌≡◌, ℕ, ◌+◌, ◌-◌, ◌<◌, ◌≤◌, ◌^◌, true, List, [], ◌++◌, Option, Some, inl, inr, Err, IsErrOf, refl, sym, ap, ◌∙◌, subst, arith}
 use Rattle.rio_chars.specs.Faults.{Rose}
 use Rattle.link_model.specs.declared.event.Event.{Event}
-use Rattle.fabric_script.specs.Scripts.{Passes}
+use Rattle.fabric_script.specs.Scripts.{ScriptPasses}
 use Rattle.fabric_script.specs.declared.ports.PortRef.{PortRef}
 use Rattle.fabric_script.specs.declared.lines.Numbered.{Numbered}
 use Rattle.fabric_model.specs.Laws.Nodes.{all_ports}
@@ -40,7 +40,7 @@ pub record TalliesTrace (script : List Numbered) (lines : List TraceLine) (tally
         (all_ports (seen (start script) lines).network.registers)
 
 tallies : (names : List (List ℕ)) (script : List Numbered) (lines : List TraceLine) (text : List ℕ)
-    (tally : Tally) → Passes names script → Runs script lines → text ≡ trace_text names lines
+    (tally : Tally) → ScriptPasses names script → Runs script lines → text ≡ trace_text names lines
     → Tallied text tally → TalliesTrace script lines tally
 tallies names script lines text tally passes runs is counted =
     let named = names_feedless names script passes in
@@ -61,7 +61,7 @@ tallies names script lines text tally passes runs is counted =
     }
 
 pub whole_tally : (names : List (List ℕ)) (script : List Numbered) (begun text : List ℕ)
-    (tally : Tally) → Passes names script → begun ≡ []
+    (tally : Tally) → ScriptPasses names script → begun ≡ []
     → (whole : ReplayedWhole names script (Some begun) (Some text)) → Tallied text tally
     → TalliesTrace script whole.replayed.lines tally
 whole_tally names script begun text tally passes none whole counted =
@@ -74,7 +74,7 @@ pub fits : (script : List Numbered) (lines : List TraceLine) (tally : Tally)
 fits script lines tally is = let sum = is.sum in omega arith
 
 pub summed : (names : List (List ℕ)) (script : List Numbered) (written written_after : Option
-    (List ℕ)) (tally : Tally) (counts : Counts) → Passes names script
+    (List ℕ)) (tally : Tally) (counts : Counts) → ScriptPasses names script
     → (whole : ReplayedWhole names script written written_after)
     → TalliesTrace script whole.replayed.lines tally
     → counts ≡ record {

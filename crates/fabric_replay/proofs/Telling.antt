@@ -7,7 +7,7 @@ use Rattle.rio_chars.specs.declared.outbox.Outbox.{Outbox}
 use Rattle.rio_chars.proofs.WrittenLaws.{Writes-nil, Writes-then}
 use Rattle.link_model.specs.declared.event.Event.{Event}
 use Rattle.fabric_script.specs.Lines.{is_event}
-use Rattle.fabric_script.specs.Scripts.{Passes}
+use Rattle.fabric_script.specs.Scripts.{ScriptPasses}
 use Rattle.fabric_script.specs.declared.ports.PortRef.{PortRef}
 use Rattle.fabric_script.specs.declared.lines.Line.{Line}
 use Rattle.fabric_script.specs.declared.lines.Numbered.{Numbered}
@@ -50,7 +50,7 @@ of_item : (P : Numbered → Type 0) (script : List Numbered) (i : ℕ) (item : N
 of_item P script i item all is = subst P (sym is.at) (all i item is.within)
 
 pub may_follow : (names : List (List ℕ)) (script : List Numbered) (i : ℕ) (item : Numbered)
-    (lines : List TraceLine) (fabric : Fabric) → Passes names script → IsItem script i item
+    (lines : List TraceLine) (fabric : Fabric) → ScriptPasses names script → IsItem script i item
     → is_event item.line ≡ true
     → Stands (start script) lines fabric → MayFollow fabric names item.line
 may_follow names script i item lines fabric passes is event stands = record {

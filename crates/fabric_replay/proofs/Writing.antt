@@ -4,7 +4,7 @@ use Rattle.std.specs.Io.KnownBytes.{Appends}
 use Rattle.rio_chars.specs.declared.outbox.Outbox.{Outbox}
 use Rattle.rio_chars.proofs.WrittenLaws.{Writes-whole, Writes-front}
 use Rattle.link_model.specs.declared.event.Event.{Event}
-use Rattle.fabric_script.specs.Scripts.{Passes}
+use Rattle.fabric_script.specs.Scripts.{ScriptPasses}
 use Rattle.fabric_script.specs.declared.ports.PortRef.{PortRef}
 use Rattle.fabric_script.specs.declared.lines.Numbered.{Numbered}
 use Rattle.fabric_model.specs.Laws.Freeing.{IsFront}
@@ -24,7 +24,8 @@ use Rattle.fabric_replay.proofs.Cutting.{cut_text, part_more}
 module _ {K : Type 0} (written : K → Option (List ℕ)) (faults : K → ℕ) (begun : Outbox K)
     (names : List (List ℕ)) (script : List Numbered) where
   -- of a whole trace, all
-  written_whole : (out : Outbox K) (last : TraceLine) (found : Option Found) → Passes names script
+  written_whole : (out : Outbox K) (last : TraceLine) (found : Option Found)
+      → ScriptPasses names script
       → begun.buffer.now ≡ [] → out.failed ≡ false → out.buffer.now ≡ []
       → (h : ToldWhole written faults begun out names script last found)
       → Replayed names script (written begun.sink.now) (written out.sink.now)
@@ -36,7 +37,8 @@ module _ {K : Type 0} (written : K → Option (List ℕ)) (faults : K → ℕ) (
     shown = runs_shown script h.lines (may_set_up names script passes) h.runs;
   }
 
-  pub written_done : (out : Outbox K) → Passes names script → begun.buffer.now ≡ [] → out.failed
+  pub written_done : (out : Outbox K) → ScriptPasses names script → begun.buffer.now ≡ []
+      → out.failed
       ≡ false → out.buffer.now ≡ [] → ToldWhole written faults begun out names script Ended None
       → ReplayedWhole names script (written begun.sink.now) (written out.sink.now)
   unfolding written_whole
@@ -44,7 +46,7 @@ module _ {K : Type 0} (written : K → Option (List ℕ)) (faults : K → ℕ) (
       record { replayed = written_whole out Ended None passes empty fine none h; ends = h.ends }
 
   pub written_unsent : (out : Outbox K) (line : ℕ) (port : PortRef) (event : Event)
-      → Passes names script → begun.buffer.now ≡ [] → out.failed ≡ false → out.buffer.now ≡ []
+      → ScriptPasses names script → begun.buffer.now ≡ [] → out.failed ≡ false → out.buffer.now ≡ []
       → ToldWhole written faults begun out names script (Undetected line port event)
       (Some (record { port = port; event = event }))
       → ReplayedUnsent names script line port event (written begun.sink.now)
@@ -78,7 +80,7 @@ module _ {K : Type 0} (written : K → Option (List ℕ)) (faults : K → ℕ) (
       (behind, runs_one script all (lines ++ behind) runs whole)
 
   -- whatever was told, a front of it
-  pub written_front : (out : Outbox K) → Passes names script → begun.buffer.now ≡ []
+  pub written_front : (out : Outbox K) → ScriptPasses names script → begun.buffer.now ≡ []
       → ToldFront written faults begun out names script
       → ReplayedFront names script (written begun.sink.now) (written out.sink.now)
   written_front out passes empty h =
@@ -99,7 +101,7 @@ module _ {K : Type 0} (written : K → Option (List ℕ)) (faults : K → ℕ) (
 
 -- nothing was written, and so a front of nothing
 pub nothing_front : (names : List (List ℕ)) (script : List Numbered)
-    (written written_after : Option (List ℕ)) → Passes names script
+    (written written_after : Option (List ℕ)) → ScriptPasses names script
     → Appends written written_after [] → ReplayedFront names script written written_after
 nothing_front names script written written_after passes told =
     let none : Begins script [] = record {

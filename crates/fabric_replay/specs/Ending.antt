@@ -10,10 +10,10 @@ use Rattle.fabric_replay.specs.declared.replaying.ReplayEnd.{ReplayEnd}
 use Rattle.fabric_replay.specs.declared.replaying.ReplayEnd.TheVariants as Ends
 
 -- the port that it tells of is of a node that has a name
-abbrev pub IsNamed : List (List ℕ) → EventEnd → Type 0
-IsNamed names (Undetected port event) = port.node < length names
-IsNamed names Failed = Unit {0}
-IsNamed names NoMemory = Unit {0}
+abbrev pub EndIsNamed : List (List ℕ) → EventEnd → Type 0
+EndIsNamed names (Undetected port event) = port.node < length names
+EndIsNamed names Failed = Unit {0}
+EndIsNamed names NoMemory = Unit {0}
 
 -- a replay ends for the reason that an event did, and the last line tells of an event that was not
 -- sent

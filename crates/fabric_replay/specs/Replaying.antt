@@ -44,9 +44,9 @@ pub record ReplayedUnsent (names : List (List ℕ)) (script : List Numbered) (li
       (Some (record { port = port; event = event }))
 
 -- bytes are less than the text of the first of these lines, with its line feed
-abbrev pub IsPart : List (List ℕ) → List TraceLine → List ℕ → Type 0
-IsPart names [] bytes = bytes ≡ []
-IsPart names (line ∷ lines) bytes = (left : List ℕ) × (left ≢ [])
+abbrev pub IsPartOfLine : List (List ℕ) → List TraceLine → List ℕ → Type 0
+IsPartOfLine names [] bytes = bytes ≡ []
+IsPartOfLine names (line ∷ lines) bytes = (left : List ℕ) × (left ≢ [])
     × (trace_line_text names line ++ codes "\n" ≡ bytes ++ left)
 
 -- A front of the text was written: these whole lines, and a part of the one behind them. With what
@@ -58,7 +58,7 @@ pub record ReplayedFront (names : List (List ℕ)) (script : List Numbered)
   pub behind : List TraceLine
   pub part : List ℕ
   pub told : Appends written written_after (trace_text names lines ++ part)
-  pub cut : IsPart names behind part
+  pub cut : IsPartOfLine names behind part
   pub begins : Begins script (lines ++ behind) ⊎ Runs script (lines ++ behind)
   pub front : (all : List TraceLine) → Runs script all → IsFront lines all
   pub shown : Shown script lines

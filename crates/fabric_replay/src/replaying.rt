@@ -1,7 +1,7 @@
 //! A script is carried out and its trace written.
 ghost use Rattle.std.specs.Prelude.{◌≤◌, ◌≡◌, ℕ, true, false, [], None, Some, IsErrOf, OnOk};
 ghost use Rattle.rio_chars.specs.Faults.{Rose};
-ghost use Rattle.fabric_script.specs.Scripts.{Passes};
+ghost use Rattle.fabric_script.specs.Scripts.{ScriptPasses};
 ghost use Rattle.fabric_script.specs.declared.ports.PortRef.{PortRef as Port};
 ghost use Rattle.fabric_trace.specs.Lines.{Ended, Undetected as UnsentLine};
 ghost use Rattle.fabric_trace.specs.Runs.{start};
@@ -9,7 +9,7 @@ ghost use Rattle.fabric_ports.specs.Standing.{Stands};
 ghost use Rattle.link_model.specs.declared.event.Event.{Event as LinkEvent};
 ghost use Rattle.fabric_replay.specs.Replaying.{ReplayedWhole, ReplayedUnsent, ReplayedFront};
 ghost use Rattle.fabric_replay.specs.Going.{ToldFront, ToldUntil, ToldWhole};
-ghost use Rattle.fabric_replay.specs.Ending.{IsNamed, EndsBy};
+ghost use Rattle.fabric_replay.specs.Ending.{EndIsNamed, EndsBy};
 ghost use Rattle.fabric_replay.specs.declared.replaying.ReplayEnd.TheVariants.{NoMemory};
 
 use fabric_ports::{EventEnd, Fabric};
@@ -52,7 +52,7 @@ impl From<rio_chars::NoMemory> for ReplayEnd {
 /// NoMemory a front of the trace was written: whole lines, and a part of one more. Nothing more is
 /// carried out after the event in which a write failed, and a `run` ends within it.
 pub fn replay<K: Sink>(alloc: Global, script: &Script, sink: &mut K) -> Result<(), ReplayEnd>
-    requires passes { Passes script.now.names.items script.now.lines.items }
+    requires passes { ScriptPasses script.now.names.items script.now.lines.items }
     ensures done { OnOk result (ReplayedWhole script.now.names.items script.now.lines.items
         (K.written sink.old) (K.written sink.new)) }
     ensures undetected { (line : ℕ) (port : Port) (event : LinkEvent)
@@ -84,7 +84,7 @@ fn write_trace<K: Sink>(
     fabric: &mut Fabric,
     outbox: &mut Outbox<K>,
 ) -> Result<(), ReplayEnd>
-    requires passes { Passes script.now.names.items script.now.lines.items }
+    requires passes { ScriptPasses script.now.names.items script.now.lines.items }
     requires stands { Stands (start script.now.lines.items) [] fabric.old }
     requires fine { outbox.old.failed ≡ false }
     requires empty { outbox.old.buffer.now ≡ [] }
@@ -122,7 +122,7 @@ fn tell_trace<K: Sink>(
     fabric: &mut Fabric,
     outbox: &mut Outbox<K>,
 ) -> Result<(), ReplayEnd>
-    requires passes { Passes script.now.names.items script.now.lines.items }
+    requires passes { ScriptPasses script.now.names.items script.now.lines.items }
     requires stands { Stands (start script.now.lines.items) [] fabric.old }
     requires fine { outbox.old.failed ≡ false }
     ensures front { ToldFront K.written K.faults outbox.old outbox.new
@@ -154,7 +154,7 @@ fn tell_trace<K: Sink>(
 
 /// Tells the last line of a trace that ends early, if it has one, and answers why it ends.
 fn tell_end<K: Sink>(names: &[Name], line: u32, end: EventEnd, outbox: &mut Outbox<K>) -> ReplayEnd
-    requires { IsNamed names.now end }
+    requires { EndIsNamed names.now end }
     ensures { EndsBy end line names.now K.written K.faults outbox.old outbox.new result }
 {
     match end {

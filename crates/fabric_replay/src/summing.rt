@@ -1,7 +1,7 @@
 //! A script is carried out and the lines of its trace are counted.
 ghost use Rattle.std.specs.Prelude.{◌≡◌, ◌≢◌, ◌-◌, ◌≤◌, ◌+◌, ℕ, IfOk, IsErrOf};
 ghost use Rattle.link_model.specs.declared.event.Event.{Event as LinkEvent};
-ghost use Rattle.fabric_script.specs.Scripts.{Passes};
+ghost use Rattle.fabric_script.specs.Scripts.{ScriptPasses};
 ghost use Rattle.fabric_script.specs.declared.ports.PortRef.{PortRef as Port};
 ghost use Rattle.fabric_replay.specs.Summing.{EndsLike, Summed, SummedUnsent};
 
@@ -48,7 +48,7 @@ pub enum SummaryEnd {
 /// sum of the others then. Otherwise the answer is Undetected, with the first event that was not
 /// sent. `NoMemory` comes if memory runs out.
 pub fn summary(alloc: Global, script: &Script) -> Result<Counts, SummaryEnd>
-    requires passes { Passes script.now.names.items script.now.lines.items }
+    requires passes { ScriptPasses script.now.names.items script.now.lines.items }
     ensures done { IfOk result (λ counts. Summed script.now.lines.items counts) }
     ensures undetected { (line : ℕ) (port : Port) (event : LinkEvent)
         → IsErrOf result (SummaryEnd.Undetected line port event)

@@ -5,9 +5,9 @@ use Rattle.fabric_script.specs.declared.ports.PortRef.{PortRef}
 use Rattle.fabric_script.specs.declared.reasons.Reason.{Reason}
 use Rattle.fabric_script.specs.Names.{is_name, name_of}
 use Rattle.fabric_script.specs.Forms.{Field, NewName, Node, Port, Number, Hex, Digits, Character}
-use Rattle.fabric_script.specs.Texts.{Value, Named, AtNode, AtPort, Counted, Bytes, InDigits, Code, value_text, port_text, digits_text}
+use Rattle.fabric_script.specs.Texts.{Value, Named, NodeValue, PortValue, Counted, Bytes, InDigits, Code, value_text, port_text, digits_text}
 use Rattle.fabric_script.specs.Known.{Known, IsOrderly, ports_of}
-use Rattle.fabric_script.specs.Hits.{Fits, Hits, NumberIsBad, NewNameIsBad, NodeIsBad, PortIsBad, NameIsTaken, NodeIsUnknown, PortIsUnknown, PortIsOutside, HexIsBad, DigitsAreBad, CharacterIsBad, point_text}
+use Rattle.fabric_script.specs.Hits.{FitsField, Hits, NumberIsBad, NewNameIsBad, NodeIsBad, PortIsBad, NameIsTaken, NodeIsUnknown, PortIsUnknown, PortIsOutside, HexIsBad, DigitsAreBad, CharacterIsBad, point_text}
 use Rattle.fabric_script.proofs.Points.{same_port_text}
 
 -- the name of a node is among the names
@@ -80,7 +80,7 @@ same_reason known (Digits count) word r q orderly (DigitsAreBad a) (DigitsAreBad
 same_reason known Character word r q orderly (CharacterIsBad a) (CharacterIsBad b) = refl
 
 pub no_hit : (known : Known) (field : Field) (value : Value) (word : List ℕ) (r : Reason)
-    → IsOrderly known → Fits known field value → word ≡ value_text known.names value
+    → IsOrderly known → FitsField known field value → word ≡ value_text known.names value
     → Hits known r field word → ⊥
 no_hit known (Number least most) (Counted n) word r orderly fits e (NumberIsBad none) =
     none n fits.0 fits.1 e
@@ -90,17 +90,18 @@ no_hit known NewName (Named name) word r orderly fits e (NewNameIsBad other) =
     cc
 no_hit known NewName (Named name) word r orderly fits e (NameIsTaken named there) =
     fits.1 (subst (Contains known.names) e there)
-no_hit known Node (AtNode n) word r orderly fits e (NodeIsBad other) =
+no_hit known Node (NodeValue n) word r orderly fits e (NodeIsBad other) =
     let named = ap is_name e ∙ orderly.named n fits
     in
     cc
-no_hit known Node (AtNode n) word r orderly fits e (NodeIsUnknown named none) =
+no_hit known Node (NodeValue n) word r orderly fits e (NodeIsUnknown named none) =
     none (named_is_there known.names n word fits (sym e))
-no_hit known Port (AtPort p) word r orderly fits e (PortIsBad none) =
+no_hit known Port (PortValue p) word r orderly fits e (PortIsBad none) =
     none (name_of known.names p.node) p.port (orderly.named p.node fits.0) fits.1 e
-no_hit known Port (AtPort p) word r orderly fits e (PortIsUnknown name port named below e' none) =
+no_hit known Port (PortValue p) word r orderly fits e (PortIsUnknown name port named below e' none)
+    =
     unknown_is_known known word name port p orderly named below e' none fits.0 fits.1 e
-no_hit known Port (AtPort p) word r orderly fits e (PortIsOutside q node port e' outside) =
+no_hit known Port (PortValue p) word r orderly fits e (PortIsOutside q node port e' outside) =
     let same = same_place known word p q orderly fits.0 fits.1 node port e e' in
     let within : q.port < ports_of known.nodes q.node = subst (λ n. q.port < ports_of known.nodes n)
     same.0 (subst (λ m. m < ports_of known.nodes p.node) same.1 fits.2) in

@@ -16,9 +16,9 @@ use Rattle.fabric_script.specs.declared.forms.Form.{Form}
 use Rattle.fabric_script.specs.declared.forms.Form.TheVariants as F
 use Rattle.fabric_script.specs.Names.{is_name, name_of, is_letter, is_digit, are_letters_or_digits}
 use Rattle.fabric_script.specs.Forms.{Field, NewName, Node, Port, Number, Hex, Digits, Character, keyword_of}
-use Rattle.fabric_script.specs.Texts.{Value, Named, AtNode, AtPort, Counted, Bytes, InDigits, Code, value_text, hex_text, digits_text}
+use Rattle.fabric_script.specs.Texts.{Value, Named, NodeValue, PortValue, Counted, Bytes, InDigits, Code, value_text, hex_text, digits_text}
 use Rattle.fabric_script.specs.Known.{Known, IsOrderly}
-use Rattle.fabric_script.specs.Hits.{Fits, FitAll}
+use Rattle.fabric_script.specs.Hits.{FitsField, FitAll}
 use Rattle.fabric_script.specs.LineTexts.{after_words}
 use Rattle.fabric_script.proofs.Decimals.{decimal_has_digits}
 use Rattle.fabric_script.proofs.LineLaws.{IsSmall, AreSmall}
@@ -97,11 +97,11 @@ visible_char (Special byte) = visible_hex_of (byte ∷ [])
 visible_char Invalid = refl
 
 visible_value : (known : Known) (field : Field) (value : Value) → IsOrderly known → IsSmall field
-    → Fits known field value → is_visible (value_text known.names value) ≡ true
+    → FitsField known field value → is_visible (value_text known.names value) ≡ true
 visible_value known NewName (Named name) orderly small f = visible_name name f.0
-visible_value known Node (AtNode n) orderly small f =
+visible_value known Node (NodeValue n) orderly small f =
     visible_name (name_of known.names n) (orderly.named n f)
-visible_value known Port (AtPort p) orderly small f =
+visible_value known Port (PortValue p) orderly small f =
     visible_append (name_of known.names p.node ++ codes ".") (decimal p.port)
     (visible_append (name_of known.names p.node) (codes ".")
     (visible_name (name_of known.names p.node) (orderly.named p.node f.0)) refl)

@@ -11,7 +11,7 @@ use Rattle.fabric_script.specs.LargeIds.{large_id_after, large_id_behind, large_
 use Rattle.fabric_script.specs.Lines.{new_name}
 use Rattle.fabric_script.specs.Reading.{IsFree}
 use Rattle.fabric_script.specs.Refusals.{id_is_taken}
-use Rattle.fabric_script.specs.Scripts.{PassesFrom, Passes}
+use Rattle.fabric_script.specs.Scripts.{PassesFrom, ScriptPasses}
 
 -- ---- a list has an ID of a node
 
@@ -271,7 +271,7 @@ apart_from known names (line ∷ lines) says agrees apart passes =
     (agrees_after known.large_ids says line.line agrees)
     (apart_after known says line.line agrees apart passes.1) passes.2
 
-pub large_ids_apart : (names : List (List ℕ)) (lines : List Numbered) → Passes names lines
+pub large_ids_apart : (names : List (List ℕ)) (lines : List Numbered) → ScriptPasses names lines
     → (m n : ℕ) → large_id_of lines m ≡ large_id_of lines n → large_id_of lines m ≢ 65535 → m ≡ n
 large_ids_apart names lines passes =
     apart_from nothing names lines (λ k. 65535) agrees_nothing

@@ -13,11 +13,11 @@ use Rattle.fabric_script.specs.declared.lines.Line.{Line}
 use Rattle.fabric_script.specs.declared.lines.Line.TheVariants.{Endpoint, Switch, Link, Buffers, Route, Default, Lock, Large, Credits, Send, Read, Write, Send16, Read16, Write16, Pump, Deliver, Alter, Insert, Erase, Timeout, Settle, Move, Collect, Run}
 use Rattle.fabric_script.specs.Names.{name_of}
 use Rattle.fabric_script.specs.Forms.{Field, NewName, Node, Port, Number, Hex, Digits, Character, keyword_of, fields_of}
-use Rattle.fabric_script.specs.Texts.{Value, Named, AtNode, AtPort, Counted, Bytes, InDigits, Code, value_text, digits_text}
+use Rattle.fabric_script.specs.Texts.{Value, Named, NodeValue, PortValue, Counted, Bytes, InDigits, Code, value_text, digits_text}
 use Rattle.fabric_script.specs.Lines.{form_of, values_of, line_words}
 use Rattle.fabric_script.specs.Known.{Known, IsOrderly}
-use Rattle.fabric_script.specs.Hits.{Fits, FitAll, HitsOne}
-use Rattle.fabric_script.specs.LineWords.{IsNext}
+use Rattle.fabric_script.specs.Hits.{FitsField, FitAll, HitsOne}
+use Rattle.fabric_script.specs.LineWords.{NodeIsNext}
 use Rattle.fabric_script.specs.Reading.{Says, MayBe}
 use Rattle.rio_chars.proofs.HexLaws.{hex_digit-injective}
 use Rattle.fabric_script.proofs.HexWords.{hex_text-injective}
@@ -149,18 +149,19 @@ small_fields F.Collect = (tt, tt)
 small_fields F.Run = (omega arith, tt)
 
 pub same_value : (known : Known) (field : Field) (v w : Value) → IsOrderly known → IsSmall field
-    → Fits known field v → Fits known field w → value_text known.names v ≡ value_text known.names w
+    → FitsField known field v → FitsField known field w
+    → value_text known.names v ≡ value_text known.names w
     → v ≡ w
 same_value known NewName (Named a) (Named b) orderly small f g e = ap (λ n. Named n) e
-same_value known Node (AtNode m) (AtNode n) orderly small f g e =
-    ap (λ n. AtNode n) (orderly.apart m n f g e)
-same_value known Port (AtPort p) (AtPort q) orderly small f g e =
+same_value known Node (NodeValue m) (NodeValue n) orderly small f g e =
+    ap (λ n. NodeValue n) (orderly.apart m n f g e)
+same_value known Port (PortValue p) (PortValue q) orderly small f g e =
     let same = same_port_text (name_of known.names p.node) (name_of known.names q.node) p.port
     q.port (orderly.named p.node f.0) (orderly.named q.node g.0) f.1 g.1 e in
     let node : p.node ≡ q.node = orderly.apart p.node q.node f.0 g.0 same.0 in
     let port : p ≡ q = ap₂ {A = ℕ} {B = ℕ} {C = PortRef} (λ n k. record { node = n; port = k }) node
     same.1 in
-    ap (λ p. AtPort p) port
+    ap (λ p. PortValue p) port
 same_value known (Number least most) (Counted m) (Counted n) orderly small f g e =
     ap (λ n. Counted n) (decimal_injective m n (omega arith) (omega arith) e)
 same_value known Hex (Bytes a) (Bytes b) orderly small f g e =
@@ -174,8 +175,8 @@ same_value known (Digits count) (InDigits k m) (InDigits l n) orderly small f g 
 same_value known Character (Code c) (Code d) orderly small f g e =
     ap (λ n. Code n) (char_text-injective c d f g e)
 same_value known NewName (Named a) _ orderly small f g e = absurd g
-same_value known Node (AtNode m) _ orderly small f g e = absurd g
-same_value known Port (AtPort p) _ orderly small f g e = absurd g
+same_value known Node (NodeValue m) _ orderly small f g e = absurd g
+same_value known Port (PortValue p) _ orderly small f g e = absurd g
 same_value known (Number least most) (Counted m) _ orderly small f g e = absurd g
 same_value known Hex (Bytes a) _ orderly small f g e = absurd g
 same_value known (Digits count) (InDigits k m) _ orderly small f g e = absurd g
@@ -225,11 +226,11 @@ no_hit_one known (field ∷ fields) [] reason orderly f h = absurd f
 -- ---- values and a form make one line
 
 abbrev node_in : Option Value → ℕ
-node_in (Some (AtNode n)) = n
+node_in (Some (NodeValue n)) = n
 node_in _ = 0
 
 abbrev port_in : Option Value → PortRef
-port_in (Some (AtPort p)) = p
+port_in (Some (PortValue p)) = p
 port_in _ = record { node = 0; port = 0 }
 
 abbrev number_in : Option Value → ℕ
@@ -286,7 +287,7 @@ line_of F.Move n vs = Move (node_in (slice_get vs 0))
 line_of F.Collect n vs = Collect (node_in (slice_get vs 0))
 line_of F.Run n vs = Run (number_in (slice_get vs 0))
 
-line_of-line : (known : Known) (new : List ℕ) (line : Line) → IsNext known line
+line_of-line : (known : Known) (new : List ℕ) (line : Line) → NodeIsNext known line
     → line_of (form_of line) (length known.names) (values_of new line) ≡ line
 unfolding line_of
 line_of-line known new (Endpoint name id) next = ap (λ n. Endpoint n id) (sym next)

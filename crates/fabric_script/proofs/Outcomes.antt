@@ -9,7 +9,7 @@ use Rattle.fabric_script.specs.Texts.{Value, value_text}
 use Rattle.fabric_script.specs.Known.{Known, IsOrderly}
 use Rattle.fabric_script.specs.Reasons.{reason_number}
 use Rattle.fabric_script.specs.Hits.{HitsOne, FitAll}
-use Rattle.fabric_script.specs.Words.{Left, with_reason, TakesWord, TakesFirst, TakesAll, Done, More}
+use Rattle.fabric_script.specs.Words.{Left, with_reason, TakesWord, TakesFirst, TakesAll, NoMore, More}
 use Rattle.fabric_script.proofs.Exclusion.{same_reason, no_hit}
 
 -- the number of the reason that was noted, and 15 where none was
@@ -190,7 +190,7 @@ step known field fields value values (word ∷ words) hit words_next hit_next re
 pub outcome : (known : Known) (fields : List Field) (values : List Value) (left left_after : Left)
     → IsOrderly known → TakesAll known fields values left left_after
     → Outcome known fields values left.words left.hit left_after.words left_after.hit
-outcome known [] [] left left_after orderly Done = record {
+outcome known [] [] left left_after orderly NoMore = record {
   falls = omega arith;
   few = λ short. absurd (omega arith);
   left = λ enough. omega arith;

@@ -13,13 +13,13 @@ use Rattle.fabric_script.specs.declared.lines.Line.TheVariants.{Endpoint, Switch
 use Rattle.fabric_script.specs.declared.lines.Numbered.{Numbered}
 use Rattle.fabric_script.specs.Names.{name_of}
 use Rattle.fabric_script.specs.Forms.{Field, NewName, Node, Port, Number, Hex, Digits, Character, keyword_of, fields_of}
-use Rattle.fabric_script.specs.Texts.{Value, Named, AtNode, AtPort, Counted, Bytes, InDigits, Code, value_text}
+use Rattle.fabric_script.specs.Texts.{Value, Named, NodeValue, PortValue, Counted, Bytes, InDigits, Code, value_text}
 use Rattle.fabric_script.specs.Lines.{form_of, values_of, line_words, line_text, new_name, words_of}
 use Rattle.fabric_script.specs.declared.known.Mode.TheVariants as Mode
 use Rattle.fabric_script.specs.Known.{Known, IsOrderly, nothing, known_after, names_after}
-use Rattle.fabric_script.specs.Hits.{Fits, FitAll}
+use Rattle.fabric_script.specs.Hits.{FitsField, FitAll}
 use Rattle.fabric_script.specs.Reading.{new_name_in, second_word, MayBe, IsFree, Spells}
-use Rattle.fabric_script.specs.Scripts.{pieces_of, is_skipped, KeptThen, SpellsFrom, IsScript, PassesFrom, Passes, renumbered}
+use Rattle.fabric_script.specs.Scripts.{pieces_of, is_skipped, KeptThen, SpellsFrom, IsScript, PassesFrom, ScriptPasses, renumbered}
 use Rattle.fabric_script.specs.LineTexts.{AreNamed, script_text}
 use Rattle.fabric_script.proofs.Points.{Lacks}
 use Rattle.fabric_script.proofs.LineLaws.{small_fields}
@@ -47,11 +47,11 @@ name_stays : (names behind : List (List ℕ)) (n : ℕ) → n < length names →
 name_stays names behind n within = get_or_append_left names behind [] n within
 
 text_stays : (known : Known) (behind : List (List ℕ)) (field : Field) (value : Value)
-    → Fits known field value → value_text (known.names ++ behind) value
+    → FitsField known field value → value_text (known.names ++ behind) value
     ≡ value_text known.names value
 text_stays known behind NewName (Named name) f = refl
-text_stays known behind Node (AtNode n) f = name_stays known.names behind n f
-text_stays known behind Port (AtPort p) f = ap (λ name. name ++ codes "." ++ decimal p.port)
+text_stays known behind Node (NodeValue n) f = name_stays known.names behind n f
+text_stays known behind Port (PortValue p) f = ap (λ name. name ++ codes "." ++ decimal p.port)
     (name_stays known.names behind p.node f.0)
 text_stays known behind (Number least most) (Counted n) f = refl
 text_stays known behind Hex (Bytes bytes) f = refl
@@ -211,7 +211,7 @@ printed_from number known names (line ∷ lines) orderly passes =
     kept true A B e h = absurd cc
     kept false A B e h = h
 
-pub printed : (names : List (List ℕ)) (lines : List Numbered) → Passes names lines
+pub printed : (names : List (List ℕ)) (lines : List Numbered) → ScriptPasses names lines
     → IsScript (script_text names lines) names (renumbered 1 lines)
 printed names lines passes = printed_from 1 nothing names lines (nothing-orderly Mode.Script) passes
 

@@ -14,7 +14,7 @@ use Rattle.fabric_script.specs.Lines.{form_of, values_of, line_words, words_of}
 use Rattle.fabric_script.specs.Known.{Known, IsOrderly}
 use Rattle.fabric_script.specs.Reasons.{reason_number}
 use Rattle.fabric_script.specs.Hits.{FitAll, HitsOne}
-use Rattle.fabric_script.specs.Words.{Left, end_of, first_word, after_word}
+use Rattle.fabric_script.specs.Words.{Left, reason_at_end, first_word, after_word}
 use Rattle.fabric_script.specs.LineWords.{TakesLine}
 use Rattle.fabric_script.specs.Refusals.{refuses}
 use Rattle.fabric_script.specs.Reading.{HasForm, Says, HitsText, NoForm, AWord, TheLine, Spells, LeastHit, new_name_in, second_word}
@@ -149,14 +149,16 @@ a_word known text form rest reason orderly words count hits least =
         } reason orderly says hits)
 
 -- the reason at the end, by the words that are left
-end_of-none : (left : Left) → left.words ≡ [] → end_of left ≡ left.hit
-end_of-none left none = ap (λ ws. end_of record { words = ws; hit = left.hit }) none
+end_of-none : (left : Left) → left.words ≡ [] → reason_at_end left ≡ left.hit
+end_of-none left none = ap (λ ws. reason_at_end record { words = ws; hit = left.hit }) none
 
 end_of-more : (left : Left) (word : List ℕ) (words : List (List ℕ)) → left.words ≡ word ∷ words
-    → end_of left ≡ Some UnknownLine
-end_of-more left word words more = ap (λ ws. end_of record { words = ws; hit = left.hit }) more
+    → reason_at_end left ≡ Some UnknownLine
+end_of-more left word words more =
+    ap (λ ws. reason_at_end record { words = ws; hit = left.hit }) more
 
-end_of-unknown : (words : List (List ℕ)) → end_of record { words = words; hit = Some UnknownLine }
+end_of-unknown : (words : List (List ℕ))
+    → reason_at_end record { words = words; hit = Some UnknownLine }
     ≡ Some UnknownLine
 end_of-unknown [] = refl
 end_of-unknown (word ∷ words) = refl
@@ -190,7 +192,7 @@ behind_first text form word all left begin first rest is =
 
 pub reads_hit : (known : Known) (text : List ℕ) (form : Form) (left left_after : Left) (line : Line)
     (reason : Reason) → IsOrderly known → Behind text form left
-    → TakesLine known form left line left_after → end_of left_after ≡ Some reason
+    → TakesLine known form left line left_after → reason_at_end left_after ≡ Some reason
     → LeastHit known text reason
 reads_hit known text form left left_after line reason orderly behind takes ended =
     by_count (cases_lt (length left.words) (length (fields_of form)))
@@ -200,7 +202,8 @@ reads_hit known text form left left_after line reason orderly behind takes ended
     o = outcome known (fields_of form) (values_of (first_word left.words) line) left left_after
         orderly takes.takes
 
-    unknown : end_of left_after ≡ Some UnknownLine → length left.words ≢ length (fields_of form)
+    unknown : reason_at_end left_after ≡ Some UnknownLine
+        → length left.words ≢ length (fields_of form)
         → LeastHit known text reason
     unknown is other =
         let same : UnknownLine ≡ reason = let e = sym is ∙ ended in cc in
@@ -233,14 +236,15 @@ reads_hit known text form left left_after line reason orderly behind takes ended
     by_count : (length left.words < length (fields_of form))
         ⊎ (length (fields_of form) ≤ length left.words) → LeastHit known text reason
     by_count (inl few) =
-        let noted = ap (λ h. end_of record { words = left_after.words; hit = h }) (o.few few)
+        let noted = ap (λ h. reason_at_end record { words = left_after.words; hit = h }) (o.few few)
         ∙ end_of-unknown left_after.words in
         unknown noted (λ same. omega arith)
     by_count (inr enough) = by_rest enough left_after.words refl
 
 pub reads_none : (known : Known) (text : List ℕ) (form : Form) (left left_after : Left)
     (line : Line) → IsOrderly known → Behind text form left
-    → TakesLine known form left line left_after → end_of left_after ≡ None → Says known text line
+    → TakesLine known form left line left_after → reason_at_end left_after ≡ None
+    → Says known text line
 reads_none known text form left left_after line orderly behind takes ended =
     by_rest left_after.words refl
   where

@@ -22,7 +22,7 @@ use Rattle.fabric_script.specs.Lines.{new_name}
 use Rattle.fabric_script.specs.declared.known.Mode.{Mode}
 use Rattle.fabric_script.specs.Known.{Known, IsOrderly, nothing_in, known_after, names_after}
 use Rattle.fabric_script.specs.Reasons.{reason_number}
-use Rattle.fabric_script.specs.LineWords.{IsNext}
+use Rattle.fabric_script.specs.LineWords.{NodeIsNext}
 use Rattle.fabric_script.specs.Reading.{new_name_in, MayBe, Spells, LeastHit}
 use Rattle.fabric_script.specs.Scripts.{pieces_of, is_skipped, KeptThen, SpellsFrom, IsScriptIn, RefusedIn, PassesFrom, PassesIn}
 use Rattle.fabric_script.proofs.LineLaws.{same_line}
@@ -372,7 +372,8 @@ named_last names behind new n last =
     ∙ ap (λ k. name_of (names ++ new ∷ []) k) last ∙ get_or-append_seam names new [] []
 
 pub name_kept : (known : Known) (text : List ℕ) (line : Line) (behind : List (List ℕ))
-    → IsNext known line → new_name (names_after known.names (new_name_in text line) line ++ behind)
+    → NodeIsNext known line
+    → new_name (names_after known.names (new_name_in text line) line ++ behind)
     line ≡ new_name_in text line
 name_kept known text (Endpoint name id) behind next =
     named_last known.names behind (new_name_in text (Endpoint name id)) name next

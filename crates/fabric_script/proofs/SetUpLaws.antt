@@ -12,7 +12,7 @@ use Rattle.fabric_script.specs.Lines.{is_event, new_name}
 use Rattle.fabric_script.specs.Known.{Known, IsOrderly, known_after, nothing_in}
 use Rattle.fabric_script.specs.Refusals.{entry_is_outside, port_is_taken, id_is_taken, kind_is_wrong, not_linked, counts_work, exceeds, out_of_place_in}
 use Rattle.fabric_script.specs.Reading.{MayBe, IsFree, Spells}
-use Rattle.fabric_script.specs.Scripts.{PassesFrom, PassesIn, Passes}
+use Rattle.fabric_script.specs.Scripts.{PassesFrom, PassesIn, ScriptPasses}
 use Rattle.fabric_script.specs.SetUps.{NoEvents, IsRefused}
 use Rattle.fabric_script.proofs.LineLaws.{same_line}
 use Rattle.fabric_script.proofs.ReadLaws.{spelled_no_hit}
@@ -122,7 +122,7 @@ passes_alone known names (line ∷ lines) mode begun passes =
     )
 
 pub set_up_passes : (names : List (List ℕ)) (lines : List Numbered)
-    → PassesIn Mode.SetUp names lines → Passes names lines × NoEvents lines
+    → PassesIn Mode.SetUp names lines → ScriptPasses names lines × NoEvents lines
 set_up_passes names lines passes = passes_alone (nothing_in Mode.SetUp) names lines refl refl passes
 
 -- ---- an event is spelled or refused once

@@ -4,7 +4,8 @@ use Rattle.std.proofs.lemmas.Bool.{ne_eqb, eq-eqb}
 use Rattle.fabric_script.specs.declared.lines.Line.{Line}
 use Rattle.fabric_script.specs.declared.lines.Line.TheVariants.{Send, Pump, Erase, Collect, Run}
 use Rattle.fabric_script.specs.declared.lines.Numbered.{Numbered}
-use Rattle.fabric_script.specs.Soak.{soak_set_up, soak_events, soak_values, soak_lines, port_at_node, next_number, numbers_behind, value_of_number, step_lines, times, round_lines, round_behind, steps_from, last_rounds, numbered_from}
+use Rattle.fabric_script.specs.Soak.{soak_set_up, soak_events, soak_values, soak_lines, next_number, numbers_behind, value_of_number, soak_step_lines, times, round_lines, round_behind, steps_from, last_rounds, numbered_from}
+use Rattle.fabric_script.specs.Ports.{port_at}
 
 -- ---- numbers of lines
 
@@ -74,26 +75,26 @@ IfOk-on (Err end) holds on = tt
 
 pub joined_step : (before : List Line) (v : ℕ) → (v / 64 % 3 ≡ 0)
     → ((before ++ Send (v % 4) (v / 16 % 4) 15 (v / 4 % 4) (v / 256 ∷ v % 256 ∷ []) ∷ [])
-    ++ Pump (port_at_node (v % 4) 0) 1 ∷ []) ++ Erase (port_at_node (v % 4) 0) 0 1 ∷ []
-    ≡ before ++ step_lines v
-unfolding step_lines
+    ++ Pump (port_at (v % 4) 0) 1 ∷ []) ++ Erase (port_at (v % 4) 0) 0 1 ∷ []
+    ≡ before ++ soak_step_lines v
+unfolding soak_step_lines
 joined_step before v is =
     append_assoc (before ++ Send (v % 4) (v / 16 % 4) 15 (v / 4 % 4) (v / 256 ∷ v % 256 ∷ []) ∷ [])
-    (Pump (port_at_node (v % 4) 0) 1 ∷ []) (Erase (port_at_node (v % 4) 0) 0 1 ∷ [])
+    (Pump (port_at (v % 4) 0) 1 ∷ []) (Erase (port_at (v % 4) 0) 0 1 ∷ [])
     ∙ append_assoc before (Send (v % 4) (v / 16 % 4) 15 (v / 4 % 4) (v / 256 ∷ v % 256 ∷ []) ∷ []) _
     ∙ ap (λ (b : Bool). before ++ Send (v % 4) (v / 16 % 4) 15 (v / 4 % 4) (v / 256 ∷ v % 256 ∷ [])
-    ∷ Pump (port_at_node (v % 4) 0) 1
-    ∷ (if b then Erase (port_at_node (v % 4) 0) 0 1 ∷ [] else [])) (sym (eq-eqb (v / 64 % 3) 0 is))
+    ∷ Pump (port_at (v % 4) 0) 1
+    ∷ (if b then Erase (port_at (v % 4) 0) 0 1 ∷ [] else [])) (sym (eq-eqb (v / 64 % 3) 0 is))
 
 pub joined_step_kept : (before : List Line) (v : ℕ) → (v / 64 % 3 ≢ 0)
     → (before ++ Send (v % 4) (v / 16 % 4) 15 (v / 4 % 4) (v / 256 ∷ v % 256 ∷ []) ∷ [])
-    ++ Pump (port_at_node (v % 4) 0) 1 ∷ [] ≡ before ++ step_lines v
-unfolding step_lines
+    ++ Pump (port_at (v % 4) 0) 1 ∷ [] ≡ before ++ soak_step_lines v
+unfolding soak_step_lines
 joined_step_kept before v is =
     append_assoc before (Send (v % 4) (v / 16 % 4) 15 (v / 4 % 4) (v / 256 ∷ v % 256 ∷ []) ∷ []) _
     ∙ ap (λ (b : Bool). before ++ Send (v % 4) (v / 16 % 4) 15 (v / 4 % 4) (v / 256 ∷ v % 256 ∷ [])
-    ∷ Pump (port_at_node (v % 4) 0) 1
-    ∷ (if b then Erase (port_at_node (v % 4) 0) 0 1 ∷ [] else [])) (sym (ne_eqb (v / 64 % 3) 0 is))
+    ∷ Pump (port_at (v % 4) 0) 1
+    ∷ (if b then Erase (port_at (v % 4) 0) 0 1 ∷ [] else [])) (sym (ne_eqb (v / 64 % 3) 0 is))
 
 -- ---- the steps, one after another
 
@@ -101,7 +102,7 @@ abbrev pub steps_behind : ℕ → ℕ → ℕ → List Line
 steps_behind number count x = steps_from number (map value_of_number (numbers_behind count x))
 
 steps_turn : (number count x : ℕ) → steps_behind number (suc count) x
-    ≡ step_lines (value_of_number (next_number x)) ++ (round_behind number
+    ≡ soak_step_lines (value_of_number (next_number x)) ++ (round_behind number
     ++ steps_behind (number + 1) count (next_number x))
 unfolding steps_from numbers_behind
 steps_turn number count x = refl
@@ -143,12 +144,12 @@ up_to_all seed x new before up =
 pub up_to_next : (seed i x : ℕ) (mid next new : List Numbered) (before : List Line) → i < 2000
     → IsUpTo seed i x mid before
     → ((ls : List Line) → mid ≡ numbered_from 1 ls
-    → next ≡ numbered_from 1 (ls ++ step_lines (next_number x / 65536)))
+    → next ≡ numbered_from 1 (ls ++ soak_step_lines (next_number x / 65536)))
     → ((ls : List Line) → next ≡ numbered_from 1 ls
     → new ≡ numbered_from 1 (ls ++ round_behind (i + 1)))
     → IsUpTo seed (i + 1) (next_number x) new before
 up_to_next seed i x mid next new before less up step round =
-    let one = step_lines (value_of_number (next_number x)) in
+    let one = soak_step_lines (value_of_number (next_number x)) in
     let two = round_behind (i + 1) in
     let left : 2000 - i ≡ suc (2000 - (i + 1)) = omega (arith, less) in
     let tail = steps_behind (i + 1 + 1) (2000 - (i + 1)) (next_number x) in

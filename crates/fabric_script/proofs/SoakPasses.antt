@@ -8,11 +8,12 @@ use Rattle.fabric_script.specs.declared.lines.Line.TheVariants.{Endpoint, Switch
 use Rattle.fabric_script.specs.declared.lines.Numbered.{Numbered}
 use Rattle.fabric_script.specs.declared.ports.PortRef.{PortRef}
 use Rattle.fabric_script.specs.Lines.{new_name}
-use Rattle.fabric_script.specs.Known.{Known, nothing, cost_of, known_after, ports_of, is_switch, is_linked}
+use Rattle.fabric_script.specs.Known.{Known, nothing, cost_of, known_after, ports_of, is_known_switch, is_linked}
 use Rattle.fabric_script.specs.Reading.{MayBe, IsFree}
 use Rattle.fabric_script.specs.Refusals.{is_bad_length}
-use Rattle.fabric_script.specs.Scripts.{PassesFrom, Passes}
-use Rattle.fabric_script.specs.Soak.{soak_names, soak_set_up, soak_events, soak_values, soak_lines, port_at_node, next_number, numbers_behind, value_of_number, round_behind, step_lines, times, round_lines, steps_from, last_rounds, numbered_from}
+use Rattle.fabric_script.specs.Scripts.{PassesFrom, ScriptPasses}
+use Rattle.fabric_script.specs.Soak.{soak_names, soak_set_up, soak_events, soak_values, soak_lines, next_number, numbers_behind, value_of_number, round_behind, soak_step_lines, times, round_lines, steps_from, last_rounds, numbered_from}
+use Rattle.fabric_script.specs.Ports.{port_at}
 use Rattle.fabric_script.proofs.SoakLaws.{numbered-append}
 use Rattle.fabric_script.proofs.SoakSetUp.{soak_nodes, soak_links, soak_known, free, few_ports, passes_set_up}
 
@@ -22,8 +23,8 @@ use Rattle.fabric_script.proofs.SoakSetUp.{soak_nodes, soak_links, soak_known, f
 abbrev IsSoakEvent : Line → Type 0
 IsSoakEvent (Send node prio ftype dest hex) = (node < 4) × (prio < 4) × (ftype ≡ 15) × (dest < 4)
     × (length hex ≡ 2) × All (λ b. b < 256) hex
-IsSoakEvent (Pump port n) = (n' : ℕ) × (n' < 4) × (port ≡ port_at_node n' 0) × (n ≡ 1)
-IsSoakEvent (Erase port place n) = (n' : ℕ) × (n' < 4) × (port ≡ port_at_node n' 0) × (place ≡ 0)
+IsSoakEvent (Pump port n) = (n' : ℕ) × (n' < 4) × (port ≡ port_at n' 0) × (n ≡ 1)
+IsSoakEvent (Erase port place n) = (n' : ℕ) × (n' < 4) × (port ≡ port_at n' 0) × (place ≡ 0)
     × (n ≡ 1)
 IsSoakEvent (Collect node) = node < 4
 IsSoakEvent (Run n) = n ≡ 1
@@ -45,15 +46,15 @@ by_four P a b d e (suc (suc zero)) less = d
 by_four P a b d e (suc (suc (suc zero))) less = e
 by_four P a b d e (suc (suc (suc (suc n)))) less = absurd (omega (arith, less))
 
-endpoint_is : (n : ℕ) → n < 4 → is_switch soak_nodes n ≡ false
-endpoint_is = by_four (λ n. is_switch soak_nodes n ≡ false) refl refl refl refl
+endpoint_is : (n : ℕ) → n < 4 → is_known_switch soak_nodes n ≡ false
+endpoint_is = by_four (λ n. is_known_switch soak_nodes n ≡ false) refl refl refl refl
 
 one_port : (n : ℕ) → n < 4 → 0 < ports_of soak_nodes n
 one_port = by_four (λ n. 0 < ports_of soak_nodes n) (few_ports 0 0 refl) (few_ports 1 0 refl)
     (few_ports 2 0 refl) (few_ports 3 0 refl)
 
-linked_is : (n : ℕ) → n < 4 → not (is_linked soak_links (port_at_node n 0)) ≡ false
-linked_is = by_four (λ n. not (is_linked soak_links (port_at_node n 0)) ≡ false) refl refl refl refl
+linked_is : (n : ℕ) → n < 4 → not (is_linked soak_links (port_at n 0)) ≡ false
+linked_is = by_four (λ n. not (is_linked soak_links (port_at n 0)) ≡ false) refl refl refl refl
 
 few_is : (cost : ℕ) → cost ≤ 100000 → nat_lt 100000 cost ≡ false
 few_is cost few = le-ltb 100000 cost few
@@ -68,14 +69,14 @@ placed : (begun : Bool) → (begun && false) ≡ false
 placed true = refl
 placed false = refl
 
-port_fits : (known : Known) (port : PortRef) (n : ℕ) → n < 4 → port ≡ port_at_node n 0
+port_fits : (known : Known) (port : PortRef) (n : ℕ) → n < 4 → port ≡ port_at n 0
     → (port.node < 6) × (port.port < 16) × (port.port < ports_of soak_nodes port.node)
 port_fits known port n less is =
     subst (λ (p : PortRef). (p.node < 6) × (p.port < 16) × (p.port < ports_of soak_nodes p.node))
     (sym is)
     (omega (arith, less), omega arith, one_port n less)
 
-port_linked : (port : PortRef) (n : ℕ) → n < 4 → port ≡ port_at_node n 0
+port_linked : (port : PortRef) (n : ℕ) → n < 4 → port ≡ port_at n 0
     → not (is_linked soak_links port) ≡ false
 port_linked port n less is =
     subst (λ p. not (is_linked soak_links p) ≡ false) (sym is) (linked_is n less)
@@ -252,19 +253,19 @@ round_is count =
       omega (arith, t1, t2, t3, ca, cb, cd, ce),
     )
 
-step_is : (v : ℕ) → v < 32768 → AllByRecursion IsSoakEvent (step_lines v)
-    × (total (step_lines v) ≤ 3)
-unfolding step_lines
+step_is : (v : ℕ) → v < 32768 → AllByRecursion IsSoakEvent (soak_step_lines v)
+    × (total (soak_step_lines v) ≤ 3)
+unfolding soak_step_lines
 step_is v small = by_test ((v / 64 % 3) == 0)
   where
     by_test : (b : Bool)
         → AllByRecursion IsSoakEvent
         (Send (v % 4) (v / 16 % 4) 15 (v / 4 % 4) (v / 256 ∷ v % 256 ∷ [])
-        ∷ Pump (port_at_node (v % 4) 0) 1
-        ∷ (if b then Erase (port_at_node (v % 4) 0) 0 1 ∷ [] else []))
+        ∷ Pump (port_at (v % 4) 0) 1
+        ∷ (if b then Erase (port_at (v % 4) 0) 0 1 ∷ [] else []))
         × (total (Send (v % 4) (v / 16 % 4) 15 (v / 4 % 4) (v / 256 ∷ v % 256 ∷ [])
-        ∷ Pump (port_at_node (v % 4) 0) 1
-        ∷ (if b then Erase (port_at_node (v % 4) 0) 0 1 ∷ [] else [])) ≤ 3)
+        ∷ Pump (port_at (v % 4) 0) 1
+        ∷ (if b then Erase (port_at (v % 4) 0) 0 1 ∷ [] else [])) ≤ 3)
     by_test true = (
       (
         (
@@ -322,12 +323,13 @@ steps_are number (v ∷ values) small =
     let two = behind_is (number + 1) (omega arith) in
     let rest = steps_are (number + 1) values small.1 in
     let t1 = total-append (round_behind (number + 1)) (steps_from (number + 1 + 1) values) in
-    let t2 = total-append (step_lines v)
+    let t2 = total-append (soak_step_lines v)
     (round_behind (number + 1) ++ steps_from (number + 1 + 1) values) in
     let ca = one.1 in
     let cb = two.1 in
     let cd = rest.1 in (
-      all-append (step_lines v) (round_behind (number + 1) ++ steps_from (number + 1 + 1) values)
+      all-append (soak_step_lines v) (round_behind (number + 1)
+          ++ steps_from (number + 1 + 1) values)
           one.0
           (all-append (round_behind (number + 1)) (steps_from (number + 1 + 1) values) two.0
           rest.0),
@@ -370,7 +372,7 @@ events_are seed =
     let cb = two.1 in
     (all-append (steps_from 1 vs) (last_rounds 16) one.0 two.0, omega (arith, t1, long, ca, cb))
 
-pub soak_passes : (seed : ℕ) → Passes soak_names (soak_lines seed)
+pub soak_passes : (seed : ℕ) → ScriptPasses soak_names (soak_lines seed)
 unfolding soak_lines
 soak_passes seed =
     let events = events_are seed in

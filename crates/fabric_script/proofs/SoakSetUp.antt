@@ -19,7 +19,8 @@ use Rattle.fabric_script.specs.Known.{Known, nothing, of_script, ports_of}
 use Rattle.fabric_script.specs.Reading.{MayBe, IsFree}
 use Rattle.fabric_script.specs.Refusals.{refuses}
 use Rattle.fabric_script.specs.Scripts.{PassesFrom}
-use Rattle.fabric_script.specs.Soak.{soak_names, soak_set_up, port_at_node, numbered_from}
+use Rattle.fabric_script.specs.Soak.{soak_names, soak_set_up, numbered_from}
+use Rattle.fabric_script.specs.Ports.{port_at}
 
 -- ---- the fabric
 
@@ -28,9 +29,9 @@ soak_nodes = Nodes.Endpoint 0 ∷ Nodes.Endpoint 1 ∷ Nodes.Endpoint 2 ∷ Node
     ∷ Nodes.Switch 4 ∷ Nodes.Switch 4 ∷ []
 
 abbrev pub soak_links : List (PortRef × PortRef)
-soak_links = (port_at_node 0 0, port_at_node 4 0) ∷ (port_at_node 1 0, port_at_node 4 1)
-    ∷ (port_at_node 4 2, port_at_node 5 2) ∷ (port_at_node 2 0, port_at_node 5 0)
-    ∷ (port_at_node 3 0, port_at_node 5 1) ∷ []
+soak_links = (port_at 0 0, port_at 4 0) ∷ (port_at 1 0, port_at 4 1)
+    ∷ (port_at 4 2, port_at 5 2) ∷ (port_at 2 0, port_at 5 0)
+    ∷ (port_at 3 0, port_at 5 1) ∷ []
 
 -- what is known behind the lines of set-up
 abbrev pub soak_known : Bool → ℕ → Known
@@ -155,9 +156,9 @@ line_passes known line may a b d e f g h i = (may, free known line a b d e f g h
 
 abbrev link_lines : List Line
 link_lines =
-    Link (port_at_node 0 0) (port_at_node 4 0) ∷ Link (port_at_node 1 0) (port_at_node 4 1)
-    ∷ Link (port_at_node 4 2) (port_at_node 5 2) ∷ Link (port_at_node 2 0) (port_at_node 5 0)
-    ∷ Link (port_at_node 3 0) (port_at_node 5 1) ∷ []
+    Link (port_at 0 0) (port_at 4 0) ∷ Link (port_at 1 0) (port_at 4 1)
+    ∷ Link (port_at 4 2) (port_at 5 2) ∷ Link (port_at 2 0) (port_at 5 0)
+    ∷ Link (port_at 3 0) (port_at 5 1) ∷ []
 
 abbrev route_lines : List Line
 route_lines =
@@ -207,39 +208,39 @@ passes_links : (lines : List Numbered) → PassesFrom (known_with soak_links) so
     link_lines ++ lines)
 unfolding numbered_from
 passes_links lines rest =
-    let s0 = line_passes (known_with []) (Link (port_at_node 0 0) (port_at_node 4 0))
-    (link_may [] (port_at_node 0 0) (port_at_node 4 0) (omega arith) (omega arith)
+    let s0 = line_passes (known_with []) (Link (port_at 0 0) (port_at 4 0))
+    (link_may [] (port_at 0 0) (port_at 4 0) (omega arith) (omega arith)
     (few_ports 0 0 refl) (omega arith) (omega arith) (few_ports 4 0 refl))
     refl refl refl refl refl refl refl refl in
-    let s1 = line_passes (known_with ((port_at_node 0 0, port_at_node 4 0) ∷ []))
-    (Link (port_at_node 1 0) (port_at_node 4 1))
-    (link_may ((port_at_node 0 0, port_at_node 4 0) ∷ []) (port_at_node 1 0) (port_at_node 4 1)
+    let s1 = line_passes (known_with ((port_at 0 0, port_at 4 0) ∷ []))
+    (Link (port_at 1 0) (port_at 4 1))
+    (link_may ((port_at 0 0, port_at 4 0) ∷ []) (port_at 1 0) (port_at 4 1)
     (omega arith) (omega arith) (few_ports 1 0 refl) (omega arith) (omega arith)
     (few_ports 4 1 refl))
     refl refl refl refl refl refl refl refl in
     let s2 = line_passes
-    (known_with ((port_at_node 0 0, port_at_node 4 0) ∷ (port_at_node 1 0, port_at_node 4 1)
-    ∷ [])) (Link (port_at_node 4 2) (port_at_node 5 2))
-    (link_may ((port_at_node 0 0, port_at_node 4 0) ∷ (port_at_node 1 0, port_at_node 4 1) ∷ [])
-    (port_at_node 4 2) (port_at_node 5 2) (omega arith) (omega arith) (few_ports 4 2 refl)
+    (known_with ((port_at 0 0, port_at 4 0) ∷ (port_at 1 0, port_at 4 1)
+    ∷ [])) (Link (port_at 4 2) (port_at 5 2))
+    (link_may ((port_at 0 0, port_at 4 0) ∷ (port_at 1 0, port_at 4 1) ∷ [])
+    (port_at 4 2) (port_at 5 2) (omega arith) (omega arith) (few_ports 4 2 refl)
     (omega arith) (omega arith) (few_ports 5 2 refl))
     refl refl refl refl refl refl refl refl in
     let s3 = line_passes
-    (known_with ((port_at_node 0 0, port_at_node 4 0) ∷ (port_at_node 1 0, port_at_node 4 1)
-    ∷ (port_at_node 4 2, port_at_node 5 2) ∷ []))
-    (Link (port_at_node 2 0) (port_at_node 5 0))
-    (link_may ((port_at_node 0 0, port_at_node 4 0) ∷ (port_at_node 1 0, port_at_node 4 1)
-    ∷ (port_at_node 4 2, port_at_node 5 2) ∷ []) (port_at_node 2 0) (port_at_node 5 0)
+    (known_with ((port_at 0 0, port_at 4 0) ∷ (port_at 1 0, port_at 4 1)
+    ∷ (port_at 4 2, port_at 5 2) ∷ []))
+    (Link (port_at 2 0) (port_at 5 0))
+    (link_may ((port_at 0 0, port_at 4 0) ∷ (port_at 1 0, port_at 4 1)
+    ∷ (port_at 4 2, port_at 5 2) ∷ []) (port_at 2 0) (port_at 5 0)
     (omega arith) (omega arith) (few_ports 2 0 refl) (omega arith) (omega arith)
     (few_ports 5 0 refl))
     refl refl refl refl refl refl refl refl in
     let s4 = line_passes
-    (known_with ((port_at_node 0 0, port_at_node 4 0) ∷ (port_at_node 1 0, port_at_node 4 1)
-    ∷ (port_at_node 4 2, port_at_node 5 2) ∷ (port_at_node 2 0, port_at_node 5 0) ∷ []))
-    (Link (port_at_node 3 0) (port_at_node 5 1))
-    (link_may ((port_at_node 0 0, port_at_node 4 0) ∷ (port_at_node 1 0, port_at_node 4 1)
-    ∷ (port_at_node 4 2, port_at_node 5 2) ∷ (port_at_node 2 0, port_at_node 5 0) ∷ [])
-    (port_at_node 3 0) (port_at_node 5 1) (omega arith) (omega arith) (few_ports 3 0 refl)
+    (known_with ((port_at 0 0, port_at 4 0) ∷ (port_at 1 0, port_at 4 1)
+    ∷ (port_at 4 2, port_at 5 2) ∷ (port_at 2 0, port_at 5 0) ∷ []))
+    (Link (port_at 3 0) (port_at 5 1))
+    (link_may ((port_at 0 0, port_at 4 0) ∷ (port_at 1 0, port_at 4 1)
+    ∷ (port_at 4 2, port_at 5 2) ∷ (port_at 2 0, port_at 5 0) ∷ [])
+    (port_at 3 0) (port_at 5 1) (omega arith) (omega arith) (few_ports 3 0 refl)
     (omega arith) (omega arith) (few_ports 5 1 refl))
     refl refl refl refl refl refl refl refl in
     (s0.0, s0.1, (s1.0, s1.1, (s2.0, s2.1, (s3.0, s3.1, (s4.0, s4.1, rest)))))

@@ -11,15 +11,15 @@ use Rattle.fabric_script.specs.Lines.{words_of}
 use Rattle.fabric_script.specs.Forms.{Field, Number, Hex, Digits, Character}
 use Rattle.fabric_script.specs.Texts.{Value, Counted, Bytes, InDigits, Code, value_text, hex_text, digits_text}
 use Rattle.fabric_script.specs.Known.{Known}
-use Rattle.fabric_script.specs.Hits.{Fits, Hits, NumberIsBad, HexIsBad, DigitsAreBad, CharacterIsBad}
-use Rattle.fabric_script.specs.Words.{Left, end_of, with_reason, noted_by, ok_of, first_word, after_word, TakesWord, TakesFirst, Takes, ReadsNumber}
+use Rattle.fabric_script.specs.Hits.{FitsField, Hits, NumberIsBad, HexIsBad, DigitsAreBad, CharacterIsBad}
+use Rattle.fabric_script.specs.Words.{Left, reason_at_end, with_reason, noted_by, ok_of, first_word, after_word, TakesWord, TakesFirst, Takes, ReadsNumber}
 
 pub end_of-words : (words : List (List ℕ)) (hit : Option Reason) → 0 < length words
-    → end_of record { words = words; hit = hit } ≡ Some UnknownLine
+    → reason_at_end record { words = words; hit = hit } ≡ Some UnknownLine
 end_of-words [] hit some = absurd (omega arith)
 end_of-words (word ∷ words) hit some = refl
 
-pub end_of-some : (text : List ℕ) (hit : Option Reason) → end_of record {
+pub end_of-some : (text : List ℕ) (hit : Option Reason) → reason_at_end record {
   words = words_of text;
   hit = hit;
 } ≡ Some UnknownLine
@@ -52,7 +52,8 @@ noted_by-unknown (Err reason) = with_reason-unknown reason
 pub takes : {T : Type 0} (known : Known) (field : Field) (value : T → Value) (stand_in : T)
     (old next new : Left) (word : List ℕ) (read : Result T Reason) (answer : Option T) (result : T)
     → word ≡ first_word old.words → next ≡ after_word old
-    → MatchResult read (λ v. Fits known field (value v) × (word ≡ value_text known.names (value v)))
+    → MatchResult read (λ v. FitsField known field (value v)
+    × (word ≡ value_text known.names (value v)))
     (λ reason. Hits known reason field word)
     → new ≡ record { words = next.words; hit = noted_by next.hit read } → answer ≡ ok_of read
     → result ≡ unwrap_or answer stand_in → Takes known field (value result) old new
@@ -67,7 +68,7 @@ takes {T} known field value stand_in old next new word read answer result first 
     by_read : (words : List (List ℕ)) (hit : Option Reason) (read : Result T Reason) → new
         ≡ record { words = words; hit = noted_by hit read }
         → MatchResult read
-        (λ v. Fits known field (value v) × (word ≡ value_text known.names (value v)))
+        (λ v. FitsField known field (value v) × (word ≡ value_text known.names (value v)))
         (λ reason. Hits known reason field word) → (new.words ≡ words)
         × TakesWord known field (value (unwrap_or (ok_of read) stand_in)) word hit new.hit
     by_read words hit (Ok v) noted h =
@@ -82,7 +83,7 @@ takes {T} known field value stand_in old next new word read answer result first 
           hit = noted_by (after_word record { words = words; hit = hit }).hit read;
         }
         → MatchResult read
-        (λ v. Fits known field (value v) × (word ≡ value_text known.names (value v)))
+        (λ v. FitsField known field (value v) × (word ≡ value_text known.names (value v)))
         (λ reason. Hits known reason field word)
         → TakesFirst known field (value (unwrap_or (ok_of read) stand_in)) words hit new.words
         new.hit
@@ -100,7 +101,7 @@ takes {T} known field value stand_in old next new word read answer result first 
 
 pub reads_number : (known : Known) (least most : ℕ) (word : List ℕ) (read : Result ℕ Reason)
     → ReadsNumber word least most read
-    → MatchResult read (λ n. Fits known (Number least most) (Counted n) × (word ≡ decimal n))
+    → MatchResult read (λ n. FitsField known (Number least most) (Counted n) × (word ≡ decimal n))
     (λ reason. Hits known reason (Number least most) word)
 reads_number known least most word (Ok n) h = ((h.0, h.1), h.2)
 reads_number known least most word (Err reason) h =
@@ -109,7 +110,8 @@ reads_number known least most word (Err reason) h =
 pub reads_hex : (known : Known) (word : List ℕ) (read : Option (List ℕ))
     → MatchOption read ((bytes : List ℕ) → All (λ byte. byte < 256) bytes → word ≢ hex_text bytes)
     (λ hex. All (λ byte. byte < 256) hex × (word ≡ hex_text hex))
-    → MatchResult (ok_or read BadHex) (λ hex. Fits known Hex (Bytes hex) × (word ≡ hex_text hex))
+    → MatchResult (ok_or read BadHex) (λ hex. FitsField known Hex (Bytes hex)
+    × (word ≡ hex_text hex))
     (λ reason. Hits known reason Hex word)
 reads_hex known word (Some hex) h = (h.0, h.1)
 reads_hex known word None h = HexIsBad h
@@ -118,7 +120,7 @@ pub reads_digits : (known : Known) (count : ℕ) (word : List ℕ) (read : Optio
     → MatchOption read ((n : ℕ) → n < 16 ^ count → word ≢ digits_text count n)
     (λ n. (n < 16 ^ count) × (word ≡ digits_text count n))
     → MatchResult (ok_or read BadHex)
-    (λ n. Fits known (Digits count) (InDigits count n) × (word ≡ digits_text count n))
+    (λ n. FitsField known (Digits count) (InDigits count n) × (word ≡ digits_text count n))
     (λ reason. Hits known reason (Digits count) word)
 reads_digits known count word (Some n) h = ((refl, h.0), h.1)
 reads_digits known count word None h = DigitsAreBad h
@@ -126,7 +128,8 @@ reads_digits known count word None h = DigitsAreBad h
 pub reads_character : (known : Known) (word : List ℕ) (read : Option Char)
     → IfSome read (λ c. word ≡ char_text_of c) → IfSome read HasByte
     → IfNone read ((c : Char) → HasByte c → word ≢ char_text_of c)
-    → MatchResult (ok_or read BadHex) (λ c. Fits known Character (Code c) × (word ≡ char_text_of c))
+    → MatchResult (ok_or read BadHex) (λ c. FitsField known Character (Code c)
+    × (word ≡ char_text_of c))
     (λ reason. Hits known reason Character word)
 reads_character known word (Some c) text byte none = (byte, text)
 reads_character known word None text byte none = CharacterIsBad none

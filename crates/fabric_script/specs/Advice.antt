@@ -38,7 +38,7 @@ IsSpelled (Kinds.Digits count) word = (n : ℕ) × (n < 16 ^ count) × (word ≡
 IsSpelled Kinds.Character word = (c : Char) × HasByte c × (word ≡ char_text_of c)
 
 -- a line that begins with this word has words of these kinds behind it
-pub record HasFields (text : List ℕ) (fields : List Field) : Type 0 where
+pub record LineHasFields (text : List ℕ) (fields : List Field) : Type 0 where
   pub form : Form
   pub named : keyword_of form ≡ first_word (words_of text)
   pub same : fields ≡ fields_of form
@@ -46,13 +46,13 @@ pub record HasFields (text : List ℕ) (fields : List Field) : Type 0 where
 -- the first word of a text is a keyword, with as many words behind it as it wants
 pub record HasShape (text : List ℕ) : Type 0 where
   pub fields : List Field
-  pub has : HasFields text fields
+  pub has : LineHasFields text fields
   pub count : length (words_of text) ≡ length fields + 1
 
 -- The word at this place of a text, the first being 1, is not of the kind that stands there.
 pub record IsMisspelled (text : List ℕ) (place : ℕ) (kind : WordKind) : Type 0 where
   pub fields : List Field
-  pub has : HasFields text fields
+  pub has : LineHasFields text fields
   pub field : Field
   pub wanted : slice_get fields (place - 2) ≡ Some field
   pub kind_is : kind ≡ kind_of_field field
@@ -68,6 +68,6 @@ IsTrueOf text Indent = (rest : List ℕ) × (text ≡ 32 ∷ rest)
 IsTrueOf text Comment = Contains text 35
 IsTrueOf text EmptyWord = Contains (words_of text) []
 IsTrueOf text Keyword = (form : Form) → keyword_of form ≢ first_word (words_of text)
-IsTrueOf text (WordCount count) = (fields : List Field) × HasFields text fields
+IsTrueOf text (WordCount count) = (fields : List Field) × LineHasFields text fields
     × (count ≡ length fields) × (length (words_of text) ≢ count + 1)
 IsTrueOf text (Word place kind) = IsMisspelled text place kind

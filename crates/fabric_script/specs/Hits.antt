@@ -8,20 +8,20 @@ use Rattle.fabric_script.specs.declared.reasons.Reason.{Reason}
 use Rattle.fabric_script.specs.declared.reasons.Reason.TheVariants.{BadNumber, BadName, NameTaken, UnknownNode, PortOutside, BadHex}
 use Rattle.fabric_script.specs.Names.{is_name}
 use Rattle.fabric_script.specs.Forms.{Field, NewName, Node, Port, Number, Hex, Digits, Character}
-use Rattle.fabric_script.specs.Texts.{Value, Named, AtNode, AtPort, Counted, Bytes, InDigits, Code, port_text, hex_text, digits_text}
+use Rattle.fabric_script.specs.Texts.{Value, Named, NodeValue, PortValue, Counted, Bytes, InDigits, Code, port_text, hex_text, digits_text}
 use Rattle.fabric_script.specs.Known.{Known, ports_of}
 
 -- what a kind of word may say
-abbrev pub Fits : Known → Field → Value → Type 0
-Fits known NewName (Named name) = (is_name name ≡ true) × ¬ Contains known.names name
-Fits known Node (AtNode n) = n < length known.names
-Fits known Port (AtPort p) =
+abbrev pub FitsField : Known → Field → Value → Type 0
+FitsField known NewName (Named name) = (is_name name ≡ true) × ¬ Contains known.names name
+FitsField known Node (NodeValue n) = n < length known.names
+FitsField known Port (PortValue p) =
     (p.node < length known.names) × (p.port < 16) × (p.port < ports_of known.nodes p.node)
-Fits known (Number least most) (Counted n) = (least ≤ n) × (n ≤ most)
-Fits known Hex (Bytes bytes) = All (λ byte. byte < 256) bytes
-Fits known (Digits count) (InDigits shown n) = (shown ≡ count) × (n < 16 ^ count)
-Fits known Character (Code c) = HasByte c
-Fits known _ _ = ⊥
+FitsField known (Number least most) (Counted n) = (least ≤ n) × (n ≤ most)
+FitsField known Hex (Bytes bytes) = All (λ byte. byte < 256) bytes
+FitsField known (Digits count) (InDigits shown n) = (shown ≡ count) × (n < 16 ^ count)
+FitsField known Character (Code c) = HasByte c
+FitsField known _ _ = ⊥
 
 -- the text of a port: the name of a node, a point, and a number of a port
 abbrev pub point_text : List ℕ → ℕ → List ℕ
@@ -69,5 +69,6 @@ HitsOne known reason _ _ = ⊥
 -- each value may be said by a word of its kind
 abbrev pub FitAll : Known → List Field → List Value → Type 0
 FitAll known [] [] = Unit {0}
-FitAll known (field ∷ fields) (value ∷ values) = Fits known field value × FitAll known fields values
+FitAll known (field ∷ fields) (value ∷ values) =
+    FitsField known field value × FitAll known fields values
 FitAll known _ _ = ⊥

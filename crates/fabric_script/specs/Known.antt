@@ -63,8 +63,8 @@ node_is_switch None = false
 node_is_switch (Some (AnEndpoint id)) = false
 node_is_switch (Some (ASwitch ports)) = true
 
-abbrev pub is_switch : List Node → ℕ → Bool
-is_switch nodes n = node_is_switch (slice_get nodes n)
+abbrev pub is_known_switch : List Node → ℕ → Bool
+is_known_switch nodes n = node_is_switch (slice_get nodes n)
 
 abbrev pub has_this_id : ℕ → Node → Bool
 has_this_id id (AnEndpoint other) = other == id

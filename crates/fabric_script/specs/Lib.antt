@@ -1,4 +1,5 @@
 pub mod Names
+pub mod Ports
 pub mod Forms
 pub mod Texts
 pub mod Lines

@@ -9,15 +9,15 @@ use Rattle.fabric_script.specs.Known.{Known}
 use Rattle.fabric_script.specs.Words.{Left, TakesAll, first_word}
 
 -- the nodes are numbered in the order of their lines
-abbrev pub IsNext : Known → Line → Type 0
-IsNext known (Endpoint name id) = name ≡ length known.names
-IsNext known (Switch name ports) = name ≡ length known.names
-IsNext known _ = Unit {0}
+abbrev pub NodeIsNext : Known → Line → Type 0
+NodeIsNext known (Endpoint name id) = name ≡ length known.names
+NodeIsNext known (Switch name ports) = name ≡ length known.names
+NodeIsNext known _ = Unit {0}
 
 -- The words of a form are taken, as what the line says: a word that a reason hits as anything.
 pub record TakesLine (known : Known) (form : Form) (left : Left) (line : Line) (left_after : Left) :
     Type 0 where
   pub is : form_of line ≡ form
-  pub next : IsNext known line
+  pub next : NodeIsNext known line
   pub takes : TakesAll known (fields_of form) (values_of (first_word left.words) line) left
       left_after

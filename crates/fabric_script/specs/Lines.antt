@@ -7,7 +7,7 @@ use Rattle.fabric_script.specs.declared.lines.Line.{Line}
 use Rattle.fabric_script.specs.declared.lines.Line.TheVariants.{Endpoint, Switch, Link, Buffers, Route, Default, Lock, Large, Credits, Send, Read, Write, Send16, Read16, Write16, Pump, Deliver, Alter, Insert, Erase, Timeout, Settle, Move, Collect, Run}
 use Rattle.fabric_script.specs.Names.{name_of}
 use Rattle.fabric_script.specs.Forms.{keyword_of}
-use Rattle.fabric_script.specs.Texts.{Value, Named, AtNode, AtPort, Counted, Bytes, InDigits, Code, value_text}
+use Rattle.fabric_script.specs.Texts.{Value, Named, NodeValue, PortValue, Counted, Bytes, InDigits, Code, value_text}
 
 abbrev pub form_of : Line → Form
 form_of (Endpoint name id) = F.Endpoint
@@ -40,34 +40,36 @@ form_of (Run n) = F.Run
 abbrev pub values_of : List ℕ → Line → List Value
 values_of new (Endpoint name id) = Named new ∷ Counted id ∷ []
 values_of new (Switch name ports) = Named new ∷ Counted ports ∷ []
-values_of new (Link a b) = AtPort a ∷ AtPort b ∷ []
-values_of new (Buffers port n) = AtPort port ∷ Counted n ∷ []
-values_of new (Route node id p) = AtNode node ∷ Counted id ∷ Counted p ∷ []
-values_of new (Default node p) = AtNode node ∷ Counted p ∷ []
-values_of new (Lock node id) = AtNode node ∷ Counted id ∷ []
-values_of new (Large node id) = AtNode node ∷ Counted id ∷ []
-values_of new (Credits port) = AtPort port ∷ []
+values_of new (Link a b) = PortValue a ∷ PortValue b ∷ []
+values_of new (Buffers port n) = PortValue port ∷ Counted n ∷ []
+values_of new (Route node id p) = NodeValue node ∷ Counted id ∷ Counted p ∷ []
+values_of new (Default node p) = NodeValue node ∷ Counted p ∷ []
+values_of new (Lock node id) = NodeValue node ∷ Counted id ∷ []
+values_of new (Large node id) = NodeValue node ∷ Counted id ∷ []
+values_of new (Credits port) = PortValue port ∷ []
 values_of new (Send node prio ftype dest hex) =
-    AtNode node ∷ Counted prio ∷ Counted ftype ∷ Counted dest ∷ Bytes hex ∷ []
+    NodeValue node ∷ Counted prio ∷ Counted ftype ∷ Counted dest ∷ Bytes hex ∷ []
 values_of new (Read node prio dest hop tid offset) =
-    AtNode node ∷ Counted prio ∷ Counted dest ∷ Counted hop ∷ Counted tid ∷ InDigits 6 offset ∷ []
-values_of new (Write node prio dest hop tid offset value) = AtNode node ∷ Counted prio
+    NodeValue node ∷ Counted prio ∷ Counted dest ∷ Counted hop ∷ Counted tid ∷ InDigits 6 offset
+    ∷ []
+values_of new (Write node prio dest hop tid offset value) = NodeValue node ∷ Counted prio
     ∷ Counted dest ∷ Counted hop ∷ Counted tid ∷ InDigits 6 offset ∷ InDigits 8 value ∷ []
 values_of new (Send16 node prio ftype dest hex) =
-    AtNode node ∷ Counted prio ∷ Counted ftype ∷ Counted dest ∷ Bytes hex ∷ []
+    NodeValue node ∷ Counted prio ∷ Counted ftype ∷ Counted dest ∷ Bytes hex ∷ []
 values_of new (Read16 node prio dest hop tid offset) =
-    AtNode node ∷ Counted prio ∷ Counted dest ∷ Counted hop ∷ Counted tid ∷ InDigits 6 offset ∷ []
-values_of new (Write16 node prio dest hop tid offset value) = AtNode node ∷ Counted prio
+    NodeValue node ∷ Counted prio ∷ Counted dest ∷ Counted hop ∷ Counted tid ∷ InDigits 6 offset
+    ∷ []
+values_of new (Write16 node prio dest hop tid offset value) = NodeValue node ∷ Counted prio
     ∷ Counted dest ∷ Counted hop ∷ Counted tid ∷ InDigits 6 offset ∷ InDigits 8 value ∷ []
-values_of new (Pump port n) = AtPort port ∷ Counted n ∷ []
-values_of new (Deliver port n) = AtPort port ∷ Counted n ∷ []
-values_of new (Alter port place ch) = AtPort port ∷ Counted place ∷ Code ch ∷ []
-values_of new (Insert port place ch) = AtPort port ∷ Counted place ∷ Code ch ∷ []
-values_of new (Erase port place n) = AtPort port ∷ Counted place ∷ Counted n ∷ []
-values_of new (Timeout port) = AtPort port ∷ []
-values_of new (Settle port) = AtPort port ∷ []
-values_of new (Move node) = AtNode node ∷ []
-values_of new (Collect node) = AtNode node ∷ []
+values_of new (Pump port n) = PortValue port ∷ Counted n ∷ []
+values_of new (Deliver port n) = PortValue port ∷ Counted n ∷ []
+values_of new (Alter port place ch) = PortValue port ∷ Counted place ∷ Code ch ∷ []
+values_of new (Insert port place ch) = PortValue port ∷ Counted place ∷ Code ch ∷ []
+values_of new (Erase port place n) = PortValue port ∷ Counted place ∷ Counted n ∷ []
+values_of new (Timeout port) = PortValue port ∷ []
+values_of new (Settle port) = PortValue port ∷ []
+values_of new (Move node) = NodeValue node ∷ []
+values_of new (Collect node) = NodeValue node ∷ []
 values_of new (Run n) = Counted n ∷ []
 
 -- the words of a line, where the nodes have these names and a new one this

@@ -10,7 +10,7 @@ use Rattle.fabric_script.specs.Lines.{form_of, values_of, line_words, words_of}
 use Rattle.fabric_script.specs.Known.{Known}
 use Rattle.fabric_script.specs.Hits.{FitAll, HitsOne}
 use Rattle.fabric_script.specs.Words.{first_word}
-use Rattle.fabric_script.specs.LineWords.{IsNext}
+use Rattle.fabric_script.specs.LineWords.{NodeIsNext}
 use Rattle.fabric_script.specs.Reasons.{reason_number}
 use Rattle.fabric_script.specs.Refusals.{refuses}
 
@@ -34,7 +34,7 @@ pub record HasForm (form : Form) (text : List ℕ) : Type 0 where
 -- the next number.
 pub record MayBe (known : Known) (new : List ℕ) (line : Line) : Type 0 where
   pub fit : FitAll known (fields_of (form_of line)) (values_of new line)
-  pub next : IsNext known line
+  pub next : NodeIsNext known line
 
 -- the text says a line: it has the words of the line, and the line may be said
 pub record Says (known : Known) (text : List ℕ) (line : Line) : Type 0 where

@@ -7,7 +7,7 @@ use Rattle.fabric_script.specs.declared.lines.Line.{Line}
 use Rattle.fabric_script.specs.declared.lines.Line.TheVariants.{Endpoint, Switch, Link, Route, Default, Large, Send, Read, Write, Send16, Read16, Write16, Pump, Deliver, Alter, Insert, Erase, Timeout, Settle, Move, Collect}
 use Rattle.fabric_script.specs.Lines.{is_event}
 use Rattle.fabric_script.specs.declared.known.Mode.{Mode}
-use Rattle.fabric_script.specs.Known.{Known, ports_of, is_switch, has_id, has_large_id, same_port, is_linked, cost_of}
+use Rattle.fabric_script.specs.Known.{Known, ports_of, is_known_switch, has_id, has_large_id, same_port, is_linked, cost_of}
 
 -- a port of a table: of the node, or 255 for none
 abbrev pub is_outside : Known → ℕ → ℕ → Bool
@@ -45,17 +45,17 @@ length_is_bad _ = false
 
 -- 11: the node is an endpoint where a switch is wanted, or a switch where an endpoint is
 abbrev pub kind_is_wrong : Known → Line → Bool
-kind_is_wrong known (Route node id p) = not (is_switch known.nodes node)
-kind_is_wrong known (Default node p) = not (is_switch known.nodes node)
-kind_is_wrong known (Move node) = not (is_switch known.nodes node)
-kind_is_wrong known (Large node id) = is_switch known.nodes node
-kind_is_wrong known (Send node prio ftype dest hex) = is_switch known.nodes node
-kind_is_wrong known (Read node prio dest hop tid offset) = is_switch known.nodes node
-kind_is_wrong known (Write node prio dest hop tid offset value) = is_switch known.nodes node
-kind_is_wrong known (Send16 node prio ftype dest hex) = is_switch known.nodes node
-kind_is_wrong known (Read16 node prio dest hop tid offset) = is_switch known.nodes node
-kind_is_wrong known (Write16 node prio dest hop tid offset value) = is_switch known.nodes node
-kind_is_wrong known (Collect node) = is_switch known.nodes node
+kind_is_wrong known (Route node id p) = not (is_known_switch known.nodes node)
+kind_is_wrong known (Default node p) = not (is_known_switch known.nodes node)
+kind_is_wrong known (Move node) = not (is_known_switch known.nodes node)
+kind_is_wrong known (Large node id) = is_known_switch known.nodes node
+kind_is_wrong known (Send node prio ftype dest hex) = is_known_switch known.nodes node
+kind_is_wrong known (Read node prio dest hop tid offset) = is_known_switch known.nodes node
+kind_is_wrong known (Write node prio dest hop tid offset value) = is_known_switch known.nodes node
+kind_is_wrong known (Send16 node prio ftype dest hex) = is_known_switch known.nodes node
+kind_is_wrong known (Read16 node prio dest hop tid offset) = is_known_switch known.nodes node
+kind_is_wrong known (Write16 node prio dest hop tid offset value) = is_known_switch known.nodes node
+kind_is_wrong known (Collect node) = is_known_switch known.nodes node
 kind_is_wrong known _ = false
 
 -- 12: a line of set-up stands behind an event. Among set-up lines alone it is any event, and if one

@@ -76,8 +76,8 @@ PassesIn mode names lines = PassesFrom (nothing_in mode) names lines
 
 -- A script passes: its names are those of the lines of its nodes, in their order, and no reason
 -- hits one of its lines.
-abbrev pub Passes : List (List ℕ) → List Numbered → Type 0
-Passes names lines = PassesIn Mode.Script names lines
+abbrev pub ScriptPasses : List (List ℕ) → List Numbered → Type 0
+ScriptPasses names lines = PassesIn Mode.Script names lines
 
 -- the same lines, numbered anew from this number on
 abbrev pub renumbered : ℕ → List Numbered → List Numbered

@@ -24,7 +24,7 @@ for_event known = record known { mode = one_event }
 -- What is always known behind set-up lines: the names are names and differ, one event alone may
 -- stand,
 -- and the links are counted.
-pub record IsReady (known : Known) : Type 0 where
+pub record KnownIsReady (known : Known) : Type 0 where
   pub orderly : IsOrderly known
   pub event : known.mode ≡ one_event
   pub few : length known.links ≤ 33554432

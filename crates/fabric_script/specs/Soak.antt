@@ -5,22 +5,20 @@ use Rattle.fabric_script.specs.declared.lines.Line.{Line}
 use Rattle.fabric_script.specs.declared.lines.Line.TheVariants.{Endpoint, Switch, Link, Route, Send, Pump, Erase, Collect, Run}
 use Rattle.fabric_script.specs.declared.lines.Numbered.{Numbered}
 use Rattle.fabric_script.specs.declared.ports.PortRef.{PortRef}
+use Rattle.fabric_script.specs.Ports.{port_at}
 
 -- four endpoints, and the switches S and T
 abbrev pub soak_names : List (List ℕ)
 soak_names = codes "E0" ∷ codes "E1" ∷ codes "E2" ∷ codes "E3" ∷ codes "S" ∷ codes "T" ∷ []
-
-abbrev pub port_at_node : ℕ → ℕ → PortRef
-port_at_node node port = record { node = node; port = port }
 
 -- E0 and E1 are linked to S, E2 and E3 to T, and S to T; each switch knows the way to each
 -- endpoint
 abbrev pub soak_set_up : List Line
 soak_set_up =
     Endpoint 0 0 ∷ Endpoint 1 1 ∷ Endpoint 2 2 ∷ Endpoint 3 3 ∷ Switch 4 4 ∷ Switch 5 4
-    ∷ Link (port_at_node 0 0) (port_at_node 4 0) ∷ Link (port_at_node 1 0) (port_at_node 4 1)
-    ∷ Link (port_at_node 4 2) (port_at_node 5 2) ∷ Link (port_at_node 2 0) (port_at_node 5 0)
-    ∷ Link (port_at_node 3 0) (port_at_node 5 1)
+    ∷ Link (port_at 0 0) (port_at 4 0) ∷ Link (port_at 1 0) (port_at 4 1)
+    ∷ Link (port_at 4 2) (port_at 5 2) ∷ Link (port_at 2 0) (port_at 5 0)
+    ∷ Link (port_at 3 0) (port_at 5 1)
     ∷ Route 4 0 0 ∷ Route 4 1 1 ∷ Route 4 2 2 ∷ Route 4 3 2
     ∷ Route 5 2 0 ∷ Route 5 3 1 ∷ Route 5 0 2 ∷ Route 5 1 2 ∷ []
 
@@ -39,11 +37,11 @@ value_of_number x = x / 65536
 
 -- an endpoint, by the value's lowest two bits, sends the value to another, by the next two, at the
 -- priority of the two behind them, and its port sends; then the first character is lost, or is not
-unfoldable pub step_lines : ℕ → List Line
-step_lines v =
+unfoldable pub soak_step_lines : ℕ → List Line
+soak_step_lines v =
     Send (v % 4) (v / 16 % 4) 15 (v / 4 % 4) (v / 256 ∷ v % 256 ∷ [])
-    ∷ Pump (port_at_node (v % 4) 0) 1
-    ∷ (if (v / 64 % 3) == 0 then Erase (port_at_node (v % 4) 0) 0 1 ∷ [] else [])
+    ∷ Pump (port_at (v % 4) 0) 1
+    ∷ (if (v / 64 % 3) == 0 then Erase (port_at (v % 4) 0) 0 1 ∷ [] else [])
 
 unfoldable pub times : ℕ → Line → List Line
 times zero line = []
@@ -63,7 +61,7 @@ round_behind number = if (number % 10) == 0 then round_lines 4 else []
 unfoldable pub steps_from : ℕ → List ℕ → List Line
 steps_from number [] = []
 steps_from number (value ∷ values) =
-    step_lines value ++ (round_behind number ++ steps_from (number + 1) values)
+    soak_step_lines value ++ (round_behind number ++ steps_from (number + 1) values)
 
 -- so many last rounds
 unfoldable pub last_rounds : ℕ → List Line

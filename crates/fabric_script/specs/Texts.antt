@@ -25,8 +25,8 @@ digits_text (suc count) n = digits_text count (n / 16) ++ hex_digit (n % 16) ∷
 -- digits, a character.
 pub data Value : Type 0 where
   Named : List ℕ → Value
-  AtNode : ℕ → Value
-  AtPort : PortRef → Value
+  NodeValue : ℕ → Value
+  PortValue : PortRef → Value
   Counted : ℕ → Value
   Bytes : List ℕ → Value
   InDigits : ℕ → ℕ → Value
@@ -34,8 +34,8 @@ pub data Value : Type 0 where
 
 abbrev pub value_text : List (List ℕ) → Value → List ℕ
 value_text names (Named name) = name
-value_text names (AtNode n) = name_of names n
-value_text names (AtPort p) = port_text names p
+value_text names (NodeValue n) = name_of names n
+value_text names (PortValue p) = port_text names p
 value_text names (Counted n) = decimal n
 value_text names (Bytes bytes) = hex_text bytes
 value_text names (InDigits count n) = digits_text count n

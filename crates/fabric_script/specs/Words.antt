@@ -9,7 +9,7 @@ use Rattle.fabric_script.specs.Texts.{Value, value_text}
 use Rattle.fabric_script.specs.Lines.{words_of}
 use Rattle.fabric_script.specs.Known.{Known}
 use Rattle.fabric_script.specs.Reasons.{reason_number}
-use Rattle.fabric_script.specs.Hits.{Fits, Hits}
+use Rattle.fabric_script.specs.Hits.{FitsField, Hits}
 
 -- the words that are left, and the least reason that has hit one so far
 pub record Left : Type 0 where
@@ -36,8 +36,8 @@ ok_of (Ok value) = Some value
 ok_of (Err reason) = None
 
 -- the reason at the end of a line, where no word may be left
-abbrev pub end_of : Left → Option Reason
-end_of left = end_by left.words left.hit
+abbrev pub reason_at_end : Left → Option Reason
+reason_at_end left = end_by left.words left.hit
   where
     end_by : List (List ℕ) → Option Reason → Option Reason
     end_by [] hit = hit
@@ -59,7 +59,7 @@ after_word left = after_by left.words left.hit
 -- A word is taken as this value of its kind, or the reason that hits it is noted.
 abbrev pub TakesWord : Known → Field → Value → List ℕ → Option Reason → Option Reason → Type 0
 TakesWord known field value word hit hit_after =
-    (Fits known field value × (word ≡ value_text known.names value) × (hit_after ≡ hit))
+    (FitsField known field value × (word ≡ value_text known.names value) × (hit_after ≡ hit))
     ⊎ ((reason : Reason) × Hits known reason field word × (hit_after ≡ with_reason hit reason))
 
 -- the same of the first word that is left; where none is, the line is unknown
@@ -76,7 +76,7 @@ pub record Takes (known : Known) (field : Field) (value : Value) (left left_afte
 
 -- words are taken, one after another, as values of these kinds
 pub data TakesAll (known : Known) : List Field → List Value → Left → Left → Type 0 where
-  Done : {left : Left} → TakesAll known [] [] left left
+  NoMore : {left : Left} → TakesAll known [] [] left left
   More : {field : Field} {fields : List Field} {value : Value} {values : List Value}
       {left next last : Left} → Takes known field value left next
       → TakesAll known fields values next last

@@ -7,9 +7,9 @@ ghost use Rattle.fabric_script.specs.Names.{is_name};
 ghost use Rattle.fabric_script.specs.Lines.{words_of};
 ghost use Rattle.fabric_script.specs.Reading.{Spells, new_name_in, second_word};
 ghost use Rattle.fabric_script.specs.Forms.{NewName as ANewName, Node as ANode, Port as APort};
-ghost use Rattle.fabric_script.specs.Texts.{Named, AtNode, AtPort, value_text};
-ghost use Rattle.fabric_script.specs.Hits.{Fits, Hits};
-ghost use Rattle.fabric_script.specs.Known.{nothing_in, ports_of, is_switch, has_this_id, has_id, has_large_id, large_ids_after, is_linked, cost_of, known_after};
+ghost use Rattle.fabric_script.specs.Texts.{Named, NodeValue, PortValue, value_text};
+ghost use Rattle.fabric_script.specs.Hits.{FitsField, Hits};
+ghost use Rattle.fabric_script.specs.Known.{nothing_in, ports_of, is_known_switch, has_this_id, has_id, has_large_id, large_ids_after, is_linked, cost_of, known_after};
 ghost use Rattle.fabric_script.specs.declared.lines.Line.TheVariants.{Large as ALarge};
 
 use crate::lines::Line;
@@ -159,7 +159,7 @@ impl Known {
     /// Whether a word may name a new node.
     pub(crate) fn read_new_name(&self, word: &[u8]) -> Result<(), Reason>
         ensures { MatchResult result
-            (λ _. Fits self.now ANewName (Named word.now))
+            (λ _. FitsField self.now ANewName (Named word.now))
             (λ reason. Hits self.now reason ANewName word.now) }
     {
         if !is_name(word) {
@@ -174,8 +174,8 @@ impl Known {
     /// The number of the node that a word names.
     pub(crate) fn read_node(&self, word: &[u8]) -> Result<u8, Reason>
         ensures { MatchResult result
-            (λ n. Fits self.now ANode (AtNode n)
-            × (word.now ≡ value_text self.now.names (AtNode n)))
+            (λ n. FitsField self.now ANode (NodeValue n)
+            × (word.now ≡ value_text self.now.names (NodeValue n)))
             (λ reason. Hits self.now reason ANode word.now) }
     {
         if !is_name(word) {
@@ -190,8 +190,8 @@ impl Known {
     /// The port that a word names.
     pub(crate) fn read_port(&self, word: &[u8]) -> Result<PortRef, Reason>
         ensures { MatchResult result
-            (λ p. Fits self.now APort (AtPort p)
-            × (word.now ≡ value_text self.now.names (AtPort p)))
+            (λ p. FitsField self.now APort (PortValue p)
+            × (word.now ≡ value_text self.now.names (PortValue p)))
             (λ reason. Hits self.now reason APort word.now) }
     {
         let Some((name, port)) = split_port(word) else {
@@ -219,7 +219,7 @@ impl Known {
 
     /// Whether a node is a switch.
     pub(crate) fn is_switch(&self, node: u8) -> bool
-        ensures { result ≡ is_switch self.now.nodes node }
+        ensures { result ≡ is_known_switch self.now.nodes node }
     {
         match self.nodes.get(usize::from(node)) {
             Some(Node::Switch { .. }) => true,

@@ -12,7 +12,7 @@ ghost use Rattle.fabric_script.specs.Reading.{HitsText, Spells, LeastHit};
 ghost use Rattle.fabric_script.specs.Reasons.{reason_number};
 ghost use Rattle.fabric_script.specs.Refusals.{id_is_taken};
 ghost use Rattle.fabric_script.specs.LineTexts.{script_text};
-ghost use Rattle.fabric_script.specs.Scripts.{IsScript, Passes, RefusedAt, renumbered};
+ghost use Rattle.fabric_script.specs.Scripts.{IsScript, ScriptPasses, RefusedAt, renumbered};
 
 /// A text is one line at most, whatever the earlier lines said.
 pub fn one_line()
@@ -55,7 +55,7 @@ pub fn script_or_refusal()
 
 /// A script that passes is spelled by its text, with its lines numbered anew.
 pub fn printed_scripts_are_read()
-    ensures { (names : List (List ℕ)) (lines : List NumberedLine) → Passes names lines
+    ensures { (names : List (List ℕ)) (lines : List NumberedLine) → ScriptPasses names lines
         → IsScript (script_text names lines) names (renumbered 1 lines) }
 {}
 
@@ -69,7 +69,7 @@ pub fn taken_large_ids()
 
 /// No two nodes of a script that passes have one 16-bit device ID, other than 65535.
 pub fn large_ids_are_apart()
-    ensures { (names : List (List ℕ)) (lines : List NumberedLine) → Passes names lines
+    ensures { (names : List (List ℕ)) (lines : List NumberedLine) → ScriptPasses names lines
         → (m n : ℕ) → large_id_of lines m ≡ large_id_of lines n
         → large_id_of lines m ≢ 65535 → m ≡ n }
 {}

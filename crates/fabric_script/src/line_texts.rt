@@ -4,7 +4,7 @@ ghost use Rattle.std.specs.Prelude.{◌≡◌, false, [], IfOk, OnOk};
 ghost use Rattle.rio_chars.specs.Written.{Writes};
 ghost use Rattle.fabric_script.specs.Lines.{line_text};
 ghost use Rattle.fabric_script.specs.LineTexts.{AreNamed, script_text};
-ghost use Rattle.fabric_script.specs.Scripts.{Passes, IsScript, renumbered};
+ghost use Rattle.fabric_script.specs.Scripts.{ScriptPasses, IsScript, renumbered};
 
 use crate::growing_sink::GrowingSink;
 use crate::lines::{Line, Script};
@@ -29,7 +29,7 @@ pub fn line_text(alloc: Global, names: &[Name], line: &Line) -> Result<Vec<u8>, 
 /// The text of a script that passes: a line for each kept line, and no comments. Where it is not
 /// too long for `parse`, `parse` gives the same names and lines again, numbered anew.
 pub fn print(alloc: Global, script: &Script) -> Result<Vec<u8>, NoMemory>
-    requires { Passes script.now.names.items script.now.lines.items }
+    requires { ScriptPasses script.now.names.items script.now.lines.items }
     ensures text { IfOk result (λ text. text.items
         ≡ script_text script.now.names.items script.now.lines.items) }
     ensures reads { IfOk result (λ text. IsScript text.items
@@ -45,7 +45,7 @@ pub fn print(alloc: Global, script: &Script) -> Result<Vec<u8>, NoMemory>
 
 /// Writes the lines of a script that passes, each with its line feed.
 fn write_lines<K: Sink>(outbox: &mut Outbox<K>, script: &Script)
-    requires { Passes script.now.names.items script.now.lines.items }
+    requires { ScriptPasses script.now.names.items script.now.lines.items }
     ensures { Writes K.written K.faults outbox.old outbox.new
         (script_text script.now.names.items script.now.lines.items) }
 {

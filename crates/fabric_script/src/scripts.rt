@@ -5,7 +5,7 @@ ghost use Rattle.fabric_script.specs.declared.lines.Numbered.{Numbered as Number
 ghost use Rattle.fabric_script.specs.Known.{IsOrderly, nothing_in};
 ghost use Rattle.fabric_script.specs.declared.known.Mode.TheVariants.{Script as OfScript, SetUp as OfSetUp, Event as OfEvent};
 ghost use Rattle.fabric_script.specs.Reading.{ReadsText};
-ghost use Rattle.fabric_script.specs.Scripts.{IsScript, IsScriptIn, Passes, RefusedAt, RefusedIn, SpellsFrom, pieces_of, is_skipped};
+ghost use Rattle.fabric_script.specs.Scripts.{IsScript, IsScriptIn, ScriptPasses, RefusedAt, RefusedIn, SpellsFrom, pieces_of, is_skipped};
 ghost use Rattle.fabric_script.specs.SetUps.{NoEvents};
 ghost use Rattle.fabric_script.specs.declared.scripts.ScriptEnd.TheVariants.{NoMemory};
 
@@ -60,7 +60,7 @@ pub fn parse(alloc: Global, bytes: &[u8]) -> Result<Script, ScriptEnd>
     // What is answered is spelled so, and what is refused is refused so.
     ensures script { IfOk result (λ script.
         IsScript bytes.now script.names.items script.lines.items) }
-    ensures passes { IfOk result (λ script. Passes script.names.items script.lines.items) }
+    ensures passes { IfOk result (λ script. ScriptPasses script.names.items script.lines.items) }
     ensures refused { (refusal : _) → IsErrOf result (ScriptEnd.Refused refusal)
         → RefusedAt bytes.now refusal.line refusal.reason }
     // What is spelled so is answered and what is refused so is refused, unless memory runs out.
@@ -84,7 +84,7 @@ pub fn parse_set_up(alloc: Global, bytes: &[u8]) -> Result<Script, ScriptEnd>
     requires { length bytes.now ≤ 16777216 }
     ensures script { IfOk result (λ script.
         IsScriptIn OfSetUp bytes.now script.names.items script.lines.items) }
-    ensures passes { IfOk result (λ script. Passes script.names.items script.lines.items) }
+    ensures passes { IfOk result (λ script. ScriptPasses script.names.items script.lines.items) }
     ensures no_events { IfOk result (λ script. NoEvents script.lines.items) }
     ensures refused { (refusal : _) → IsErrOf result (ScriptEnd.Refused refusal)
         → RefusedIn OfSetUp bytes.now refusal.line refusal.reason }

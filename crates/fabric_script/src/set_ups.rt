@@ -4,13 +4,13 @@ ghost use Rattle.std.specs.Prelude.{◌≡◌, ◌≢◌, ℕ, ◌≤◌, ◌⊎
 ghost use Rattle.fabric_script.specs.declared.lines.Line.{Line as ALine};
 ghost use Rattle.fabric_script.specs.declared.ports.PortRef.{PortRef as APortRef};
 ghost use Rattle.fabric_script.specs.Forms.{Node as ANode, Port as APort};
-ghost use Rattle.fabric_script.specs.Hits.{Fits};
-ghost use Rattle.fabric_script.specs.Texts.{AtNode, AtPort, value_text};
+ghost use Rattle.fabric_script.specs.Hits.{FitsField};
+ghost use Rattle.fabric_script.specs.Texts.{NodeValue, PortValue, value_text};
 ghost use Rattle.fabric_script.specs.Known.{is_linked, nothing_in, Known as AKnown};
 ghost use Rattle.fabric_script.specs.declared.known.Mode.TheVariants.{SetUp as OfSetUp};
 ghost use Rattle.fabric_script.specs.Reading.{Spells};
-ghost use Rattle.fabric_script.specs.Scripts.{Passes, RefusedIn, SpellsFrom, pieces_of};
-ghost use Rattle.fabric_script.specs.SetUps.{for_event, IsReady, IsRefused, NoEvents};
+ghost use Rattle.fabric_script.specs.Scripts.{ScriptPasses, RefusedIn, SpellsFrom, pieces_of};
+ghost use Rattle.fabric_script.specs.SetUps.{for_event, KnownIsReady, IsRefused, NoEvents};
 ghost use Rattle.fabric_script.specs.declared.set_ups.EventEnd.TheVariants.{NoMemory};
 
 use crate::known::{Known, Mode};
@@ -46,13 +46,13 @@ pub struct SetUp {
 }
 
 impl Model for SetUp {
-    ghost use Rattle.fabric_script.specs.SetUps.{IsReady, SetUpLines};
+    ghost use Rattle.fabric_script.specs.SetUps.{KnownIsReady, SetUpLines};
 
     ghost Value = { SetUpLines };
 
     ghost view = { λ s. record { lines = s.lines.items; known = s.known } };
 
-    ghost invariant = { λ s. IsReady s.known };
+    ghost invariant = { λ s. KnownIsReady s.known };
 }
 
 /// The set-up lines that the bytes spell, as `parse` reads a script, of at most 16,777,216 bytes.
@@ -62,9 +62,9 @@ pub fn read_set_up(alloc: Global, bytes: &[u8]) -> Result<SetUp, ScriptEnd>
     ensures spelled { IfOk result (λ set_up. (end : AKnown)
         × SpellsFrom 1 (nothing_in OfSetUp) (pieces_of bytes.now) set_up.lines end
         × (set_up.known ≡ for_event end)) }
-    ensures passes { IfOk result (λ set_up. Passes set_up.known.names set_up.lines) }
+    ensures passes { IfOk result (λ set_up. ScriptPasses set_up.known.names set_up.lines) }
     ensures no_events { IfOk result (λ set_up. NoEvents set_up.lines) }
-    ensures ready { IfOk result (λ set_up. IsReady set_up.known) }
+    ensures ready { IfOk result (λ set_up. KnownIsReady set_up.known) }
     ensures refused { (refusal : _) → IsErrOf result (ScriptEnd.Refused refusal)
         → RefusedIn OfSetUp bytes.now refusal.line refusal.reason }
 {
@@ -92,10 +92,10 @@ impl SetUp {
     /// The number of the node that a word names.
     pub fn read_node(&self, word: &[u8]) -> Option<u8>
         ensures { MatchOption result
-            ((n : ℕ) → Fits self.now.known ANode (AtNode n)
-            → word.now ≢ value_text self.now.known.names (AtNode n))
-            (λ n. Fits self.now.known ANode (AtNode n)
-            × (word.now ≡ value_text self.now.known.names (AtNode n))) }
+            ((n : ℕ) → FitsField self.now.known ANode (NodeValue n)
+            → word.now ≢ value_text self.now.known.names (NodeValue n))
+            (λ n. FitsField self.now.known ANode (NodeValue n)
+            × (word.now ≡ value_text self.now.known.names (NodeValue n))) }
     {
         match self.known.read_node(word) {
             Ok(n) => Some(n),
@@ -106,10 +106,10 @@ impl SetUp {
     /// The port that a word names.
     pub fn read_port(&self, word: &[u8]) -> Option<PortRef>
         ensures { MatchOption result
-            ((p : APortRef) → Fits self.now.known APort (AtPort p)
-            → word.now ≢ value_text self.now.known.names (AtPort p))
-            (λ p. Fits self.now.known APort (AtPort p)
-            × (word.now ≡ value_text self.now.known.names (AtPort p))) }
+            ((p : APortRef) → FitsField self.now.known APort (PortValue p)
+            → word.now ≢ value_text self.now.known.names (PortValue p))
+            (λ p. FitsField self.now.known APort (PortValue p)
+            × (word.now ≡ value_text self.now.known.names (PortValue p))) }
     {
         match self.known.read_port(word) {
             Ok(port) => Some(port),

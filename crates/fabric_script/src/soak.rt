@@ -1,10 +1,11 @@
 //! A large script from a number.
 
 ghost use Rattle.std.specs.Prelude.{◌≡◌, ◌<◌, ◌≤◌, ◌+◌, ◌*◌, ◌++◌, ◌∷◌, [], ℕ, List, length, map, IfOk};
-ghost use Rattle.fabric_script.specs.Soak.{soak_names as names_of_soak, soak_set_up, soak_lines, port_at_node, next_number as number_behind, numbers_behind, value_of_number, step_lines, round_lines, round_behind, steps_from, times, numbered_from};
-ghost use Rattle.fabric_script.specs.Scripts.{Passes};
+ghost use Rattle.fabric_script.specs.Soak.{soak_names as names_of_soak, soak_set_up, soak_lines, next_number as number_behind, numbers_behind, value_of_number, soak_step_lines, round_lines, round_behind, steps_from, times, numbered_from};
+ghost use Rattle.fabric_script.specs.Scripts.{ScriptPasses};
 ghost use Rattle.fabric_script.specs.declared.lines.Line.{Line as ALine};
 ghost use Rattle.fabric_script.specs.declared.lines.Line.TheVariants.{Link as ALink, Route as ARoute, Collect as ACollect};
+ghost use Rattle.fabric_script.specs.Ports.{port_at as port_at_node};
 
 use crate::hex::Hex;
 use crate::lines::{Line, Numbered, Script};
@@ -28,7 +29,7 @@ const MODULUS: u32 = 2_147_483_648;
 pub fn soak_script(alloc: Global, seed: u32) -> Result<Script, NoMemory>
     ensures names { IfOk result (λ script. script.names.items ≡ names_of_soak) }
     ensures lines { IfOk result (λ script. script.lines.items ≡ soak_lines seed) }
-    ensures passes { IfOk result (λ script. Passes script.names.items script.lines.items) }
+    ensures passes { IfOk result (λ script. ScriptPasses script.names.items script.lines.items) }
 {
     let names = soak_names(alloc)?;
     let mut lines = Vec::new(alloc);
@@ -161,7 +162,7 @@ fn push_step(alloc: Global, lines: &mut Vec<Numbered>, value: u32) -> Result<(),
     requires small { value < 32768 }
     ensures numbered { IfOk result (λ _. (before : List ALine)
         → lines.old.items ≡ numbered_from 1 before
-        → lines.new.items ≡ numbered_from 1 (before ++ step_lines value)) }
+        → lines.new.items ≡ numbered_from 1 (before ++ soak_step_lines value)) }
     ensures count { IfOk result (λ _. length lines.new.items ≤ length lines.old.items + 3) }
 {
     let mut bytes = Vec::new(alloc);

@@ -6,9 +6,9 @@
 ghost use Rattle.std.specs.Prelude.{◌≡◌, ◌∷◌, ◌≤◌, [], Some, IfOk, IsTrue, ◌↔◌};
 ghost use Rattle.fabric_script.specs.Lines.{words_of};
 ghost use Rattle.fabric_script.specs.Forms.{NewName, Node, Port, Number, Hex as AHex, Digits, Character};
-ghost use Rattle.fabric_script.specs.Texts.{Named, AtNode, AtPort, Counted, Bytes, InDigits, Code};
+ghost use Rattle.fabric_script.specs.Texts.{Named, NodeValue, PortValue, Counted, Bytes, InDigits, Code};
 ghost use Rattle.fabric_script.specs.Known.{Known as AKnown};
-ghost use Rattle.fabric_script.specs.Words.{words_left, with_reason, ok_of, noted_by, end_of, first_word, after_word, Takes};
+ghost use Rattle.fabric_script.specs.Words.{words_left, with_reason, ok_of, noted_by, reason_at_end, first_word, after_word, Takes};
 
 use crate::hex::{Hex, read_digits, read_hex};
 use crate::known::Known;
@@ -84,7 +84,7 @@ impl<'a> Words<'a> {
 
     /// The name of a node.
     pub(crate) fn node(&mut self, known: &Known) -> u8
-        ensures { Takes known.now Node (AtNode result) self.old self.new }
+        ensures { Takes known.now Node (NodeValue result) self.old self.new }
     {
         let word = self.word();
         self.note(known.read_node(word)).unwrap_or(0)
@@ -92,7 +92,7 @@ impl<'a> Words<'a> {
 
     /// A port.
     pub(crate) fn port(&mut self, known: &Known) -> PortRef
-        ensures { Takes known.now Port (AtPort result) self.old self.new }
+        ensures { Takes known.now Port (PortValue result) self.old self.new }
     {
         let word = self.word();
         self.note(known.read_port(word))
@@ -158,7 +158,7 @@ impl<'a> Words<'a> {
 
     /// The least reason that hits a word, where no word may be left.
     pub(crate) fn end(&self) -> Option<Reason>
-        ensures { result ≡ end_of self.now }
+        ensures { result ≡ reason_at_end self.now }
     {
         match self.rest {
             Some(_) => Some(Reason::UnknownLine),

@@ -2,7 +2,7 @@
 use Rattle.std.proofs.Common.{◌≡◌, ℕ, suc, ◌+◌, ◌≤◌, ◌++◌, Bool, true, false, List, [], ◌∷◌, refl, sym, ap, ◌∙◌, arith, append_assoc, if◌then◌else◌}
 use Rattle.std.proofs.lemmas.List.{append-nil}
 use Rattle.rio_chars.specs.declared.chars.Char.{Char}
-use Rattle.link_model.specs.Places.{start, place_after}
+use Rattle.link_model.specs.Places.{place_start, place_after}
 use Rattle.link_model.specs.Said.{said}
 use Rattle.link_rest.proofs.SaidLaws.{said-append}
 use Rattle.fabric_script.specs.declared.ports.PortRef.{PortRef}
@@ -89,16 +89,16 @@ freed_is p (Undetected number q e ∷ xs) j = (let more = freed_is p xs j in ome
 -- ---- the allowance after more characters
 
 pub says_more : (chars more : List Char)
-    → says (chars ++ more) ≡ says chars ++ said (place_after start chars) more
-says_more chars more = said-append start chars more
+    → says (chars ++ more) ≡ says chars ++ said (place_after place_start chars) more
+says_more chars more = said-append place_start chars more
 
 pub heard_more : (p : PortRef) (xs : List TraceLine) (chars : List Char)
     → raised_all 0 (says chars) ≤ raised_all 0 (says (got_after p chars xs))
 heard_more p xs chars =
     let grows =
-    raised_all_more (said (place_after start chars) (got p xs)) (raised_all 0 (says chars)) in
+    raised_all_more (said (place_after place_start chars) (got p xs)) (raised_all 0 (says chars)) in
     let same =
     ap (λ (l : List Char). raised_all 0 (says l)) (heard_is p xs chars)
     ∙ ap (raised_all 0) (says_more chars (got p xs))
-    ∙ raised-append (says chars) (said (place_after start chars) (got p xs)) 0 in
+    ∙ raised-append (says chars) (said (place_after place_start chars) (got p xs)) 0 in
     omega (arith, grows, same)

@@ -4,14 +4,14 @@ use Rattle.std.proofs.Common.{◌≡◌, ℕ, suc, ◌+◌, ◌%◌, ◌<◌, �
 use Rattle.std.proofs.lemmas.List.{append-nil}
 use Rattle.rio_chars.specs.declared.chars.Char.{Char}
 use Rattle.link_model.specs.declared.event.Event.{Event}
-use Rattle.link_model.specs.Places.{Place, start, place_after}
+use Rattle.link_model.specs.Places.{Place, place_start, place_after}
 use Rattle.link_model.specs.Said.{said}
 use Rattle.link_sound.specs.Meanings.{oldest_of}
 use Rattle.link_sound.proofs.Steps.{exchanged}
 use Rattle.link_watch.specs.declared.note.Note.TheVariants as Notes
 use Rattle.link_watch.specs.declared.side.Side.{Side}
 use Rattle.link_watch.specs.declared.side.Side.TheVariants.{A, B}
-use Rattle.link_wires.specs.Deliveries.{Delivered, Through, Undetected as Unsent, told_of}
+use Rattle.link_wires.specs.Deliveries.{Delivered, Through, Unsent, told_of}
 use Rattle.link_wires.specs.Wires.{bursts, answers}
 use Rattle.link_wires.specs.declared.moves.Move.{Move}
 use Rattle.link_wires.specs.declared.moves.Move.TheVariants.{Held, Freed}
@@ -21,12 +21,12 @@ use Rattle.fabric_model.specs.Network.{same_port}
 use Rattle.fabric_model.specs.Steps.{Free, Linked, AtNode, ByDevice}
 use Rattle.fabric_model.proofs.Peers.{port_is, same_port-refl}
 use Rattle.fabric_trace.specs.Lines.{Sent, Got, Fired, TraceLine, Begun, Stepped, Signed, Lacked, Ended, Undetected}
-use Rattle.fabric_trace.specs.Known.{Seen, port_at, kept_of, link_at}
+use Rattle.fabric_trace.specs.Known.{Seen, port_seen, kept_of, link_at}
 use Rattle.fabric_trace.specs.Fold.{says, taken_from}
 use Rattle.fabric_trace.specs.Blocks.{port_at_side, lines_of}
 use Rattle.fabric_trace.specs.Holds.{got}
 use Rattle.fabric_trace.specs.Links.{IsLink}
-use Rattle.fabric_trace.specs.Parts.{Part, Begins, Lacks, Ends, Names, Steps, Serves, Turns, Tells, Delivers, Fires, Made, Done, Then}
+use Rattle.fabric_trace.specs.Parts.{Part, PartBegins, PartLacks, PartEnds, PartNames, PartSteps, PartServes, PartTurns, PartTells, PartDelivers, PartFires, Made, Done, Then}
 use Rattle.fabric_trace.proofs.Cuts.{taken_again}
 use Rattle.fabric_trace.proofs.Folding.{lines-append}
 use Rattle.fabric_trace.proofs.FreesStill.{frees_all, IsFreed}
@@ -166,14 +166,14 @@ got_raised before s p q c chars d none link is read freed h = by_port (same_port
         let zeroth = freed_is c before 0 in
         let count : j ≡ frees_all c before = omega (arith, zeroth) in
         let got_is : heard ≡ got c before = heard_is c before [] in
-        let place : (s.halves c).place ≡ place_after start heard =
-        read.place none ∙ ap (place_after start) (sym got_is) in
+        let place : (s.halves c).place ≡ place_after place_start heard =
+        read.place none ∙ ap (place_after place_start) (sym got_is) in
         let raises =
         subst (λ x. HaveRaised j (raised_all 0 (says heard)) (said (s.halves x).place chars)
         (taken_from s p x chars)) (sym one)
-        (delivered_raises j (raised_all 0 (says heard)) (port_at s q) (port_at s p)
+        (delivered_raises j (raised_all 0 (says heard)) (port_seen s q) (port_seen s p)
         (kept_of (s.wires q)) (kept_of (s.wires p)) chars link.sound.port_b link.sound.port_a
-        (exchanged (port_at s p) (port_at s q) (kept_of (s.wires p)) (kept_of (s.wires q))
+        (exchanged (port_seen s p) (port_seen s q) (kept_of (s.wires p)) (kept_of (s.wires q))
         link.sound.sound)
         (ap (λ x. oldest_of (s.halves x).output) (sym one) ∙ freed.oldest none
         ∙ ap (λ k. k % 32) (sym count)) h.low) in
@@ -185,7 +185,7 @@ got_raised before s p q c chars d none link is read freed h = by_port (same_port
         let after : raised_all 0 (says (heard ++ chars))
         ≡ raised_all (raised_all 0 (says heard)) (said (s.halves c).place chars) =
         ap (raised_all 0) (says_more heard chars)
-        ∙ raised-append (says heard) (said (place_after start heard) chars) 0
+        ∙ raised-append (says heard) (said (place_after place_start heard) chars) 0
         ∙ ap (λ (x : Place). raised_all (raised_all 0 (says heard)) (said x chars)) (sym place) in
         let low : j + freed_count (told_of d).moves ≤ raised_all 0 (says (heard ++ chars)) =
         omega (arith, most, after) in
@@ -236,7 +236,7 @@ delivery_raised before s p q c n none link has read freed h =
     (lines-append p q (map (move_note B) told.moves) (sent_notes B sent)) in
     let one =
     got_raised before s p q c (take told.count chars) d none link
-    (taken_again (port_at s q) (kept_of (s.wires p)) chars d refl) read freed h in
+    (taken_again (port_seen s q) (kept_of (s.wires p)) chars d refl) read freed h in
     let two =
     still_raised c (before ++ first) (lines_of p q (sent_notes B sent)) (sent_still p q B sent)
     one in
@@ -252,36 +252,36 @@ part_raised : {s : Seen} {lines : List TraceLine} (before : List TraceLine) (c :
     → Part s lines → IsRead before s c → IsFreed before s c → IsRaised before c
     → IsRaised (before ++ lines) c
 unfolding AreStill
-part_raised {s} before c good (Begins line is) read freed h =
+part_raised {s} before c good (PartBegins line is) read freed h =
     subst (λ (x : List TraceLine). IsRaised (before ++ x) c) (sym is)
     (still_raised c before (Begun line ∷ []) tt h)
-part_raised {s} before c good (Lacks lack is) read freed h =
+part_raised {s} before c good (PartLacks lack is) read freed h =
     subst (λ (x : List TraceLine). IsRaised (before ++ x) c) (sym is)
     (still_raised c before (Lacked lack ∷ []) tt h)
-part_raised {s} before c good (Ends is) read freed h =
+part_raised {s} before c good (PartEnds is) read freed h =
     subst (λ (x : List TraceLine). IsRaised (before ++ x) c) (sym is)
     (still_raised c before (Ended ∷ []) tt h)
-part_raised {s} before c good (Names number q e found is) read freed h =
+part_raised {s} before c good (PartNames number q e found is) read freed h =
     subst (λ (x : List TraceLine). IsRaised (before ++ x) c) (sym is)
     (still_raised c before (Undetected number q e ∷ []) tt h)
-part_raised {s} before c good (Steps step needs few is) read freed h =
+part_raised {s} before c good (PartSteps step needs few is) read freed h =
     subst (λ (x : List TraceLine). IsRaised (before ++ x) c) (sym is)
     (still_raised c before (Stepped (AtNode step) ∷ []) tt h)
-part_raised {s} before c good (Serves step needs is) read freed h =
+part_raised {s} before c good (PartServes step needs is) read freed h =
     subst (λ (x : List TraceLine). IsRaised (before ++ x) c) (sym is)
     (still_raised c before (Stepped (ByDevice step) ∷ []) tt h)
-part_raised {s} before c good (Turns p q n peer none is) read freed h =
+part_raised {s} before c good (PartTurns p q n peer none is) read freed h =
     subst (λ (x : List TraceLine). IsRaised (before ++ x) c) (sym is)
     (still_raised c before (lines_of p q (pump_notes A n (link_at s p q)))
     (sent_still p q A (bursts n (link_at s p q).a).chars) h)
-part_raised {s} before c good (Tells p q peer none is) read freed h =
+part_raised {s} before c good (PartTells p q peer none is) read freed h =
     subst (λ (x : List TraceLine). IsRaised (before ++ x) c) (sym is)
     (still_raised c before (lines_of p q (tell_notes A (link_at s p q)))
     (sent_still p q A (tell_sends (link_at s p q).a).chars) h)
-part_raised {s} before c good (Delivers p q n peer none has is) read freed h =
+part_raised {s} before c good (PartDelivers p q n peer none has is) read freed h =
     subst (λ (x : List TraceLine). IsRaised (before ++ x) c) (sym is)
     (delivery_raised before s p q c n none (good.links none p q peer) has read freed h)
-part_raised {s} before c good (Fires p q peer none silent is) read freed h =
+part_raised {s} before c good (PartFires p q peer none silent is) read freed h =
     subst (λ (x : List TraceLine). IsRaised (before ++ x) c) (sym is)
     (still_raised c before (lines_of p q (time_out_notes A (link_at s p q)))
     (fired_still p q (is_silent (link_at s p q))) h)

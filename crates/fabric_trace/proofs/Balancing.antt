@@ -1,6 +1,6 @@
 -- What a trace took stands at ports of nodes, has left or was dropped.
 use Rattle.std.proofs.Common.{◌≡◌, ℕ, ◌+◌, List}
-use Rattle.fabric_script.specs.Scripts.{Passes}
+use Rattle.fabric_script.specs.Scripts.{ScriptPasses}
 use Rattle.fabric_script.specs.declared.lines.Numbered.{Numbered}
 use Rattle.fabric_model.specs.Laws.Nodes.{StandAtNodes, all_ports}
 use Rattle.fabric_model.specs.Laws.Stock.{stock, takes_by, leaves_by, drops_by, steps_in}
@@ -14,7 +14,8 @@ use Rattle.fabric_trace.proofs.Joins.{scripts_join}
 use Rattle.fabric_trace.proofs.Starting.{set_up_bare, legal, made}
 
 pub runs_stand : (names : List (List ℕ)) (script : List Numbered) (lines : List TraceLine)
-    → Passes names script → Runs script lines → StandAtNodes (seen (start script) lines).network
+    → ScriptPasses names script → Runs script lines
+    → StandAtNodes (seen (start script) lines).network
 runs_stand names script lines passes runs =
     let may = may_set_up names script passes in
     let is = set_up_bare script may in
@@ -23,7 +24,7 @@ runs_stand names script lines passes runs =
     (legal (set_up_all bare script) lines is (made script lines may runs))
 
 pub runs_balance : (names : List (List ℕ)) (script : List Numbered) (lines : List TraceLine)
-    → Passes names script → Runs script lines
+    → ScriptPasses names script → Runs script lines
     → steps_in takes_by (steps_of lines) ≡ steps_in leaves_by (steps_of lines) + steps_in drops_by
     (steps_of lines) + stock (seen (start script) lines).network
     (all_ports (seen (start script) lines).network.registers)

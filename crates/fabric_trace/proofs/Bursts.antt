@@ -23,7 +23,7 @@ use Rattle.link_port.proofs.SentReads.{none_read, status_read, standing_range}
 use Rattle.link_rest.specs.Led.{IsAnswer, AreAnswers, chars_of, controls}
 use Rattle.link_rest.proofs.AnswerLaws.{answers_read}
 use Rattle.link_sound.proofs.PortBounds.{turn_port}
-use Rattle.link_wires.specs.Wires.{turned, bursts, answers}
+use Rattle.link_wires.specs.Wires.{port_turned, bursts, answers}
 use Rattle.fabric_trace.specs.Fold.{says, sends, event_leaves, symbol_leaves}
 
 pub sends-append : (output : out.Output) (xs ys : List Event)
@@ -116,8 +116,8 @@ turn_leaves port is =
 
 -- what the turns send leaves the output half as the turns do
 pub turns_leave : (n : ℕ) (port : PortState) → IsPort port
-    → sends port.output (bursts n port).sent ≡ (turned n port).output
-unfolding turned bursts
+    → sends port.output (bursts n port).sent ≡ (port_turned n port).output
+unfolding port_turned bursts
 turns_leave zero port is = sends-none port.output
 turns_leave (suc n) port is =
     sends-append port.output (turn_sends port).sent (bursts n (turns_to port)).sent

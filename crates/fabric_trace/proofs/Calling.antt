@@ -7,7 +7,7 @@ use Rattle.link_port.specs.Ports.{PortState}
 use Rattle.link_port.specs.Turns.{timed_out, tell_sends, standing, symbol_burst, no_burst}
 use Rattle.link_watch.specs.declared.note.Note.TheVariants as Notes
 use Rattle.link_watch.specs.declared.side.Side.TheVariants.{A}
-use Rattle.link_wires.specs.Wires.{turned, bursts}
+use Rattle.link_wires.specs.Wires.{port_turned, bursts}
 use Rattle.link_machine.specs.States.{LinkState, at_end}
 use Rattle.link_machine.specs.Calls.{sent_notes, pumped, pump_notes, is_silent, first_fires, timed_out_at, time_out_notes, told_from, tell_notes}
 use Rattle.link_machine.specs.Queues.{queues_of}
@@ -20,8 +20,8 @@ use Rattle.fabric_model.proofs.Peers.{ArePeers, apart_back}
 use Rattle.link_rest.proofs.Bursting.{turned_is, turns_read, tell_read}
 use Rattle.rio_chars.specs.declared.chars.Char.{Char}
 use Rattle.fabric_trace.specs.Views.{half_of}
-use Rattle.fabric_trace.specs.Known.{Seen, Found, with_wire, port_at, kept_of, wire_state, link_at}
-use Rattle.fabric_trace.specs.Fold.{says, sends, silenced, fired_from, seen}
+use Rattle.fabric_trace.specs.Known.{Seen, Found, with_wire, port_seen, kept_of, wire_state, link_at}
+use Rattle.fabric_trace.specs.Fold.{says, sends, wire_silenced, fired_from, seen}
 use Rattle.fabric_trace.specs.Blocks.{lines_of}
 use Rattle.fabric_trace.specs.Links.{queues_in, IsKept, IsLink}
 use Rattle.fabric_trace.proofs.Bursts.{turns_leave}
@@ -93,7 +93,7 @@ turns_call s p q n peers is =
     let t = seen s (lines_of p q (sent_notes A chars)) in
     let sent = sent_is s p q A chars in
     let read = turns_read n l.a is.sound.port_a in
-    let output : sends l.a.output (says chars) ≡ (turned n l.a).output =
+    let output : sends l.a.output (says chars) ≡ (port_turned n l.a).output =
     ap (sends l.a.output) read.says ∙ turns_leave n l.a is.sound.port_a in
     let back = apart_back p q peers.apart in
     let m = pumped A n l in
@@ -162,11 +162,12 @@ fired_call s p q peers is silent =
     let l = link_at s p q in
     let t = fired_from s (Some q) p in
     let back = apart_back p q peers.apart in
-    let one = with_wire s.wires p (silenced (s.wires p)) in
-    let wire_p : t.wires p ≡ silenced (s.wires p) =
-    wire_other one q (silenced (s.wires q)) p peers.apart
-    ∙ wire_own s.wires p (silenced (s.wires p)) in
-    let wire_q : t.wires q ≡ silenced (s.wires q) = wire_own one q (silenced (s.wires q)) in
+    let one = with_wire s.wires p (wire_silenced (s.wires p)) in
+    let wire_p : t.wires p ≡ wire_silenced (s.wires p) =
+    wire_other one q (wire_silenced (s.wires q)) p peers.apart
+    ∙ wire_own s.wires p (wire_silenced (s.wires p)) in
+    let wire_q : t.wires q ≡ wire_silenced (s.wires q) = wire_own one q (wire_silenced (s.wires q))
+    in
     let fires : timed_out_at A l ≡ first_fires l =
     ap (λ b. if b then at_end A first_fires l else l) silent in
     let sound = subst IsSoundLink fires (fired_keeps A l is.sound) in
@@ -174,17 +175,17 @@ fired_call s p q peers is silent =
       queues = is.stands ∙ sym (fire_moves_none A l) ∙ ap queues_of fires;
       tells_a = refl;
       tells_b = refl;
-      half_a = half_own s.halves p (half_of (timed_out (port_at s p)));
-      half_b = half_other s.halves p (half_of (timed_out (port_at s p))) q back;
+      half_a = half_own s.halves p (half_of (timed_out (port_seen s p)));
+      half_b = half_other s.halves p (half_of (timed_out (port_seen s p))) q back;
       wire_a = ap wire_state wire_p;
       wire_b = ap wire_state wire_q;
     } in
     record {
       legal = refl;
       elsewhere = elsewhere_here s.network p q;
-      wires = λ c x y. wire_other one q (silenced (s.wires q)) c y
-          ∙ wire_other s.wires p (silenced (s.wires p)) c x;
-      halves = λ c x y. half_other s.halves p (half_of (timed_out (port_at s p))) c x;
+      wires = λ c x y. wire_other one q (wire_silenced (s.wires q)) c y
+          ∙ wire_other s.wires p (wire_silenced (s.wires p)) c x;
+      halves = λ c x y. half_other s.halves p (half_of (timed_out (port_seen s p))) c x;
       unfaithful = refl;
       link = λ none. is_link t p q (first_fires l) sound shows (subst IsKept (sym wire_p) (record {
         left = [];

@@ -18,24 +18,24 @@ use Rattle.link_port.specs.States.{expected_of}
 use Rattle.link_port.specs.Steps.{acts, is_acted}
 use Rattle.link_port.specs.Prelude.{buffer_status}
 use Rattle.link_sound.proofs.Receiving.{next_expected}
-use Rattle.link_wires.specs.Deliveries.{Flow, Delivered, Through, Undetected as Unsent, begun, moves_of, done, met, comes, goes_on, come, ended, delivered}
+use Rattle.link_wires.specs.Deliveries.{Flow, Delivered, Through, Unsent, begun, moves_of, done, met, comes, goes_on, come, ended, delivered}
 use Rattle.link_wires.specs.Kept.{behind, IsSubsequence}
-use Rattle.link_wires.specs.Kept.IsSubsequence.{Ends, Takes, Skips}
+use Rattle.link_wires.specs.Kept.IsSubsequence.{EndsWithin, TakesWithin, SkipsWithin}
 use Rattle.link_wires.specs.declared.moves.Move.{Move}
 use Rattle.link_wires.specs.declared.moves.Move.TheVariants.{Held, Freed}
-use Rattle.fabric_trace.specs.Holds.{numbered}
+use Rattle.fabric_trace.specs.Holds.{numbered_packets}
 
 -- ---- subsequences and numbers
 
 pub none_within : (ys : List Event) → IsSubsequence [] ys
-none_within [] = Ends
-none_within (y ∷ ys) = Skips y (none_within ys)
+none_within [] = EndsWithin
+none_within (y ∷ ys) = SkipsWithin y (none_within ys)
 
 pub within-append : {xs ys us vs : List Event} → IsSubsequence xs ys → IsSubsequence us vs
     → IsSubsequence (xs ++ us) (ys ++ vs)
-within-append Ends more = more
-within-append (Takes e rest) more = Takes e (within-append rest more)
-within-append (Skips y rest) more = Skips y (within-append rest more)
+within-append EndsWithin more = more
+within-append (TakesWithin e rest) more = TakesWithin e (within-append rest more)
+within-append (SkipsWithin y rest) more = SkipsWithin y (within-append rest more)
 
 pub within_more : {xs ys : List Event} (more : List Event) → IsSubsequence xs ys
     → IsSubsequence xs (ys ++ more)
@@ -44,8 +44,9 @@ within_more {xs} {ys} more within =
     (within-append within (none_within more))
 
 pub numbered-append : (n m : ℕ) (ps qs : List (List ℕ)) → m ≡ n + length ps
-    → numbered n (ps ++ qs) ≡ numbered n ps ++ numbered m qs
-numbered-append n m [] qs is = let same : n ≡ m = omega (arith, is) in ap (λ k. numbered k qs) same
+    → numbered_packets n (ps ++ qs) ≡ numbered_packets n ps ++ numbered_packets m qs
+numbered-append n m [] qs is =
+    let same : n ≡ m = omega (arith, is) in ap (λ k. numbered_packets k qs) same
 numbered-append n m (p ∷ ps) qs is =
     ap (λ (l : List Event). Pkt (n % 32) p ∷ l)
     (numbered-append (suc n) m ps qs (omega (arith, is)))
@@ -90,20 +91,20 @@ IsSame what input = expected_of (receives what input).state ≡ expected_of inpu
 symbol_same : (first second : Bool) (input : in_half.Input)
     → IsSame (if first then RestartFromRetry else (if second then LinkRequest else OtherStype1))
     input
-symbol_same true second (in_half.Input.Ok x) = refl
-symbol_same true second (in_half.Input.RetryStopped x) = refl
-symbol_same true second (in_half.Input.ErrorStopped x) = refl
-symbol_same false true (in_half.Input.Ok x) = refl
-symbol_same false true (in_half.Input.RetryStopped x) = refl
-symbol_same false true (in_half.Input.ErrorStopped x) = refl
-symbol_same false false (in_half.Input.Ok x) = refl
-symbol_same false false (in_half.Input.RetryStopped x) = refl
-symbol_same false false (in_half.Input.ErrorStopped x) = refl
+symbol_same true second (in_half.InputOk x) = refl
+symbol_same true second (in_half.InputRetryStopped x) = refl
+symbol_same true second (in_half.InputErrorStopped x) = refl
+symbol_same false true (in_half.InputOk x) = refl
+symbol_same false true (in_half.InputRetryStopped x) = refl
+symbol_same false true (in_half.InputErrorStopped x) = refl
+symbol_same false false (in_half.InputOk x) = refl
+symbol_same false false (in_half.InputRetryStopped x) = refl
+symbol_same false false (in_half.InputErrorStopped x) = refl
 
 damaged_same : (cause : ℕ) (input : in_half.Input) → IsSame (Damaged cause) input
-damaged_same cause (in_half.Input.Ok x) = refl
-damaged_same cause (in_half.Input.RetryStopped x) = refl
-damaged_same cause (in_half.Input.ErrorStopped x) = refl
+damaged_same cause (in_half.InputOk x) = refl
+damaged_same cause (in_half.InputRetryStopped x) = refl
+damaged_same cause (in_half.InputErrorStopped x) = refl
 
 -- what a packet does, by whether it is expected and has room
 abbrev Packet : Arrival → in_half.Input → ℕ → List ℕ → Type 0
@@ -116,9 +117,9 @@ Packet what input ack packet =
 
 unexpected : (room : Bool) (input : in_half.Input) (ack : ℕ) (packet : List ℕ)
     → Packet UnexpectedAck input ack packet
-unexpected room (in_half.Input.Ok x) ack packet = inl (refl, refl)
-unexpected room (in_half.Input.RetryStopped x) ack packet = inl (refl, refl)
-unexpected room (in_half.Input.ErrorStopped x) ack packet = inl (refl, refl)
+unexpected room (in_half.InputOk x) ack packet = inl (refl, refl)
+unexpected room (in_half.InputRetryStopped x) ack packet = inl (refl, refl)
+unexpected room (in_half.InputErrorStopped x) ack packet = inl (refl, refl)
 
 -- an expected packet
 abbrev wanted : Bool → ℕ → Arrival
@@ -126,13 +127,13 @@ wanted room buffers = if room then ExpectedWithRoom buffers else ExpectedWithout
 
 expected_comes : (room : Bool) (buffers : ℕ) (input : in_half.Input) (ack : ℕ) (packet : List ℕ)
     → ack ≡ expected_of input → Packet (wanted room buffers) input ack packet
-expected_comes true buffers (in_half.Input.Ok x) ack packet is =
+expected_comes true buffers (in_half.InputOk x) ack packet is =
     inr (packet, refl, ap (λ n. Pkt n packet) is, refl)
-expected_comes true buffers (in_half.Input.RetryStopped x) ack packet is = inl (refl, refl)
-expected_comes true buffers (in_half.Input.ErrorStopped x) ack packet is = inl (refl, refl)
-expected_comes false buffers (in_half.Input.Ok x) ack packet is = inl (refl, refl)
-expected_comes false buffers (in_half.Input.RetryStopped x) ack packet is = inl (refl, refl)
-expected_comes false buffers (in_half.Input.ErrorStopped x) ack packet is = inl (refl, refl)
+expected_comes true buffers (in_half.InputRetryStopped x) ack packet is = inl (refl, refl)
+expected_comes true buffers (in_half.InputErrorStopped x) ack packet is = inl (refl, refl)
+expected_comes false buffers (in_half.InputOk x) ack packet is = inl (refl, refl)
+expected_comes false buffers (in_half.InputRetryStopped x) ack packet is = inl (refl, refl)
+expected_comes false buffers (in_half.InputErrorStopped x) ack packet is = inl (refl, refl)
 
 packet_comes : (room : Bool) (buffers : ℕ) (input : in_half.Input) (ack : ℕ) (packet : List ℕ)
     → Packet (packet_arrival (expected_of input) ack room buffers) input ack packet
@@ -161,11 +162,11 @@ event_held port (Bad cause) = inl (refl, damaged_same (number_of cause) port.inp
 -- expected
 pub record HasCome (n : ℕ) (said : List Event) (flow : Flow) : Type 0 where
   pub expected : expected_of flow.port.input ≡ (n + length (held_in flow.told.moves)) % 32
-  pub within : IsSubsequence (numbered n (held_in flow.told.moves)) said
+  pub within : IsSubsequence (numbered_packets n (held_in flow.told.moves)) said
 
 abbrev pub HaveCome : ℕ → List Event → Delivered → Type 0
 HaveCome n said (Through flow) = HasCome n said flow
-HaveCome n said (Unsent told e) = IsSubsequence (numbered n (held_in told.moves)) said
+HaveCome n said (Unsent told e) = IsSubsequence (numbered_packets n (held_in told.moves)) said
 
 done_held : (e : Event) (acted kept : List Event) (flow : Flow)
     → held_in (done e acted kept flow).told.moves ≡ held_in flow.told.moves
@@ -187,7 +188,8 @@ done_comes n said e acted kept flow h = by_held (event_held flow.port e)
         ∙ append-nil (held_in flow.told.moves) in
         record {
           expected = same ∙ h.expected ∙ ap (λ (l : List (List ℕ)). (n + length l) % 32) (sym held);
-          within = subst (λ (l : List (List ℕ)). IsSubsequence (numbered n l) (said ++ e ∷ []))
+          within = subst
+              (λ (l : List (List ℕ)). IsSubsequence (numbered_packets n l) (said ++ e ∷ []))
               (sym held) (within_more (e ∷ []) h.within);
         }
     by_held (inr (packet, some, is, next)) =
@@ -204,12 +206,13 @@ done_comes n said e acted kept flow h = by_held (event_held flow.port e)
         ap (λ k. Pkt k packet) (sym h.expected) ∙ sym is in
         record {
           expected = next ∙ number ∙ ap (λ (l : List (List ℕ)). (n + length l) % 32) (sym held);
-          within = subst (λ (l : List (List ℕ)). IsSubsequence (numbered n l) (said ++ e ∷ []))
+          within = subst
+              (λ (l : List (List ℕ)). IsSubsequence (numbered_packets n l) (said ++ e ∷ []))
               (sym held)
               (subst (λ (l : List Event). IsSubsequence l (said ++ e ∷ []))
               (sym (numbered-append n (n + length ps) ps (packet ∷ []) refl))
               (within-append h.within (subst (λ (x : Event). IsSubsequence (x ∷ []) (e ∷ []))
-              (sym last) (Takes e Ends))));
+              (sym last) (TakesWithin e EndsWithin))));
         }
 
 met_comes : (n : ℕ) (said : List Event) (at : ℕ) (e : Event) (kept : Option (List Event))
@@ -263,5 +266,5 @@ delivered_comes n port kept chars is =
     (come (run port.place 0 chars) (begun port kept))
     (come_comes n (run port.place 0 chars) [] (begun port kept) (record {
       expected = is ∙ none;
-      within = Ends;
+      within = EndsWithin;
     }))

@@ -6,12 +6,12 @@ use Rattle.rio_symbols.specs.Fields.{Fields}
 use Rattle.link_model.specs.declared.event.Event.{Event}
 use Rattle.link_model.specs.Said.{said}
 use Rattle.link_port.specs.Ports.{PortState, IsPort}
-use Rattle.link_rest.specs.Led.{AreAnswers, answered}
+use Rattle.link_rest.specs.Led.{AreAnswers, port_answers}
 use Rattle.link_rest.proofs.AnswerLaws.{port_narrow, replies_answer}
 use Rattle.link_rest.proofs.Lines.{OnFlow, IsFed, by_tables}
 use Rattle.link_watch.specs.declared.note.Note.{Note}
 use Rattle.link_watch.specs.declared.side.Side.TheVariants.{A, B}
-use Rattle.link_wires.specs.Deliveries.{Told, Flow, Delivered, Through, Undetected as Unsent, delivered, told_of, undetected}
+use Rattle.link_wires.specs.Deliveries.{Told, Flow, Delivered, Through, Unsent, delivered, told_of, undetected}
 use Rattle.link_wires.specs.Wires.{answers}
 use Rattle.link_wires.specs.Kept.{behind_all}
 use Rattle.link_wires.proofs.ActedLaws.{IsFound, delivered_found}
@@ -28,7 +28,7 @@ use Rattle.fabric_model.specs.Steps.{Step, after_all, LegalFrom}
 use Rattle.fabric_model.proofs.Peers.{ArePeers, apart_back}
 use Rattle.fabric_trace.specs.Lines.{Got, steps_of}
 use Rattle.fabric_trace.specs.Views.{Half, half_of}
-use Rattle.fabric_trace.specs.Known.{Wire, Seen, port_at, kept_of, wire_state, link_at}
+use Rattle.fabric_trace.specs.Known.{Wire, Seen, port_seen, kept_of, wire_state, link_at}
 use Rattle.fabric_trace.specs.Fold.{says, sends, wire_sent, half_sent, taken_from, half_after, found_at, got_from, signed, seen}
 use Rattle.fabric_trace.specs.Blocks.{lines_of}
 use Rattle.fabric_trace.specs.Links.{queues_in, IsKept, IsLink}
@@ -117,7 +117,7 @@ told_seen s p q chars told d peers is =
 -- what a port answers are answers
 flow_answers : (port : PortState) (kept : List Event) (chars : List Char) (flow : Flow)
     → IsPort port → delivered port kept chars ≡ Through flow → AreAnswers flow.told.replies
-unfolding answered
+unfolding port_answers
 flow_answers port kept chars flow is through =
     let fed = subst (OnFlow (IsFed port chars)) through (by_tables port kept chars) in
     subst AreAnswers (sym fed.1) (replies_answer port (said port.place chars) (port_narrow port is))
@@ -135,17 +135,18 @@ taken_link n d l = turned_round (after_delivery n d (turned_round l))
 
 through_link : (s t : Seen) (p q : PortRef) (n : ℕ) (chars : List Char) (flow : Flow)
     → IsLink s p q → t.network.tells ≡ s.network.tells → length chars ≡ n
-    → delivered (port_at s q) (kept_of (s.wires p)) chars ≡ Through flow
+    → delivered (port_seen s q) (kept_of (s.wires p)) chars ≡ Through flow
     → IsTaken s t p q chars (answers flow.told.replies).chars (Through flow)
     → IsSoundLink (taken_link n (Through flow) (link_at s p q))
     → queues_in t.network p q ≡ queues_of (taken_link n (Through flow) (link_at s p q))
     → IsLink t p q × (link_at t p q ≡ taken_link n (Through flow) (link_at s p q))
 through_link s t p q n chars flow is tells count through taken sound queues =
-    let are = flow_answers (port_at s q) (kept_of (s.wires p)) chars flow is.sound.port_b through in
+    let are = flow_answers (port_seen s q) (kept_of (s.wires p)) chars flow is.sound.port_b through
+    in
     let replies = (answers flow.told.replies).chars in
     let found : behind_all flow.told.acted (kept_of (s.wires p)) ≡ Some flow.kept =
     subst (IsFound (kept_of (s.wires p))) through
-    (delivered_found (port_at s q) (kept_of (s.wires p)) chars) in
+    (delivered_found (port_seen s q) (kept_of (s.wires p)) chars) in
     let kept_p =
     acted_kept (s.wires p) (drop (length chars) (s.wires p).chars) flow.told.acted flow.kept
     is.kept_a found in
@@ -157,7 +158,7 @@ through_link s t p q n chars flow is tells count through taken sound queues =
       queues = queues;
       tells_a = ap (λ (f : PortRef → Bool). f p) tells;
       tells_b = ap (λ (f : PortRef → Bool). f q) tells
-          ∙ sym (through_tells (port_at s q) (kept_of (s.wires p)) chars flow through);
+          ∙ sym (through_tells (port_seen s q) (kept_of (s.wires p)) chars flow through);
       half_a = taken.half_p;
       half_b = taken.half_q ∙ answered_half (half_of flow.port) flow.told.replies are;
       wire_a = ap wire_state taken.wire_p ∙ (λ i. record {
@@ -180,17 +181,17 @@ through_link s t p q n chars flow is tells count through taken sound queues =
 
 -- steps lead a link's queues, and the lines say them
 led_call : (s : Seen) (p q : PortRef) (notes : List Note) (end : Queues)
-    → AreLed s.network (net_steps p q (link.steps_of notes)) p q end
+    → AreLed s.network (net_steps p q (link.note_steps notes)) p q end
     → LegalFrom s.network (steps_of (lines_of p q notes)) (seen s (lines_of p q notes)).network
     × (queues_in (seen s (lines_of p q notes)).network p q ≡ end)
     × AreElsewhere s.network (seen s (lines_of p q notes)).network p q
 led_call s p q notes end led =
     let lines = lines_of p q notes in
     let steps = steps_said p q notes in
-    let net : (seen s lines).network ≡ after_all s.network (net_steps p q (link.steps_of notes)) =
+    let net : (seen s lines).network ≡ after_all s.network (net_steps p q (link.note_steps notes)) =
     network_is s lines ∙ ap (after_all s.network) steps in (
       subst (λ (x : List Step). LegalFrom s.network x (seen s lines).network) (sym steps)
-          (subst (LegalFrom s.network (net_steps p q (link.steps_of notes))) (sym net) led.legal),
+          (subst (LegalFrom s.network (net_steps p q (link.note_steps notes))) (sym net) led.legal),
       ap (λ (x : Network). queues_in x p q) net ∙ led.queues,
       subst (λ (x : Network). AreElsewhere s.network x p q) (sym net) led.elsewhere,
     )
@@ -213,7 +214,7 @@ by_delivery s p q n (Through flow) peers is has through taken =
     let chars = take n (s.wires p).chars in
     let front = take flow.told.count chars in
     let count = front_count (s.wires p).chars n has in
-    let all = through_count (port_at s q) (kept_of (s.wires p)) chars flow through in
+    let all = through_count (port_seen s q) (kept_of (s.wires p)) chars flow through in
     let length_is : length front ≡ n =
     (let is = length-take flow.told.count chars in omega (arith, count, all, is)) in
     let link : delivered_from A n l ≡ taken_link n (Through flow) l =
@@ -223,8 +224,8 @@ by_delivery s p q n (Through flow) peers is has through taken =
     let led =
     led_call s p q (delivery_notes A n l) (queues_of (delivered_from A n l))
     (walks_led walks s.network p q (sym is.stands) peers) in
-    let again : delivered (port_at s q) (kept_of (s.wires p)) front ≡ Through flow =
-    taken_again (port_at s q) (kept_of (s.wires p)) chars (Through flow) through in
+    let again : delivered (port_seen s q) (kept_of (s.wires p)) front ≡ Through flow =
+    taken_again (port_seen s q) (kept_of (s.wires p)) chars (Through flow) through in
     let lines = lines_of p q (delivery_notes A n l) in
     let done =
     through_link s (seen s lines) p q n front flow is (lines_tell s lines) length_is again taken
@@ -271,7 +272,7 @@ delivers_call s p q n peers is has =
     ap (λ b. if b then told_notes B chars (told_of d) else []) has in
     let taken =
     told_seen s p q chars (told_of d) d peers
-    (taken_again (port_at s q) (kept_of (s.wires p)) chars d refl) in
+    (taken_again (port_seen s q) (kept_of (s.wires p)) chars d refl) in
     by_delivery s p q n d peers is has refl
     (subst (λ (x : List Note). IsTaken s (seen s (lines_of p q x)) p q
     (take (told_of d).count chars) (answers (told_of d).replies).chars d) (sym notes) taken)

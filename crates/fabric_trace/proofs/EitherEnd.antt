@@ -6,11 +6,11 @@ use Rattle.link_watch.specs.declared.note.Note.{Note}
 use Rattle.link_watch.specs.declared.note.Note.TheVariants as Notes
 use Rattle.link_watch.specs.declared.side.Side.{Side}
 use Rattle.link_watch.specs.declared.side.Side.TheVariants.{A, B}
-use Rattle.link_wires.specs.Deliveries.{Delivered, Through, Undetected as Unsent}
+use Rattle.link_wires.specs.Deliveries.{Delivered, Through, Unsent}
 use Rattle.link_wires.specs.Wires.{bursts}
 use Rattle.link_machine.specs.States.{LinkState, turned_round}
 use Rattle.link_machine.specs.Calls.{first_takes, has_chars, delivery_from, has_none, is_silent, first_fires, time_out_notes}
-use Rattle.link_rest.specs.Acts.{Act, Pump as PumpAct, Tell as TellAct, Deliver as DeliverAct, Fire, Reached, At, Found as FoundAt, reached_by, after, goes, act_notes, acts_notes}
+use Rattle.link_rest.specs.Acts.{Act, Pump as PumpAct, Tell as TellAct, Deliver as DeliverAct, Fire, Reached, At, FoundAt, reached_by, after_act, goes, act_notes, acts_notes}
 use Rattle.link_watch.specs.Sides.{other_side}
 use Rattle.fabric_script.specs.declared.ports.PortRef.{PortRef}
 use Rattle.fabric_model.proofs.Peers.{ArePeers}
@@ -76,7 +76,7 @@ delivered_round l (Through flow) = refl
 delivered_round l (Unsent told e) = refl
 
 deliver_round : (n : ℕ) (l : LinkState)
-    → after (DeliverAct B n) l ≡ round (after (DeliverAct A n) (turned_round l))
+    → after_act (DeliverAct B n) l ≡ round (after_act (DeliverAct A n) (turned_round l))
 deliver_round n l =
     elim (has_chars B n l) as (λ x. (if x then reached_by A (if x then first_takes n l else l)
     (delivery_from B n l) else At l)
@@ -86,7 +86,7 @@ deliver_round n l =
       | false ↦ refl
     ]
 
-fire_round : (l : LinkState) → after (Fire B) l ≡ round (after (Fire A) (turned_round l))
+fire_round : (l : LinkState) → after_act (Fire B) l ≡ round (after_act (Fire A) (turned_round l))
 fire_round l =
     elim (has_none l.wire_a.chars) as (λ x. At
     (if x && has_none l.wire_b.chars then turned_round (first_fires (turned_round l)) else l)
@@ -134,7 +134,7 @@ fired_round a b l =
 
 pub act_reaches : (s : Seen) (a b : PortRef) (act : Act) → IsGood s → s.unfaithful ≡ None
     → ArePeers s.network.links a b
-    → Reaches s a b (lines_of a b (act_notes act (link_at s a b))) (after act (link_at s a b))
+    → Reaches s a b (lines_of a b (act_notes act (link_at s a b))) (after_act act (link_at s a b))
 act_reaches s a b (PumpAct A n) good none peers = pump_reaches s a b n good none peers
 act_reaches s a b (PumpAct B n) good none peers =
     reaches_round s a b _ _ _ _ (sent_round a b (bursts n (link_at s b a).a).chars) refl
@@ -162,7 +162,7 @@ unfolding acts_notes
 none_notes reached = refl
 
 more_notes : (l : LinkState) (act : Act) (acts : List Act)
-    → acts_notes (At l) (act ∷ acts) ≡ act_notes act l ++ acts_notes (after act l) acts
+    → acts_notes (At l) (act ∷ acts) ≡ act_notes act l ++ acts_notes (after_act act l) acts
 unfolding acts_notes
 more_notes l act acts = refl
 
@@ -177,7 +177,7 @@ unfolding goes
 none_goes reached = refl
 
 more_goes : (l : LinkState) (act : Act) (acts : List Act)
-    → goes (At l) (act ∷ acts) ≡ goes (after act l) acts
+    → goes (At l) (act ∷ acts) ≡ goes (after_act act l) acts
 unfolding goes
 more_goes l act acts = refl
 
@@ -236,7 +236,7 @@ acts_reach (act ∷ acts) s a b good none peers =
     let there = subst (λ (x : List (PortRef × PortRef)). ArePeers x a b) (sym links) peers in
     reaches_by s a b _ _ _ _
     (ap (lines_of a b) (more_notes l act acts)
-    ∙ lines-append a b (act_notes act l) (acts_notes (after act l) acts)) (more_goes l act acts)
-    (reaches_more s a b (lines_of a b (act_notes act l)) (after act l) acts one
+    ∙ lines-append a b (act_notes act l) (acts_notes (after_act act l) acts)) (more_goes l act acts)
+    (reaches_more s a b (lines_of a b (act_notes act l)) (after_act act l) acts one
     (λ m still is. subst (λ (x : LinkState). Reaches t a b (lines_of a b (acts_notes (At x) acts))
     (goes (At x) acts)) is (acts_reach acts t a b kept.good still there)))

@@ -6,7 +6,7 @@ use Rattle.fabric_script.specs.declared.lines.Numbered.{Numbered}
 use Rattle.fabric_trace.specs.Lines.{TraceLine, Begun, Ended, Undetected}
 use Rattle.fabric_trace.specs.Known.{Found, Seen}
 use Rattle.fabric_trace.specs.Fold.{seen}
-use Rattle.fabric_trace.specs.Ends.{EndsAs, Whole, Named}
+use Rattle.fabric_trace.specs.Ends.{EndsAs, Whole, EndsNaming}
 use Rattle.fabric_trace.specs.Rounds.{Follows}
 use Rattle.fabric_trace.specs.Runs.{BlockThen, Names, RunsFrom}
 use Rattle.fabric_trace.proofs.Folding.{seen-append}
@@ -20,8 +20,8 @@ ends_behind s first rest lines is (Whole front ends none) =
     (is ∙ ap (λ (l : List TraceLine). first ++ l) ends
     ∙ sym (append_assoc first front (Ended ∷ [])))
     (ap (λ (x : Seen). x.unfaithful) (seen-append s first front) ∙ none)
-ends_behind s first rest lines is (Named front number found ends some) =
-    Named (first ++ front) number found
+ends_behind s first rest lines is (EndsNaming front number found ends some) =
+    EndsNaming (first ++ front) number found
     (is ∙ ap (λ (l : List TraceLine). first ++ l) ends
     ∙ sym (append_assoc first front (Undetected number found.port found.event ∷ [])))
     (ap (λ (x : Seen). x.unfaithful) (seen-append s first front) ∙ some)
@@ -31,7 +31,7 @@ follows_end : (t : Seen) (found : Option Found) (More : List TraceLine → Type 
     → (t.unfaithful ≡ None → More rest → EndsAs t rest) → Follows found More (Names number) rest
     → EndsAs t rest
 follows_end t None More number rest is more follows = more is follows
-follows_end t (Some found) More number rest is more follows = Named [] number found follows is
+follows_end t (Some found) More number rest is more follows = EndsNaming [] number found follows is
 
 event_ends : (s : Seen) (line : Line) (number : ℕ) (More : Seen → List TraceLine → Type 0)
     (lines : List TraceLine)

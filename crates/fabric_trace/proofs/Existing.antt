@@ -23,7 +23,7 @@ use Rattle.fabric_trace.specs.Known.{Found, Seen, link_at}
 use Rattle.fabric_trace.specs.Lines.{TraceLine, Stepped, steps_of}
 use Rattle.fabric_trace.specs.Parts.{Made, Done}
 use Rattle.fabric_trace.specs.Ready.{IsReady}
-use Rattle.fabric_trace.specs.Rounds.{Follows, NamesNothing, Joined, SettleAll, ServesAll, Rests, Goes, ServeNodes, Round, Rounds}
+use Rattle.fabric_trace.specs.Rounds.{Follows, NamesNothing, Joined, SettleAll, ServesAll, ServeRests, ServeGoes, ServeNodes, Round, Rounds}
 use Rattle.fabric_trace.specs.Runs.{begins}
 use Rattle.fabric_trace.specs.Served.{step_lines, IsMove}
 use Rattle.fabric_trace.specs.SetUps.{IsSetUp}
@@ -144,7 +144,7 @@ goes_on : (s : Seen) (node : ℕ) (step : DeviceStep) (rest : List TraceLine)
     → Made (seen_line s (Stepped (ByDevice step))) rest → Exists s (ServesAll s node)
 goes_on s node step rest move own more made = record {
   lines = Stepped (ByDevice step) ∷ rest;
-  is = Goes step rest move refl more;
+  is = ServeGoes step rest move refl more;
   made = made-append own made;
 }
 
@@ -175,7 +175,7 @@ serves_by s node n (Answered port request response) ready kind below later move 
     below later move
 serves_by s node n Nothing ready kind below later move = record {
   lines = [];
-  is = Rests move refl;
+  is = ServeRests move refl;
   made = Done refl;
 }
 

@@ -17,7 +17,7 @@ use Rattle.maint_packets.specs.declared.request.Request.{Request}
 use Rattle.maint_packets.specs.NextHops.{is_foreign, is_at_end, to_port, next_of}
 use Rattle.maint_packets.specs.Requests.{request_of}
 use Rattle.maint_packets.specs.Responses.{response_bytes}
-use Rattle.maint_packets.specs.Answers.{answered}
+use Rattle.maint_packets.specs.Answers.{request_answered}
 use Rattle.switch_core.specs.declared.switch.Step as switch
 use Rattle.switch_core.specs.declared.switch.Step.TheVariants.{Moved, Dropped, Answered, Nothing}
 use Rattle.switch_core.specs.declared.endpoint.Collected.{Collected}
@@ -123,12 +123,15 @@ next_is net node device packet stands kind =
 pub response_is : (net : Network) (p : PortRef) (device : Device) (packet : List ℕ)
     (request : Request) → slice_get net.registers p.node ≡ Some device → request_of packet
     ≡ Some request
-    → response_at net p packet ≡ Some (response_bytes (answered device request p.port).response)
+    → response_at net p packet
+    ≡ Some (response_bytes (request_answered device request p.port).response)
 response_is net p device packet request stands asks =
     ap (option_and_then
-    (λ (d : Device). option_map (λ (r : Request). response_bytes (answered d r p.port).response)
+    (λ (d : Device).
+    option_map (λ (r : Request). response_bytes (request_answered d r p.port).response)
     (request_of packet))) stands
-    ∙ ap (option_map (λ (r : Request). response_bytes (answered device r p.port).response)) asks
+    ∙ ap (option_map (λ (r : Request). response_bytes (request_answered device r p.port).response))
+    asks
 
 -- the port to which a packet goes is one of the device
 pub port_there : (device : Device) (packet : List ℕ) (to : ℕ) → next_of device packet ≡ Port to → to
@@ -193,7 +196,7 @@ module _ (net : Network) (node : ℕ) (device : Device) (by : ByPriority net)
   answer_needs port packet None step there held next asks is = absurd cc
   answer_needs port packet (Some request) step there held next asks is =
       let p : PortRef = record { node = node; port = port } in
-      let response = response_bytes (answered device request port).response in
+      let response = response_bytes (request_answered device request port).response in
       let made = if_some (has_room (face_at (faces_in net node device) port) (prio_of response))
       (Answered port packet response) step is in
       subst (StepNeeds net node) made.1
@@ -278,12 +281,12 @@ module _ (net : Network) (node : ℕ) (device : Device) (by : ByPriority net)
   answers_need : (packet : List ℕ) (request : Request) (room : Bool)
       → IsHeld net (port_of node) packet → request_of packet ≡ Some request
       → has_room (face_in net (port_of node))
-      (prio_of (response_bytes (answered device request 0).response)) ≡ room
+      (prio_of (response_bytes (request_answered device request 0).response)) ≡ room
       → CollectNeeds net node
       (if room then Collects.Answered packet
-      (response_bytes (answered device request 0).response) else Collects.Full)
+      (response_bytes (request_answered device request 0).response) else Collects.Full)
   answers_need packet request true held asks room = λ form.
-      let response = response_bytes (answered device request 0).response in (
+      let response = response_bytes (request_answered device request 0).response in (
         held.first,
         inl endpoint,
         response_is net (port_of node) device packet request stands asks,
@@ -299,7 +302,7 @@ module _ (net : Network) (node : ℕ) (device : Device) (by : ByPriority net)
   packet_needs packet (Some request) held asks =
       answers_need packet request
       (has_room (face_in net (port_of node))
-      (prio_of (response_bytes (answered device request 0).response))) held asks refl
+      (prio_of (response_bytes (request_answered device request 0).response))) held asks refl
 
   held_needs : (head : Option (List ℕ)) → first_held (face_in net (port_of node)) ≡ head
       → CollectNeeds net node (collected_head device (face_in net (port_of node)) head)

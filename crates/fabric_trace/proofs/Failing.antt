@@ -12,7 +12,7 @@ use Rattle.link_port.specs.Turns.{timed_out, tell_sends}
 use Rattle.link_watch.specs.declared.note.Note.TheVariants as Notes
 use Rattle.link_watch.specs.declared.side.Side.{Side}
 use Rattle.link_watch.specs.declared.side.Side.TheVariants.{A, B}
-use Rattle.link_wires.specs.Deliveries.{Delivered, Through, Undetected as Unsent, told_of, undetected}
+use Rattle.link_wires.specs.Deliveries.{Delivered, Through, Unsent, told_of, undetected}
 use Rattle.link_wires.specs.Wires.{bursts, answers}
 use Rattle.link_wires.specs.declared.edits.Edit.{Edit}
 use Rattle.link_wires.specs.declared.moves.Move.{Move}
@@ -25,10 +25,10 @@ use Rattle.fabric_model.specs.Steps.{AtNode, ByDevice}
 use Rattle.fabric_model.proofs.Peers.{port_is}
 use Rattle.fabric_trace.specs.Lines.{TraceLine, Begun, Stepped, Signed, Lacked, Ended, Undetected, Sent, Got, Fired, steps_of}
 use Rattle.fabric_trace.specs.Views.{Half, half_of}
-use Rattle.fabric_trace.specs.Known.{Seen, with_half, peer_of, port_at, link_at}
+use Rattle.fabric_trace.specs.Known.{Seen, with_half, peer_of, port_seen, link_at}
 use Rattle.fabric_trace.specs.Fold.{edit_of, edited_by, symbol_leaves, packet_leaves, event_leaves, sends, says, half_sent, taken_from, half_after, found_at, got_from, fired_from, signed, seen_line, seen}
 use Rattle.fabric_trace.specs.Blocks.{lines_of}
-use Rattle.fabric_trace.specs.Parts.{Part, Begins, Lacks, Ends, Names, Steps, Serves, Turns, Tells, Delivers, Fires, Made, Done, Then}
+use Rattle.fabric_trace.specs.Parts.{Part, PartBegins, PartLacks, PartEnds, PartNames, PartSteps, PartServes, PartTurns, PartTells, PartDelivers, PartFires, Made, Done, Then}
 use Rattle.fabric_trace.specs.Firsts.{FindsFirst}
 use Rattle.fabric_trace.specs.Working.{NoneFailed, NeverFail}
 use Rattle.fabric_trace.proofs.Folding.{seen-append, half_own, edited_found}
@@ -273,7 +273,8 @@ fired_works s p peer is none = record { never = (none, after); first = (tt, tt);
         → has_failed ((fired_from s o p).halves c).output ≡ has_failed (s.halves c).output
     fails None c = refl
     fails (Some q) c =
-        half_fails s.halves p (half_of (timed_out (port_at s p))) (times_out (s.halves p).output) c
+        half_fails s.halves p (half_of (timed_out (port_seen s p))) (times_out (s.halves p).output)
+        c
 
     after : NoneFailed (signed s (Fired p))
     after = λ c. failed_not ((fired_from s (peer_of s p) p).halves c).output
@@ -308,28 +309,30 @@ delivers_work s p q n lines good behind peer still back first has is none =
 part_works : {s : Seen} {lines : List TraceLine} → IsGood s → Part s lines → NoneFailed s
     → Works s lines
 unfolding IsQuiet
-part_works {s} good (Begins line is) none = works_by is (quiet_works s (Begun line ∷ []) tt none)
-part_works {s} good (Lacks lack is) none = works_by is (quiet_works s (Lacked lack ∷ []) tt none)
-part_works {s} good (Ends is) none = works_by is (quiet_works s (Ended ∷ []) tt none)
-part_works {s} good (Names number q e found is) none =
+part_works {s} good (PartBegins line is) none =
+    works_by is (quiet_works s (Begun line ∷ []) tt none)
+part_works {s} good (PartLacks lack is) none =
+    works_by is (quiet_works s (Lacked lack ∷ []) tt none)
+part_works {s} good (PartEnds is) none = works_by is (quiet_works s (Ended ∷ []) tt none)
+part_works {s} good (PartNames number q e found is) none =
     works_by is (quiet_works s (Undetected number q e ∷ []) tt none)
-part_works {s} good (Steps step needs few is) none =
+part_works {s} good (PartSteps step needs few is) none =
     works_by is (quiet_works s (Stepped (AtNode step) ∷ []) tt none)
-part_works {s} good (Serves step needs is) none =
+part_works {s} good (PartServes step needs is) none =
     works_by is (quiet_works s (Stepped (ByDevice step) ∷ []) tt none)
-part_works {s} good (Turns p q n peer faithful is) none =
+part_works {s} good (PartTurns p q n peer faithful is) none =
     works_by is (quiet_works s (lines_of p q (pump_notes A n (link_at s p q)))
     (sent_quiet p q A (bursts n (link_at s p q).a).chars) none)
-part_works {s} good (Tells p q peer faithful is) none =
+part_works {s} good (PartTells p q peer faithful is) none =
     works_by is (quiet_works s (lines_of p q (tell_notes A (link_at s p q)))
     (sent_quiet p q A (tell_sends (link_at s p q).a).chars) none)
-part_works {s} {lines} good (Delivers p q n peer faithful has is) none =
-    let kept = part_keeps good (Delivers p q n peer faithful has is) in
+part_works {s} {lines} good (PartDelivers p q n peer faithful has is) none =
+    let kept = part_keeps good (PartDelivers p q n peer faithful has is) in
     let links = legal_links s.network (steps_of lines) (seen s lines).network kept.legal in
     delivers_work s p q n lines good kept.good peer
     (ap (λ (l : List (PortRef × PortRef)). peer_in l p) links ∙ peer)
     (good_peers p q good peer).back faithful has is none
-part_works {s} good (Fires p q peer faithful silent is) none =
+part_works {s} good (PartFires p q peer faithful silent is) none =
     works_by (is ∙ ap (λ x. lines_of p q (if x then Notes.Fire A ∷ [] else [])) silent)
     (fired_works s p (peer_of s p) refl none)
 

@@ -6,7 +6,7 @@ use Rattle.link_model.specs.declared.event.Event.{Event}
 use Rattle.link_model.specs.Places.{Place, run, place_after}
 use Rattle.link_port.specs.Ports.{PortState}
 use Rattle.link_port.specs.Steps.{is_acted}
-use Rattle.link_wires.specs.Deliveries.{Told, Flow, Delivered, Through, Undetected as Unsent, begun, done, met, comes, goes_on, come, ended, delivered, told_of, undetected}
+use Rattle.link_wires.specs.Deliveries.{Told, Flow, Delivered, Through, Unsent, begun, done, met, comes, goes_on, come, ended, delivered, told_of, undetected}
 use Rattle.link_wires.specs.Kept.{behind, behind_some, behind_all}
 use Rattle.link_wires.specs.declared.edits.Edit.{Edit}
 use Rattle.link_wires.proofs.Exact.{delivered_exact}
@@ -14,8 +14,8 @@ use Rattle.link_wires.proofs.KeptLaws.{all_then}
 use Rattle.fabric_script.specs.declared.ports.PortRef.{PortRef}
 use Rattle.fabric_model.specs.Network.{Network, same_port}
 use Rattle.fabric_trace.specs.Lines.{Sent, Got, Fired, TraceLine, Begun, Stepped, Signed, Lacked, Ended, Undetected}
-use Rattle.fabric_trace.specs.Known.{Wire, Seen, with_wire, peer_of, port_at, kept_of}
-use Rattle.fabric_trace.specs.Fold.{edit_of, edited_by, taken_from, found_at, got_from, silenced, fired_from, signed, seen_line, seen}
+use Rattle.fabric_trace.specs.Known.{Wire, Seen, with_wire, peer_of, port_seen, kept_of}
+use Rattle.fabric_trace.specs.Fold.{edit_of, edited_by, taken_from, found_at, got_from, wire_silenced, fired_from, signed, seen_line, seen}
 use Rattle.fabric_trace.specs.Links.{IsKept}
 use Rattle.fabric_trace.specs.Faithful.{ActsOnSent, trace_goes_on, names_unsent, IsFaithful, FaithfulLine, Faithful}
 use Rattle.fabric_trace.specs.Firsts.{FindsFirst}
@@ -104,7 +104,7 @@ got_keep : (s : Seen) (peer : Option PortRef) (q : PortRef) (chars : List Char) 
 got_keep s None q chars all = all
 got_keep s (Some p) q chars all =
     let left = left_of (kept_of (s.wires p)) (taken_from s p q chars)
-    (delivered_leaves (port_at s q) (kept_of (s.wires p)) chars) in
+    (delivered_leaves (port_seen s q) (kept_of (s.wires p)) chars) in
     with_kept s.wires p _ all
     (acted_kept (s.wires p) (drop (length chars) (s.wires p).chars)
     (told_of (taken_from s p q chars)).acted left.0 (all p) left.1)
@@ -113,8 +113,8 @@ fired_keep : (s : Seen) (peer : Option PortRef) (p : PortRef) → AreKept s
     → AreKept (fired_from s peer p)
 fired_keep s None p all = all
 fired_keep s (Some q) p all =
-    with_kept (with_wire s.wires p (silenced (s.wires p))) q (silenced (s.wires q))
-    (with_kept s.wires p (silenced (s.wires p)) all (record { left = []; found = refl }))
+    with_kept (with_wire s.wires p (wire_silenced (s.wires p))) q (wire_silenced (s.wires q))
+    (with_kept s.wires p (wire_silenced (s.wires p)) all (record { left = []; found = refl }))
     (record { left = []; found = refl })
 
 line_keep : (s : Seen) (line : TraceLine) → AreKept s → AreKept (seen_line s line)
@@ -141,7 +141,7 @@ lines_keep s (line ∷ lines) all = lines_keep (seen_line s line) lines (line_ke
 pub sent_exactly : (s : Seen) (p q : PortRef) (chars : List Char) → IsKept (s.wires p)
     → (undetected (taken_from s p q chars) ≡ None) ↔ ActsOnSent s p q chars
 sent_exactly s p q chars kept =
-    delivered_exact (port_at s q) (s.wires p).acted (s.wires p).sent (kept_of (s.wires p)) chars
+    delivered_exact (port_seen s q) (s.wires p).acted (s.wires p).sent (kept_of (s.wires p)) chars
     (kept.found ∙ ap Some (sym (kept_is (s.wires p) kept)))
 
 -- where a trace goes on, nothing was found

@@ -11,7 +11,7 @@ use Rattle.maint_packets.specs.declared.request.Request.{Request}
 use Rattle.maint_packets.specs.NextHops.{next_of}
 use Rattle.maint_packets.specs.Requests.{request_of}
 use Rattle.maint_packets.specs.Responses.{response_bytes}
-use Rattle.maint_packets.specs.Answers.{answered}
+use Rattle.maint_packets.specs.Answers.{request_answered}
 use Rattle.maint_packets.proofs.AnswerLaws.{responses_pass}
 use Rattle.switch_core.specs.declared.switch.Step as switch
 use Rattle.switch_core.specs.declared.switch.Step.TheVariants.{Moved, Dropped, Answered, Nothing}
@@ -24,7 +24,7 @@ use Rattle.fabric_model.specs.Network.{Network, IsSwitch}
 use Rattle.fabric_model.specs.Laws.Forms.{IsFormed}
 use Rattle.fabric_model.proofs.Forms.{device_at}
 use Rattle.fabric_trace.specs.Known.{Seen}
-use Rattle.fabric_trace.specs.Served.{face_in, faces_in, step_lines, HasForm, IsMove}
+use Rattle.fabric_trace.specs.Served.{face_in, faces_in, step_lines, ResponseHasForm, IsMove}
 use Rattle.fabric_trace.proofs.Faces.{head_held, face_is, if_some}
 use Rattle.fabric_trace.proofs.Keeping.{IsGood, good_by_priority, passes_first}
 
@@ -47,35 +47,36 @@ module _ (s : Seen) (node : ℕ) (device : Device) (good : IsGood s) (formed : I
   answer_form : (port : ℕ) (packet : List ℕ) (asks : Option Request) (step : switch.Step) → port
       < device.ports → Passes packet → request_of packet ≡ asks
       → answer_step device (faces_in s.network node device) port packet asks ≡ Some step
-      → HasForm step
+      → ResponseHasForm step
   answer_form port packet None step there passes asks is = absurd cc
   answer_form port packet (Some request) step there passes asks is =
-      let response = response_bytes (answered device request port).response in
+      let response = response_bytes (request_answered device request port).response in
       let within : IsWithin device = device_at s.network.registers node device stands
       formed.registers in
       let most = within.ports in
       let made =
       if_some (has_room (face_at (faces_in s.network node device) port) (prio_of response))
       (Answered port packet response) step is in
-      subst HasForm made.1
+      subst ResponseHasForm made.1
       (responses_pass device packet request port within (omega arith) passes asks)
 
   to_form : (port : ℕ) (packet : List ℕ) (next : Next) (step : switch.Step) → port < device.ports
       → Passes packet → step_to device (faces_in s.network node device) port packet next ≡ Some step
-      → HasForm step
+      → ResponseHasForm step
   to_form port packet Nowhere step there passes is =
       let same : Dropped port packet ≡ step = cc in
-      subst HasForm same tt
+      subst ResponseHasForm same tt
   to_form port packet RegisterUnit step there passes is =
       answer_form port packet (request_of packet) step there passes refl is
   to_form port packet (Port to) step there passes is =
       let made = if_some (has_room (face_at (faces_in s.network node device) to) (prio_of packet))
       (Moved port to packet) step is in
-      subst HasForm made.1 tt
+      subst ResponseHasForm made.1 tt
 
   head_form : (port r : ℕ) (head : Option (List ℕ)) (step : switch.Step) → port < device.ports
       → head_of (face_at (faces_in s.network node device) port) r ≡ head
-      → step_of_head device (faces_in s.network node device) port head ≡ Some step → HasForm step
+      → step_of_head device (faces_in s.network node device) port head ≡ Some step
+      → ResponseHasForm step
   head_form port r None step there head is = absurd cc
   head_form port r (Some packet) step there head is =
       let p : PortRef = record { node = node; port = port } in
@@ -87,7 +88,7 @@ module _ (s : Seen) (node : ℕ) (device : Device) (good : IsGood s) (formed : I
       (head_held s.network p r packet (good_by_priority good) own).first) is
 
   first_form : (found : Option switch.Step) → first_step device (faces_in s.network node device)
-      ≡ found → HasForm (unwrap_or found Nothing)
+      ≡ found → ResponseHasForm (unwrap_or found Nothing)
   first_form None is = tt
   first_form (Some step) is =
       let faces = faces_in s.network node device in
@@ -97,7 +98,7 @@ module _ (s : Seen) (node : ℕ) (device : Device) (good : IsGood s) (formed : I
       head_form at.0 of_prio.0 (head_of (face_at faces at.0) of_prio.0) step at.1 refl at.2
 
   -- what a switch makes is in its link form
-  pub step_form : HasForm (step_of device (faces_in s.network node device))
+  pub step_form : ResponseHasForm (step_of device (faces_in s.network node device))
   step_form = first_form (first_step device (faces_in s.network node device)) refl
 
 -- A switch has a move, if only the one that no packet of it can go.

@@ -3,7 +3,7 @@ use Rattle.std.proofs.Common.{◌≡◌, ℕ, suc, ◌+◌, ◌%◌, ◌<◌, �
 use Rattle.std.proofs.lemmas.List.{append-nil}
 use Rattle.rio_chars.specs.declared.chars.Char.{Char}
 use Rattle.link_model.specs.declared.event.Event.{Event}
-use Rattle.link_model.specs.Places.{Place, start, place_after}
+use Rattle.link_model.specs.Places.{Place, place_start, place_after}
 use Rattle.link_model.specs.Said.{said}
 use Rattle.link_model.proofs.PlacesLaws.{place_after-append, place_after-none}
 use Rattle.link_port.specs.Turns.{tell_sends}
@@ -11,7 +11,7 @@ use Rattle.link_sound.specs.Meanings.{oldest_of}
 use Rattle.link_sound.proofs.Steps.{exchanged}
 use Rattle.link_watch.specs.declared.side.Side.{Side}
 use Rattle.link_watch.specs.declared.side.Side.TheVariants.{A, B}
-use Rattle.link_wires.specs.Deliveries.{Delivered, Through, Undetected as Unsent, delivered, told_of, undetected}
+use Rattle.link_wires.specs.Deliveries.{Delivered, Through, Unsent, delivered, told_of, undetected}
 use Rattle.link_wires.specs.Wires.{bursts, answers}
 use Rattle.link_wires.specs.declared.moves.Move.{Move}
 use Rattle.link_wires.specs.declared.moves.Move.TheVariants.{Held, Freed}
@@ -24,12 +24,12 @@ use Rattle.fabric_model.specs.Steps.{AtNode, ByDevice, after_all}
 use Rattle.fabric_model.proofs.Peers.{port_is, same_port-refl}
 use Rattle.fabric_trace.specs.Lines.{Got, TraceLine, Begun, Stepped, Signed, Lacked, Ended, Undetected}
 use Rattle.fabric_trace.specs.Views.{Half}
-use Rattle.fabric_trace.specs.Known.{Seen, peer_of, port_at, kept_of, link_at}
+use Rattle.fabric_trace.specs.Known.{Seen, peer_of, port_seen, kept_of, link_at}
 use Rattle.fabric_trace.specs.Fold.{taken_from, half_after, found_at, got_from, seen}
 use Rattle.fabric_trace.specs.Blocks.{port_at_side, lines_of}
 use Rattle.fabric_trace.specs.Frees.{IsSaid, Gotten, nothing_got, gets, completed, FreesSaid}
 use Rattle.fabric_trace.specs.Links.{IsLink}
-use Rattle.fabric_trace.specs.Parts.{Part, Begins, Lacks, Ends, Names, Steps, Serves, Turns, Tells, Delivers, Fires, Made, Done, Then}
+use Rattle.fabric_trace.specs.Parts.{Part, PartBegins, PartLacks, PartEnds, PartNames, PartSteps, PartServes, PartTurns, PartTells, PartDelivers, PartFires, Made, Done, Then}
 use Rattle.fabric_trace.proofs.Cuts.{taken_again}
 use Rattle.fabric_trace.proofs.Folding.{seen-append, lines-append, half_own, half_other, moves_seen}
 use Rattle.fabric_trace.proofs.Heard.{freed_count, HaveFreed, delivered_frees}
@@ -117,7 +117,7 @@ got_lines p q chars moves = Signed (Got q chars) ∷ lines_of p q (map (move_not
 -- the port that got the characters, by what came of them
 own_freed : (before : List TraceLine) (s t : Seen) (p q : PortRef) (kept : List Event)
     (chars : List Char) (d : Delivered) → s.unfaithful ≡ None
-    → delivered (port_at s q) kept chars ≡ d
+    → delivered (port_seen s q) kept chars ≡ d
     → HaveFreed (frees_all q before) (said (s.halves q).place chars) d
     → t.halves q ≡ half_after (s.halves q) d → t.unfaithful ≡ found_at q (undetected d)
     → IsFreed before s q → IsFreed (before ++ got_lines p q chars (told_of d).moves) t q
@@ -168,19 +168,20 @@ own_freed before s t p q kept chars d none is freed half found h = by_end d is f
               (λ i few. subst (IsSaid (frees_all q before + i)) (sym here) (each i few)))),
         )
 
-    by_end : (d : Delivered) → delivered (port_at s q) kept chars ≡ d
+    by_end : (d : Delivered) → delivered (port_seen s q) kept chars ≡ d
         → HaveFreed (frees_all q before) (said (s.halves q).place chars) d
         → t.halves q ≡ half_after (s.halves q) d
         → t.unfaithful ≡ found_at q (undetected d)
         → IsFreed (before ++ got_lines p q chars (told_of d).moves) t q
     by_end (Through flow) is freed half found =
-        let place = through_place (port_at s q) kept chars flow is in
+        let place = through_place (port_seen s q) kept chars flow is in
         record {
           said = all_said flow.told.moves freed.all;
           place = λ still. ap (λ (x : Half). x.place) half ∙ place
               ∙ ap (λ (x : Place). place_after x chars) (h.place none)
-              ∙ sym (place_after-append start (all_got (gets_all q nothing_got before)) chars)
-              ∙ ap (λ (g : Gotten). place_after start (all_got g)) (sym (gotten flow.told.moves));
+              ∙ sym (place_after-append place_start (all_got (gets_all q nothing_got before)) chars)
+              ∙ ap (λ (g : Gotten). place_after place_start (all_got g))
+              (sym (gotten flow.told.moves));
           oldest = λ still. ap (λ (x : Half). oldest_of x.output) half ∙ freed.oldest
               ∙ ap (λ k. k % 32) (sym (count flow.told.moves));
         }
@@ -211,7 +212,7 @@ other_freed before s t p q c chars moves none apart half h =
             ((0 + frees_all c before) + 0) apart,
       );
       place = λ still. ap (λ (x : Half). x.place) half ∙ h.place none
-          ∙ ap (λ (g : Gotten). place_after start (all_got g)) (sym got);
+          ∙ ap (λ (g : Gotten). place_after place_start (all_got g)) (sym got);
       oldest = λ still. ap (λ (x : Half). oldest_of x.output) half ∙ h.oldest none
           ∙ ap (λ k. k % 32) (sym frees);
     }
@@ -246,9 +247,9 @@ got_freed before s p q c chars d back none link is h = by_port (same_port c q) r
         ap (λ (x : Seen). x.unfaithful) there
         ∙ ap (λ (x : Delivered). found_at q (undetected x)) is in
         let frees = subst (HaveFreed (frees_all q before) (said (s.halves q).place chars)) is
-        (delivered_frees (frees_all q before) (port_at s q) (port_at s p) (kept_of (s.wires q))
+        (delivered_frees (frees_all q before) (port_seen s q) (port_seen s p) (kept_of (s.wires q))
         (kept_of (s.wires p)) chars link.sound.port_b link.sound.port_a
-        (exchanged (port_at s p) (port_at s q) (kept_of (s.wires p)) (kept_of (s.wires q))
+        (exchanged (port_seen s p) (port_seen s q) (kept_of (s.wires p)) (kept_of (s.wires q))
         link.sound.sound) (own.oldest none)) in
         subst (λ x. IsFreed (before ++ lines) (seen s lines) x) (sym one)
         (own_freed before s (seen s lines) p q (kept_of (s.wires p)) chars d none is frees half
@@ -279,7 +280,7 @@ delivery_freed before s p q c n back none link has h =
     (lines-append p q (map (move_note B) told.moves) (sent_notes B sent)) in
     let one =
     got_freed before s p q c (take told.count chars) d back none link
-    (taken_again (port_at s q) (kept_of (s.wires p)) chars d refl) h in
+    (taken_again (port_seen s q) (kept_of (s.wires p)) chars d refl) h in
     let two =
     still_freed (lines_of p q (sent_notes B sent)) (before ++ first) (seen s first) c
     (sent_still p q B sent) one in
@@ -298,37 +299,37 @@ delivery_freed before s p q c n back none link has h =
 part_freed : {s : Seen} {lines : List TraceLine} (before : List TraceLine) (c : PortRef) → IsGood s
     → Part s lines → IsFreed before s c → IsFreed (before ++ lines) (seen s lines) c
 unfolding AreStill
-part_freed {s} before c good (Begins line is) h =
+part_freed {s} before c good (PartBegins line is) h =
     subst (λ (x : List TraceLine). IsFreed (before ++ x) (seen s x) c) (sym is)
     (still_freed (Begun line ∷ []) before s c tt h)
-part_freed {s} before c good (Lacks lack is) h =
+part_freed {s} before c good (PartLacks lack is) h =
     subst (λ (x : List TraceLine). IsFreed (before ++ x) (seen s x) c) (sym is)
     (still_freed (Lacked lack ∷ []) before s c tt h)
-part_freed {s} before c good (Ends is) h =
+part_freed {s} before c good (PartEnds is) h =
     subst (λ (x : List TraceLine). IsFreed (before ++ x) (seen s x) c) (sym is)
     (still_freed (Ended ∷ []) before s c tt h)
-part_freed {s} before c good (Names number q e found is) h =
+part_freed {s} before c good (PartNames number q e found is) h =
     subst (λ (x : List TraceLine). IsFreed (before ++ x) (seen s x) c) (sym is)
     (still_freed (Undetected number q e ∷ []) before s c tt h)
-part_freed {s} before c good (Steps step needs few is) h =
+part_freed {s} before c good (PartSteps step needs few is) h =
     subst (λ (x : List TraceLine). IsFreed (before ++ x) (seen s x) c) (sym is)
     (still_freed (Stepped (AtNode step) ∷ []) before s c tt h)
-part_freed {s} before c good (Serves step needs is) h =
+part_freed {s} before c good (PartServes step needs is) h =
     subst (λ (x : List TraceLine). IsFreed (before ++ x) (seen s x) c) (sym is)
     (still_freed (Stepped (ByDevice step) ∷ []) before s c tt h)
-part_freed {s} before c good (Turns p q n peer none is) h =
+part_freed {s} before c good (PartTurns p q n peer none is) h =
     subst (λ (x : List TraceLine). IsFreed (before ++ x) (seen s x) c) (sym is)
     (still_freed (lines_of p q (pump_notes A n (link_at s p q))) before s c
     (sent_still p q A (bursts n (link_at s p q).a).chars) h)
-part_freed {s} before c good (Tells p q peer none is) h =
+part_freed {s} before c good (PartTells p q peer none is) h =
     subst (λ (x : List TraceLine). IsFreed (before ++ x) (seen s x) c) (sym is)
     (still_freed (lines_of p q (tell_notes A (link_at s p q))) before s c
     (sent_still p q A (tell_sends (link_at s p q).a).chars) h)
-part_freed {s} before c good (Delivers p q n peer none has is) h =
+part_freed {s} before c good (PartDelivers p q n peer none has is) h =
     subst (λ (x : List TraceLine). IsFreed (before ++ x) (seen s x) c) (sym is)
     (delivery_freed before s p q c n (good_peers p q good peer).back none (good.links none p q peer)
     has h)
-part_freed {s} before c good (Fires p q peer none silent is) h =
+part_freed {s} before c good (PartFires p q peer none silent is) h =
     subst (λ (x : List TraceLine). IsFreed (before ++ x) (seen s x) c) (sym is)
     (still_freed (lines_of p q (time_out_notes A (link_at s p q))) before s c
     (fired_still p q (is_silent (link_at s p q))) h)
@@ -346,11 +347,11 @@ made_freed {s} before c good (Then first rest is own more) h =
     (subst (λ (x : List TraceLine). IsFreed x (seen (seen s first) rest) c)
     (append_assoc before first rest) two))
 
-pub start_freed : (s : Seen) (c : PortRef) → (s.halves c).place ≡ start
+pub start_freed : (s : Seen) (c : PortRef) → (s.halves c).place ≡ place_start
     → oldest_of (s.halves c).output ≡ 0 → IsFreed [] s c
 start_freed s c place oldest =
     record {
       said = tt;
-      place = λ none. place ∙ sym (place_after-none start);
+      place = λ none. place ∙ sym (place_after-none place_start);
       oldest = λ none. oldest;
     }

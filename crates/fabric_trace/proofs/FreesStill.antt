@@ -7,7 +7,7 @@ use Rattle.link_model.specs.declared.event.Event.TheVariants.{Ctl, Pkt, Bad}
 use Rattle.rio_symbols.specs.declared.stype1.TheConstants.{RESTART_FROM_RETRY, LINK_REQUEST}
 use Rattle.link_model.specs.Outstanding.{Outstanding, from_ack}
 use Rattle.link_model.specs.Output as out
-use Rattle.link_model.specs.Places.{start, place_after}
+use Rattle.link_model.specs.Places.{place_start, place_after}
 use Rattle.link_model.specs.Said.{said}
 use Rattle.link_port.specs.Turns.{timed_out}
 use Rattle.link_sound.specs.Meanings.{oldest_of}
@@ -19,7 +19,7 @@ use Rattle.fabric_model.specs.Steps.{Linked, AtNode, ByDevice}
 use Rattle.fabric_model.proofs.Peers.{port_is}
 use Rattle.fabric_trace.specs.Lines.{Sent, Got, Fired, TraceLine, Begun, Stepped, Signed, Lacked, Ended, Undetected}
 use Rattle.fabric_trace.specs.Views.{Half, half_of}
-use Rattle.fabric_trace.specs.Known.{Seen, with_half, peer_of, port_at}
+use Rattle.fabric_trace.specs.Known.{Seen, with_half, peer_of, port_seen}
 use Rattle.fabric_trace.specs.Fold.{edit_of, edited_by, event_leaves, sends, says, half_sent, fired_from, signed, seen}
 use Rattle.fabric_trace.specs.Frees.{Gotten, nothing_got, gets, frees_by, FreeSaid, FreesSaid}
 use Rattle.fabric_trace.proofs.Still.{AreStill}
@@ -66,7 +66,7 @@ all_got known = known.before ++ known.last
 pub record IsFreed (before : List TraceLine) (s : Seen) (p : PortRef) : Type 0 where
   pub said : FreesSaid p nothing_got 0 before
   pub place : s.unfaithful ≡ None
-      → (s.halves p).place ≡ place_after start (all_got (gets_all p nothing_got before))
+      → (s.halves p).place ≡ place_after place_start (all_got (gets_all p nothing_got before))
   pub oldest : s.unfaithful ≡ None → oldest_of (s.halves p).output ≡ frees_all p before % 32
 
 -- ---- lines in which a port gets and frees nothing
@@ -143,7 +143,7 @@ fired_stays : (s : Seen) (peer : Option PortRef) (p c : PortRef)
 fired_stays s None p c = stays_here s c
 fired_stays s (Some q) p c =
     let both =
-    half_stays s.halves p (half_of (timed_out (port_at s p))) c refl
+    half_stays s.halves p (half_of (timed_out (port_seen s p))) c refl
     (time_out_oldest (s.halves p).output) in
     record { place = both.0; oldest = both.1; unfaithful = refl }
 
@@ -168,7 +168,7 @@ one_freed before s t line c same none said stays h =
       said = said-join c before (line ∷ []) nothing_got 0 h.said
           (said (gets_all c nothing_got before) (0 + frees_all c before), tt);
       place = λ still. stays.place ∙ h.place (sym stays.unfaithful ∙ still)
-          ∙ ap (λ (g : Gotten). place_after start (all_got g)) (sym got);
+          ∙ ap (λ (g : Gotten). place_after place_start (all_got g)) (sym got);
       oldest = λ still. stays.oldest ∙ h.oldest (sym stays.unfaithful ∙ still)
           ∙ ap (λ k. k % 32) (sym frees);
     }

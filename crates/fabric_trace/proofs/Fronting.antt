@@ -8,7 +8,7 @@ use Rattle.link_watch.specs.declared.side.Side.{Side}
 use Rattle.link_watch.specs.declared.side.Side.TheVariants.{A, B}
 use Rattle.link_wires.specs.Deliveries.{told_of}
 use Rattle.link_wires.specs.Kept.{IsSubsequence}
-use Rattle.link_wires.specs.Kept.IsSubsequence.{Ends as EndsWithin, Takes, Skips}
+use Rattle.link_wires.specs.Kept.IsSubsequence.{EndsWithin, TakesWithin, SkipsWithin}
 use Rattle.link_wires.specs.Wires.{bursts, answers}
 use Rattle.link_machine.specs.Calls.{sent_notes, has_chars, delivery_from, told_notes, is_silent}
 use Rattle.fabric_script.specs.declared.ports.PortRef.{PortRef}
@@ -16,9 +16,9 @@ use Rattle.fabric_trace.specs.Lines.{TraceLine, Begun, Stepped, Signed, Lacked, 
 use Rattle.fabric_trace.specs.Known.{Seen, link_at}
 use Rattle.fabric_trace.specs.Fold.{says, seen}
 use Rattle.fabric_trace.specs.Blocks.{lines_of}
-use Rattle.fabric_trace.specs.Parts.{Part, Begins, Lacks, Ends, Names, Steps, Serves, Turns, Tells, Delivers, Fires, Made, Done, Then}
+use Rattle.fabric_trace.specs.Parts.{Part, PartBegins, PartLacks, PartEnds, PartNames, PartSteps, PartServes, PartTurns, PartTells, PartDelivers, PartFires, Made, Done, Then}
 use Rattle.fabric_trace.specs.Wires.{WireChars, WireFold, on_wires}
-use Rattle.fabric_trace.specs.Holds.{got, holds, numbered, HoldsCame}
+use Rattle.fabric_trace.specs.Holds.{got, holds, numbered_packets, HoldsCame}
 use Rattle.fabric_trace.specs.Frees.{Gotten, FreesSaid, gets, frees_by}
 use Rattle.fabric_trace.proofs.Coming.{none_within, numbered-append}
 use Rattle.fabric_trace.proofs.Folding.{seen-append}
@@ -90,19 +90,19 @@ told_first s p q n false = tt
 
 gets_first : {s : Seen} {lines : List TraceLine} → Part s lines → GetsFirst lines
 unfolding GotNone
-gets_first {s} (Begins line is) = subst GetsFirst (sym is) tt
-gets_first {s} (Lacks lack is) = subst GetsFirst (sym is) tt
-gets_first {s} (Ends is) = subst GetsFirst (sym is) tt
-gets_first {s} (Names number q e found is) = subst GetsFirst (sym is) tt
-gets_first {s} (Steps step needs few is) = subst GetsFirst (sym is) tt
-gets_first {s} (Serves step needs is) = subst GetsFirst (sym is) tt
-gets_first {s} (Turns p q n peer none is) =
+gets_first {s} (PartBegins line is) = subst GetsFirst (sym is) tt
+gets_first {s} (PartLacks lack is) = subst GetsFirst (sym is) tt
+gets_first {s} (PartEnds is) = subst GetsFirst (sym is) tt
+gets_first {s} (PartNames number q e found is) = subst GetsFirst (sym is) tt
+gets_first {s} (PartSteps step needs few is) = subst GetsFirst (sym is) tt
+gets_first {s} (PartServes step needs is) = subst GetsFirst (sym is) tt
+gets_first {s} (PartTurns p q n peer none is) =
     subst GetsFirst (sym is) (sent_first p q A (bursts n (link_at s p q).a).chars)
-gets_first {s} (Tells p q peer none is) =
+gets_first {s} (PartTells p q peer none is) =
     subst GetsFirst (sym is) (sent_first p q A (tell_sends (link_at s p q).a).chars)
-gets_first {s} (Delivers p q n peer none has is) =
+gets_first {s} (PartDelivers p q n peer none has is) =
     subst GetsFirst (sym is) (told_first s p q n (has_chars A n (link_at s p q)))
-gets_first {s} (Fires p q peer none silent is) =
+gets_first {s} (PartFires p q peer none silent is) =
     subst GetsFirst (sym is) (fired_first p q (is_silent (link_at s p q)))
 
 none_got : (q : PortRef) (lines : List TraceLine) → GotNone lines → got q lines ≡ []
@@ -203,12 +203,12 @@ within_front : {zs ys : List Event} (xs us : List Event) → zs ≡ xs ++ us →
     → IsSubsequence xs ys
 within_front {zs} {ys} [] us is within = none_within ys
 within_front (x ∷ xs) us is EndsWithin = absurd cc
-within_front (x ∷ xs) us is (Takes {acted} {sent} e rest) =
+within_front (x ∷ xs) us is (TakesWithin {acted} {sent} e rest) =
     let same : e ≡ x = cc in
     let tail : acted ≡ xs ++ us = cc in
     subst (λ (y : Event). IsSubsequence (x ∷ xs) (y ∷ sent)) (sym same)
-    (Takes x (within_front xs us tail rest))
-within_front (x ∷ xs) us is (Skips y rest) = Skips y (within_front (x ∷ xs) us is rest)
+    (TakesWithin x (within_front xs us tail rest))
+within_front (x ∷ xs) us is (SkipsWithin y rest) = SkipsWithin y (within_front (x ∷ xs) us is rest)
 
 same_got : (q : PortRef) (beyond behind : List TraceLine) → GetsFirst (beyond ++ behind)
     → (beyond ≡ []) ⊎ (got q behind ≡ [])
@@ -221,12 +221,13 @@ came_front q front behind none came =
     let same : got q (front ++ behind) ≡ got q front =
     got-append q front behind ∙ ap (λ (l : List Char). got q front ++ l) none
     ∙ append-nil (got q front) in
-    let split : numbered 0 (holds q (front ++ behind)) ≡ numbered 0 (holds q front)
-    ++ numbered (length (holds q front)) (holds q behind) =
-    ap (numbered 0) (holds-append q front behind)
+    let split : numbered_packets 0 (holds q (front ++ behind)) ≡ numbered_packets 0 (holds q front)
+    ++ numbered_packets (length (holds q front)) (holds q behind) =
+    ap (numbered_packets 0) (holds-append q front behind)
     ∙ numbered-append 0 (length (holds q front)) (holds q front) (holds q behind) (omega arith) in
-    within_front (numbered 0 (holds q front)) _ split
-    (subst (λ (l : List Char). IsSubsequence (numbered 0 (holds q (front ++ behind))) (says l)) same
+    within_front (numbered_packets 0 (holds q front)) _ split
+    (subst (λ (l : List Char).
+    IsSubsequence (numbered_packets 0 (holds q (front ++ behind))) (says l)) same
     came)
 
 -- where what was made came, each front of it did

@@ -14,7 +14,7 @@ use Rattle.maint_packets.specs.Requests.{names_second, in_half}
 use Rattle.fabric_model.specs.Network.{Network, sender_id, id_of, IsEndpoint}
 use Rattle.fabric_model.specs.Laws.Forms.{IsFormed}
 use Rattle.fabric_model.proofs.Forms.{device_at}
-use Rattle.fabric_trace.specs.Blocks.{takes, Sends}
+use Rattle.fabric_trace.specs.Blocks.{take_lines, SendsBody}
 use Rattle.fabric_trace.specs.Events.{id_limit, FitsSend, FitsRequest}
 use Rattle.fabric_trace.specs.Known.{Seen}
 use Rattle.fabric_trace.specs.Lines.{TraceLine}
@@ -150,8 +150,8 @@ id_low net node large formed = by_found (slice_get net.registers node) refl
         of_size device large (device_at net.registers node device at formed.registers)
 
 pub sends_exist : (s : Seen) (node : ℕ) (body : List ℕ) → IsEndpoint s.network node → IsBody body
-    → (block : List TraceLine) × Sends s node body block
+    → (block : List TraceLine) × SendsBody s node body block
 sends_exist s node body there is = (
-  takes s node (made body),
+  take_lines s node (made body),
   record { packet = made body; endpoint = there; form = LinkForm-made body is; lines = refl },
 )

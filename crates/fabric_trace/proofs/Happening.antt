@@ -16,13 +16,13 @@ use Rattle.fabric_script.specs.Lines.{is_event, new_name}
 use Rattle.fabric_script.specs.Known.{Known, of_script, nothing, known_after, node_ports, ports_of, same_port, is_linked}
 use Rattle.fabric_script.specs.Refusals.{is_bad_length, out_of_place_in}
 use Rattle.fabric_script.specs.Reading.{MayBe, IsFree}
-use Rattle.fabric_script.specs.Scripts.{PassesFrom, Passes}
+use Rattle.fabric_script.specs.Scripts.{PassesFrom, ScriptPasses}
 use Rattle.fabric_script.proofs.PrintLaws.{named_all}
 use Rattle.fabric_model.specs.Network.{Network, peer_in}
 use Rattle.fabric_trace.specs.Runs.{bare, set_up, set_up_all}
 use Rattle.fabric_trace.specs.SetUps.{MaySetUp, MaySetUpAll}
 use Rattle.fabric_trace.proofs.SettingUp.{set_up-event}
-use Rattle.fabric_trace.specs.Events.{IsDataLength, IsInRange, HasLink, IsThere, MayHappen, IsPort, ArePorts, counts_after, counts_after_all, port_counts}
+use Rattle.fabric_trace.specs.Events.{IsDataLength, IsInRange, HasLink, IsThere, MayHappen, IsNodePort, ArePorts, counts_after, counts_after_all, port_counts}
 use Rattle.fabric_trace.proofs.KnownNetworks.{KnowsNetwork, knows-after, endpoint_at, switch_is_at, device_at, knows_bare}
 
 -- ---- links
@@ -92,7 +92,7 @@ may_all known names net (line ∷ lines) s passes = (
       lines (knows-after known (new_name names line.line) net line.line s) passes.2,
 )
 
-pub may_set_up : (names : List (List ℕ)) (lines : List Numbered) → Passes names lines
+pub may_set_up : (names : List (List ℕ)) (lines : List Numbered) → ScriptPasses names lines
     → MaySetUpAll bare lines
 may_set_up names lines passes = may_all nothing names bare lines (knows_bare of_script) passes
 
@@ -242,7 +242,7 @@ happen_from known names net (line ∷ lines) mode s passes =
     (happen_from next names (set_up net line.line) lines mode
     (knows-after known new net line.line s) passes.2)
 
-pub may_happen : (names : List (List ℕ)) (lines : List Numbered) → Passes names lines
+pub may_happen : (names : List (List ℕ)) (lines : List Numbered) → ScriptPasses names lines
     → All (λ line. is_event line.line ≡ true → MayHappen names (set_up_all bare lines) line.line)
     lines
 may_happen names lines passes =
@@ -286,7 +286,7 @@ ports_one : (known : Known) (new : List ℕ) (counts : List ℕ) (line : Line) �
     → MayBe known new line → ArePorts counts line
 ports_one known new counts line c may = by_line line may
   where
-    here : (p : PortRef) → p.port < ports_of known.nodes p.node → IsPort counts p
+    here : (p : PortRef) → p.port < ports_of known.nodes p.node → IsNodePort counts p
     here p within =
         subst (λ n. p.port < n) (count_at node_ports known.nodes p.node refl
         ∙ ap (λ xs. get_or xs p.node 0) c.counted) within
@@ -316,6 +316,6 @@ ports_from known names counts (first ∷ before) behind line c passes =
     (counts-after known (new_name names first.line) counts first.line c) passes.2
 
 pub ports_there : (names : List (List ℕ)) (before behind : List Numbered) (line : Numbered)
-    → Passes names (before ++ line ∷ behind) → ArePorts (port_counts before) line.line
+    → ScriptPasses names (before ++ line ∷ behind) → ArePorts (port_counts before) line.line
 ports_there names before behind line passes =
     ports_from nothing names [] before behind line (record { counted = refl }) passes

@@ -14,7 +14,7 @@ use Rattle.link_model.specs.Output as out
 use Rattle.link_model.specs.Output.{Stype0, PacketAccepted, PacketRetry, PacketNotAccepted, LinkResponse, OtherStype0, stype0, hears, hears_report, accepted, retried, responded}
 use Rattle.link_port.specs.Ports.{PortState, IsPort}
 use Rattle.link_port.specs.States.{prios_of, IsOutput}
-use Rattle.link_port.specs.Steps.{acts, heard}
+use Rattle.link_port.specs.Steps.{acts, symbol_heard}
 use Rattle.link_port.proofs.HearLaws.{report_prios}
 use Rattle.link_sound.specs.Meanings.{oldest_of}
 use Rattle.link_sound.proofs.Reported.{report_oldest}
@@ -28,9 +28,9 @@ use Rattle.link_machine.specs.Queues.{Queues, queues_between}
 use Rattle.link_machine.proofs.Flowing.{IsFlowing, AreFlowing, comes_flowing}
 use Rattle.link_machine.proofs.Arriving.{HasAckAt, run_has}
 use Rattle.link_machine.proofs.Walking.{Stays}
-use Rattle.link_wires.specs.Deliveries.{Flow, Delivered, Through, Undetected as Unsent, begun, moves_of, done, met, comes, goes_on, come, ended, delivered}
+use Rattle.link_wires.specs.Deliveries.{Flow, Delivered, Through, Unsent, begun, moves_of, done, met, comes, goes_on, come, ended, delivered}
 use Rattle.link_wires.specs.Kept.{behind}
-use Rattle.link_wires.specs.Kept.IsSubsequence.{Ends, Takes}
+use Rattle.link_wires.specs.Kept.IsSubsequence.{EndsWithin, TakesWithin}
 use Rattle.link_wires.specs.declared.moves.Move.{Move}
 use Rattle.link_wires.specs.declared.moves.Move.TheVariants.{Held, Freed}
 use Rattle.fabric_trace.specs.Frees.{Acknowledges, IsSaid}
@@ -94,7 +94,7 @@ event_frees n port (Ctl symbol) is bounded working oldest =
     let row =
     heard_rows n (stype0 symbol.s0) (hears_report symbol port.output) symbol.p0
     (report_oldest symbol port.output ∙ oldest) bounded working in
-    let k = (heard port symbol).freed in
+    let k = (symbol_heard port symbol).freed in
     let prios = prios_of port.output in
     let some =
     map-prio_of-packets_of (take k prios) port.queued is.sends.four
@@ -180,7 +180,7 @@ done_frees n said e acted kept flow b kept_a begin before next h =
             let number : (n + m) + (i - m) ≡ n + i = omega (arith, new) in
             record {
               event = e;
-              among = within-append (none_within said) (Takes e Ends);
+              among = within-append (none_within said) (TakesWithin e EndsWithin);
               acknowledges =
                   subst (λ k. Acknowledges k e) number (frees.acknowledges (i - m) small);
             }

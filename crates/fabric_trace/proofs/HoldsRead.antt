@@ -3,7 +3,7 @@ use Rattle.std.proofs.Common.{◌≡◌, ℕ, ◌%◌, ◌++◌, Bool, true, fal
 use Rattle.std.proofs.lemmas.List.{append-nil}
 use Rattle.rio_chars.specs.declared.chars.Char.{Char}
 use Rattle.link_model.specs.declared.event.Event.{Event}
-use Rattle.link_model.specs.Places.{Place, start, place_after}
+use Rattle.link_model.specs.Places.{Place, place_start, place_after}
 use Rattle.link_model.specs.Said.{said}
 use Rattle.link_model.proofs.PlacesLaws.{place_after-append}
 use Rattle.link_port.specs.States.{expected_of}
@@ -11,7 +11,7 @@ use Rattle.link_port.specs.Turns.{tell_sends}
 use Rattle.link_rest.proofs.SaidLaws.{said-append}
 use Rattle.link_watch.specs.declared.side.Side.{Side}
 use Rattle.link_watch.specs.declared.side.Side.TheVariants.{A, B}
-use Rattle.link_wires.specs.Deliveries.{Delivered, Through, Undetected as Unsent, delivered, told_of, undetected}
+use Rattle.link_wires.specs.Deliveries.{Delivered, Through, Unsent, delivered, told_of, undetected}
 use Rattle.link_wires.specs.Kept.{IsSubsequence}
 use Rattle.link_wires.specs.Wires.{bursts, answers}
 use Rattle.link_wires.specs.declared.moves.Move.{Move}
@@ -25,11 +25,11 @@ use Rattle.fabric_model.specs.Steps.{AtNode, ByDevice, after_all}
 use Rattle.fabric_model.proofs.Peers.{port_is, same_port-refl}
 use Rattle.fabric_trace.specs.Lines.{Got, TraceLine, Begun, Stepped, Signed, Lacked, Ended, Undetected}
 use Rattle.fabric_trace.specs.Views.{Half}
-use Rattle.fabric_trace.specs.Known.{Seen, peer_of, port_at, kept_of, link_at}
+use Rattle.fabric_trace.specs.Known.{Seen, peer_of, port_seen, kept_of, link_at}
 use Rattle.fabric_trace.specs.Fold.{says, taken_from, half_after, found_at, got_from, seen}
 use Rattle.fabric_trace.specs.Blocks.{port_at_side, lines_of}
-use Rattle.fabric_trace.specs.Holds.{got, holds, numbered, HoldsCame}
-use Rattle.fabric_trace.specs.Parts.{Part, Begins, Lacks, Ends, Names, Steps, Serves, Turns, Tells, Delivers, Fires, Made, Done, Then}
+use Rattle.fabric_trace.specs.Holds.{got, holds, numbered_packets, HoldsCame}
+use Rattle.fabric_trace.specs.Parts.{Part, PartBegins, PartLacks, PartEnds, PartNames, PartSteps, PartServes, PartTurns, PartTells, PartDelivers, PartFires, Made, Done, Then}
 use Rattle.fabric_trace.proofs.Coming.{held_in, HaveCome, within-append, numbered-append, delivered_comes}
 use Rattle.fabric_trace.proofs.Cuts.{taken_again}
 use Rattle.fabric_trace.proofs.Folding.{seen-append, lines-append, half_own, half_other, moves_seen}
@@ -72,47 +72,50 @@ record GetsAndHolds (before first : List TraceLine) (c : PortRef) (chars : List 
 -- the port that got the characters, by what came of them
 own_read : (before first : List TraceLine) (s t : Seen) (q : PortRef) (kept : List Event)
     (chars : List Char) (d : Delivered) → s.unfaithful ≡ None
-    → delivered (port_at s q) kept chars ≡ d
+    → delivered (port_seen s q) kept chars ≡ d
     → GetsAndHolds before first q chars (held_in (told_of d).moves)
     → t.halves q ≡ half_after (s.halves q) d → t.unfaithful ≡ found_at q (undetected d)
     → IsRead before s q → IsRead (before ++ first) t q
 own_read before first s t q kept chars d none is lines half found h = by_end d is lines half found
     (subst (HaveCome (length (holds q before)) (said (s.halves q).place chars)) is
-    (delivered_comes (length (holds q before)) (port_at s q) kept chars (h.expected none)))
+    (delivered_comes (length (holds q before)) (port_seen s q) kept chars (h.expected none)))
   where
     joined : (packets : List (List ℕ))
-        → IsSubsequence (numbered (length (holds q before)) packets) (said (s.halves q).place chars)
+        → IsSubsequence (numbered_packets (length (holds q before)) packets)
+        (said (s.halves q).place chars)
         → GetsAndHolds before first q chars packets → HoldsCame q (before ++ first)
     joined packets within lines =
         let said_is : says (got q (before ++ first)) ≡ says (got q before)
         ++ said (s.halves q).place chars =
-        ap says lines.gets ∙ said-append start (got q before) chars
+        ap says lines.gets ∙ said-append place_start (got q before) chars
         ∙ ap (λ (p : Place). says (got q before) ++ said p chars) (sym (h.place none)) in
-        let numbered_is : numbered 0 (holds q (before ++ first)) ≡ numbered 0 (holds q before)
-        ++ numbered (length (holds q before)) packets =
-        ap (numbered 0) lines.has
+        let numbered_is : numbered_packets 0 (holds q (before ++ first))
+        ≡ numbered_packets 0 (holds q before)
+        ++ numbered_packets (length (holds q before)) packets =
+        ap (numbered_packets 0) lines.has
         ∙ numbered-append 0 (length (holds q before)) (holds q before) packets (omega arith) in
         subst (λ (l : List Event). IsSubsequence l (says (got q (before ++ first))))
         (sym numbered_is)
         (subst (λ (l : List Event). IsSubsequence
-        (numbered 0 (holds q before) ++ numbered (length (holds q before)) packets) l) (sym said_is)
+        (numbered_packets 0 (holds q before) ++ numbered_packets (length (holds q before)) packets)
+        l) (sym said_is)
         (within-append h.within within))
 
-    by_end : (d : Delivered) → delivered (port_at s q) kept chars ≡ d
+    by_end : (d : Delivered) → delivered (port_seen s q) kept chars ≡ d
         → GetsAndHolds before first q chars (held_in (told_of d).moves)
         → t.halves q ≡ half_after (s.halves q) d
         → t.unfaithful ≡ found_at q (undetected d)
         → HaveCome (length (holds q before)) (said (s.halves q).place chars) d
         → IsRead (before ++ first) t q
     by_end (Through flow) is lines half found came =
-        let place = through_place (port_at s q) kept chars flow is in
+        let place = through_place (port_seen s q) kept chars flow is in
         let longer = length-append (holds q before) (held_in flow.told.moves) in
         record {
           within = joined (held_in flow.told.moves) came.within lines;
           place = λ still. ap (λ (x : Half). x.place) half ∙ place
               ∙ ap (λ (p : Place). place_after p chars) (h.place none)
-              ∙ sym (place_after-append start (got q before) chars)
-              ∙ ap (place_after start) (sym lines.gets);
+              ∙ sym (place_after-append place_start (got q before) chars)
+              ∙ ap (place_after place_start) (sym lines.gets);
           expected =
               λ still. ap (λ (x : Half). expected_of x.input) half ∙ came.expected
               ∙ ap (λ k. k % 32) (sym longer)
@@ -133,12 +136,12 @@ other_read before first s t c none lines half h =
     let has : holds c (before ++ first) ≡ holds c before =
     lines.has ∙ append-nil (holds c before) in
     record {
-      within = subst (λ (l : List (List ℕ)). IsSubsequence (numbered 0 l)
+      within = subst (λ (l : List (List ℕ)). IsSubsequence (numbered_packets 0 l)
           (says (got c (before ++ first)))) (sym has)
-          (subst (λ (l : List Char). IsSubsequence (numbered 0 (holds c before)) (says l))
+          (subst (λ (l : List Char). IsSubsequence (numbered_packets 0 (holds c before)) (says l))
           (sym gets) h.within);
       place = λ still. ap (λ (x : Half). x.place) half ∙ h.place none
-          ∙ ap (place_after start) (sym gets);
+          ∙ ap (place_after place_start) (sym gets);
       expected =
           λ still. ap (λ (x : Half). expected_of x.input) half ∙ h.expected none
           ∙ ap (λ (l : List (List ℕ)). length l % 32) (sym has);
@@ -220,7 +223,7 @@ delivery_read before s p q c n back none has h =
     (lines-append p q (map (move_note B) told.moves) (sent_notes B sent)) in
     let one =
     got_read before s p q c (take told.count chars) d back none
-    (taken_again (port_at s q) (kept_of (s.wires p)) chars d refl) h in
+    (taken_again (port_seen s q) (kept_of (s.wires p)) chars d refl) h in
     let two =
     still_read (lines_of p q (sent_notes B sent)) (before ++ first) (seen s first) c
     (sent_still p q B sent) one in
@@ -239,36 +242,36 @@ delivery_read before s p q c n back none has h =
 part_read : {s : Seen} {lines : List TraceLine} (before : List TraceLine) (c : PortRef) → IsGood s
     → Part s lines → IsRead before s c → IsRead (before ++ lines) (seen s lines) c
 unfolding AreStill
-part_read {s} before c good (Begins line is) h =
+part_read {s} before c good (PartBegins line is) h =
     subst (λ (x : List TraceLine). IsRead (before ++ x) (seen s x) c) (sym is)
     (still_read (Begun line ∷ []) before s c tt h)
-part_read {s} before c good (Lacks lack is) h =
+part_read {s} before c good (PartLacks lack is) h =
     subst (λ (x : List TraceLine). IsRead (before ++ x) (seen s x) c) (sym is)
     (still_read (Lacked lack ∷ []) before s c tt h)
-part_read {s} before c good (Ends is) h =
+part_read {s} before c good (PartEnds is) h =
     subst (λ (x : List TraceLine). IsRead (before ++ x) (seen s x) c) (sym is)
     (still_read (Ended ∷ []) before s c tt h)
-part_read {s} before c good (Names number q e found is) h =
+part_read {s} before c good (PartNames number q e found is) h =
     subst (λ (x : List TraceLine). IsRead (before ++ x) (seen s x) c) (sym is)
     (still_read (Undetected number q e ∷ []) before s c tt h)
-part_read {s} before c good (Steps step needs few is) h =
+part_read {s} before c good (PartSteps step needs few is) h =
     subst (λ (x : List TraceLine). IsRead (before ++ x) (seen s x) c) (sym is)
     (still_read (Stepped (AtNode step) ∷ []) before s c tt h)
-part_read {s} before c good (Serves step needs is) h =
+part_read {s} before c good (PartServes step needs is) h =
     subst (λ (x : List TraceLine). IsRead (before ++ x) (seen s x) c) (sym is)
     (still_read (Stepped (ByDevice step) ∷ []) before s c tt h)
-part_read {s} before c good (Turns p q n peer none is) h =
+part_read {s} before c good (PartTurns p q n peer none is) h =
     subst (λ (x : List TraceLine). IsRead (before ++ x) (seen s x) c) (sym is)
     (still_read (lines_of p q (pump_notes A n (link_at s p q))) before s c
     (sent_still p q A (bursts n (link_at s p q).a).chars) h)
-part_read {s} before c good (Tells p q peer none is) h =
+part_read {s} before c good (PartTells p q peer none is) h =
     subst (λ (x : List TraceLine). IsRead (before ++ x) (seen s x) c) (sym is)
     (still_read (lines_of p q (tell_notes A (link_at s p q))) before s c
     (sent_still p q A (tell_sends (link_at s p q).a).chars) h)
-part_read {s} before c good (Delivers p q n peer none has is) h =
+part_read {s} before c good (PartDelivers p q n peer none has is) h =
     subst (λ (x : List TraceLine). IsRead (before ++ x) (seen s x) c) (sym is)
     (delivery_read before s p q c n (good_peers p q good peer).back none has h)
-part_read {s} before c good (Fires p q peer none silent is) h =
+part_read {s} before c good (PartFires p q peer none silent is) h =
     subst (λ (x : List TraceLine). IsRead (before ++ x) (seen s x) c) (sym is)
     (still_read (lines_of p q (time_out_notes A (link_at s p q))) before s c
     (fired_still p q (is_silent (link_at s p q))) h)

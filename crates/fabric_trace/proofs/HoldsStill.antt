@@ -2,7 +2,7 @@
 use Rattle.std.proofs.Common.{◌≡◌, ℕ, ◌%◌, ◌++◌, true, false, List, [], ◌∷◌, length, Option, Some, None, refl, sym, ap, ◌∙◌, subst, append_assoc, if◌then◌else◌}
 use Rattle.std.proofs.lemmas.List.{append-nil}
 use Rattle.rio_chars.specs.declared.chars.Char.{Char}
-use Rattle.link_model.specs.Places.{start, place_after}
+use Rattle.link_model.specs.Places.{place_start, place_after}
 use Rattle.link_port.specs.States.{expected_of}
 use Rattle.link_watch.specs.declared.note.Note.TheVariants as Notes
 use Rattle.link_wires.specs.Kept.{IsSubsequence}
@@ -15,7 +15,7 @@ use Rattle.fabric_trace.specs.Lines.{Sent, Got, Fired, TraceLine, Begun, Stepped
 use Rattle.fabric_trace.specs.Views.{Half}
 use Rattle.fabric_trace.specs.Known.{Seen, with_half, peer_of}
 use Rattle.fabric_trace.specs.Fold.{edit_of, edited_by, says, fired_from, seen}
-use Rattle.fabric_trace.specs.Holds.{got_by, got, held_by, holds, numbered, HoldsCame}
+use Rattle.fabric_trace.specs.Holds.{got_by, got, held_by_line, holds, numbered_packets, HoldsCame}
 use Rattle.fabric_trace.proofs.Still.{AreStill}
 
 pub got-append : (q : PortRef) (xs ys : List TraceLine) → got q (xs ++ ys) ≡ got q xs ++ got q ys
@@ -28,14 +28,14 @@ pub holds-append : (q : PortRef) (xs ys : List TraceLine)
     → holds q (xs ++ ys) ≡ holds q xs ++ holds q ys
 holds-append q [] ys = refl
 holds-append q (x ∷ xs) ys =
-    ap (λ (l : List (List ℕ)). held_by q x ++ l) (holds-append q xs ys)
-    ∙ sym (append_assoc (held_by q x) (holds q xs) (holds q ys))
+    ap (λ (l : List (List ℕ)). held_by_line q x ++ l) (holds-append q xs ys)
+    ∙ sym (append_assoc (held_by_line q x) (holds q xs) (holds q ys))
 
 -- Of a port, after lines: its holds are read in what it got; its framer stands behind that, and it
 -- expects the next one.
 pub record IsRead (before : List TraceLine) (s : Seen) (q : PortRef) : Type 0 where
   pub within : HoldsCame q before
-  pub place : s.unfaithful ≡ None → (s.halves q).place ≡ place_after start (got q before)
+  pub place : s.unfaithful ≡ None → (s.halves q).place ≡ place_after place_start (got q before)
   pub expected : s.unfaithful ≡ None → expected_of (s.halves q).input ≡ length (holds q before) % 32
 
 -- ---- lines in which a port gets and holds nothing
@@ -85,7 +85,7 @@ fired_stays s (Some q) p c =
     }
 
 one_read : (before : List TraceLine) (s t : Seen) (line : TraceLine) (c : PortRef)
-    → got_by c line ≡ [] → held_by c line ≡ [] → StaysRead s t c → IsRead before s c
+    → got_by c line ≡ [] → held_by_line c line ≡ [] → StaysRead s t c → IsRead before s c
     → IsRead (before ++ line ∷ []) t c
 one_read before s t line c no_got no_held stays h =
     let gets : got c (before ++ line ∷ []) ≡ got c before =
@@ -96,12 +96,12 @@ one_read before s t line c no_got no_held stays h =
     ∙ ap (λ (l : List (List ℕ)). holds c before ++ (l ++ [])) no_held
     ∙ append-nil (holds c before) in
     record {
-      within = subst (λ (l : List (List ℕ)). IsSubsequence (numbered 0 l)
+      within = subst (λ (l : List (List ℕ)). IsSubsequence (numbered_packets 0 l)
           (says (got c (before ++ line ∷ [])))) (sym has)
-          (subst (λ (l : List Char). IsSubsequence (numbered 0 (holds c before)) (says l))
+          (subst (λ (l : List Char). IsSubsequence (numbered_packets 0 (holds c before)) (says l))
           (sym gets) h.within);
       place = λ none. stays.place ∙ h.place (sym stays.unfaithful ∙ none)
-          ∙ ap (place_after start) (sym gets);
+          ∙ ap (place_after place_start) (sym gets);
       expected =
           λ none. ap expected_of stays.input ∙ h.expected (sym stays.unfaithful ∙ none)
           ∙ ap (λ (l : List (List ℕ)). length l % 32) (sym has);

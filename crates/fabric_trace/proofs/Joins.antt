@@ -10,7 +10,7 @@ use Rattle.fabric_script.specs.declared.lines.Numbered.{Numbered}
 use Rattle.fabric_script.specs.Known.{Known, nothing, known_after, nodes_after, links_after, node_ports, ports_of}
 use Rattle.fabric_script.specs.Lines.{new_name}
 use Rattle.fabric_script.specs.Reading.{MayBe}
-use Rattle.fabric_script.specs.Scripts.{PassesFrom, Passes}
+use Rattle.fabric_script.specs.Scripts.{PassesFrom, ScriptPasses}
 use Rattle.fabric_model.specs.Network.{Network, bare, same_port, peer_in}
 use Rattle.fabric_model.specs.Laws.Nodes.{HasPort, IsPortOf, JoinsNodes}
 use Rattle.fabric_model.proofs.Lists.{all-append, all_weaker}
@@ -173,7 +173,7 @@ joins_from known names net (line ∷ lines) joined passes =
     joins_from (known_after known new line.line) names (set_up net line.line) lines
     (joined_after known new net line.line joined passes.0) passes.2
 
-pub scripts_join : (names : List (List ℕ)) (lines : List Numbered) → Passes names lines
+pub scripts_join : (names : List (List ℕ)) (lines : List Numbered) → ScriptPasses names lines
     → JoinsNodes (set_up_all bare lines)
 scripts_join names lines passes =
     joins_from nothing names bare lines (record { counted = refl; own = tt; ends = tt }) passes

@@ -29,7 +29,7 @@ use Rattle.fabric_trace.specs.Known.{Seen, Found, peer_of, link_at}
 use Rattle.fabric_trace.specs.Fold.{edit_of, edited_by, seen_line, seen}
 use Rattle.fabric_trace.specs.Blocks.{lines_of}
 use Rattle.fabric_trace.specs.Links.{AreLinks}
-use Rattle.fabric_trace.specs.Parts.{packet_of, Part, Begins, Lacks, Ends, Names, Steps, Serves, Turns, Tells, Delivers, Fires, Made, Done, Then}
+use Rattle.fabric_trace.specs.Parts.{packet_of, Part, PartBegins, PartLacks, PartEnds, PartNames, PartSteps, PartServes, PartTurns, PartTells, PartDelivers, PartFires, Made, Done, Then}
 use Rattle.fabric_trace.proofs.Calling.{IsCall, turns_call, tells_call, fires_call}
 use Rattle.fabric_trace.proofs.Delivering.{delivers_call}
 use Rattle.fabric_trace.proofs.Folding.{seen-append, edited_net}
@@ -232,21 +232,22 @@ kept_by : {s : Seen} {lines other : List TraceLine} → lines ≡ other → IsKe
 kept_by {s} is kept = subst (IsKept s) (sym is) kept
 
 pub part_keeps : {s : Seen} {lines : List TraceLine} → IsGood s → Part s lines → IsKept s lines
-part_keeps {s} good (Begins line is) =
+part_keeps {s} good (PartBegins line is) =
     kept_by is (record {
       legal = edited_net s (edit_of line);
       good = edit_keeps s (edit_of line) good;
     })
-part_keeps {s} good (Lacks lack is) = kept_by is (record { legal = refl; good = good })
-part_keeps {s} good (Ends is) = kept_by is (record { legal = refl; good = good })
-part_keeps {s} good (Names number q e found is) = kept_by is (record { legal = refl; good = good })
-part_keeps {s} good (Steps step needs few is) = kept_by is (node_keeps s step good needs few)
-part_keeps {s} good (Serves step needs is) = kept_by is (device_keeps s step good needs)
-part_keeps {s} good (Turns p q n peer none is) = kept_by is (turns_keep s p q n good peer none)
-part_keeps {s} good (Tells p q peer none is) = kept_by is (tells_keep s p q good peer none)
-part_keeps {s} good (Delivers p q n peer none has is) =
+part_keeps {s} good (PartLacks lack is) = kept_by is (record { legal = refl; good = good })
+part_keeps {s} good (PartEnds is) = kept_by is (record { legal = refl; good = good })
+part_keeps {s} good (PartNames number q e found is) =
+    kept_by is (record { legal = refl; good = good })
+part_keeps {s} good (PartSteps step needs few is) = kept_by is (node_keeps s step good needs few)
+part_keeps {s} good (PartServes step needs is) = kept_by is (device_keeps s step good needs)
+part_keeps {s} good (PartTurns p q n peer none is) = kept_by is (turns_keep s p q n good peer none)
+part_keeps {s} good (PartTells p q peer none is) = kept_by is (tells_keep s p q good peer none)
+part_keeps {s} good (PartDelivers p q n peer none has is) =
     kept_by is (delivers_keep s p q n good peer none has)
-part_keeps {s} good (Fires p q peer none silent is) =
+part_keeps {s} good (PartFires p q peer none silent is) =
     kept_by is (fires_keep s p q good peer none silent)
 
 -- all parts

@@ -6,7 +6,7 @@ use Rattle.std.proofs.lemmas.Option.{slice_get-map}
 use Rattle.std.specs.List.{slice_get}
 use Rattle.fabric_script.specs.declared.lines.Line.{Line}
 use Rattle.fabric_script.specs.declared.lines.Line.TheVariants.{Endpoint, Switch}
-use Rattle.fabric_script.specs.Known.{Known, known_after, names_after, nodes_after, links_after, node_is_switch, is_switch as is_known_switch, nothing_in}
+use Rattle.fabric_script.specs.Known.{Known, known_after, names_after, nodes_after, links_after, node_is_switch, is_known_switch, nothing_in}
 use Rattle.maint_registers.specs.Devices.{is_switch}
 use Rattle.fabric_model.specs.Network.{Network, IsEndpoint, IsSwitch, switch_at}
 use Rattle.fabric_trace.specs.Runs.{bare, set_up}

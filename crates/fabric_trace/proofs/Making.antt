@@ -6,13 +6,13 @@ use Rattle.link_model.specs.declared.event.Event.{Event}
 use Rattle.link_watch.specs.declared.note.Note.TheVariants as Notes
 use Rattle.link_watch.specs.declared.side.Side.{Side}
 use Rattle.link_watch.specs.declared.side.Side.TheVariants.{A, B}
-use Rattle.link_wires.specs.Deliveries.{Told, Delivered, Through, Undetected as Unsent, told_of, undetected}
+use Rattle.link_wires.specs.Deliveries.{Told, Delivered, Through, Unsent, told_of, undetected}
 use Rattle.link_wires.specs.Wires.{answers}
 use Rattle.link_wires.specs.declared.moves.Move.{Move}
 use Rattle.link_wires.specs.declared.moves.Move.TheVariants.{Held, Freed}
 use Rattle.link_machine.specs.States.{LinkState, turned_round}
 use Rattle.link_machine.specs.Calls.{sent_notes, pumped, pump_notes, has_chars, delivery_from, delivered_from, move_note, told_notes, delivery_notes, is_silent, first_fires, timed_out_at, time_out_notes, tell_notes, told_from}
-use Rattle.link_rest.specs.Acts.{Deliver as DeliverAct, Reached, At, Found as FoundAt, reached_by, after}
+use Rattle.link_rest.specs.Acts.{Deliver as DeliverAct, Reached, At, FoundAt, reached_by, after_act}
 use Rattle.fabric_script.specs.declared.ports.PortRef.{PortRef}
 use Rattle.fabric_model.specs.Network.{same_port}
 use Rattle.fabric_model.proofs.Peers.{ArePeers}
@@ -21,7 +21,7 @@ use Rattle.fabric_model.specs.Steps.{Step}
 use Rattle.fabric_trace.specs.Known.{Seen, Found, link_at}
 use Rattle.fabric_trace.specs.Fold.{found_at, seen}
 use Rattle.fabric_trace.specs.Blocks.{port_at_side, line_of, lines_of}
-use Rattle.fabric_trace.specs.Parts.{Part, Turns, Tells, Delivers, Fires, Made, Done, Then}
+use Rattle.fabric_trace.specs.Parts.{Part, PartTurns, PartTells, PartDelivers, PartFires, Made, Done, Then}
 use Rattle.fabric_trace.proofs.Calling.{IsCall, turns_call, tells_call, fires_call}
 use Rattle.fabric_trace.proofs.Delivering.{delivers_call}
 use Rattle.fabric_trace.proofs.Folding.{seen-append, lines-append}
@@ -158,7 +158,7 @@ pump_reaches s p q n good none peers =
     let call = turns_call s p q n peers (good.links none p q peers.there) in
     let still = call.unfaithful ∙ none in
     record {
-      made = one_part (Turns p q n peers.there none refl);
+      made = one_part (PartTurns p q n peers.there none refl);
       others = call_others call;
       there = λ m is. (still, call.becomes still ∙ at_is (pumped A n (link_at s p q)) m is);
       found = λ side e is. absurd cc;
@@ -172,7 +172,7 @@ tell_reaches s p q good none peers =
     let call = tells_call s p q peers (good.links none p q peers.there) in
     let still = call.unfaithful ∙ none in
     record {
-      made = one_part (Tells p q peers.there none refl);
+      made = one_part (PartTells p q peers.there none refl);
       others = call_others call;
       there = λ m is. (still, call.becomes still ∙ at_is (told_from A (link_at s p q)) m is);
       found = λ side e is. absurd cc;
@@ -191,7 +191,7 @@ fire_reaches s p q good none peers = by_silence (is_silent (link_at s p q)) refl
         let call = fires_call s p q peers (good.links none p q peers.there) is in
         let still = call.unfaithful ∙ none in
         record {
-          made = one_part (Fires p q peers.there none is refl);
+          made = one_part (PartFires p q peers.there none is refl);
           others = call_others call;
           there = λ m to. (still, call.becomes still ∙ at_is (timed_out_at A (link_at s p q)) m to);
           found = λ side e to. absurd cc;
@@ -221,7 +221,7 @@ delivery_to l n =
 pub deliver_reaches : (s : Seen) (p q : PortRef) (n : ℕ) → IsGood s → s.unfaithful ≡ None
     → ArePeers s.network.links p q
     → Reaches s p q (lines_of p q (delivery_notes A n (link_at s p q)))
-    (after (DeliverAct A n) (link_at s p q))
+    (after_act (DeliverAct A n) (link_at s p q))
 deliver_reaches s p q n good none peers = by_chars (has_chars A n (link_at s p q)) refl
   where
     by_end : (d : Delivered) → delivery_from A n (link_at s p q) ≡ d
@@ -254,15 +254,15 @@ deliver_reaches s p q n good none peers = by_chars (has_chars A n (link_at s p q
 
     by_chars : (x : Bool) → has_chars A n (link_at s p q) ≡ x
         → Reaches s p q (lines_of p q (delivery_notes A n (link_at s p q)))
-        (after (DeliverAct A n) (link_at s p q))
+        (after_act (DeliverAct A n) (link_at s p q))
     by_chars true is =
         let call = delivers_call s p q n peers (good.links none p q peers.there) is in
-        let to : after (DeliverAct A n) (link_at s p q)
+        let to : after_act (DeliverAct A n) (link_at s p q)
         ≡ reached_by B (delivered_from A n (link_at s p q)) (delivery_from A n (link_at s p q)) =
         ap (λ x. if x then reached_by B (delivered_from A n (link_at s p q))
         (delivery_from A n (link_at s p q)) else At (link_at s p q)) is in
         record {
-          made = one_part (Delivers p q n peers.there none is refl);
+          made = one_part (PartDelivers p q n peers.there none is refl);
           others = call_others call;
           there = λ m there. by_end (delivery_from A n (link_at s p q)) refl call.unfaithful
               call.becomes m (sym to ∙ there);
@@ -273,7 +273,7 @@ deliver_reaches s p q n good none peers = by_chars (has_chars A n (link_at s p q
         let lines : lines_of p q (delivery_notes A n (link_at s p q)) ≡ [] =
         ap (λ x. lines_of p q (if x then told_notes B (take n (s.wires p).chars)
         (told_of (delivery_from A n (link_at s p q))) else [])) is in
-        let to : after (DeliverAct A n) (link_at s p q) ≡ At (link_at s p q) =
+        let to : after_act (DeliverAct A n) (link_at s p q) ≡ At (link_at s p q) =
         ap (λ x. if x then reached_by B (delivered_from A n (link_at s p q))
         (delivery_from A n (link_at s p q)) else At (link_at s p q)) is in
         record {

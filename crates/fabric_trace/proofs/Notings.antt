@@ -15,7 +15,7 @@ use Rattle.fabric_trace.specs.Lines.{TraceLine}
 use Rattle.fabric_trace.specs.Known.{Seen, link_at}
 use Rattle.fabric_trace.specs.Blocks.{lines_of}
 use Rattle.fabric_trace.specs.Noted.{is_noting, FreesNoted}
-use Rattle.fabric_trace.specs.Parts.{Part, Begins, Lacks, Ends, Names, Steps, Serves, Turns, Tells, Delivers, Fires, Made, Done, Then}
+use Rattle.fabric_trace.specs.Parts.{Part, PartBegins, PartLacks, PartEnds, PartNames, PartSteps, PartServes, PartTurns, PartTells, PartDelivers, PartFires, Made, Done, Then}
 use Rattle.link_port.specs.Turns.{tell_sends}
 
 sent_noted : (c a b : PortRef) (side : Side) (chars : List Char) (now : Bool)
@@ -40,22 +40,22 @@ by_lines c now lines other is noted = subst (FreesNoted c now) (sym is) noted
 
 part_noted : (c : PortRef) (now : Bool) (s : Seen) (lines : List TraceLine) → Part s lines
     → FreesNoted c now lines
-part_noted c now s lines (Begins line is) = by_lines c now lines _ is (tt, tt)
-part_noted c now s lines (Lacks lack is) = by_lines c now lines _ is (tt, tt)
-part_noted c now s lines (Ends is) = by_lines c now lines _ is (tt, tt)
-part_noted c now s lines (Names number q e found is) = by_lines c now lines _ is (tt, tt)
-part_noted c now s lines (Steps step needs few is) = by_lines c now lines _ is (tt, tt)
-part_noted c now s lines (Serves step needs is) = by_lines c now lines _ is (tt, tt)
-part_noted c now s lines (Turns p q n peer none is) =
+part_noted c now s lines (PartBegins line is) = by_lines c now lines _ is (tt, tt)
+part_noted c now s lines (PartLacks lack is) = by_lines c now lines _ is (tt, tt)
+part_noted c now s lines (PartEnds is) = by_lines c now lines _ is (tt, tt)
+part_noted c now s lines (PartNames number q e found is) = by_lines c now lines _ is (tt, tt)
+part_noted c now s lines (PartSteps step needs few is) = by_lines c now lines _ is (tt, tt)
+part_noted c now s lines (PartServes step needs is) = by_lines c now lines _ is (tt, tt)
+part_noted c now s lines (PartTurns p q n peer none is) =
     by_lines c now lines _ is (sent_noted c p q A (bursts n (link_at s p q).a).chars now)
-part_noted c now s lines (Tells p q peer none is) =
+part_noted c now s lines (PartTells p q peer none is) =
     by_lines c now lines _ is (sent_noted c p q A (tell_sends (link_at s p q).a).chars now)
-part_noted c now s lines (Delivers p q n peer none has is) =
+part_noted c now s lines (PartDelivers p q n peer none has is) =
     let told = told_of (delivery_from A n (link_at s p q)) in
     by_lines c now lines _ (is
     ∙ ap (λ x. lines_of p q (if x then told_notes B (take n (s.wires p).chars) told else [])) has)
     (tt, moves_noted c p q told.moves (answers told.replies).chars)
-part_noted c now s lines (Fires p q peer none silent is) =
+part_noted c now s lines (PartFires p q peer none silent is) =
     by_lines c now lines _ is (fire_noted c p q (is_silent (link_at s p q)) now)
 
 abbrev is_noting_all : PortRef → Bool → List TraceLine → Bool

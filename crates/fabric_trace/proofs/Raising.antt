@@ -14,7 +14,7 @@ use Rattle.link_model.specs.Places.{Place, run, place_after}
 use Rattle.link_model.specs.Said.{said}
 use Rattle.link_port.specs.Ports.{PortState, IsPort}
 use Rattle.link_port.specs.States.{prios_of, IsOutput}
-use Rattle.link_port.specs.Steps.{acts, heard, is_acted}
+use Rattle.link_port.specs.Steps.{acts, symbol_heard, is_acted}
 use Rattle.link_port.proofs.HearLaws.{report_prios}
 use Rattle.link_sound.specs.Meanings.{oldest_of}
 use Rattle.link_sound.specs.Sound.{IsSound}
@@ -24,7 +24,7 @@ use Rattle.link_machine.specs.Queues.{Queues, queues_between}
 use Rattle.link_machine.proofs.Flowing.{IsFlowing, AreFlowing, comes_flowing}
 use Rattle.link_machine.proofs.Arriving.{HasAckAt, run_has}
 use Rattle.link_machine.proofs.Walking.{Stays}
-use Rattle.link_wires.specs.Deliveries.{Flow, Delivered, Through, Undetected as Unsent, begun, moves_of, done, met, comes, goes_on, come, ended, delivered}
+use Rattle.link_wires.specs.Deliveries.{Flow, Delivered, Through, Unsent, begun, moves_of, done, met, comes, goes_on, come, ended, delivered}
 use Rattle.link_wires.specs.Kept.{behind}
 use Rattle.fabric_trace.proofs.Heard.{freed_count, freed-append, freed_of}
 use Rattle.fabric_trace.specs.Allowance.{raised, raised_all}
@@ -58,7 +58,7 @@ event_raises n a port (Ctl symbol) is bounded working oldest low =
     let row =
     heard_rows n a (stype0 symbol.s0) (hears_report symbol port.output) symbol.p0
     (report_oldest symbol port.output ∙ oldest) low bounded working in
-    let k = (heard port symbol).freed in
+    let k = (symbol_heard port symbol).freed in
     let prios = prios_of port.output in
     let some =
     map-prio_of-packets_of (take k prios) port.queued is.sends.four

@@ -14,7 +14,7 @@ use Rattle.fabric_trace.specs.Fold.{seen_line, seen}
 use Rattle.fabric_trace.specs.Blocks.{IsSettle, WithLink, IsBlock}
 use Rattle.fabric_trace.specs.Rounds.{Follows, NamesNothing}
 use Rattle.fabric_trace.specs.Runs.{BlockThen, Names, RunsFrom, BlocksFrom}
-use Rattle.fabric_trace.specs.Parts.{Begins as BeginsPart, Ends, Names as NamesPart, Made, Done, Then}
+use Rattle.fabric_trace.specs.Parts.{PartBegins, PartEnds, PartNames, Made, Done, Then}
 use Rattle.fabric_trace.specs.Settled.{settled_by, under_way, RestsAt, Settled}
 use Rattle.fabric_trace.proofs.Keeping.{IsGood, legal_links, made_keeps}
 use Rattle.fabric_trace.proofs.Making.{one_part, made-append}
@@ -90,7 +90,7 @@ event_then s port line More Last lines good none rests more last run =
     let block = run.0 in
     let t = seen s (Begun line ∷ block) in
     let begun : Made s (Begun line ∷ block) =
-    Then (Begun line ∷ []) block refl (BeginsPart line refl)
+    Then (Begun line ∷ []) block refl (PartBegins line refl)
     (block_made line s block good none run.3) in
     let kept = made_keeps good begun in
     let links = legal_links s.network _ t.network kept.legal in
@@ -111,14 +111,14 @@ named_rests : (number : ℕ) (t : Seen) (p : Option PortRef) (e : Found) (rest :
     → t.unfaithful ≡ Some e → Names number e rest → Rests t p rest
 named_rests number t p e rest found named =
     rests_by named (record {
-      made = one_part (NamesPart number e.port e.event found refl);
+      made = one_part (PartNames number e.port e.event found refl);
       settled = (found, tt);
     })
 
 pub runs_rest : (script : List Numbered) (s : Seen) (port : Option PortRef) (lines : List TraceLine)
     → IsGood s → s.unfaithful ≡ None → RestsAt s port → RunsFrom s script lines → Rests s port lines
 runs_rest [] s port lines good none rests run =
-    rests_by run (record { made = one_part (Ends refl); settled = ((none, rests), tt) })
+    rests_by run (record { made = one_part (PartEnds refl); settled = ((none, rests), tt) })
 runs_rest (line ∷ script) s port lines good none rests run =
     by_test (is_event line.line)
     (event_then s port line.line (λ t rest. RunsFrom t script rest) (Names line.number) lines good

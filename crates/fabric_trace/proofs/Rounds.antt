@@ -11,7 +11,7 @@ use Rattle.fabric_trace.specs.Lines.{TraceLine, Stepped, steps_of}
 use Rattle.fabric_trace.specs.Known.{Found, Seen}
 use Rattle.fabric_trace.specs.Fold.{seen}
 use Rattle.fabric_trace.specs.Served.{IsMove}
-use Rattle.fabric_trace.specs.Rounds.{Follows, NamesNothing, Joined, AtLink, SettleAll, ServesAll, Rests, Goes, ServeNodes, Round, Rounds}
+use Rattle.fabric_trace.specs.Rounds.{Follows, NamesNothing, Joined, AtLink, SettleAll, ServesAll, ServeRests, ServeGoes, ServeNodes, Round, Rounds}
 use Rattle.fabric_trace.specs.Parts.{Made, Done}
 use Rattle.fabric_trace.proofs.Keeping.{IsGood, made_keeps, legal_links}
 use Rattle.fabric_trace.proofs.Making.{made-append, made_by}
@@ -85,8 +85,8 @@ module _ (moves_made : (s : Seen) (node : ℕ) (lines : List TraceLine) → IsGo
   pub serves_made : {s : Seen} {node : ℕ} {lines : List TraceLine} → IsGood s
       → ServesAll s node lines
       → Made s lines
-  serves_made {s} {node} {lines} good (Rests move is) = Done is
-  serves_made {s} {node} {lines} good (Goes step rest move is more) =
+  serves_made {s} {node} {lines} good (ServeRests move is) = Done is
+  serves_made {s} {node} {lines} good (ServeGoes step rest move is more) =
       let one = moves_made s node (Stepped (ByDevice step) ∷ []) good move in
       made_by is (made-append one (serves_made (made_keeps good one).good more))
 

@@ -9,7 +9,7 @@ use Rattle.maint_packets.specs.declared.request.Request.{Request}
 use Rattle.maint_packets.specs.NextHops.{next_of}
 use Rattle.maint_packets.specs.Requests.{request_of}
 use Rattle.maint_packets.specs.Responses.{response_bytes}
-use Rattle.maint_packets.specs.Answers.{answered}
+use Rattle.maint_packets.specs.Answers.{request_answered}
 use Rattle.switch_core.specs.declared.switch.Step as switch
 use Rattle.switch_core.specs.declared.switch.Step.TheVariants.{Moved, Dropped, Answered, Nothing}
 use Rattle.switch_core.specs.Faces.{Face, face_at, head_of, has_room}
@@ -22,7 +22,7 @@ use Rattle.fabric_model.proofs.Emptying.{packets_at, step_empties}
 use Rattle.fabric_model.proofs.Nodes.{few_prio}
 use Rattle.fabric_trace.specs.Lines.{Stepped}
 use Rattle.fabric_trace.specs.Known.{Seen}
-use Rattle.fabric_trace.specs.Served.{faces_in, step_lines, HasForm, IsMove}
+use Rattle.fabric_trace.specs.Served.{faces_in, step_lines, ResponseHasForm, IsMove}
 use Rattle.fabric_trace.proofs.Faces.{StepNeeds, step_needs}
 use Rattle.fabric_trace.proofs.Keeping.{IsGood, good_by_priority, passes_first}
 
@@ -49,7 +49,7 @@ module _ (device : Device) (faces : List Face) where
       → IsOfPort device.ports step
   answer_there port packet None step there is = absurd cc
   answer_there port packet (Some request) step there is =
-      let response = response_bytes (answered device request port).response in
+      let response = response_bytes (request_answered device request port).response in
       by_room device (has_room (face_at faces port) (prio_of response))
       (Answered port packet response) step there is
 
@@ -97,7 +97,7 @@ IsOneFewer s node ports step = packets_at (after s.network (ByDevice step)).rece
     ≡ packets_at s.network.received node ports
 
 fewer_by : (s : Seen) (node ports : ℕ) (made : switch.Step) (step : DeviceStep) → IsGood s
-    → HasForm made → StepNeeds s.network node made → IsOfPort ports made
+    → ResponseHasForm made → StepNeeds s.network node made → IsOfPort ports made
     → Stepped (ByDevice step) ∷ [] ≡ step_lines node made → IsOneFewer s node ports step
 fewer_by s node ports (Moved from to packet) step good form needs there is =
     let p : PortRef = record { node = node; port = from } in

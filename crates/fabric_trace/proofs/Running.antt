@@ -25,11 +25,11 @@ use Rattle.fabric_model.proofs.Nodes.{few_prio}
 use Rattle.fabric_trace.specs.Lines.{TraceLine, Begun, Stepped, Lacked, Full, Empty, Short, Early, NoStep}
 use Rattle.fabric_trace.specs.Known.{Seen, Found, peer_of, link_at}
 use Rattle.fabric_trace.specs.Fold.{edit_of, edited_by, seen}
-use Rattle.fabric_trace.specs.Served.{face_in, faces_in, step_lines, HasForm, IsMove, collect_lines, HasResponseForm, IsCollect}
-use Rattle.fabric_trace.specs.Blocks.{takes, Sends, lines_of, pumps, delivers, times_out, edits, IsSettle, WithPeer, WithLink, IsBlock}
+use Rattle.fabric_trace.specs.Served.{face_in, faces_in, step_lines, ResponseHasForm, IsMove, collect_lines, HasResponseForm, IsCollect}
+use Rattle.fabric_trace.specs.Blocks.{take_lines, SendsBody, lines_of, pumps, delivers, time_out_lines, edits, IsSettle, WithPeer, WithLink, IsBlock}
 use Rattle.fabric_trace.specs.Rounds.{Follows, Rounds}
-use Rattle.fabric_trace.specs.Runs.{BlockThen, Names as NamesLast, RunsFrom}
-use Rattle.fabric_trace.specs.Parts.{Begins, Lacks, Ends, Names, Steps, Serves, Turns, Delivers, Fires, Made, Done, Then}
+use Rattle.fabric_trace.specs.Runs.{BlockThen, Names, RunsFrom}
+use Rattle.fabric_trace.specs.Parts.{PartBegins, PartLacks, PartEnds, PartNames, PartSteps, PartServes, PartTurns, PartDelivers, PartFires, Made, Done, Then}
 use Rattle.fabric_trace.proofs.Faces.{StepNeeds, step_needs, CollectNeeds, collect_needs}
 use Rattle.fabric_trace.proofs.Keeping.{IsGood, good_by_priority, made_keeps}
 use Rattle.fabric_trace.proofs.Making.{one_part, made-append, made_by}
@@ -39,38 +39,38 @@ pub use Rattle.fabric_trace.proofs.EitherEnd.{acts_reach, fired_round, silent_ro
 -- ---- blocks
 
 takes_made : (s : Seen) (node : ℕ) (packet : List ℕ) → IsEndpoint s.network node → Passes packet
-    → Made s (takes s node packet)
+    → Made s (take_lines s node packet)
 takes_made s node packet endpoint passes =
     by_room (room_out s.network (port_of node) (prio_of packet)) refl
   where
     by_room : (x : Bool) → room_out s.network (port_of node) (prio_of packet) ≡ x
         → Made s (if x then Stepped (AtNode (Take node packet)) ∷ [] else Lacked Full ∷ [])
     by_room true is =
-        one_part (Steps (Take node packet) (endpoint, passes, is) (few_prio packet passes) refl)
-    by_room false is = one_part (Lacks Full refl)
+        one_part (PartSteps (Take node packet) (endpoint, passes, is) (few_prio packet passes) refl)
+    by_room false is = one_part (PartLacks Full refl)
 
 sends_made : (s : Seen) (node : ℕ) (body : List ℕ) (block : List TraceLine)
-    → Sends s node body block → Made s block
+    → SendsBody s node body block → Made s block
 sends_made s node body block is =
     made_by is.lines (takes_made s node is.packet is.endpoint
     (Passes-from_form body is.packet is.form))
 
 -- a switch makes a step, or none of its packets can go
-step_made : (s : Seen) (node : ℕ) (step : switch.Step) → HasForm step
+step_made : (s : Seen) (node : ℕ) (step : switch.Step) → ResponseHasForm step
     → StepNeeds s.network node step → Made s (step_lines node step)
 step_made s node (Moved from to packet) form needs =
-    one_part (Serves (MoveOn (record {
+    one_part (PartServes (MoveOn (record {
       node = node;
       port = from;
     }) (record { node = node; port = to }) packet) needs refl)
 step_made s node (Dropped from packet) form needs =
-    one_part (Serves (Drop (record { node = node; port = from }) packet) needs refl)
+    one_part (PartServes (Drop (record { node = node; port = from }) packet) needs refl)
 step_made s node (Answered port request response) form needs =
-    one_part (Serves (Answer (record {
+    one_part (PartServes (Answer (record {
       node = node;
       port = port;
     }) request response) (needs form) refl)
-step_made s node Nothing form needs = one_part (Lacks NoStep refl)
+step_made s node Nothing form needs = one_part (PartLacks NoStep refl)
 
 pub move_made : (s : Seen) (node : ℕ) (block : List TraceLine) → IsGood s
     → IsMove s.network node block → Made s block
@@ -83,11 +83,11 @@ move_made s node block good is =
 collected_made : (s : Seen) (node : ℕ) (what : Collected) → HasResponseForm what
     → CollectNeeds s.network node what → Made s (collect_lines node what)
 collected_made s node (Collects.Left packet) form needs =
-    one_part (Steps (Leave node packet) needs.1 needs.0 refl)
+    one_part (PartSteps (Leave node packet) needs.1 needs.0 refl)
 collected_made s node (Collects.Answered request response) form needs =
-    one_part (Serves (Answer (port_of node) request response) (needs form) refl)
-collected_made s node Collects.Empty form needs = one_part (Lacks Empty refl)
-collected_made s node Collects.Full form needs = one_part (Lacks Full refl)
+    one_part (PartServes (Answer (port_of node) request response) (needs form) refl)
+collected_made s node Collects.Empty form needs = one_part (PartLacks Empty refl)
+collected_made s node Collects.Full form needs = one_part (PartLacks Full refl)
 
 collect_made : (s : Seen) (node : ℕ) (block : List TraceLine) → IsGood s
     → IsCollect s.network node block → Made s block
@@ -109,25 +109,25 @@ delivers_made s p n q none peer = by_chars (has_chars A n (link_at s p q)) refl
   where
     by_chars : (x : Bool) → has_chars A n (link_at s p q) ≡ x → Made s (delivers s p n q)
     by_chars true is =
-        one_part (Delivers p q n peer none is
+        one_part (PartDelivers p q n peer none is
         (ap (λ x. if x then lines_of p q (delivery_notes A n (link_at s p q)) else Lacked Short
         ∷ []) is))
     by_chars false is =
-        one_part (Lacks Short (ap
+        one_part (PartLacks Short (ap
         (λ x. if x then lines_of p q (delivery_notes A n (link_at s p q)) else Lacked Short ∷ [])
         is))
 
 times_out_made : (s : Seen) (p q : PortRef) → s.unfaithful ≡ None → peer_of s p ≡ Some q
-    → Made s (times_out s p q)
+    → Made s (time_out_lines s p q)
 times_out_made s p q none peer = by_silence (is_silent (link_at s p q)) refl
   where
-    by_silence : (x : Bool) → is_silent (link_at s p q) ≡ x → Made s (times_out s p q)
+    by_silence : (x : Bool) → is_silent (link_at s p q) ≡ x → Made s (time_out_lines s p q)
     by_silence true is =
-        one_part (Fires p q peer none is
+        one_part (PartFires p q peer none is
         (ap (λ x. if x then lines_of p q (time_out_notes A (link_at s p q)) else Lacked Early ∷ [])
         is))
     by_silence false is =
-        one_part (Lacks Early (ap
+        one_part (PartLacks Early (ap
         (λ x. if x then lines_of p q (time_out_notes A (link_at s p q)) else Lacked Early ∷ []) is))
 
 edits_made : (s t : Seen) (edit : Option (PortRef × Edit)) → Made t (edits s edit)
@@ -137,7 +137,7 @@ edits_made s t (Some edit) =
     (if x then [] else Lacked Short ∷ [])) [
       | true ↦ Done refl
       | false ↦
-          one_part (Lacks Short refl)
+          one_part (PartLacks Short refl)
     ]
 
 pub link_made : (s : Seen) (a b : PortRef) (block : List TraceLine) → IsGood s → s.unfaithful ≡ None
@@ -183,7 +183,7 @@ block_made (Write16 node prio dest hop tid offset value) s block good none is =
     sends_made s node _ block is
 block_made (Pump port n) s block good none is =
     peer_made s port (peer_of s port) (pumps s port n) block refl is
-    (λ q peer. one_part (Turns port q n peer none refl))
+    (λ q peer. one_part (PartTurns port q n peer none refl))
 block_made (Deliver port n) s block good none is =
     peer_made s port (peer_of s port) (delivers s port n) block refl is
     (λ q peer. delivers_made s port n q none peer)
@@ -194,7 +194,7 @@ block_made (Insert port place ch) s block good none is =
 block_made (Erase port place n) s block good none is =
     made_by is (edits_made s _ (edit_of (Erase port place n)))
 block_made (Timeout port) s block good none is =
-    peer_made s port (peer_of s port) (times_out s port) block refl is
+    peer_made s port (peer_of s port) (time_out_lines s port) block refl is
     (λ q peer. times_out_made s port q none peer)
 block_made (Settle port) s block good none is =
     settle_made s port (link_in s.network.links port) block good none refl is
@@ -206,21 +206,21 @@ block_made (Run n) s block good none is = rounds_made s n block good none is
 
 follows_made : (t : Seen) (found : Option Found) (More : List TraceLine → Type 0) (number : ℕ)
     (rest : List TraceLine) → t.unfaithful ≡ found
-    → (t.unfaithful ≡ None → More rest → Made t rest) → Follows found More (NamesLast number) rest
+    → (t.unfaithful ≡ None → More rest → Made t rest) → Follows found More (Names number) rest
     → Made t rest
 follows_made t None More number rest is more follows = more is follows
 follows_made t (Some found) More number rest is more follows =
-    one_part (Names number found.port found.event is follows)
+    one_part (PartNames number found.port found.event is follows)
 
 event_made : (s : Seen) (line : Line) (number : ℕ) (More : Seen → List TraceLine → Type 0)
     (lines : List TraceLine) → IsGood s → s.unfaithful ≡ None
     → ((t : Seen) (rest : List TraceLine) → IsGood t → t.unfaithful ≡ None → More t rest
-    → Made t rest) → BlockThen More (NamesLast number) s line lines → Made s lines
+    → Made t rest) → BlockThen More (Names number) s line lines → Made s lines
 event_made s line number More lines good none more run =
     let block = run.0 in
     let t = seen s (Begun line ∷ block) in
     let begun : Made s (Begun line ∷ block) =
-    Then (Begun line ∷ []) block refl (Begins line refl)
+    Then (Begun line ∷ []) block refl (PartBegins line refl)
     (block_made line s block good none run.3) in
     let kept = made_keeps good begun in
     made_by run.2 (made-append begun
@@ -229,7 +229,7 @@ event_made s line number More lines good none more run =
 
 pub runs_made : (script : List Numbered) (s : Seen) (lines : List TraceLine) → IsGood s
     → s.unfaithful ≡ None → RunsFrom s script lines → Made s lines
-runs_made [] s lines good none run = one_part (Ends run)
+runs_made [] s lines good none run = one_part (PartEnds run)
 runs_made (line ∷ script) s lines good none run =
     by_test (is_event line.line)
     (event_made s line.line line.number (λ t rest. RunsFrom t script rest) lines good none

@@ -12,9 +12,9 @@ use Rattle.fabric_trace.specs.Blocks.{IsSettle, WithLink, IsBlock}
 use Rattle.fabric_trace.specs.Fold.{seen}
 use Rattle.fabric_trace.specs.Known.{Found, Seen}
 use Rattle.fabric_trace.specs.Lines.{TraceLine, Begun}
-use Rattle.fabric_trace.specs.Parts.{Begins, Made, Then}
+use Rattle.fabric_trace.specs.Parts.{PartBegins, Made, Then}
 use Rattle.fabric_trace.specs.Rounds.{Follows, NamesNothing, SettlesTo}
-use Rattle.fabric_trace.specs.Runs.{bare, set_up_all, start, EventThen, BlockThen, Names, RunsBy, RunsFrom, Runs, BlocksBy, BlocksFrom, BeginsBy, Begins as IsBegun}
+use Rattle.fabric_trace.specs.Runs.{bare, set_up_all, start, EventThen, BlockThen, Names, RunsBy, RunsFrom, Runs, BlocksBy, BlocksFrom, BeginsBy, Begins}
 use Rattle.fabric_trace.specs.SetUps.{MaySetUpAll}
 use Rattle.fabric_trace.proofs.Keeping.{IsGood, made_keeps}
 use Rattle.fabric_trace.proofs.Rounds.{rounds_come}
@@ -68,7 +68,8 @@ event_rests : (s : Seen) (line : Line) (More Known : Seen → List TraceLine →
 event_rests s line More Known Last lines good none more own =
     let block = own.0 in
     let t = seen s (Begun line ∷ block) in
-    let begun : Made s (Begun line ∷ block) = Then (Begun line ∷ []) block refl (Begins line refl)
+    let begun : Made s (Begun line ∷ block) = Then (Begun line ∷ []) block refl
+    (PartBegins line refl)
     (block_made line s block good none own.3) in (
       block,
       own.1,
@@ -115,7 +116,7 @@ traces_rest script lines may runs =
     (good_start (set_up_all bare script) (set_up_bare script may)) refl runs
 
 pub fronts_rest : (script : List Numbered) (lines : List TraceLine) → MaySetUpAll bare script
-    → IsBegun script lines → BeginsBy IsBlockAtRest script lines
+    → Begins script lines → BeginsBy IsBlockAtRest script lines
 fronts_rest script lines may begun = record {
   done = begun.done;
   rest = begun.rest;

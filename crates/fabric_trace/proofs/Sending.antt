@@ -34,7 +34,7 @@ use Rattle.link_sound.proofs.PortBounds.{turn_port}
 use Rattle.link_watch.specs.declared.note.Note.TheVariants as Notes
 use Rattle.link_watch.specs.declared.side.Side.{Side}
 use Rattle.link_watch.specs.declared.side.Side.TheVariants.{A, B}
-use Rattle.link_wires.specs.Deliveries.{Flow, Delivered, Through, Undetected as Unsent, begun, done, met, comes, goes_on, come, ended, delivered, told_of}
+use Rattle.link_wires.specs.Deliveries.{Flow, Delivered, Through, Unsent, begun, done, met, comes, goes_on, come, ended, delivered, told_of}
 use Rattle.link_wires.specs.Kept.{behind}
 use Rattle.link_wires.specs.Wires.{bursts, answers}
 use Rattle.link_wires.specs.declared.moves.Move.{Move}
@@ -45,10 +45,10 @@ use Rattle.fabric_model.specs.Network.{Item, Network}
 use Rattle.fabric_model.proofs.Lists.{all-append}
 use Rattle.fabric_trace.specs.Lines.{Got, Fired, TraceLine, Signed}
 use Rattle.fabric_trace.specs.Views.{packets_in, lists_in, queue}
-use Rattle.fabric_trace.specs.Known.{Seen, peer_of, port_at, kept_of, link_at}
+use Rattle.fabric_trace.specs.Known.{Seen, peer_of, port_seen, kept_of, link_at}
 use Rattle.fabric_trace.specs.Fold.{says, seen_line, seen}
 use Rattle.fabric_trace.specs.Blocks.{port_at_side, line_of, lines_of}
-use Rattle.fabric_trace.specs.Parts.{Part, Begins, Lacks, Ends, Names, Steps, Serves, Turns, Tells, Delivers, Fires, Made, Done, Then}
+use Rattle.fabric_trace.specs.Parts.{Part, PartBegins, PartLacks, PartEnds, PartNames, PartSteps, PartServes, PartTurns, PartTells, PartDelivers, PartFires, Made, Done, Then}
 use Rattle.fabric_trace.proofs.Bursts.{startable_has, answers_say}
 use Rattle.fabric_trace.proofs.Folding.{lines-append}
 use Rattle.fabric_trace.proofs.Keeping.{IsGood, part_keeps}
@@ -283,10 +283,10 @@ moves_owned s a b side (Held packet ∷ moves) =
 moves_owned s a b side (Freed packet ∷ moves) =
     (tt, moves_owned (seen_line s (line_of a b (move_note side (Freed packet)))) a b side moves)
 
-turns_owned : (s : Seen) (p q : PortRef) (n : ℕ) → IsPort (port_at s p)
+turns_owned : (s : Seen) (p q : PortRef) (n : ℕ) → IsPort (port_seen s p)
     → AreOwned s (lines_of p q (pump_notes A n (link_at s p q)))
 turns_owned s p q n is =
-    let port = port_at s p in
+    let port = port_seen s p in
     let read = turns_read n port is in
     sent_owned s p q A (bursts n port).chars
     (subst (AllByRecursion (HasEvent s.network p)) (sym read.says)
@@ -297,16 +297,16 @@ tell_queued : (net : Network) (p : PortRef) (tells : Bool) (symbol : Fields)
 tell_queued net p true symbol = (tt, tt)
 tell_queued net p false symbol = tt
 
-tells_owned : (s : Seen) (p q : PortRef) → IsPort (port_at s p)
+tells_owned : (s : Seen) (p q : PortRef) → IsPort (port_seen s p)
     → AreOwned s (lines_of p q (tell_notes A (link_at s p q)))
 tells_owned s p q is =
-    let port = port_at s p in
+    let port = port_seen s p in
     let at = standing port in
     sent_owned s p q A (tell_sends port).chars
     (subst (AllByRecursion (HasEvent s.network p)) (sym (tell_read port is).says)
     (tell_queued s.network p port.tells (status at.expected at.buffers)))
 
-delivery_owned : (s : Seen) (p q : PortRef) (n : ℕ) → IsPort (port_at s q)
+delivery_owned : (s : Seen) (p q : PortRef) (n : ℕ) → IsPort (port_seen s q)
     → has_chars A n (link_at s p q) ≡ true
     → AreOwned s (lines_of p q (delivery_notes A n (link_at s p q)))
 delivery_owned s p q n is has =
@@ -323,7 +323,8 @@ delivery_owned s p q n is has =
     ap (lines_of p q) notes ∙ ap (λ (x : List TraceLine). got ∷ x)
     (lines-append p q (map (move_note B) told.moves) (sent_notes B sent)) in
     let are =
-    delivered_answers (port_at s q) (kept_of (s.wires p)) chars (port_narrow (port_at s q) is) in
+    delivered_answers (port_seen s q) (kept_of (s.wires p)) chars (port_narrow (port_seen s q) is)
+    in
     let t = seen (seen_line s got) moves in
     subst (AreOwned s) (sym lines) (
       tt,
@@ -351,19 +352,19 @@ fires_owned s p q peer silent =
     )
 
 pub part_owned : (s : Seen) (lines : List TraceLine) → IsGood s → Part s lines → AreOwned s lines
-part_owned s lines good (Begins line is) = subst (AreOwned s) (sym is) (tt, tt)
-part_owned s lines good (Lacks lack is) = subst (AreOwned s) (sym is) (tt, tt)
-part_owned s lines good (Ends is) = subst (AreOwned s) (sym is) (tt, tt)
-part_owned s lines good (Names number q e found is) = subst (AreOwned s) (sym is) (tt, tt)
-part_owned s lines good (Steps step needs few is) = subst (AreOwned s) (sym is) (tt, tt)
-part_owned s lines good (Serves step needs is) = subst (AreOwned s) (sym is) (tt, tt)
-part_owned s lines good (Turns p q n peer none is) =
+part_owned s lines good (PartBegins line is) = subst (AreOwned s) (sym is) (tt, tt)
+part_owned s lines good (PartLacks lack is) = subst (AreOwned s) (sym is) (tt, tt)
+part_owned s lines good (PartEnds is) = subst (AreOwned s) (sym is) (tt, tt)
+part_owned s lines good (PartNames number q e found is) = subst (AreOwned s) (sym is) (tt, tt)
+part_owned s lines good (PartSteps step needs few is) = subst (AreOwned s) (sym is) (tt, tt)
+part_owned s lines good (PartServes step needs is) = subst (AreOwned s) (sym is) (tt, tt)
+part_owned s lines good (PartTurns p q n peer none is) =
     subst (AreOwned s) (sym is) (turns_owned s p q n (good.links none p q peer).sound.port_a)
-part_owned s lines good (Tells p q peer none is) =
+part_owned s lines good (PartTells p q peer none is) =
     subst (AreOwned s) (sym is) (tells_owned s p q (good.links none p q peer).sound.port_a)
-part_owned s lines good (Delivers p q n peer none has is) =
+part_owned s lines good (PartDelivers p q n peer none has is) =
     subst (AreOwned s) (sym is) (delivery_owned s p q n (good.links none p q peer).sound.port_b has)
-part_owned s lines good (Fires p q peer none silent is) =
+part_owned s lines good (PartFires p q peer none silent is) =
     subst (AreOwned s) (sym is) (fires_owned s p q peer silent)
 
 pub made_owned : {s : Seen} {lines : List TraceLine} → IsGood s → Made s lines → AreOwned s lines

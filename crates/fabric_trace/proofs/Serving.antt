@@ -27,7 +27,7 @@ use Rattle.fabric_model.specs.Steps.{behind_first, without_first, with_waiting}
 use Rattle.fabric_model.specs.Laws.Proper.{AreProper}
 use Rattle.fabric_model.proofs.Peers.{ArePeers, port_is, apart_back, peer_back, same_port-refl, unlinked_apart, some_is}
 use Rattle.fabric_trace.specs.Views.{packets_in, lists_in, queue}
-use Rattle.fabric_trace.specs.Known.{Wire, Seen, with_wire, port_at, kept_of, wire_state, link_at}
+use Rattle.fabric_trace.specs.Known.{Wire, Seen, with_wire, port_seen, kept_of, wire_state, link_at}
 use Rattle.fabric_trace.specs.Fold.{changed, edited_by}
 use Rattle.fabric_trace.specs.Links.{queues_in, IsKept, IsLink, AreLinks}
 use Rattle.fabric_trace.proofs.Lanes.{packets-append, behind_is, lane_at, lists_set, lane_other}
@@ -197,13 +197,14 @@ edited_link s p edit a b is =
         port_a = is.sound.port_a;
         port_b = is.sound.port_b;
         sound =
-            subst (λ (l : List Event). IsSound (port_at s a) (port_at s b) l
+            subst (λ (l : List Event). IsSound (port_seen s a) (port_seen s b) l
             (kept_of (with_wire s.wires p (record (s.wires p) { chars = chars }) b)))
             (sym (kept a))
-            (subst (λ (l : List Event). IsSound (port_at s a) (port_at s b) (kept_of (s.wires a))
+            (subst (λ (l : List Event).
+            IsSound (port_seen s a) (port_seen s b) (kept_of (s.wires a))
             l) (sym (kept b)) is.sound.sound);
-        told_b = subst (IsTold (port_at s b) (port_at s a)) (sym (kept a)) is.sound.told_b;
-        told_a = subst (IsTold (port_at s a) (port_at s b)) (sym (kept b)) is.sound.told_a;
+        told_b = subst (IsTold (port_seen s b) (port_seen s a)) (sym (kept a)) is.sound.told_b;
+        told_a = subst (IsTold (port_seen s a) (port_seen s b)) (sym (kept b)) is.sound.told_a;
       };
       stands = is.stands;
       kept_a = same_kept (s.wires a) _ (edited_sent s p chars a) (edited_acted s p chars a)

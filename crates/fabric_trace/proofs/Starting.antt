@@ -7,7 +7,7 @@ use Rattle.link_port.specs.Ports.{new_port}
 use Rattle.link_sound.specs.Histories.{AreBuffers}
 use Rattle.link_machine.specs.States.{link, empty_wires}
 use Rattle.link_machine.proofs.Machine.{new_sound, none_failed}
-use Rattle.link_rest.specs.Acts.{Reached, At, Found as FoundAt, OnState, goes, acts_notes}
+use Rattle.link_rest.specs.Acts.{Reached, At, FoundAt, OnState, goes, acts_notes}
 use Rattle.link_rest.specs.Rest.{IsSettled}
 use Rattle.link_rest.proofs.Settled.{settling_rests}
 use Rattle.link_machine.specs.Sound.{IsSoundLink}
@@ -33,7 +33,7 @@ use Rattle.fabric_model.proofs.Flows.{in_order}
 use Rattle.fabric_model.proofs.Peers.{ArePeers, AreProper-append}
 use Rattle.fabric_trace.specs.Lines.{TraceLine, steps_of}
 use Rattle.fabric_trace.specs.Views.{packets_in}
-use Rattle.fabric_trace.specs.Known.{Seen, peer_of, port_at, link_at}
+use Rattle.fabric_trace.specs.Known.{Seen, peer_of, port_seen, link_at}
 use Rattle.fabric_trace.specs.Fold.{says, taken_from, seen}
 use Rattle.fabric_trace.specs.Blocks.{lines_of, IsSettle}
 use Rattle.fabric_trace.specs.Runs.{bare, set_up, set_up_all, begins, start, Runs}
@@ -41,7 +41,7 @@ use Rattle.fabric_trace.specs.Links.{IsLink, AreLinks}
 use Rattle.fabric_trace.specs.Parts.{Made}
 use Rattle.fabric_trace.specs.Settings.{routed, defaulted, held_by, with_node, with_change, with_end, large_set}
 use Rattle.fabric_trace.specs.SetUps.{IsSetUp, MaySetUp, MaySetUpAll}
-use Rattle.link_model.specs.Places.{start as place_start}
+use Rattle.link_model.specs.Places.{place_start}
 use Rattle.link_model.proofs.PlacesLaws.{place_after-none}
 use Rattle.fabric_trace.specs.Ends.{EndsAs}
 use Rattle.fabric_trace.specs.Frees.{nothing_got, FreesSaid}
@@ -263,7 +263,7 @@ links_sound net lines is all none = (made_keeps (good_start net is) all).good.li
 pub never_failed : (net : Network) (lines : List TraceLine) (p q : PortRef) → IsSetUp net
     → Made (begins net) lines → (seen (begins net) lines).unfaithful ≡ None
     → peer_of (seen (begins net) lines) p ≡ Some q
-    → (port_at (seen (begins net) lines) p).output ≢ out.Output.Failed
+    → (port_seen (seen (begins net) lines) p).output ≢ out.Output.Failed
 never_failed net lines p q is all none peer =
     (none_failed (link_at (seen (begins net) lines) p q)
     (links_sound net lines is all none p q peer).sound).0

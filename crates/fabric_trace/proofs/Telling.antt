@@ -8,7 +8,7 @@ use Rattle.link_model.specs.Places.{Place, run, place_after}
 use Rattle.link_port.specs.Ports.{PortState}
 use Rattle.link_port.specs.Steps.{acts, is_acted}
 use Rattle.link_sound.specs.Told.{IsTold, TellsAs, last_report}
-use Rattle.link_wires.specs.Deliveries.{Flow, Delivered, Through, Undetected as Unsent, begun, done, met, comes, goes_on, come, ended, delivered}
+use Rattle.link_wires.specs.Deliveries.{Flow, Delivered, Through, Unsent, begun, done, met, comes, goes_on, come, ended, delivered}
 use Rattle.link_wires.specs.Kept.{behind}
 use Rattle.fabric_script.specs.declared.ports.PortRef.{PortRef}
 use Rattle.fabric_model.specs.Network.{Network, peer_in}

@@ -11,7 +11,7 @@ use Rattle.maint_registers.specs.Within.{IsWithin}
 use Rattle.maint_packets.specs.declared.request.Request.{Request}
 use Rattle.maint_packets.specs.Requests.{request_of}
 use Rattle.maint_packets.specs.Responses.{response_bytes}
-use Rattle.maint_packets.specs.Answers.{answered}
+use Rattle.maint_packets.specs.Answers.{request_answered}
 use Rattle.maint_packets.proofs.AnswerLaws.{responses_pass}
 use Rattle.switch_core.specs.declared.endpoint.Collected.TheVariants as Collects
 use Rattle.switch_core.specs.Faces.{head_of, has_room}
@@ -24,17 +24,17 @@ use Rattle.fabric_script.specs.declared.lines.Numbered.{Numbered}
 use Rattle.fabric_script.specs.Lines.{is_event, new_name}
 use Rattle.fabric_script.specs.Known.{Known, nothing, known_after}
 use Rattle.fabric_script.specs.Reading.{MayBe}
-use Rattle.fabric_script.specs.Scripts.{PassesFrom, Passes as IsPassed}
+use Rattle.fabric_script.specs.Scripts.{PassesFrom, ScriptPasses}
 use Rattle.fabric_model.specs.Network.{Network, same_port, port_of, peer_in, link_in, id_of, switch_at, IsEndpoint}
 use Rattle.fabric_model.specs.Laws.Forms.{IsFormed}
 use Rattle.fabric_model.proofs.Forms.{device_at}
 use Rattle.fabric_model.proofs.Peers.{link_peers}
-use Rattle.fabric_trace.specs.Blocks.{pumps, delivers, times_out, edits, IsSettle, WithPeer, WithLink, IsBlock}
+use Rattle.fabric_trace.specs.Blocks.{pumps, delivers, time_out_lines, edits, IsSettle, WithPeer, WithLink, IsBlock}
 use Rattle.fabric_trace.specs.Events.{FitsPacket, IsInRange, IsThere, MayHappen}
 use Rattle.fabric_trace.specs.Fold.{edit_of, seen}
 use Rattle.fabric_trace.specs.Known.{Found, Seen, peer_of}
 use Rattle.fabric_trace.specs.Lines.{TraceLine, Begun, Ended, Undetected, steps_of}
-use Rattle.fabric_trace.specs.Parts.{Begins, Made, Then}
+use Rattle.fabric_trace.specs.Parts.{PartBegins, Made, Then}
 use Rattle.fabric_trace.specs.Ready.{IsReady}
 use Rattle.fabric_trace.specs.Rounds.{Follows}
 use Rattle.fabric_trace.specs.Runs.{bare, set_up_all, begins, BlockThen, Names, RunsFrom, Runs}
@@ -96,7 +96,7 @@ module _ (s : Seen) (node : ℕ) (device : Device) (good : IsGood s) (formed : I
       → request_of packet ≡ Some request
       → HasResponseForm
       (if room then Collects.Answered packet
-      (response_bytes (answered device request 0).response) else Collects.Full)
+      (response_bytes (request_answered device request 0).response) else Collects.Full)
   room_form packet request true passes asks =
       let within : IsWithin device =
       device_at s.network.registers node device stands formed.registers in
@@ -109,7 +109,7 @@ module _ (s : Seen) (node : ℕ) (device : Device) (good : IsGood s) (formed : I
   packet_form packet (Some request) passes asks =
       room_form packet request
       (has_room (face_in s.network (port_of node))
-      (prio_of (response_bytes (answered device request 0).response))) passes asks
+      (prio_of (response_bytes (request_answered device request 0).response))) passes asks
 
   held_form : (head : Option (List ℕ)) → first_held (face_in s.network (port_of node)) ≡ head
       → HasResponseForm (collected_head device (face_in s.network (port_of node)) head)
@@ -185,7 +185,7 @@ block_exists (Insert port place ch) s ready none event say there =
 block_exists (Erase port place n) s ready none event say there =
     (edits s (edit_of (Erase port place n)), refl)
 block_exists (Timeout port) s ready none event say there =
-    peers_block (peer_of s port) (times_out s port) there
+    peers_block (peer_of s port) (time_out_lines s port) there
 block_exists (Settle port) s ready none event say there =
     settle_block s port (link_in s.network.links port) (good_of ready) none refl
     (link_there s.network.links port there)
@@ -264,7 +264,7 @@ runs_exist (line ∷ script) s ready none can =
     let block = own.0 in
     let t = seen s (Begun line.line ∷ block) in
     let begun : Made s (Begun line.line ∷ block) =
-    Then (Begun line.line ∷ []) block refl (Begins line.line refl)
+    Then (Begun line.line ∷ []) block refl (PartBegins line.line refl)
     (block_made line.line s block (good_of ready) none own.1) in
     let legal = (made_keeps (good_of ready) begun).legal in
     let links = legal_links s.network (steps_of (Begun line.line ∷ block)) t.network legal in
@@ -320,7 +320,7 @@ cans_from known names net (line ∷ script) passes all =
       cans_from (known_after known new line.line) names net script passes.2 all.1,
     )
 
-pub script_has_trace : (names : List (List ℕ)) (script : List Numbered) → IsPassed names script
+pub script_has_trace : (names : List (List ℕ)) (script : List Numbered) → ScriptPasses names script
     → (lines : List TraceLine) × Runs script lines
 script_has_trace names script passes =
     let net = set_up_all bare script in
@@ -332,7 +332,7 @@ script_has_trace names script passes =
     (may_happen names script passes)))
 
 -- and no other one
-pub script_has_one : (names : List (List ℕ)) (script : List Numbered) → IsPassed names script
+pub script_has_one : (names : List (List ℕ)) (script : List Numbered) → ScriptPasses names script
     → (lines : List TraceLine) × Runs script lines ×
     ((other : List TraceLine) → Runs script other → other ≡ lines)
 script_has_one names script passes =

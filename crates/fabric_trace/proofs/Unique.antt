@@ -18,15 +18,16 @@ use Rattle.fabric_trace.specs.Lines.{NoStep, TraceLine, Begun, Stepped, Lacked}
 use Rattle.fabric_trace.specs.Known.{Found, Seen, peer_of, link_at}
 use Rattle.fabric_trace.specs.Fold.{seen_line, seen}
 use Rattle.fabric_trace.specs.Served.{face_in, faces_in, step_lines, IsMove, collect_lines, IsCollect}
-use Rattle.fabric_trace.specs.Blocks.{takes, Sends, pumps, delivers, times_out, lines_of, IsSettle, WithPeer, WithLink, IsBlock}
-use Rattle.fabric_trace.specs.Rounds.{Follows, NamesNothing, Joined, SettleAll, ServesAll, Rests as AtRest, Goes, ServeNodes, Round, Rounds}
+use Rattle.fabric_trace.specs.Blocks.{take_lines, SendsBody, pumps, delivers, time_out_lines, lines_of, IsSettle, WithPeer, WithLink, IsBlock}
+use Rattle.fabric_trace.specs.Rounds.{Follows, NamesNothing, Joined, SettleAll, ServesAll, ServeRests, ServeGoes, ServeNodes, Round, Rounds}
 use Rattle.fabric_trace.specs.Runs.{start, BlockThen, Names, RunsFrom, Runs, BlocksFrom, Begins}
 
 -- ---- blocks
 
-send_one : (s : Seen) (node : ℕ) (body : List ℕ) → AtMostOne (Sends s node body)
+send_one : (s : Seen) (node : ℕ) (body : List ℕ) → AtMostOne (SendsBody s node body)
 send_one s node body x y p q =
-    p.lines ∙ (ap (takes s node) (LinkForm-one body p.packet q.packet p.form q.form) ∙ sym q.lines)
+    p.lines ∙ (ap (take_lines s node) (LinkForm-one body p.packet q.packet p.form q.form)
+    ∙ sym q.lines)
 
 -- a node has one device
 device_one : (found : Option Device) (a b : Device) → found ≡ Some a → found ≡ Some b → a ≡ b
@@ -84,16 +85,16 @@ settle_all_one (link ∷ links) s x y f g =
 
 serves_one : {s : Seen} {node : ℕ} {x y : List TraceLine} → ServesAll s node x → ServesAll s node y
     → x ≡ y
-serves_one (AtRest move e) (AtRest other f) = e ∙ sym f
-serves_one {s} {node} (AtRest move e) (Goes step rest other f more) =
+serves_one (ServeRests move e) (ServeRests other f) = e ∙ sym f
+serves_one {s} {node} (ServeRests move e) (ServeGoes step rest other f more) =
     let same =
     move_one s.network node (Lacked NoStep ∷ []) (Stepped (ByDevice step) ∷ []) move other in
     absurd (cc)
-serves_one {s} {node} (Goes step rest move e more) (AtRest other f) =
+serves_one {s} {node} (ServeGoes step rest move e more) (ServeRests other f) =
     let same =
     move_one s.network node (Lacked NoStep ∷ []) (Stepped (ByDevice step) ∷ []) other move in
     absurd (cc)
-serves_one {s} {node} (Goes step rest move e more) (Goes step2 rest2 other f more2) =
+serves_one {s} {node} (ServeGoes step rest move e more) (ServeGoes step2 rest2 other f more2) =
     let same =
     move_one s.network node (Stepped (ByDevice step2) ∷ []) (Stepped (ByDevice step) ∷ []) other
     move in
@@ -144,7 +145,7 @@ block_one (Deliver port n) s x y f g = peer_one (peer_of s port) (delivers s por
 block_one (Alter port place ch) s x y f g = f ∙ sym g
 block_one (Insert port place ch) s x y f g = f ∙ sym g
 block_one (Erase port place n) s x y f g = f ∙ sym g
-block_one (Timeout port) s x y f g = peer_one (peer_of s port) (times_out s port) x y f g
+block_one (Timeout port) s x y f g = peer_one (peer_of s port) (time_out_lines s port) x y f g
 block_one (Settle port) s x y f g =
     link_one (link_in s.network.links port) (IsSettle s) (settle_one s) x y f g
 block_one (Move node) s x y f g = move_one s.network node x y f g

@@ -10,7 +10,7 @@ use Rattle.link_wires.specs.declared.moves.Move.{Move}
 use Rattle.link_wires.specs.declared.moves.Move.TheVariants.{Held, Freed}
 use Rattle.link_machine.specs.Queues as link
 use Rattle.link_machine.specs.Queues.{Queues, queues_round, NeedsFirst, first_moved, NeedsAt, moved_at, Walks}
-use Rattle.link_machine.specs.Queues.Walks.{Ends, Goes}
+use Rattle.link_machine.specs.Queues.Walks.{WalkEnds, WalkGoes}
 use Rattle.fabric_script.specs.declared.ports.PortRef.{PortRef}
 use Rattle.fabric_model.specs.Network.{Network, same_port, with_lane, with_lent, first_packet}
 use Rattle.fabric_model.specs.Steps.{Hold, Free, Step, Linked, Needs, behind_first, only_first, after_hold, after, after_all, LegalFrom}
@@ -176,7 +176,7 @@ abbrev pub step_of : PortRef → PortRef → Side → Move → Step
 step_of a b side (Held packet) = Linked (Hold (port_at_side a b side) packet)
 step_of a b side (Freed packet) = Linked (Free (port_at_side a b side) packet)
 
-abbrev pub net_steps : PortRef → PortRef → List link.Step → List Step
+abbrev pub net_steps : PortRef → PortRef → List link.PortStep → List Step
 net_steps a b steps = map (λ step. step_of a b step.side step.move) steps
 
 moved_first : (net : Network) (a b : PortRef) (move : Move) → ArePeers net.links a b
@@ -216,12 +216,12 @@ same_here net c =
 pub elsewhere_here : (net : Network) (a b : PortRef) → AreElsewhere net net a b
 elsewhere_here net a b = record { links = refl; others = λ c x y. same_here net c }
 
-pub walks_led : {q end : Queues} {steps : List link.Step} → Walks q steps end
+pub walks_led : {q end : Queues} {steps : List link.PortStep} → Walks q steps end
     → (net : Network) (a b : PortRef) → q ≡ queues_in net a b → ArePeers net.links a b
     → AreLed net (net_steps a b steps) a b end
-walks_led Ends net a b is peers =
+walks_led WalkEnds net a b is peers =
     record { legal = refl; queues = sym is; elsewhere = elsewhere_here net a b }
-walks_led (Goes side move needs walk) net a b is peers =
+walks_led (WalkGoes side move needs walk) net a b is peers =
     let does = moved_side net a b side move peers (subst (NeedsAt side move) is needs) in
     let more =
     walks_led walk (after net (step_of a b side move)) a b
@@ -235,7 +235,7 @@ walks_led (Goes side move needs walk) net a b is peers =
 
 -- the steps of the lines of notes
 pub steps_said : (a b : PortRef) (notes : List Note)
-    → steps_of (lines_of a b notes) ≡ net_steps a b (link.steps_of notes)
+    → steps_of (lines_of a b notes) ≡ net_steps a b (link.note_steps notes)
 steps_said a b [] = refl
 steps_said a b (Notes.Sent side chars ∷ notes) = steps_said a b notes
 steps_said a b (Notes.Got side chars ∷ notes) = steps_said a b notes

@@ -16,10 +16,10 @@ use Rattle.link_machine.proofs.Arriving.{HasAckAt, run_has}
 use Rattle.fabric_script.specs.declared.ports.PortRef.{PortRef}
 use Rattle.fabric_trace.specs.Blocks.{lines_of}
 use Rattle.fabric_trace.specs.Fold.{seen_line, seen}
-use Rattle.fabric_trace.specs.Known.{Seen, port_at, kept_of, link_at}
+use Rattle.fabric_trace.specs.Known.{Seen, port_seen, kept_of, link_at}
 use Rattle.fabric_trace.specs.Lines.{TraceLine, Got, Signed}
 use Rattle.fabric_trace.specs.OnTheWay.{WorksWithin, NeverFailWithin}
-use Rattle.fabric_trace.specs.Parts.{Part, Begins, Lacks, Ends, Names, Steps, Serves, Turns, Tells, Delivers, Fires, Made, Done, Then}
+use Rattle.fabric_trace.specs.Parts.{Part, PartBegins, PartLacks, PartEnds, PartNames, PartSteps, PartServes, PartTurns, PartTells, PartDelivers, PartFires, Made, Done, Then}
 use Rattle.fabric_trace.proofs.Keeping.{IsGood, part_keeps}
 use Rattle.link_port.specs.Turns.{tell_sends}
 
@@ -28,10 +28,10 @@ got_works : (s : Seen) (q : PortRef) (chars : List Char) → IsGood s → s.unfa
     → WorksWithin s (Signed (Got q chars))
 got_works s q chars good none p events peer =
     let link = (good.links none q p peer).sound in
-    events_work (port_at s q) (port_at s p) (kept_of (s.wires q)) (kept_of (s.wires p))
-    (take events (run (port_at s q).place 0 chars)) link.port_a link.port_b
-    (All-take HasAckAt events (run (port_at s q).place 0 chars)
-    (run_has (port_at s q).place 0 chars)) link.sound
+    events_work (port_seen s q) (port_seen s p) (kept_of (s.wires q)) (kept_of (s.wires p))
+    (take events (run (port_seen s q).place 0 chars)) link.port_a link.port_b
+    (All-take HasAckAt events (run (port_seen s q).place 0 chars)
+    (run_has (port_seen s q).place 0 chars)) link.sound
 
 -- ---- lines in which no port gets anything
 
@@ -58,23 +58,23 @@ by_lines : (s : Seen) {lines other : List TraceLine} → lines ≡ other → Nev
 by_lines s is ways = subst (NeverFailWithin s) (sym is) ways
 
 part_ways : {s : Seen} {lines : List TraceLine} → IsGood s → Part s lines → NeverFailWithin s lines
-part_ways {s} good (Begins line is) = by_lines s is (tt, tt)
-part_ways {s} good (Lacks lack is) = by_lines s is (tt, tt)
-part_ways {s} good (Ends is) = by_lines s is (tt, tt)
-part_ways {s} good (Names number q e found is) = by_lines s is (tt, tt)
-part_ways {s} good (Steps step needs few is) = by_lines s is (tt, tt)
-part_ways {s} good (Serves step needs is) = by_lines s is (tt, tt)
-part_ways {s} good (Turns p q n peer none is) =
+part_ways {s} good (PartBegins line is) = by_lines s is (tt, tt)
+part_ways {s} good (PartLacks lack is) = by_lines s is (tt, tt)
+part_ways {s} good (PartEnds is) = by_lines s is (tt, tt)
+part_ways {s} good (PartNames number q e found is) = by_lines s is (tt, tt)
+part_ways {s} good (PartSteps step needs few is) = by_lines s is (tt, tt)
+part_ways {s} good (PartServes step needs is) = by_lines s is (tt, tt)
+part_ways {s} good (PartTurns p q n peer none is) =
     by_lines s is (sent_ways p q A (bursts n (link_at s p q).a).chars s)
-part_ways {s} good (Tells p q peer none is) =
+part_ways {s} good (PartTells p q peer none is) =
     by_lines s is (sent_ways p q A (tell_sends (link_at s p q).a).chars s)
-part_ways {s} good (Delivers p q n peer none has is) =
+part_ways {s} good (PartDelivers p q n peer none has is) =
     let told = told_of (delivery_from A n (link_at s p q)) in
     let chars = take told.count (take n (s.wires p).chars) in
     by_lines s (is ∙ ap (λ x. lines_of p q
     (if x then told_notes B (take n (s.wires p).chars) told else [])) has)
     (got_works s q chars good none, moves_ways p q B told.moves (answers told.replies).chars _)
-part_ways {s} good (Fires p q peer none silent is) =
+part_ways {s} good (PartFires p q peer none silent is) =
     by_lines s is (fire_ways p q (is_silent (link_at s p q)) s)
 
 ways-append : (xs ys : List TraceLine) (s : Seen) → NeverFailWithin s xs

@@ -16,9 +16,9 @@ use Rattle.fabric_model.proofs.Peers.{peer_back, port_is}
 use Rattle.fabric_model.proofs.Joining.{links_stay}
 use Rattle.fabric_trace.specs.Lines.{Sign, Sent, Got, Fired, TraceLine, Begun, Stepped, Signed, Lacked, Ended, Undetected, steps_of}
 use Rattle.fabric_trace.specs.Known.{Wire, Seen, with_wire, peer_of, link_at}
-use Rattle.fabric_trace.specs.Fold.{edit_of, changed, edited_by, wire_sent, taken_from, got_from, silenced, fired_from, signed, seen_line, seen}
+use Rattle.fabric_trace.specs.Fold.{edit_of, changed, edited_by, wire_sent, taken_from, got_from, wire_silenced, fired_from, signed, seen_line, seen}
 use Rattle.fabric_trace.specs.Blocks.{lines_of}
-use Rattle.fabric_trace.specs.Parts.{Part, Begins, Lacks, Ends, Names, Steps, Serves, Turns, Tells, Delivers, Fires, Made, Done, Then}
+use Rattle.fabric_trace.specs.Parts.{Part, PartBegins, PartLacks, PartEnds, PartNames, PartSteps, PartServes, PartTurns, PartTells, PartDelivers, PartFires, Made, Done, Then}
 use Rattle.fabric_trace.specs.Wires.{WireChars, with_chars, edited_chars, taken_chars, signed_chars, on_wires, WireFold}
 use Rattle.fabric_trace.proofs.Folding.{network_is}
 use Rattle.fabric_trace.proofs.Keeping.{IsGood, legal_links, part_keeps}
@@ -72,9 +72,9 @@ fired_is : (s : Seen) (peer : Option PortRef) (p : PortRef)
     → chars_of (fired_from s peer p) ≡ chars_of s
 fired_is s None p = refl
 fired_is s (Some q) p =
-    let one = with_wire s.wires p (silenced (s.wires p)) in
-    let first = keep_chars s.wires p (silenced (s.wires p)) refl in
-    keep_chars one q (silenced (s.wires q)) (ap (λ (w : WireChars). w q) (sym first)) ∙ first
+    let one = with_wire s.wires p (wire_silenced (s.wires p)) in
+    let first = keep_chars s.wires p (wire_silenced (s.wires p)) refl in
+    keep_chars one q (wire_silenced (s.wires q)) (ap (λ (w : WireChars). w q) (sym first)) ∙ first
 
 pub signed_is : (s : Seen) (sign : Sign)
     → chars_of (signed s sign) ≡ signed_chars s.network.links (chars_of s) sign
@@ -173,31 +173,31 @@ delivery_fold s p q n links back has =
 part_fold : {s : Seen} {lines : List TraceLine} (links : List (PortRef × PortRef))
     → s.network.links ≡ links → IsGood s → Part s lines → WireFold links (chars_of s) lines
 unfolding GotNone
-part_fold {s} links same good (Begins line is) =
+part_fold {s} links same good (PartBegins line is) =
     subst (WireFold links (chars_of s)) (sym is) (tt, tt)
-part_fold {s} links same good (Lacks lack is) =
+part_fold {s} links same good (PartLacks lack is) =
     subst (WireFold links (chars_of s)) (sym is) (tt, tt)
-part_fold {s} links same good (Ends is) = subst (WireFold links (chars_of s)) (sym is) (tt, tt)
-part_fold {s} links same good (Names number q e found is) =
+part_fold {s} links same good (PartEnds is) = subst (WireFold links (chars_of s)) (sym is) (tt, tt)
+part_fold {s} links same good (PartNames number q e found is) =
     subst (WireFold links (chars_of s)) (sym is) (tt, tt)
-part_fold {s} links same good (Steps step needs few is) =
+part_fold {s} links same good (PartSteps step needs few is) =
     subst (WireFold links (chars_of s)) (sym is) (tt, tt)
-part_fold {s} links same good (Serves step needs is) =
+part_fold {s} links same good (PartServes step needs is) =
     subst (WireFold links (chars_of s)) (sym is) (tt, tt)
-part_fold {s} links same good (Turns p q n peer none is) =
+part_fold {s} links same good (PartTurns p q n peer none is) =
     subst (WireFold links (chars_of s)) (sym is)
     (quiet (lines_of p q (pump_notes A n (link_at s p q))) links (chars_of s)
     (sent_none p q A (bursts n (link_at s p q).a).chars))
-part_fold {s} links same good (Tells p q peer none is) =
+part_fold {s} links same good (PartTells p q peer none is) =
     subst (WireFold links (chars_of s)) (sym is)
     (quiet (lines_of p q (tell_notes A (link_at s p q))) links (chars_of s)
     (sent_none p q A (tell_sends (link_at s p q).a).chars))
-part_fold {s} links same good (Delivers p q n peer none has is) =
+part_fold {s} links same good (PartDelivers p q n peer none has is) =
     let back = peer_back s.network.links q p good.proper peer in
     subst (WireFold links (chars_of s)) (sym is)
     (delivery_fold s p q n links
     (ap (λ (l : List (PortRef × PortRef)). peer_in l q) (sym same) ∙ back) has)
-part_fold {s} links same good (Fires p q peer none silent is) =
+part_fold {s} links same good (PartFires p q peer none silent is) =
     subst (WireFold links (chars_of s)) (sym is)
     (quiet (lines_of p q (time_out_notes A (link_at s p q))) links (chars_of s)
     (fired_none p q (is_silent (link_at s p q))))

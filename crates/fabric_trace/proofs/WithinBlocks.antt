@@ -24,8 +24,8 @@ use Rattle.fabric_trace.specs.Lines.{TraceLine, Begun, Stepped, Signed, Lacked, 
 use Rattle.fabric_trace.specs.Known.{Found, Seen, peer_of, link_at}
 use Rattle.fabric_trace.specs.Fold.{edit_of, seen}
 use Rattle.fabric_trace.specs.Served.{face_in, faces_in, step_lines, collect_lines}
-use Rattle.fabric_trace.specs.Blocks.{takes, lines_of, pumps, delivers, times_out, edits, IsSettle, WithPeer, WithLink, IsBlock}
-use Rattle.fabric_trace.specs.Rounds.{Follows, NamesNothing, Joined, SettleAll, ServesAll, Rests, Goes, ServeNodes, Round, Rounds}
+use Rattle.fabric_trace.specs.Blocks.{take_lines, lines_of, pumps, delivers, time_out_lines, edits, IsSettle, WithPeer, WithLink, IsBlock}
+use Rattle.fabric_trace.specs.Rounds.{Follows, NamesNothing, Joined, SettleAll, ServesAll, ServeRests, ServeGoes, ServeNodes, Round, Rounds}
 use Rattle.fabric_trace.proofs.Rounds.{by_test}
 
 unfoldable pub IsWithinBlock : List TraceLine → Type 0
@@ -48,7 +48,7 @@ within_by : {lines other : List TraceLine} → lines ≡ other → IsWithinBlock
     → IsWithinBlock lines
 within_by is within = subst IsWithinBlock (sym is) within
 
-takes_within : (s : Seen) (node : ℕ) (packet : List ℕ) → IsWithinBlock (takes s node packet)
+takes_within : (s : Seen) (node : ℕ) (packet : List ℕ) → IsWithinBlock (take_lines s node packet)
 unfolding IsWithinBlock
 takes_within s node packet =
     elim (room_out s.network (port_of node) (prio_of packet)) as (λ x. IsWithinBlock
@@ -81,7 +81,7 @@ delivers_within s p n q =
       | false ↦ tt
     ]
 
-times_out_within : (s : Seen) (p q : PortRef) → IsWithinBlock (times_out s p q)
+times_out_within : (s : Seen) (p q : PortRef) → IsWithinBlock (time_out_lines s p q)
 unfolding IsWithinBlock
 times_out_within s p q =
     elim (is_silent (link_at s p q)) as (λ x. IsWithinBlock
@@ -147,8 +147,8 @@ settle_all_within (link ∷ links) s block is =
 serves_within : {s : Seen} {node : ℕ} {block : List TraceLine} → ServesAll s node block
     → IsWithinBlock block
 unfolding IsWithinBlock
-serves_within (Rests move is) = within_by is tt
-serves_within (Goes step rest move is more) = within_by is (serves_within more)
+serves_within (ServeRests move is) = within_by is tt
+serves_within (ServeGoes step rest move is more) = within_by is (serves_within more)
 
 nodes_within : (devices : List Device) (node : ℕ) (s : Seen) (block : List TraceLine)
     → ServeNodes node devices s block → IsWithinBlock block
@@ -209,7 +209,7 @@ block_within s (Insert port place ch) block is =
 block_within s (Erase port place n) block is =
     within_by is (edits_within s (edit_of (Erase port place n)))
 block_within s (Timeout port) block is =
-    peer_within (peer_of s port) (times_out s port) block (times_out_within s port) is
+    peer_within (peer_of s port) (time_out_lines s port) block (times_out_within s port) is
 block_within s (Settle port) block is = link_within s (link_in s.network.links port) block is
 block_within s (Move node) block is =
     within_by is.lines (step_within node (step_of is.device (faces_in s.network node is.device)))

@@ -5,8 +5,8 @@ use Rattle.link_model.specs.declared.event.Event.{Event}
 use Rattle.link_rest.specs.Rest.{IsSettled}
 use Rattle.link_buffers.specs.Priorities.{highest_below}
 use Rattle.link_wires.specs.Kept.{IsSubsequence}
-use Rattle.link_wires.specs.Kept.IsSubsequence.{Ends, Takes, Skips}
-use Rattle.link_wires.specs.Wires.{turned, bursts}
+use Rattle.link_wires.specs.Kept.IsSubsequence.{EndsWithin, TakesWithin, SkipsWithin}
+use Rattle.link_wires.specs.Wires.{port_turned, bursts}
 use Rattle.link_model.specs.ReadingKinds.{kind}
 use Rattle.link_model.specs.Window.{window}
 use Rattle.link_model.specs.Places.{run, place_after}
@@ -49,11 +49,11 @@ use Rattle.fabric_trace.specs.Holds.{HoldsCame}
 use Rattle.fabric_trace.specs.Served.{IsMove}
 use Rattle.fabric_trace.specs.SetUps.{MaySetUpAll}
 use Rattle.fabric_trace.specs.Wires.{WireFold}
-use Rattle.fabric_trace.specs.Examples.{near, far, pair, idle_script, idle_trace, accepted_chars, switch_script, switch_trace, two_held, dropped_at, moved_to, joined_with_itself, held_from_nowhere, held_in_wrong_order, freed, freed_twice, freed_later, accepted_in_pieces, got_from_nowhere, got_another, got_nothing, sent_from_nowhere, fired, still_under_way, moving, acted_from_nowhere, named_though_sent, not_settled, not_settled_yet, goes_on_with, named_at, near_failed, found_before}
+use Rattle.fabric_trace.specs.Examples.{near, far, pair_network, idle_script, idle_trace, accepted_chars, switch_script, switch_trace, two_held, dropped_at, moved_to, joined_with_itself, held_from_nowhere, held_in_wrong_order, frees_once, freed_twice, freed_later, accepted_in_pieces, got_from_nowhere, got_another, got_nothing, sent_from_nowhere, fires_once, still_under_way, moving, acted_from_nowhere, named_though_sent, not_settled, not_settled_yet, goes_on_with, named_at, near_failed, found_before}
 use Rattle.fabric_trace.proofs.Folding.{says_none}
 
 pub idle_runs : Runs idle_script idle_trace
-unfolding bursts turned highest_below run window greatest_first
+unfolding bursts port_turned highest_below run window greatest_first
 idle_runs = (
   [],
   _,
@@ -134,14 +134,14 @@ elsewhere_breaks net end node from named to packet is apart legal =
 pub joined_breaks : MaySetUpAll bare joined_with_itself → ⊥
 joined_breaks may = absurd (cc may.0.0)
 
-pub held_breaks : (end : Network) → LegalFrom pair (steps_of held_from_nowhere) end → ⊥
+pub held_breaks : (end : Network) → LegalFrom pair_network (steps_of held_from_nowhere) end → ⊥
 held_breaks end legal = absurd (cc legal.0.2)
 
 -- nothing has something within it
 no_more : {e : Event} {all xs ys : List Event} → IsSubsequence xs ys → xs ≡ e ∷ all → ys ≡ [] → ⊥
-no_more Ends is nothing = absurd cc
-no_more (Takes x rest) is nothing = absurd cc
-no_more (Skips x rest) is nothing = absurd cc
+no_more EndsWithin is nothing = absurd cc
+no_more (TakesWithin x rest) is nothing = absurd cc
+no_more (SkipsWithin x rest) is nothing = absurd cc
 
 pub came_breaks : HoldsCame far held_from_nowhere → ⊥
 came_breaks came = no_more came refl says_none
@@ -149,20 +149,20 @@ came_breaks came = no_more came refl says_none
 wrong_order : (chars : List Char) (first second : List ℕ) {xs ys : List Event} → first ≢ second
     → IsSubsequence xs ys → xs ≡ Pkt 0 second ∷ Pkt 1 first ∷ []
     → ys ≡ Pkt 0 first ∷ Pkt 1 second ∷ [] → ⊥
-wrong_order chars first second apart Ends is said = absurd cc
-wrong_order chars first second apart (Takes e rest) is said =
+wrong_order chars first second apart EndsWithin is said = absurd cc
+wrong_order chars first second apart (TakesWithin e rest) is said =
     let same : Pkt 0 second ≡ Pkt 0 first = cc in
     apart (cc same)
-wrong_order chars first second apart (Skips x rest) is said =
+wrong_order chars first second apart (SkipsWithin x rest) is said =
     later rest is (ap (drop 1) said)
   where
     later : {xs ys : List Event} → IsSubsequence xs ys → xs ≡ Pkt 0 second ∷ Pkt 1 first ∷ []
         → ys ≡ Pkt 1 second ∷ [] → ⊥
-    later Ends is said = absurd cc
-    later (Takes e rest) is said =
+    later EndsWithin is said = absurd cc
+    later (TakesWithin e rest) is said =
         let same : Pkt 0 second ≡ Pkt 1 second = cc in
         absurd (cc same)
-    later (Skips x rest) is said = no_more rest is (ap (drop 1) said)
+    later (SkipsWithin x rest) is said = no_more rest is (ap (drop 1) said)
 
 pub order_breaks : (chars : List Char) (first second : List ℕ) → first ≢ second
     → says chars ≡ Pkt 0 first ∷ Pkt 1 second ∷ []
@@ -170,11 +170,11 @@ pub order_breaks : (chars : List Char) (first second : List ℕ) → first ≢ s
 order_breaks chars first second apart said came =
     wrong_order chars first second apart came refl (ap says (append-nil chars) ∙ said)
 
-pub got_breaks : WireFold pair.links (λ p. []) got_from_nowhere → ⊥
+pub got_breaks : WireFold pair_network.links (λ p. []) got_from_nowhere → ⊥
 got_breaks fold = absurd (cc fold.0.stands)
 
 pub another_breaks : (sent other : Char) → sent ≢ other
-    → WireFold pair.links (λ p. []) (got_another sent other) → ⊥
+    → WireFold pair_network.links (λ p. []) (got_another sent other) → ⊥
 another_breaks sent other apart fold =
     let peer : Some near ≡ Some fold.1.0.peer = fold.1.0.peer_is in
     let one : near ≡ fold.1.0.peer = cc in
@@ -183,30 +183,31 @@ another_breaks sent other apart fold =
     (sym one) fold.1.0.stands in
     apart (cc stands)
 
-pub moving_breaks : IsSettled (link_at (seen (begins pair) still_under_way) near far) → ⊥
+pub moving_breaks : IsSettled (link_at (seen (begins pair_network) still_under_way) near far) → ⊥
 moving_breaks settled = absurd (cc settled.quiet.wire_a)
 
 -- the acceptance is acted on
-pub acted_breaks : Faithful (begins pair) acted_from_nowhere → ⊥
+pub acted_breaks : Faithful (begins pair_network) acted_from_nowhere → ⊥
 unfolding run place_after kind spelled is_spelling crc5_value crc5_of crc5_message field_bits bits
     number division_steps complemented
 acted_breaks faithful = no_more ((faithful.0 near refl).sent refl) refl refl
 
-pub unsent_breaks : Faithful (begins pair) named_though_sent → ⊥
+pub unsent_breaks : Faithful (begins pair_network) named_though_sent → ⊥
 unfolding run place_after kind spelled is_spelling crc5_value crc5_of crc5_message field_bits bits
     number division_steps complemented
 unsent_breaks faithful =
-    (faithful.1.0 near refl).unsent refl (Takes (Ctl (packet_accepted 0 31)) Ends)
+    (faithful.1.0 near refl).unsent refl (TakesWithin (Ctl (packet_accepted 0 31)) EndsWithin)
 
-pub freed_breaks : FreesSaid near nothing_got 0 freed → ⊥
+pub freed_breaks : FreesSaid near nothing_got 0 frees_once → ⊥
 unfolding run
 freed_breaks said = no_more (said.0 refl).among refl refl
 
 one_in : {e x : Event} {xs ys : List Event} → IsSubsequence xs ys → xs ≡ e ∷ [] → ys ≡ x ∷ []
     → e ≡ x
-one_in Ends is one = absurd cc
-one_in (Takes y rest) is one = cc
-one_in (Skips y rest) is one = let none : _ ≡ [] = ap (drop 1) one in absurd (no_more rest is none)
+one_in EndsWithin is one = absurd cc
+one_in (TakesWithin y rest) is one = cc
+one_in (SkipsWithin y rest) is one =
+    let none : _ ≡ [] = ap (drop 1) one in absurd (no_more rest is none)
 
 twice : (e : Event) → e ≡ Ctl (packet_accepted 0 31) → Acknowledges 1 e → ⊥
 twice (Ctl symbol) is (inl own) =
@@ -238,29 +239,29 @@ twice_breaks known one said =
 
 -- ---- frees
 
-pub pieces_said : FreesSaid near accepted_in_pieces 0 freed
+pub pieces_said : FreesSaid near accepted_in_pieces 0 frees_once
 unfolding run place_after kind spelled is_spelling crc5_value crc5_of crc5_message field_bits bits
     number division_steps complemented
 pieces_said = (
   λ own. record {
     event = Ctl (packet_accepted 0 31);
-    among = Takes (Ctl (packet_accepted 0 31)) Ends;
+    among = TakesWithin (Ctl (packet_accepted 0 31)) EndsWithin;
     acknowledges = inl (refl, refl);
   },
   tt,
 )
 
-pub noted_breaks : FreesNoted near false freed → ⊥
+pub noted_breaks : FreesNoted near false frees_once → ⊥
 noted_breaks noted = absurd (cc (noted.0 refl))
 
 pub later_breaks : FreesNoted near false freed_later → ⊥
 later_breaks noted = absurd (cc (noted.1.1.0 refl))
 
-pub allowed_breaks : FreesAllowed near [] 0 freed → ⊥
+pub allowed_breaks : FreesAllowed near [] 0 frees_once → ⊥
 unfolding run
 allowed_breaks allowed = let low = allowed.0 refl in omega (arith, low)
 
-pub once_allowed : FreesAllowed near accepted_chars 0 freed
+pub once_allowed : FreesAllowed near accepted_chars 0 frees_once
 unfolding run place_after kind spelled is_spelling crc5_value crc5_of crc5_message field_bits bits
     number division_steps complemented
 once_allowed = (λ own. omega arith, tt)
@@ -275,13 +276,13 @@ too_many_breaks allowed = let low = allowed.1.0 refl in omega (arith, low)
 nothing_there : (packet : List ℕ) → Contains [] packet → ⊥
 nothing_there packet there = let within = there.1 in omega (arith, within)
 
-pub sent_breaks : AreOwned (begins pair) sent_from_nowhere → ⊥
+pub sent_breaks : AreOwned (begins pair_network) sent_from_nowhere → ⊥
 unfolding run place_after kind spelled is_spelling crc5_value crc5_of crc5_message field_bits bits
     number division_steps complemented packet_event carried fed shifted shifted_times
 sent_breaks owned =
     elim owned.0.1.0 [ inl own ↦ nothing_there packet own | inr own ↦ nothing_there packet own ]
 
-pub fired_breaks : AreOwned moving fired → ⊥
+pub fired_breaks : AreOwned moving fires_once → ⊥
 fired_breaks owned = absurd (cc owned.0.near)
 
 -- ---- rest, ends and failures
@@ -289,7 +290,7 @@ fired_breaks owned = absurd (cc owned.0.near)
 pub round_breaks : SettlesTo (λ s a b lines. lines ≡ []) moving near far [] → ⊥
 round_breaks settles = moving_breaks (settles.1 refl)
 
-pub settle_at_rest : (s : Seen) (block : List TraceLine) → s.network ≡ pair
+pub settle_at_rest : (s : Seen) (block : List TraceLine) → s.network ≡ pair_network
     → IsBlockAtRest s (Settle near) block → (seen s block).unfaithful ≡ None
     → IsSettled (link_at (seen s block) near far)
 settle_at_rest s block is rests still =
@@ -298,13 +299,13 @@ settle_at_rest s block is rests still =
     (subst (λ o. WithLink o (SettlesTo IsSettle s) block) link rests).1 still
 
 -- the first link of a round
-pub round_at_rest : (s : Seen) (block : List TraceLine) → s.network ≡ pair
+pub round_at_rest : (s : Seen) (block : List TraceLine) → s.network ≡ pair_network
     → IsBlockAtRest s (Run 1) block
     → (first : List TraceLine) × (rest : List TraceLine) × (block ≡ first ++ rest) ×
     ((seen s first).unfaithful ≡ None → IsSettled (link_at (seen s first) near far))
 round_at_rest s block is rounds =
     let round = rounds.3 in
-    let links : s.network.links ≡ pair.links = ap (λ (net : Network). net.links) is in
+    let links : s.network.links ≡ pair_network.links = ap (λ (net : Network). net.links) is in
     let own =
     subst (λ (l : List (PortRef × PortRef)). SettleAll (SettlesTo IsSettle) l s round.0) links
     round.3 in
@@ -314,18 +315,18 @@ round_at_rest s block is rounds =
     ∙ append_assoc own.0 own.1 (round.1 ++ rounds.1) in
     (own.0, own.1 ++ (round.1 ++ rounds.1), whole, own.3.1)
 
-pub rest_breaks : Settled (begins pair) None not_settled → ⊥
+pub rest_breaks : Settled (begins pair_network) None not_settled → ⊥
 rest_breaks settled = let rests : IsSettled (link_at moving near far) =
     settled.1.1.0.1 (near, far) refl in moving_breaks rests
 
-pub rest_before_breaks : Settled (begins pair) None not_settled_yet → ⊥
+pub rest_before_breaks : Settled (begins pair_network) None not_settled_yet → ⊥
 rest_before_breaks settled = let rests : IsSettled (link_at moving near far) =
     settled.1.1.0.1 (near, far) refl in moving_breaks rests
 
 pub found_breaks : Settled found_before None goes_on_with → ⊥
 found_breaks settled = absurd (cc settled.0.0)
 
-pub named_breaks : Settled (begins pair) None (named_at far) → ⊥
+pub named_breaks : Settled (begins pair_network) None (named_at far) → ⊥
 named_breaks settled = absurd (cc settled.0)
 
 pub named_other_breaks : Settled found_before None (named_at near) → ⊥

@@ -13,7 +13,7 @@ use Rattle.link_model.specs.ReadingSpelt.{symbol_chars_of, bytes_with_ack, packe
 use Rattle.link_model.specs.Window.{window}
 use Rattle.link_port.specs.Acts.{replies}
 use Rattle.link_wires.specs.Deliveries.{come}
-use Rattle.link_wires.specs.Wires.{turned, bursts}
+use Rattle.link_wires.specs.Wires.{port_turned, bursts}
 use Rattle.maint_registers.specs.Devices.{new_endpoint}
 use Rattle.switch_core.specs.Order.{greatest_first}
 use Rattle.rio_packets.specs.Carries.{carried}
@@ -58,7 +58,7 @@ form = LinkForm-made (body_of 0 15 false 2 1 (0xca ∷ 0xfe ∷ 0x00 ∷ 0x01 �
 pub packet_runs : Runs packet_script packet_trace
 unfolding run place_after kind spelled is_spelling crc5_value crc5_of crc5_message field_bits bits
     number division_steps complemented packet_event carried fed shifted shifted_times with_crc
-    with_more symbol_bytes symbol_chars_of bytes_with_ack packet_chars_of bursts turned
+    with_more symbol_bytes symbol_chars_of bytes_with_ack packet_chars_of bursts port_turned
     highest_below window come sends replies greatest_first
 packet_runs = (
   Stepped (AtNode (Take 0 packet)) ∷ [],
@@ -103,7 +103,7 @@ packet_runs = (
 pub telling_runs : Runs telling_script telling_trace
 unfolding run place_after kind spelled is_spelling crc5_value crc5_of crc5_message field_bits bits
     number division_steps complemented packet_event carried fed shifted shifted_times with_crc
-    with_more symbol_bytes symbol_chars_of bytes_with_ack packet_chars_of bursts turned
+    with_more symbol_bytes symbol_chars_of bytes_with_ack packet_chars_of bursts port_turned
     highest_below window come sends replies greatest_first
 telling_runs = (
   Signed (Sent near status_chars) ∷ [],

@@ -29,23 +29,23 @@ use Rattle.fabric_trace.specs.Served.{IsMove, IsCollect}
 -- ---- at a node
 
 -- the lines where this packet is to be taken
-abbrev pub takes : Seen → ℕ → List ℕ → List TraceLine
-takes s node packet =
+abbrev pub take_lines : Seen → ℕ → List ℕ → List TraceLine
+take_lines s node packet =
     if room_out s.network (port_of node) (prio_of packet)
     then Stepped (AtNode (Take node packet)) ∷ []
     else Lacked Full ∷ []
 
 -- The packet is the link form of this body.
-pub record Sends (s : Seen) (node : ℕ) (body : List ℕ) (block : List TraceLine) : Type 0 where
+pub record SendsBody (s : Seen) (node : ℕ) (body : List ℕ) (block : List TraceLine) : Type 0 where
   pub packet : List ℕ
   pub endpoint : IsEndpoint s.network node
   pub form : LinkForm body packet
-  pub lines : block ≡ takes s node packet
+  pub lines : block ≡ take_lines s node packet
 
 -- a packet with the bytes that the line spells, and the endpoint's ID of its size as source
 abbrev pub IsSend : Seen → ℕ → ℕ → ℕ → Bool → ℕ → List ℕ → List TraceLine → Type 0
 IsSend s node prio ftype large dest rest block =
-    Sends s node (body_of prio ftype large dest (id_of s.network node large) rest) block
+    SendsBody s node (body_of prio ftype large dest (id_of s.network node large) rest) block
 
 -- the request of a line, with the endpoint's ID of its size as source
 abbrev pub request_from : Network → ℕ → ℕ → Bool → ℕ → ℕ → ℕ → ℕ → Op → Request
@@ -62,7 +62,7 @@ request_from net node prio large dest hop tid offset op = record {
 
 -- a packet that carries a request
 abbrev pub Asks : Seen → ℕ → Request → List TraceLine → Type 0
-Asks s node request block = Sends s node (request_body request) block
+Asks s node request block = SendsBody s node (request_body request) block
 
 -- ---- at a link
 
@@ -92,8 +92,8 @@ delivers s p n q =
     then lines_of p q (delivery_notes A n (link_at s p q))
     else Lacked Short ∷ []
 
-abbrev pub times_out : Seen → PortRef → PortRef → List TraceLine
-times_out s p q =
+abbrev pub time_out_lines : Seen → PortRef → PortRef → List TraceLine
+time_out_lines s p q =
     if is_silent (link_at s p q)
     then lines_of p q (time_out_notes A (link_at s p q))
     else Lacked Early ∷ []
@@ -142,7 +142,7 @@ IsBlock s (Deliver port n) block = WithPeer (peer_of s port) (delivers s port n)
 IsBlock s (Alter port place ch) block = block ≡ edits s (edit_of (Alter port place ch))
 IsBlock s (Erase port place n) block = block ≡ edits s (edit_of (Erase port place n))
 IsBlock s (Insert port place ch) block = block ≡ edits s (edit_of (Insert port place ch))
-IsBlock s (Timeout port) block = WithPeer (peer_of s port) (times_out s port) block
+IsBlock s (Timeout port) block = WithPeer (peer_of s port) (time_out_lines s port) block
 IsBlock s (Settle port) block = WithLink (link_in s.network.links port) (IsSettle s) block
 IsBlock s (Run n) block = Rounds IsSettle n s block
 IsBlock s _ block = ⊥

@@ -9,6 +9,6 @@ use Rattle.fabric_trace.specs.Fold.{seen}
 pub data EndsAs (s : Seen) (lines : List TraceLine) : Type 0 where
   Whole : (front : List TraceLine) → lines ≡ front ++ Ended ∷ [] → (seen s front).unfaithful ≡ None
       → EndsAs s lines
-  Named : (front : List TraceLine) (number : ℕ) (found : Found)
+  EndsNaming : (front : List TraceLine) (number : ℕ) (found : Found)
       → lines ≡ front ++ Undetected number found.port found.event ∷ []
       → (seen s front).unfaithful ≡ Some found → EndsAs s lines

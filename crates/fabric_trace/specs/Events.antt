@@ -25,21 +25,21 @@ abbrev pub port_counts : List Numbered → List ℕ
 port_counts lines = counts_after_all [] lines
 
 -- a node has this port
-abbrev pub IsPort : List ℕ → PortRef → Type 0
-IsPort counts p = p.port < get_or counts p.node 0
+abbrev pub IsNodePort : List ℕ → PortRef → Type 0
+IsNodePort counts p = p.port < get_or counts p.node 0
 
 -- the ports that a line names are there
 abbrev pub ArePorts : List ℕ → Line → Type 0
-ArePorts counts (Link a b) = IsPort counts a × IsPort counts b
-ArePorts counts (Buffers port n) = IsPort counts port
-ArePorts counts (Credits port) = IsPort counts port
-ArePorts counts (Pump port n) = IsPort counts port
-ArePorts counts (Deliver port n) = IsPort counts port
-ArePorts counts (Alter port place ch) = IsPort counts port
-ArePorts counts (Insert port place ch) = IsPort counts port
-ArePorts counts (Erase port place n) = IsPort counts port
-ArePorts counts (Timeout port) = IsPort counts port
-ArePorts counts (Settle port) = IsPort counts port
+ArePorts counts (Link a b) = IsNodePort counts a × IsNodePort counts b
+ArePorts counts (Buffers port n) = IsNodePort counts port
+ArePorts counts (Credits port) = IsNodePort counts port
+ArePorts counts (Pump port n) = IsNodePort counts port
+ArePorts counts (Deliver port n) = IsNodePort counts port
+ArePorts counts (Alter port place ch) = IsNodePort counts port
+ArePorts counts (Insert port place ch) = IsNodePort counts port
+ArePorts counts (Erase port place n) = IsNodePort counts port
+ArePorts counts (Timeout port) = IsNodePort counts port
+ArePorts counts (Settle port) = IsNodePort counts port
 ArePorts counts _ = ⊤
 
 -- ---- events

@@ -34,8 +34,8 @@ pair_lines =
     ∷ record { number = 3; line = Link near far }
     ∷ []
 
-abbrev pub pair : Network
-pair = set_up_all bare pair_lines
+abbrev pub pair_network : Network
+pair_network = set_up_all bare pair_lines
 
 -- A port with nothing to send takes a turn; characters are asked for, and one is altered, that do
 -- not stand on the wire; a time-out fires; a character comes in, so that the next does not; nothing
@@ -184,8 +184,8 @@ held_in_wrong_order chars first second =
     ∷ Stepped (Linked (Hold far first)) ∷ []
 
 -- a port frees a packet, and frees two
-abbrev pub freed : List TraceLine
-freed = Stepped (Linked (Free near [])) ∷ []
+abbrev pub frees_once : List TraceLine
+frees_once = Stepped (Linked (Free near [])) ∷ []
 
 abbrev pub freed_twice : List TraceLine
 freed_twice = Stepped (Linked (Free near [])) ∷ Stepped (Linked (Free near [])) ∷ []
@@ -231,12 +231,13 @@ named_at port = Undetected 1 port (Pkt 0 []) ∷ []
 
 -- senders have failed
 abbrev pub near_failed : Seen
-near_failed = record (begins pair) { halves = λ p. record new_half { output = out.Output.Failed } }
+near_failed =
+    record (begins pair_network) { halves = λ p. record new_half { output = out.Output.Failed } }
 
 -- an event was found not to be sent
 abbrev pub found_before : Seen
 found_before =
-    record (begins pair) { unfaithful = Some (record { port = far; event = Pkt 0 [] }) }
+    record (begins pair_network) { unfaithful = Some (record { port = far; event = Pkt 0 [] }) }
 
 -- a port gets no character
 abbrev pub got_nothing : List TraceLine
@@ -244,7 +245,7 @@ got_nothing = Signed (Got far []) ∷ []
 
 -- a packet is freed behind a delivery, but in another event
 abbrev pub freed_later : List TraceLine
-freed_later = Signed (Got near accepted_chars) ∷ Begun (Collect 1) ∷ freed
+freed_later = Signed (Got near accepted_chars) ∷ Begun (Collect 1) ∷ frees_once
 
 -- the first two characters of an acceptance came before, and the last two in the last delivery
 abbrev pub accepted_in_pieces : Gotten
@@ -258,9 +259,9 @@ abbrev pub sent_from_nowhere : List TraceLine
 sent_from_nowhere = Signed (Sent near packet_chars) ∷ []
 
 -- a time-out fires
-abbrev pub fired : List TraceLine
-fired = Signed (Fired near) ∷ []
+abbrev pub fires_once : List TraceLine
+fires_once = Signed (Fired near) ∷ []
 
 -- a character is on its way
 abbrev pub moving : Seen
-moving = seen (begins pair) still_under_way
+moving = seen (begins pair_network) still_under_way

@@ -7,7 +7,7 @@ use Rattle.link_wires.specs.Acting.{acted_all}
 use Rattle.link_wires.specs.Kept.{IsSubsequence}
 use Rattle.fabric_script.specs.declared.ports.PortRef.{PortRef}
 use Rattle.fabric_trace.specs.Lines.{Got, TraceLine, Begun, Signed, Ended, Undetected}
-use Rattle.fabric_trace.specs.Known.{Seen, peer_of, port_at}
+use Rattle.fabric_trace.specs.Known.{Seen, peer_of, port_seen}
 use Rattle.fabric_trace.specs.Fold.{seen_line}
 
 -- What was acted on from the wire of p since the last silence, and behind it all that the step
@@ -15,7 +15,8 @@ use Rattle.fabric_trace.specs.Fold.{seen_line}
 -- since then.
 abbrev pub ActsOnSent : Seen → PortRef → PortRef → List Char → Type 0
 ActsOnSent s p q chars =
-    IsSubsequence ((s.wires p).acted ++ acted_all (port_at s q) (said (port_at s q).place chars))
+    IsSubsequence ((s.wires p).acted
+    ++ acted_all (port_seen s q) (said (port_seen s q).place chars))
     (s.wires p).sent
 
 -- whether the trace goes on behind a delivery: another event begins, a port gets characters, or all

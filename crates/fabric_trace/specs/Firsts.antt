@@ -5,11 +5,11 @@ use Rattle.fabric_trace.specs.Known.{Seen}
 use Rattle.fabric_trace.specs.Fold.{seen_line}
 
 -- where a port gets characters, nothing was found before
-abbrev pub IsFirst : Seen → TraceLine → Type 0
-IsFirst s (Signed (Got q chars)) = s.unfaithful ≡ None
-IsFirst s _ = Unit {0}
+abbrev pub IsFirstFound : Seen → TraceLine → Type 0
+IsFirstFound s (Signed (Got q chars)) = s.unfaithful ≡ None
+IsFirstFound s _ = Unit {0}
 
 -- at each line
 abbrev pub FindsFirst : Seen → List TraceLine → Type 0
 FindsFirst s [] = Unit {0}
-FindsFirst s (line ∷ lines) = IsFirst s line × FindsFirst (seen_line s line) lines
+FindsFirst s (line ∷ lines) = IsFirstFound s line × FindsFirst (seen_line s line) lines

@@ -7,10 +7,10 @@ use Rattle.link_model.specs.declared.event.Event.{Event}
 use Rattle.link_model.specs.declared.event.Event.TheVariants.{Ctl, Pkt, Bad}
 use Rattle.link_model.specs.Output as out
 use Rattle.link_model.specs.Outstanding.{from_ack, with_next}
-use Rattle.link_model.specs.Places.{start}
+use Rattle.link_model.specs.Places.{place_start}
 use Rattle.link_model.specs.Said.{said}
 use Rattle.link_port.specs.Turns.{timed_out}
-use Rattle.link_wires.specs.Deliveries.{Delivered, Through, Undetected as Unsent, delivered, told_of, undetected}
+use Rattle.link_wires.specs.Deliveries.{Delivered, Through, Unsent, delivered, told_of, undetected}
 use Rattle.link_wires.specs.Wires.{fits, edited}
 use Rattle.link_wires.specs.declared.edits.Edit.{Edit}
 use Rattle.link_wires.specs.declared.edits.Edit.TheVariants as Edits
@@ -20,7 +20,7 @@ use Rattle.fabric_script.specs.declared.lines.Line.TheVariants.{Alter, Erase, In
 use Rattle.fabric_model.specs.Steps.{after}
 use Rattle.fabric_trace.specs.Lines.{Sign, Sent, Got, Fired, TraceLine, Begun, Stepped, Signed, Lacked, Ended, Undetected}
 use Rattle.fabric_trace.specs.Views.{Half, half_of}
-use Rattle.fabric_trace.specs.Known.{Wire, Found, Seen, with_wire, with_half, peer_of, port_at, kept_of}
+use Rattle.fabric_trace.specs.Known.{Wire, Found, Seen, with_wire, with_half, peer_of, port_seen, kept_of}
 
 -- ---- edits
 
@@ -46,7 +46,7 @@ edited_by s (Some edit) = record s {
 
 -- the events that characters say by themselves
 abbrev pub says : List Char → List Event
-says chars = said start chars
+says chars = said place_start chars
 
 -- What a sender is after a symbol was sent: a restart ends Retry-stopped, and a link-request is
 -- noted. The other symbols change nothing.
@@ -91,7 +91,7 @@ half_sent half chars = record half { output = sends half.output (says chars) }
 
 -- what a port does with characters of its peer's wire
 abbrev pub taken_from : Seen → PortRef → PortRef → List Char → Delivered
-taken_from s p q chars = delivered (port_at s q) (kept_of (s.wires p)) chars
+taken_from s p q chars = delivered (port_seen s q) (kept_of (s.wires p)) chars
 
 -- The half of a port after characters. It stays as it was where an event was not sent: nothing
 -- follows.
@@ -118,14 +118,14 @@ got_from s (Some p) q chars = record s {
 -- ---- time-outs
 
 -- what was sent before is not spoken of any more
-abbrev pub silenced : Wire → Wire
-silenced wire = record wire { sent = []; acted = [] }
+abbrev pub wire_silenced : Wire → Wire
+wire_silenced wire = record wire { sent = []; acted = [] }
 
 abbrev pub fired_from : Seen → Option PortRef → PortRef → Seen
 fired_from s None p = s
 fired_from s (Some q) p = record s {
-  wires = with_wire (with_wire s.wires p (silenced (s.wires p))) q (silenced (s.wires q));
-  halves = with_half s.halves p (half_of (timed_out (port_at s p)));
+  wires = with_wire (with_wire s.wires p (wire_silenced (s.wires p))) q (wire_silenced (s.wires q));
+  halves = with_half s.halves p (half_of (timed_out (port_seen s p)));
 }
 
 -- ---- lines

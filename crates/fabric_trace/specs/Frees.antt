@@ -4,7 +4,7 @@ use Rattle.rio_chars.specs.declared.chars.Char.{Char}
 use Rattle.rio_symbols.specs.declared.stype0.TheConstants.{PACKET_ACCEPTED, LINK_RESPONSE}
 use Rattle.link_model.specs.declared.event.Event.{Event}
 use Rattle.link_model.specs.declared.event.Event.TheVariants.{Ctl, Pkt, Bad}
-use Rattle.link_model.specs.Places.{start, place_after}
+use Rattle.link_model.specs.Places.{place_start, place_after}
 use Rattle.link_model.specs.Said.{said}
 use Rattle.link_wires.specs.Kept.{IsSubsequence}
 use Rattle.fabric_script.specs.declared.ports.PortRef.{PortRef}
@@ -41,7 +41,7 @@ gets p known _ = known
 
 -- the events that its last delivery completed, in the reading of everything that it got
 abbrev pub completed : Gotten → List Event
-completed known = said (place_after start known.before) known.last
+completed known = said (place_after place_start known.before) known.last
 
 abbrev pub frees_by_step : PortRef → Step → ℕ
 frees_by_step p (Linked (Hold q packet)) = 0

@@ -31,20 +31,20 @@ held_by_step q (Linked (Free p packet)) = []
 held_by_step q (AtNode step) = []
 held_by_step q (ByDevice step) = []
 
-abbrev pub held_by : PortRef → TraceLine → List (List ℕ)
-held_by q (Stepped step) = held_by_step q step
-held_by q _ = []
+abbrev pub held_by_line : PortRef → TraceLine → List (List ℕ)
+held_by_line q (Stepped step) = held_by_step q step
+held_by_line q _ = []
 
 abbrev pub holds : PortRef → List TraceLine → List (List ℕ)
 holds q [] = []
-holds q (line ∷ lines) = held_by q line ++ holds q lines
+holds q (line ∷ lines) = held_by_line q line ++ holds q lines
 
 -- packets that come with ackIDs from a number on, modulo 32
-abbrev pub numbered : ℕ → List (List ℕ) → List Event
-numbered n [] = []
-numbered n (packet ∷ packets) = Pkt (n % 32) packet ∷ numbered (suc n) packets
+abbrev pub numbered_packets : ℕ → List (List ℕ) → List Event
+numbered_packets n [] = []
+numbered_packets n (packet ∷ packets) = Pkt (n % 32) packet ∷ numbered_packets (suc n) packets
 
 -- The i-th packet that a port holds, counted from 0, came to it with ackID i modulo 32, in the
 -- order of the holds: in the reading of everything that it got.
 abbrev pub HoldsCame : PortRef → List TraceLine → Type 0
-HoldsCame q lines = IsSubsequence (numbered 0 (holds q lines)) (says (got q lines))
+HoldsCame q lines = IsSubsequence (numbered_packets 0 (holds q lines)) (says (got q lines))

@@ -44,8 +44,8 @@ abbrev pub peer_of : Seen → PortRef → Option PortRef
 peer_of s p = peer_in s.network.links p
 
 -- a port as the step tables see it
-abbrev pub port_at : Seen → PortRef → PortState
-port_at s p = view s.network p (s.halves p)
+abbrev pub port_seen : Seen → PortRef → PortState
+port_seen s p = view s.network p (s.halves p)
 
 -- What was sent and is not acted on yet: what stands behind the last acted event, where acted
 -- events are found one after another among those sent.
@@ -58,8 +58,8 @@ wire_state wire = record { chars = wire.chars; kept = kept_of wire }
 -- two ports and the wires on which they send, as a link
 abbrev pub link_at : Seen → PortRef → PortRef → LinkState
 link_at s a b = record {
-  a = port_at s a;
-  b = port_at s b;
+  a = port_seen s a;
+  b = port_seen s b;
   wire_a = wire_state (s.wires a);
   wire_b = wire_state (s.wires b);
 }

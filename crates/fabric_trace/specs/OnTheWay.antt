@@ -9,14 +9,14 @@ use Rattle.link_wires.specs.Prelude.{begun}
 use Rattle.link_machine.specs.OnTheWay.{port_reached}
 use Rattle.fabric_script.specs.declared.ports.PortRef.{PortRef}
 use Rattle.fabric_trace.specs.Fold.{seen_line}
-use Rattle.fabric_trace.specs.Known.{Seen, peer_of, port_at, kept_of}
+use Rattle.fabric_trace.specs.Known.{Seen, peer_of, port_seen, kept_of}
 use Rattle.fabric_trace.specs.Lines.{Got, TraceLine, Signed}
 
 -- the port q after so many events of characters that come to it from p
 abbrev pub reached_from : Seen → PortRef → PortRef → ℕ → List Char → PortState
 reached_from s p q events chars =
-    port_reached (take events (run (port_at s q).place 0 chars))
-    (begun (port_at s q) (kept_of (s.wires p)))
+    port_reached (take events (run (port_seen s q).place 0 chars))
+    (begun (port_seen s q) (kept_of (s.wires p)))
 
 abbrev pub WorksWithin : Seen → TraceLine → Type 0
 WorksWithin s (Signed (Got q chars)) = (p : PortRef) (events : ℕ) → peer_of s q ≡ Some p

@@ -21,32 +21,32 @@ packet_of (Leave n packet) = packet
 -- One part, in a state. Nothing is done on a link after an event that was not sent.
 pub data Part (s : Seen) (lines : List TraceLine) : Type 0 where
   -- a line with which an event begins
-  Begins : (line : Line) → lines ≡ Begun line ∷ [] → Part s lines
+  PartBegins : (line : Line) → lines ≡ Begun line ∷ [] → Part s lines
   -- nothing could be done
-  Lacks : (lack : Lack) → lines ≡ Lacked lack ∷ [] → Part s lines
+  PartLacks : (lack : Lack) → lines ≡ Lacked lack ∷ [] → Part s lines
   -- the last line, of either kind
-  Ends : lines ≡ Ended ∷ [] → Part s lines
-  Names : (number : ℕ) (q : PortRef) (e : Event)
+  PartEnds : lines ≡ Ended ∷ [] → Part s lines
+  PartNames : (number : ℕ) (q : PortRef) (e : Event)
       → s.unfaithful ≡ Some (record { port = q; event = e }) → lines ≡ Undetected number q e ∷ []
       → Part s lines
   -- a step at an endpoint
-  Steps : (step : NodeStep) → Needs s.network (AtNode step) → prio_of (packet_of step) < 4
+  PartSteps : (step : NodeStep) → Needs s.network (AtNode step) → prio_of (packet_of step) < 4
       → lines ≡ Stepped (AtNode step) ∷ [] → Part s lines
   -- a step of a device
-  Serves : (step : DeviceStep) → Needs s.network (ByDevice step)
+  PartServes : (step : DeviceStep) → Needs s.network (ByDevice step)
       → lines ≡ Stepped (ByDevice step) ∷ [] → Part s lines
   -- turns of a port
-  Turns : (p q : PortRef) (n : ℕ) → peer_of s p ≡ Some q → s.unfaithful ≡ None
+  PartTurns : (p q : PortRef) (n : ℕ) → peer_of s p ≡ Some q → s.unfaithful ≡ None
       → lines ≡ lines_of p q (pump_notes A n (link_at s p q)) → Part s lines
   -- the status of a port that tells its free buffers
-  Tells : (p q : PortRef) → peer_of s p ≡ Some q → s.unfaithful ≡ None
+  PartTells : (p q : PortRef) → peer_of s p ≡ Some q → s.unfaithful ≡ None
       → lines ≡ lines_of p q (tell_notes A (link_at s p q)) → Part s lines
   -- characters of the wire of p come to q
-  Delivers : (p q : PortRef) (n : ℕ) → peer_of s p ≡ Some q → s.unfaithful ≡ None
+  PartDelivers : (p q : PortRef) (n : ℕ) → peer_of s p ≡ Some q → s.unfaithful ≡ None
       → has_chars A n (link_at s p q) ≡ true
       → lines ≡ lines_of p q (delivery_notes A n (link_at s p q)) → Part s lines
   -- a time-out, where both wires are empty
-  Fires : (p q : PortRef) → peer_of s p ≡ Some q → s.unfaithful ≡ None
+  PartFires : (p q : PortRef) → peer_of s p ≡ Some q → s.unfaithful ≡ None
       → is_silent (link_at s p q) ≡ true
       → lines ≡ lines_of p q (time_out_notes A (link_at s p q)) → Part s lines
 

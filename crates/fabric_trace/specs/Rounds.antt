@@ -38,10 +38,11 @@ SettleAll Link (link ∷ links) s lines =
 
 -- A switch makes one step after another, until no packet of it can go.
 pub data ServesAll : Seen → ℕ → List TraceLine → Type 0 where
-  Rests : {s : Seen} {node : ℕ} {lines : List TraceLine}
+  ServeRests : {s : Seen} {node : ℕ} {lines : List TraceLine}
       → IsMove s.network node (Lacked NoStep ∷ [])
       → lines ≡ [] → ServesAll s node lines
-  Goes : {s : Seen} {node : ℕ} {lines : List TraceLine} (step : DeviceStep) (rest : List TraceLine)
+  ServeGoes : {s : Seen} {node : ℕ} {lines : List TraceLine} (step : DeviceStep)
+      (rest : List TraceLine)
       → IsMove s.network node (Stepped (ByDevice step) ∷ [])
       → lines ≡ Stepped (ByDevice step) ∷ rest
       → ServesAll (seen_line s (Stepped (ByDevice step))) node rest → ServesAll s node lines

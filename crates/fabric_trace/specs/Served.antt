@@ -43,18 +43,18 @@ step_lines node (Answered port request response) =
 step_lines node Nothing = Lacked NoStep ∷ []
 
 -- a response is a packet in its link form
-abbrev pub HasForm : switch.Step → Type 0
-HasForm (Answered port request response) = Passes response
-HasForm (Moved from to packet) = Unit {0}
-HasForm (Dropped from packet) = Unit {0}
-HasForm Nothing = Unit {0}
+abbrev pub ResponseHasForm : switch.Step → Type 0
+ResponseHasForm (Answered port request response) = Passes response
+ResponseHasForm (Moved from to packet) = Unit {0}
+ResponseHasForm (Dropped from packet) = Unit {0}
+ResponseHasForm Nothing = Unit {0}
 
 -- the switch makes the first step that it can make
 pub record IsMove (net : Network) (node : ℕ) (block : List TraceLine) : Type 0 where
   pub switch : IsSwitch net node
   pub device : Device
   pub stands : slice_get net.registers node ≡ Some device
-  pub form : HasForm (step_of device (faces_in net node device))
+  pub form : ResponseHasForm (step_of device (faces_in net node device))
   pub lines : block ≡ step_lines node (step_of device (faces_in net node device))
 
 -- ---- an endpoint

@@ -2,7 +2,7 @@
 -- network has them.
 use Rattle.std.specs.Prelude.{ℕ, ◌==◌, List, [], ◌∷◌, ◌++◌, map, filter, None}
 use Rattle.rio_packets.specs.Fields.{prio_of}
-use Rattle.link_model.specs.Places.{Place, start}
+use Rattle.link_model.specs.Places.{Place, place_start}
 use Rattle.link_model.specs.Output as out
 use Rattle.link_model.specs.Input as in_half
 use Rattle.link_model.specs.Outstanding.{from_ack}
@@ -19,7 +19,12 @@ pub record Half : Type 0 where
 -- of a port that has done nothing: it begins with ackID 0 both ways, and was told nothing
 abbrev pub new_half : Half
 new_half =
-    record { place = start; output = out.Output.Ok (from_ack 0 None); input = in_half.Input.Ok 0 }
+    record {
+      place = place_start;
+      output = out.Output.Ok (from_ack 0 None);
+      input = in_half.InputOk
+          0;
+    }
 
 abbrev pub half_of : PortState → Half
 half_of port = record { place = port.place; output = port.output; input = port.input }

@@ -12,7 +12,7 @@ ghost use Rattle.fabric_model.specs.Serving.{next_at};
 ghost use Rattle.fabric_model.specs.Steps.{LegalFrom};
 ghost use Rattle.fabric_trace.specs.Allowance.{FreesAllowed};
 ghost use Rattle.fabric_trace.specs.AtRest.{IsBlockAtRest};
-ghost use Rattle.fabric_trace.specs.Examples.{near, far, pair, idle_script, idle_trace, packet_script, packet_trace, telling_script, telling_trace, accepted_chars, switch_script, switch_trace, two_held, dropped_at, moved_to, joined_with_itself, held_from_nowhere, held_in_wrong_order, freed, freed_twice, freed_later, accepted_in_pieces, got_from_nowhere, got_another, got_nothing, sent_from_nowhere, fired, still_under_way, moving, acted_from_nowhere, named_though_sent, not_settled, not_settled_yet, goes_on_with, named_at, near_failed, found_before};
+ghost use Rattle.fabric_trace.specs.Examples.{near, far, pair_network, idle_script, idle_trace, packet_script, packet_trace, telling_script, telling_trace, accepted_chars, switch_script, switch_trace, two_held, dropped_at, moved_to, joined_with_itself, held_from_nowhere, held_in_wrong_order, frees_once, freed_twice, freed_later, accepted_in_pieces, got_from_nowhere, got_another, got_nothing, sent_from_nowhere, fires_once, still_under_way, moving, acted_from_nowhere, named_though_sent, not_settled, not_settled_yet, goes_on_with, named_at, near_failed, found_before};
 ghost use Rattle.fabric_trace.specs.Faithful.{Faithful};
 ghost use Rattle.fabric_trace.specs.Firsts.{FindsFirst};
 ghost use Rattle.fabric_trace.specs.Fold.{says, seen};
@@ -68,30 +68,30 @@ pub fn laws_can_fail()
         → next_at net node packet ≡ Some (Port named) → named ≢ to
         → LegalFrom net (steps_of (moved_to node from to packet)) end → ⊥ }
     ensures joined { MaySetUpAll bare joined_with_itself → ⊥ }
-    ensures held { (end : Network) → LegalFrom pair (steps_of held_from_nowhere) end → ⊥ }
+    ensures held { (end : Network) → LegalFrom pair_network (steps_of held_from_nowhere) end → ⊥ }
     ensures came { HoldsCame far held_from_nowhere → ⊥ }
     ensures order { (chars : List Char) (first second : List ℕ) → first ≢ second
         → says chars ≡ Pkt 0 first ∷ Pkt 1 second ∷ []
         → HoldsCame far (held_in_wrong_order chars first second) → ⊥ }
-    ensures got { WireFold pair.links (λ p. []) got_from_nowhere → ⊥ }
+    ensures got { WireFold pair_network.links (λ p. []) got_from_nowhere → ⊥ }
     ensures another { (sent other : Char) → sent ≢ other
-        → WireFold pair.links (λ p. []) (got_another sent other) → ⊥ }
-    ensures sent { AreOwned (begins pair) sent_from_nowhere → ⊥ }
-    ensures fired { AreOwned moving fired → ⊥ }
+        → WireFold pair_network.links (λ p. []) (got_another sent other) → ⊥ }
+    ensures sent { AreOwned (begins pair_network) sent_from_nowhere → ⊥ }
+    ensures fired { AreOwned moving fires_once → ⊥ }
 {}
 
 /// The laws of frees do not hold of these: a packet is freed before it was accepted, or two are by
 /// one acceptance; one is freed in another event than that of the delivery. An acceptance may come
 /// in two deliveries: the second completes it.
 pub fn laws_of_frees_can_fail()
-    ensures freed { FreesSaid near nothing_got 0 freed → ⊥ }
+    ensures freed { FreesSaid near nothing_got 0 frees_once → ⊥ }
     ensures twice { (known : Gotten) → completed known ≡ Ctl (packet_accepted 0 31) ∷ []
         → FreesSaid near known 0 freed_twice → ⊥ }
-    ensures pieces { FreesSaid near accepted_in_pieces 0 freed }
-    ensures noted { FreesNoted near false freed → ⊥ }
+    ensures pieces { FreesSaid near accepted_in_pieces 0 frees_once }
+    ensures noted { FreesNoted near false frees_once → ⊥ }
     ensures later { FreesNoted near false freed_later → ⊥ }
-    ensures allowed { FreesAllowed near [] 0 freed → ⊥ }
-    ensures once { FreesAllowed near accepted_chars 0 freed }
+    ensures allowed { FreesAllowed near [] 0 frees_once → ⊥ }
+    ensures once { FreesAllowed near accepted_chars 0 frees_once }
     ensures too_many { FreesAllowed near accepted_chars 0 freed_twice → ⊥ }
 {}
 
@@ -101,21 +101,21 @@ pub fn laws_of_frees_can_fail()
 /// gets characters, behind an event that was found not to be sent; another event is named than was
 /// found, or one where none was; a sender has failed, or fails in a delivery.
 pub fn laws_of_links_can_fail()
-    ensures acted { Faithful (begins pair) acted_from_nowhere → ⊥ }
-    ensures unsent { Faithful (begins pair) named_though_sent → ⊥ }
+    ensures acted { Faithful (begins pair_network) acted_from_nowhere → ⊥ }
+    ensures unsent { Faithful (begins pair_network) named_though_sent → ⊥ }
     ensures moving { IsSettled (link_at moving near far) → ⊥ }
     ensures round { SettlesTo (λ s a b lines. lines ≡ []) moving near far [] → ⊥ }
-    ensures settle { (s : Seen) (block : List TraceLine) → s.network ≡ pair
+    ensures settle { (s : Seen) (block : List TraceLine) → s.network ≡ pair_network
         → IsBlockAtRest s (Settle near) block → (seen s block).unfaithful ≡ None
         → IsSettled (link_at (seen s block) near far) }
-    ensures rounds { (s : Seen) (block : List TraceLine) → s.network ≡ pair
+    ensures rounds { (s : Seen) (block : List TraceLine) → s.network ≡ pair_network
         → IsBlockAtRest s (Run 1) block → (first : List TraceLine) × (rest : List TraceLine)
         × (block ≡ first ++ rest) × ((seen s first).unfaithful ≡ None
         → IsSettled (link_at (seen s first) near far)) }
-    ensures resting { Settled (begins pair) None not_settled → ⊥ }
-    ensures resting_before { Settled (begins pair) None not_settled_yet → ⊥ }
+    ensures resting { Settled (begins pair_network) None not_settled → ⊥ }
+    ensures resting_before { Settled (begins pair_network) None not_settled_yet → ⊥ }
     ensures found_before { Settled found_before None goes_on_with → ⊥ }
-    ensures named { Settled (begins pair) None (named_at far) → ⊥ }
+    ensures named { Settled (begins pair_network) None (named_at far) → ⊥ }
     ensures named_other { Settled found_before None (named_at near) → ⊥ }
     ensures second { FindsFirst found_before got_from_nowhere → ⊥ }
     ensures failed { NeverFail near_failed [] → ⊥ }

@@ -6,7 +6,7 @@ ghost use Rattle.link_model.specs.Output as out;
 ghost use Rattle.link_rest.specs.Rest.{IsSettled};
 ghost use Rattle.link_wires.specs.Deliveries.{undetected};
 ghost use Rattle.fabric_script.specs.Lines.{is_event};
-ghost use Rattle.fabric_script.specs.Scripts.{Passes};
+ghost use Rattle.fabric_script.specs.Scripts.{ScriptPasses};
 ghost use Rattle.fabric_script.specs.declared.lines.Line.{Line};
 ghost use Rattle.fabric_script.specs.declared.lines.Numbered.{Numbered};
 ghost use Rattle.fabric_script.specs.declared.ports.PortRef.{PortRef};
@@ -25,7 +25,7 @@ ghost use Rattle.fabric_trace.specs.Faithful.{ActsOnSent};
 ghost use Rattle.fabric_trace.specs.Frees.{nothing_got, FreesSaid};
 ghost use Rattle.fabric_trace.specs.Holds.{HoldsCame};
 ghost use Rattle.fabric_trace.specs.Fold.{taken_from, seen};
-ghost use Rattle.fabric_trace.specs.Known.{Seen, peer_of, port_at, link_at};
+ghost use Rattle.fabric_trace.specs.Known.{Seen, peer_of, port_seen, link_at};
 ghost use Rattle.fabric_trace.specs.Lines.{TraceLine, steps_of};
 ghost use Rattle.fabric_trace.specs.Links.{AreLinks};
 ghost use Rattle.fabric_trace.specs.Noted.{FreesNoted};
@@ -48,7 +48,7 @@ pub fn one_trace()
 
 /// Each script that passes has exactly one trace.
 pub fn every_script_has_one_trace()
-    ensures { (names : List (List ℕ)) (script : List Numbered) → Passes names script
+    ensures { (names : List (List ℕ)) (script : List Numbered) → ScriptPasses names script
         → (lines : List TraceLine) × Runs script lines
         × ((other : List TraceLine) → Runs script other → other ≡ lines) }
 {}
@@ -114,10 +114,10 @@ pub fn steps_are_legal()
 /// were taken stand there, have left or were dropped.
 pub fn packets_stand_or_end()
     ensures stand { (names : List (List ℕ)) (script : List Numbered) (lines : List TraceLine)
-        → Passes names script → Runs script lines
+        → ScriptPasses names script → Runs script lines
         → StandAtNodes (seen (start script) lines).network }
     ensures balance { (names : List (List ℕ)) (script : List Numbered) (lines : List TraceLine)
-        → Passes names script → Runs script lines
+        → ScriptPasses names script → Runs script lines
         → steps_in takes_by (steps_of lines)
         ≡ steps_in leaves_by (steps_of lines) + steps_in drops_by (steps_of lines)
         + stock (seen (start script) lines).network
@@ -132,7 +132,7 @@ pub fn links_stay_sound()
     ensures working { (net : Network) (lines : List TraceLine) (p q : PortRef) → IsSetUp net
         → Made (begins net) lines
         → (seen (begins net) lines).unfaithful ≡ None → peer_of (seen (begins net) lines) p ≡ Some q
-        → (port_at (seen (begins net) lines) p).output ≢ out.Output.Failed }
+        → (port_seen (seen (begins net) lines) p).output ≢ out.Output.Failed }
 {}
 
 /// Settling leaves a link at rest: both wires are empty, nothing is outstanding or lent, and at

@@ -16,9 +16,9 @@ use Rattle.contest_machine.specs.declared.stages.Pending.{Pending}
 use Rattle.contest_machine.specs.declared.stages.Tried.{Tried}
 use Rattle.contest_machine.specs.declared.stages.Stage.{Stage}
 use Rattle.contest_machine.specs.declared.stages.Stage.TheVariants.{Ask, Claim, Check, Test, Features, Information, Status, Free, Done, Lost}
-use Rattle.contest_machine.specs.Machine.{Walker, write, entry_set, route_of, route_at, routes_to, cleared_below, home_set, last_path, but_last, freeing, port_after, gone_on, taken, judged, numbered, outward, wants, settled, told, told_at, reached, reaches, stepped}
+use Rattle.contest_machine.specs.Machine.{Walker, write, entry_set, route_of, route_pending, routes_to, cleared_below, home_set, last_path, but_last, freeing, port_after, gone_on, taken, judged, numbered, outward, wants, settled, walker_told, told_at, reached, reaches, stepped}
 use Rattle.contest_machine.specs.Turns.{is_locking}
-use Rattle.host_contest.specs.Reaching.{IsReached, CanReach, IsOfLock, IsAtHost, AreLow}
+use Rattle.host_contest.specs.Reaching.{PathIsReached, CanReach, IsOfLock, IsAtHost, AreLow}
 
 low-append : (first second : List Pending) → AreLow first → AreLow second
     → AreLow (first ++ second)
@@ -37,7 +37,7 @@ low-route at id (Switch ports entry) (Some port) = low-entry at id port
 low-routes : (devices : List Device) (path : List ℕ) (id : ℕ) → AreLow (routes_to devices path id)
 low-routes [] path id = tt
 low-routes (device ∷ rest) path id =
-    low-append (route_at path id device) (routes_to rest path id)
+    low-append (route_pending path id device) (routes_to rest path id)
     (low-route device.path id device.kind (toward device.path path)) (low-routes rest path id)
 
 low-cleared : (path : List ℕ) (id n : ℕ) → AreLow (cleared_below path id n)
@@ -152,10 +152,10 @@ low-settled w [] Free path low = low
 low-settled w [] Done path low = low
 low-settled w [] Lost path low = low
 
-low-told : (w : Walker) (value : ℕ) → IsLow w → IsLow (told w value)
+low-told : (w : Walker) (value : ℕ) → IsLow w → IsLow (walker_told w value)
 low-told w value low = go w.todo low
   where
-    go : (todo : List Pending) → AreLow todo → IsLow (told (record w { todo = todo }) value)
+    go : (todo : List Pending) → AreLow todo → IsLow (walker_told (record w { todo = todo }) value)
     go [] low = low-told_at (record w { todo = [] }) value w.stage low
     go (p ∷ rest) low = low-settled (record w { todo = p ∷ rest }) rest w.stage w.path low.1
 
@@ -264,10 +264,10 @@ pub host_reached : (w : Walker) (r : Registers) → IsAtHost w → CanReach w r
 host_reached w r at ask wanted = go w.todo at.clear w.stage at.stage w.path at.path wanted
   where
     here : (one : Asked) → one.path ≡ [] → Some one ≡ Some ask
-        → (port : PortRef) × IsReached w.view r ask.path ask.access port
+        → (port : PortRef) × PathIsReached w.view r ask.path ask.access port
     here one empty same =
         let is : one ≡ ask = cc in
-        subst (λ (a : Asked). (port : PortRef) × IsReached w.view r a.path a.access port) is (
+        subst (λ (a : Asked). (port : PortRef) × PathIsReached w.view r a.path a.access port) is (
           record { node = w.view.host; port = 0 },
           record {
             leads = ap (λ l. entered w.view l) empty;
@@ -279,7 +279,7 @@ host_reached w r at ask wanted = go w.todo at.clear w.stage at.stage w.path at.p
     go : (todo : List Pending) → todo ≡ [] → (stage : Stage) → IsOfLock stage → (path : List ℕ)
         → path ≡ []
         → wants (record w { todo = todo; stage = stage; path = path }) ≡ Some ask
-        → (port : PortRef) × IsReached w.view r ask.path ask.access port
+        → (port : PortRef) × PathIsReached w.view r ask.path ask.access port
     go (p ∷ rest) clear stage locks path empty wanted =
         absurd (let none : p ∷ rest ≡ [] = clear in cc)
     go [] clear Ask locks path empty wanted =

@@ -9,9 +9,9 @@ use Rattle.contest_machine.specs.declared.stages.Pending.{Pending}
 use Rattle.contest_machine.specs.declared.stages.Tried.{Tried}
 use Rattle.contest_machine.specs.declared.stages.Stage.{Stage}
 use Rattle.contest_machine.specs.declared.stages.Stage.TheVariants.{Ask, Claim, Check, Test, Features, Information, Status, Free, Done, Lost}
-use Rattle.contest_machine.specs.Machine.{Walker, write, routes_to, but_last, freeing, port_after, gone_on, numbered, set_up, settled, told_with, told}
+use Rattle.contest_machine.specs.Machine.{Walker, write, routes_to, but_last, freeing, port_after, gone_on, numbered, switch_set_up, settled, told_with, walker_told}
 use Rattle.contest_machine.specs.Within.{AreShort, IsBoundedAt}
-use Rattle.host_contest.specs.Machines.{machine_of, new_walker, with_device, with_home, with_tried, port_left, is_clear, is_numbered, is_done}
+use Rattle.host_contest.specs.Machines.{machine_of, new_walker, device_added, with_home, with_tried, port_left, is_clear, is_numbered, machine_is_done}
 use Rattle.host_contest.specs.declared.machine.Machine.{Machine}
 
 -- a list without elements
@@ -27,7 +27,7 @@ abbrev moved_out : Walker → Walker
 moved_out w = moved w (0 ∷ [])
 
 pub host_moved : (old new : Walker) (path : List ℕ)
-    → new ≡ with_device old (Endpoint old.id) → path ≡ 0 ∷ []
+    → new ≡ device_added old (Endpoint old.id) → path ≡ 0 ∷ []
     → record new { path = path; stage = Ask } ≡ numbered old []
 host_moved old new path is there = ap (moved new) there ∙ ap moved_out is
 
@@ -107,10 +107,10 @@ abbrev shown : Walker → Walker
 shown w = record w { stage = Status }
 
 pub set_up_so : (w home tried device : Walker) (ports entry : ℕ) → home ≡ with_home w entry
-    → tried ≡ with_tried home ports entry → device ≡ with_device tried (Switch ports entry)
-    → record device { stage = Status } ≡ set_up w ports entry
+    → tried ≡ with_tried home ports entry → device ≡ device_added tried (Switch ports entry)
+    → record device { stage = Status } ≡ switch_set_up w ports entry
 set_up_so w home tried device ports entry is_home is_tried is_device =
-    ap shown (is_device ∙ ap (λ v. with_device v (Switch ports entry))
+    ap shown (is_device ∙ ap (λ v. device_added v (Switch ports entry))
     (is_tried ∙ ap (λ v. with_tried v ports entry) is_home))
 
 -- the list without its last device
@@ -141,7 +141,7 @@ settled_over w before [] Done path = refl
 settled_over w before [] Lost path = refl
 
 pub told_write : (w : Walker) (value : ℕ) (p : Pending) (rest : List Pending) → w.todo ≡ p ∷ rest
-    → settled (record w { todo = rest }) rest w.stage w.path ≡ told w value
+    → settled (record w { todo = rest }) rest w.stage w.path ≡ walker_told w value
 told_write w value p rest is =
     settled_over w rest rest w.stage w.path ∙ ap (told_with w value) (sym is)
 
@@ -179,20 +179,20 @@ with_writes w todo = record w { todo = todo }
 
 abbrev numbered_as : Walker → ℕ → Walker
 numbered_as w id =
-    gone_with (id + 1) (with_device
+    gone_with (id + 1) (device_added
     (with_writes w (write w.path 0x60 (id * 0x10000) ∷ routes_to w.devices w.path id))
     (Endpoint id))
 
 pub number_so : (w pushed after : Walker) (todo : List Pending) (id first : ℕ) (rest : List ℕ)
     → w.path ≡ first ∷ rest → id ≡ id_after w.id w.next
     → todo ≡ write w.path 0x60 (id * 0x10000) ∷ routes_to w.devices w.path id
-    → pushed ≡ with_device (with_writes w todo) (Endpoint id)
+    → pushed ≡ device_added (with_writes w todo) (Endpoint id)
     → after ≡ gone_on (record pushed { next = id + 1 }) pushed.tried
     → after ≡ numbered w w.path
 number_so w pushed after todo id first rest path is_id is_todo is_pushed is_after =
     is_after
     ∙ (ap (gone_with (id + 1)) is_pushed
-    ∙ (ap (λ t. gone_with (id + 1) (with_device (with_writes w t) (Endpoint id))) is_todo
+    ∙ (ap (λ t. gone_with (id + 1) (device_added (with_writes w t) (Endpoint id))) is_todo
     ∙ (ap (numbered_as w) is_id ∙ (so (first ∷ rest) ∙ ap (numbered w) (sym path)))))
   where
     so : (p : List ℕ) → numbered_as w (id_after w.id w.next) ≡ numbered w (first ∷ rest)
@@ -220,7 +220,7 @@ freed_so w after devices is freed =
 
 -- a walker that has asked nothing is not done
 pub new_is_not_done : (machine : Machine) (id : ℕ)
-    → machine_of no_view machine ≡ new_walker no_view id → is_done machine ≡ false
+    → machine_of no_view machine ≡ new_walker no_view id → machine_is_done machine ≡ false
 new_is_not_done machine id is =
     ap (λ (w : Walker). is_numbered w.stage && is_clear w.todo) is
 

@@ -9,11 +9,11 @@ use Rattle.fabric_map.specs.Numbered.{paths_of}
 use Rattle.host_enumerate.specs.declared.maint.Answer.{Answer}
 use Rattle.host_enumerate.specs.Accesses.{answered, after_access}
 use Rattle.contest_machine.specs.declared.stages.Asked.{Asked}
-use Rattle.contest_machine.specs.Machine.{Walker, State, kept, fresh, wants, told, reached, reaches, stepped}
+use Rattle.contest_machine.specs.Machine.{Walker, State, kept, fresh, wants, walker_told, reached, reaches, stepped}
 use Rattle.contest_machine.specs.Contest.{IsMine}
 use Rattle.contest_machine.specs.declared.stages.Turn.{Turn}
-use Rattle.contest_machine.specs.Turns.{is_locking, locked_on, turned, came_of}
-use Rattle.contest_machine.specs.Within.{IsWithin}
+use Rattle.contest_machine.specs.Turns.{is_locking, locked_on, walker_turned, came_of}
+use Rattle.contest_machine.specs.Within.{WalkerIsWithin}
 use Rattle.contest_machine.proofs.Apart.{step_leaves, begun_mine}
 use Rattle.contest_machine.proofs.Bounding.{stepped_within}
 use Rattle.contest_machine.proofs.Few.{once_few}
@@ -34,16 +34,17 @@ idle w r is = ap (λ o. reaches w r o) is
 
 -- the device that is reached answers
 abbrev of_value : Walker → Answer → Walker
-of_value w answer = told w answer.value
+of_value w answer = walker_told w answer.value
 
 pub answered_so : (w after : Walker) (r new : Registers) (ask : Asked) (at : PortRef)
     (answer : Answer) → Some ask ≡ wants w → entered w.view ask.path ≡ Some at
     → answer ≡ (answered (r at.node) at.port ask.access).answer
-    → new ≡ after_access r at ask.access → after ≡ told w answer.value
+    → new ≡ after_access r at ask.access → after ≡ walker_told w answer.value
     → state_of after new ≡ stepped w r
 answered_so w after r new ask at answer is leads some left heard =
     ap (λ v. state_of v new) (heard ∙ ap (of_value w) some)
-    ∙ (ap (λ n. state_of (told w (answered (r at.node) at.port ask.access).answer.value) n) left
+    ∙ (ap (λ n. state_of (walker_told w (answered (r at.node) at.port ask.access).answer.value) n)
+    left
     ∙ (ap (λ o. reached w r ask o) (sym leads) ∙ ap (λ o. reaches w r o) is))
 
 module _ (view : Topology) (r new : Registers) (before after : Machine)
@@ -58,7 +59,7 @@ module _ (view : Topology) (r new : Registers) (before after : Machine)
         topology = can.topology;
         id = subst (λ n. n < 0xff) (sym same_id) can.id;
         mine = subst (λ (s : State). IsMine s.walker s.registers) (sym is) leaves.1;
-        within = subst (λ (s : State). IsWithin s.walker) (sym is)
+        within = subst (λ (s : State). WalkerIsWithin s.walker) (sym is)
             (stepped_within w r can.within);
         low = subst (λ (s : State). AreLow s.walker.todo) (sym is) (low-stepped w r can.low);
       }
@@ -83,13 +84,13 @@ locked_yes s is = choose (is_locking s.walker.stage) (stepped s.walker s.registe
 pub locked_no : (s : State) → is_locking s.walker.stage ≡ false → s ≡ locked_on s
 locked_no s is = refuse (is_locking s.walker.stage) (stepped s.walker s.registers) s is
 
-pub turned_later : (w : Walker) (r : Registers) → w.begun ≡ true → stepped w r ≡ turned w r
+pub turned_later : (w : Walker) (r : Registers) → w.begun ≡ true → stepped w r ≡ walker_turned w r
 turned_later w r is =
     choose w.begun (stepped w r)
     (locked_on (locked_on (stepped (record w { begun = true }) r))) is
 
 pub turned_first : (w : Walker) (r : Registers) → w.begun ≡ false
-    → locked_on (locked_on (stepped (record w { begun = true }) r)) ≡ turned w r
+    → locked_on (locked_on (stepped (record w { begun = true }) r)) ≡ walker_turned w r
 turned_first w r is =
     refuse w.begun (stepped w r)
     (locked_on (locked_on (stepped (record w { begun = true }) r))) is
@@ -169,6 +170,6 @@ can_same view r one two is can = record {
   topology = can.topology;
   id = subst (λ n. n < 0xff) (ap (λ (w : Walker). w.id) (sym is)) can.id;
   mine = subst (λ w. IsMine w r) (sym is) can.mine;
-  within = subst IsWithin (sym is) can.within;
+  within = subst WalkerIsWithin (sym is) can.within;
   low = subst AreLow (ap (λ (w : Walker). w.todo) (sym is)) can.low;
 }

@@ -39,8 +39,8 @@ new_walker view id = record {
 }
 
 -- the device on its path is the next of its list
-abbrev pub with_device : Walker → Kind → Walker
-with_device w kind = record w { devices = w.devices ++ met_as w.devices kind w.path ∷ [] }
+abbrev pub device_added : Walker → Kind → Walker
+device_added w kind = record w { devices = w.devices ++ met_as w.devices kind w.path ∷ [] }
 
 -- the switch on its path is to send packets home
 abbrev pub with_home : Walker → ℕ → Walker
@@ -69,17 +69,17 @@ is_clear [] = true
 is_clear (p ∷ rest) = false
 
 -- it asks nothing any more, and has numbered the fabric or not
-abbrev pub is_last : Stage → Bool
-is_last Ask = false
-is_last Claim = false
-is_last Check = false
-is_last Test = false
-is_last Features = false
-is_last Information = false
-is_last Status = false
-is_last Free = false
-is_last Done = true
-is_last Lost = true
+abbrev pub is_last_stage : Stage → Bool
+is_last_stage Ask = false
+is_last_stage Claim = false
+is_last_stage Check = false
+is_last_stage Test = false
+is_last_stage Features = false
+is_last_stage Information = false
+is_last_stage Status = false
+is_last_stage Free = false
+is_last_stage Done = true
+is_last_stage Lost = true
 
 abbrev pub is_numbered : Stage → Bool
 is_numbered Ask = false
@@ -95,8 +95,8 @@ is_numbered Lost = false
 
 -- the walker has ended
 abbrev pub has_ended : Machine → Bool
-has_ended machine = is_last machine.stage && is_clear machine.todo
+has_ended machine = is_last_stage machine.stage && is_clear machine.todo
 
 -- and has numbered the fabric
-abbrev pub is_done : Machine → Bool
-is_done machine = is_numbered machine.stage && is_clear machine.todo
+abbrev pub machine_is_done : Machine → Bool
+machine_is_done machine = is_numbered machine.stage && is_clear machine.todo

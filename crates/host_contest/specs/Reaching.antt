@@ -14,7 +14,7 @@ use Rattle.contest_machine.specs.Machine.{Walker, wants}
 -- The path enters a device by this port. It is the host's own, or else the request ends at the
 -- device, which is not the host, and the response comes back by the tables as the access leaves
 -- them.
-pub record IsReached (view : Topology) (registers : Registers) (path : List ℕ) (access : Access)
+pub record PathIsReached (view : Topology) (registers : Registers) (path : List ℕ) (access : Access)
     (at : PortRef) : Type 0 where
   pub leads : entered view path ≡ Some at
   pub short : length path ≤ 64
@@ -23,7 +23,7 @@ pub record IsReached (view : Topology) (registers : Registers) (path : List ℕ)
 -- whatever the walker asks next
 abbrev pub CanReach : Walker → Registers → Type 0
 CanReach w registers = (ask : Asked) → wants w ≡ Some ask
-    → (at : PortRef) × IsReached w.view registers ask.path ask.access at
+    → (at : PortRef) × PathIsReached w.view registers ask.path ask.access at
 
 -- what is asked next is of a lock or of a tag
 abbrev pub IsOfLock : Stage → Type 0

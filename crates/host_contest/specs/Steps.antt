@@ -4,7 +4,7 @@ use Rattle.fabric_map.specs.Topology.{Topology, IsTopology}
 use Rattle.fabric_map.specs.Routes.{Registers}
 use Rattle.contest_machine.specs.Machine.{State}
 use Rattle.contest_machine.specs.Contest.{IsMine}
-use Rattle.contest_machine.specs.Within.{IsWithin}
+use Rattle.contest_machine.specs.Within.{WalkerIsWithin}
 use Rattle.host_contest.specs.declared.machine.Machine.{Machine}
 use Rattle.host_contest.specs.Machines.{machine_of}
 use Rattle.host_contest.specs.Reaching.{AreLow}
@@ -21,5 +21,5 @@ pub record CanStep (view : Topology) (registers : Registers) (machine : Machine)
   pub topology : IsTopology view
   pub id : machine.id < 0xff
   pub mine : IsMine (machine_of view machine) registers
-  pub within : IsWithin (machine_of view machine)
+  pub within : WalkerIsWithin (machine_of view machine)
   pub low : AreLow machine.todo

@@ -2,8 +2,8 @@
 ghost use Rattle.std.specs.Prelude.{◌≡◌, ◌≤◌, ◌<◌, ◌+◌, length, OnOk};
 ghost use Rattle.fabric_map.specs.Topology.{Topology};
 ghost use Rattle.contest_machine.specs.declared.stages.Stage.TheVariants.{Ask, Claim, Check, Test, Features, Information, Status, Free};
-ghost use Rattle.contest_machine.specs.Machine.{freeing, gone_on, judged, numbered, set_up, outward, asked, told_at};
-ghost use Rattle.contest_machine.specs.Within.{AreShort, IsBounded, IsBoundedAt};
+ghost use Rattle.contest_machine.specs.Machine.{freeing, gone_on, judged, numbered, switch_set_up, outward, asked, told_at};
+ghost use Rattle.contest_machine.specs.Within.{AreShort, WalkIsBounded, IsBoundedAt};
 ghost use Rattle.host_contest.specs.Machines.{machine_of, port_left};
 
 use crate::machine::{Machine, last_of};
@@ -99,7 +99,7 @@ impl Machine {
     /// An endpoint is numbered. A switch is asked for its ports.
     fn hear_features(&mut self, features: u32) -> Result<(), AllocError>
         requires few { length self.old.map.devices.items ≤ 64 }
-        requires bounded { IsBounded self.old.map.devices.items self.old.id self.old.next
+        requires bounded { WalkIsBounded self.old.map.devices.items self.old.id self.old.next
             self.old.path self.old.tried }
         ensures { OnOk result ((view : Topology) → machine_of view self.new
             ≡ told_at (machine_of view self.old) features Features) }

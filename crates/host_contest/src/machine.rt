@@ -4,9 +4,9 @@ ghost use Rattle.std.specs.Prelude.{◌≡◌, ◌≢◌, ◌≤◌, ◌<◌, �
 ghost use Rattle.fabric_map.specs.Topology.{Topology};
 ghost use Rattle.host_enumerate.specs.declared.maint.Access.TheVariants.{Write};
 ghost use Rattle.contest_machine.specs.declared.stages.Stage.TheVariants.{Ask, Claim, Check, Test, Features, Information, Status, Free};
-ghost use Rattle.contest_machine.specs.Machine.{last_path, taken, asked, status_of, wants_at, wants, settled, told};
+ghost use Rattle.contest_machine.specs.Machine.{last_path, taken, asked, status_asked, wants_at, wants, settled, walker_told};
 ghost use Rattle.contest_machine.specs.Within.{IsBoundedAt};
-ghost use Rattle.host_enumerate.specs.Accesses.{offset_of};
+ghost use Rattle.host_enumerate.specs.Accesses.{access_offset};
 ghost use Rattle.host_contest.specs.Machines.{machine_of, new_walker};
 ghost use Rattle.host_contest.specs.Reaching.{AreLow};
 
@@ -79,7 +79,7 @@ impl Machine {
     pub(crate) fn wants(&self) -> Option<Asked>
         ensures wanted { (view : Topology) → result ≡ wants (machine_of view self.now) }
         ensures low { AreLow self.now.todo
-            → IfSome result (λ asked. offset_of asked.access < 2 ^ 24) }
+            → IfSome result (λ asked. access_offset asked.access < 2 ^ 24) }
     {
         match self.todo.front() {
             Some(write) => Some(Asked {
@@ -94,7 +94,7 @@ impl Machine {
     fn wants_at(&self) -> Option<Asked>
         ensures wanted { (view : Topology)
             → result ≡ wants_at (machine_of view self.now) self.now.stage }
-        ensures low { IfSome result (λ asked. offset_of asked.access < 2 ^ 24) }
+        ensures low { IfSome result (λ asked. access_offset asked.access < 2 ^ 24) }
     {
         match self.stage {
             Stage::Ask | Stage::Check => Some(self.at_path(Access::Read(HOST_LOCK))),
@@ -120,8 +120,8 @@ impl Machine {
 
     /// The status of the port that is tried.
     fn status(&self) -> Option<Asked>
-        ensures wanted { result ≡ status_of self.now.tried }
-        ensures low { IfSome result (λ asked. offset_of asked.access < 2 ^ 24) }
+        ensures wanted { result ≡ status_asked self.now.tried }
+        ensures low { IfSome result (λ asked. access_offset asked.access < 2 ^ 24) }
     {
         let top = self.tried.front()?;
         Some(Asked {
@@ -150,7 +150,7 @@ impl Machine {
         requires bounded { IsBoundedAt self.old.stage self.old.map.devices.items self.old.id
             self.old.next self.old.path self.old.tried }
         ensures { OnOk result ((view : Topology) → machine_of view self.new
-            ≡ told (machine_of view self.old) value) }
+            ≡ walker_told (machine_of view self.old) value) }
     {
         match self.todo.pop_front() {
             Some(_) => self.settle(),

@@ -2,9 +2,9 @@
 ghost use Rattle.std.specs.Prelude.{◌≡◌, ◌<◌, ◌^◌, OnOk, OnErr, IfOk, IfErr, Some};
 ghost use Rattle.fabric_script.specs.declared.ports.PortRef.{PortRef};
 ghost use Rattle.fabric_map.specs.Topology.{entered};
-ghost use Rattle.host_enumerate.specs.Accesses.{answered, offset_of, after_access};
+ghost use Rattle.host_enumerate.specs.Accesses.{answered, access_offset, after_access};
 ghost use Rattle.host_enumerate.specs.Causes.{IsCaused};
-ghost use Rattle.host_contest.specs.Reaching.{IsReached};
+ghost use Rattle.host_contest.specs.Reaching.{PathIsReached};
 
 use fabric_map::Path;
 use host_enumerate::offsets::ALONG_PATH;
@@ -19,14 +19,14 @@ pub(crate) fn reach<M: Maint>(
     access: Access,
 ) -> Result<Answer, MaintEnd>
     requires whole { M.IsWhole maint.old }
-    requires offset { offset_of access < 2 ^ 24 }
+    requires offset { access_offset access < 2 ^ 24 }
     requires reached { (at : PortRef)
-        × IsReached (M.topology maint.old) (M.registers maint.old) path.now access at }
+        × PathIsReached (M.topology maint.old) (M.registers maint.old) path.now access at }
     ensures answer { IfOk result (λ answer. (at : PortRef)
-        → IsReached (M.topology maint.old) (M.registers maint.old) path.now access at
+        → PathIsReached (M.topology maint.old) (M.registers maint.old) path.now access at
         → answer ≡ (answered (M.registers maint.old at.node) at.port access).answer) }
     ensures registers { OnOk result ((at : PortRef)
-        → IsReached (M.topology maint.old) (M.registers maint.old) path.now access at
+        → PathIsReached (M.topology maint.old) (M.registers maint.old) path.now access at
         → M.registers maint.new ≡ after_access (M.registers maint.old) at access) }
     ensures topology { M.topology maint.new ≡ M.topology maint.old }
     ensures whole { OnOk result (M.IsWhole maint.new) }

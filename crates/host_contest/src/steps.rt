@@ -3,7 +3,7 @@ ghost use Rattle.std.specs.Prelude.{◌≡◌, ◌<◌, ◌≤◌, ℕ, [], leng
 ghost use Rattle.fabric_map.specs.Topology.{Topology};
 ghost use Rattle.host_enumerate.specs.Causes.{IsCaused};
 ghost use Rattle.contest_machine.specs.Machine.{stepped};
-ghost use Rattle.contest_machine.specs.Turns.{is_locking, locked_on, turned, came_of};
+ghost use Rattle.contest_machine.specs.Turns.{is_locking, locked_on, walker_turned, came_of};
 ghost use Rattle.host_contest.specs.Machines.{machine_of, is_clear};
 ghost use Rattle.host_contest.specs.Reaching.{CanReach, CanReachOn, IsAtHost};
 ghost use Rattle.host_contest.specs.Steps.{state_in, CanStep};
@@ -22,7 +22,7 @@ impl Machine {
         requires reach { CanReachOn (machine_of (M.topology maint.old) self.old)
             (M.registers maint.old) }
         ensures turned { OnOk result (state_in (M.topology maint.old) (M.registers maint.new)
-            self.new ≡ turned (machine_of (M.topology maint.old) self.old)
+            self.new ≡ walker_turned (machine_of (M.topology maint.old) self.old)
             (M.registers maint.old)) }
         ensures can { OnOk result (CanStep (M.topology maint.old) (M.registers maint.new)
             self.new) }

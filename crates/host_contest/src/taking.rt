@@ -3,9 +3,9 @@ ghost use Rattle.std.specs.Prelude.{◌≡◌, ◌≤◌, ◌<◌, ◌+◌, [], 
 ghost use Rattle.fabric_map.specs.Topology.{Topology};
 ghost use Rattle.host_enumerate.specs.Underway.{id_after};
 ghost use Rattle.contest_machine.specs.declared.stages.Stage.TheVariants.{Ask, Features, Status};
-ghost use Rattle.contest_machine.specs.Machine.{taken, numbered, set_up};
-ghost use Rattle.contest_machine.specs.Within.{IsBounded};
-ghost use Rattle.host_contest.specs.Machines.{machine_of, with_device, with_home, with_tried, first_port};
+ghost use Rattle.contest_machine.specs.Machine.{taken, numbered, switch_set_up};
+ghost use Rattle.contest_machine.specs.Within.{WalkIsBounded};
+ghost use Rattle.host_contest.specs.Machines.{machine_of, device_added, with_home, with_tried, first_port};
 
 use crate::machine::Machine;
 use crate::writes::{push_home, push_routes, push_write};
@@ -48,7 +48,7 @@ impl Machine {
     /// packets for that onwards. The host keeps its own.
     pub(crate) fn number(&mut self) -> Result<(), AllocError>
         requires few { length self.old.map.devices.items ≤ 64 }
-        requires bounded { IsBounded self.old.map.devices.items self.old.id self.old.next
+        requires bounded { WalkIsBounded self.old.map.devices.items self.old.id self.old.next
             self.old.path self.old.tried }
         ensures { OnOk result ((view : Topology) → machine_of view self.new
             ≡ numbered (machine_of view self.old) self.old.path) }
@@ -98,7 +98,7 @@ impl Machine {
     fn push_device(&mut self, kind: Kind) -> Result<(), AllocError>
         requires few { length self.old.map.devices.items ≤ 64 }
         ensures { OnOk result ((view : Topology) → machine_of view self.new
-            ≡ with_device (machine_of view self.old) kind) }
+            ≡ device_added (machine_of view self.old) kind) }
     {
         let device = Device {
             tag: self.next_tag(),
@@ -113,7 +113,7 @@ impl Machine {
     pub(crate) fn set_up(&mut self, ports: u8, entry: u8) -> Result<(), AllocError>
         requires few { length self.old.map.devices.items ≤ 64 }
         ensures { OnOk result ((view : Topology) → machine_of view self.new
-            ≡ set_up (machine_of view self.old) ports entry) }
+            ≡ switch_set_up (machine_of view self.old) ports entry) }
     {
         self.set_home(entry)?;
         self.try_ports(ports, entry)?;

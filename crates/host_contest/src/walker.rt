@@ -4,8 +4,8 @@ ghost use Rattle.fabric_map.specs.Topology.{Topology};
 ghost use Rattle.fabric_map.specs.declared.map.Map.{Map};
 ghost use Rattle.host_enumerate.specs.Causes.{IsCaused};
 ghost use Rattle.contest_machine.specs.declared.stages.Turn.TheVariants.{Going};
-ghost use Rattle.contest_machine.specs.Turns.{turned, came_of};
-ghost use Rattle.host_contest.specs.Machines.{new_walker, is_done, has_ended};
+ghost use Rattle.contest_machine.specs.Turns.{walker_turned, came_of};
+ghost use Rattle.host_contest.specs.Machines.{new_walker, machine_is_done, has_ended};
 ghost use Rattle.host_contest.specs.Reaching.{CanReachOn, AreLow};
 ghost use Rattle.host_contest.specs.Steps.{state_in, CanStep};
 ghost use Rattle.host_contest.specs.Walkers.{machine_in, HasEntries, going_after};
@@ -52,7 +52,7 @@ impl Walker {
         requires reach { CanReachOn (machine_in (M.topology maint.old) self.old)
             (M.registers maint.old) }
         ensures turned { OnOk result (state_in (M.topology maint.old) (M.registers maint.new)
-            self.new.machine ≡ turned (machine_in (M.topology maint.old) self.old)
+            self.new.machine ≡ walker_turned (machine_in (M.topology maint.old) self.old)
             (M.registers maint.old)) }
         ensures answer { IfOk result (λ turn. turn ≡ came_of
             (machine_in (M.topology maint.old) self.old)
@@ -138,7 +138,7 @@ impl Walker {
 
     /// The map of the fabric, once a turn has answered `Done`.
     pub fn map(&self) -> Option<&Map>
-        ensures some { IsSome result ↔ IsTrue (is_done self.now.machine) }
+        ensures some { IsSome result ↔ IsTrue (machine_is_done self.now.machine) }
         ensures map { IfSome result (λ map. map.now ≡ self.now.machine.map) }
     {
         if self.is_done() {
@@ -150,7 +150,7 @@ impl Walker {
 
     /// Whether it has numbered the fabric.
     pub fn is_done(&self) -> bool
-        ensures { result ≡ is_done self.now.machine }
+        ensures { result ≡ machine_is_done self.now.machine }
     {
         self.machine.stage == Stage::Done && self.machine.todo.is_empty()
     }

@@ -1,7 +1,7 @@
 //! What a walker has still to write, put at the end of a list in order.
 ghost use Rattle.std.specs.Prelude.{◌≡◌, ◌≤◌, ◌++◌, ◌∷◌, [], OnOk};
 ghost use Rattle.fabric_map.specs.Numbered.{toward};
-ghost use Rattle.contest_machine.specs.Machine.{write, entry_set, route_at, routes_to, cleared_below, home_set};
+ghost use Rattle.contest_machine.specs.Machine.{write, entry_set, route_pending, routes_to, cleared_below, home_set};
 
 use crate::values::CLEARED;
 use contest_machine::Pending;
@@ -63,7 +63,7 @@ fn push_route(
     path: &Path,
     id: u8,
 ) -> Result<(), AllocError>
-    ensures { OnOk result (todo.new ≡ todo.old ++ route_at path.now id device.now) }
+    ensures { OnOk result (todo.new ≡ todo.old ++ route_pending path.now id device.now) }
 {
     let Kind::Switch { .. } = device.kind else {
         return Ok(());

@@ -11,7 +11,7 @@ use Rattle.fabric_map.specs.Topology.{Topology, IsTopology}
 use Rattle.fabric_map.specs.Routes.{Registers}
 use Rattle.fabric_map.specs.Fitting.{Fits}
 use Rattle.host_enumerate.specs.declared.maint.Access.{Access}
-use Rattle.host_enumerate.specs.Accesses.{answered, with_device, after_access}
+use Rattle.host_enumerate.specs.Accesses.{answered, registers_with, after_access}
 use Rattle.fabric_map.specs.Plain.{ports_of_switch, topology_of, registers_of}
 
 -- an access leaves the device what it is
@@ -32,7 +32,7 @@ keeps_itself device = record {
 -- what holds of one device and of any other holds of the device under a number
 with_device-keeps : (registers : Registers) (node : ℕ) (device : Device)
     → Keeps (registers node) device → (other : ℕ)
-    → Keeps (registers other) (with_device registers node device other)
+    → Keeps (registers other) (registers_with registers node device other)
 with_device-keeps registers node device keeps other = go (eqb other node) refl
   where
     go : (b : Bool) → eqb other node ≡ b
@@ -42,7 +42,7 @@ with_device-keeps registers node device keeps other = go (eqb other node) refl
 
 pub fits-with : (topology : Topology) (registers : Registers) (node : ℕ) (device : Device)
     → Fits topology registers → Keeps (registers node) device
-    → Fits topology (with_device registers node device)
+    → Fits topology (registers_with registers node device)
 fits-with topology registers node device fits keeps = record {
   devices = λ other inside. (kept other).device (fits.devices other inside);
   ids = λ other inside. (kept other).id (fits.ids other inside);
@@ -59,15 +59,16 @@ fits-with topology registers node device fits keeps = record {
 }
   where
     after : Registers
-    after = with_device registers node device
+    after = registers_with registers node device
 
-    kept : (other : ℕ) → Keeps (registers other) (with_device registers node device other)
+    kept : (other : ℕ) → Keeps (registers other) (registers_with registers node device other)
     kept = with_device-keeps registers node device keeps
 
 -- the registers with one device set
 pub registers_of-set : (devices : List Device) (node : ℕ) (device : Device)
     → node < length devices
-    → registers_of (slice_set devices node device) ≡ with_device (registers_of devices) node device
+    → registers_of (slice_set devices node device)
+    ≡ registers_with (registers_of devices) node device
 registers_of-set devices node device inside = fun_ext (λ other. at other (eqb other node) refl)
   where
     at : (other : ℕ) (b : Bool) → eqb other node ≡ b
@@ -187,7 +188,7 @@ module _ (devices : List Device) (links : List (PortRef × PortRef)) (host : ℕ
       ≡ after_access (registers_of devices) at access
   accessed-registers =
       registers_of-set devices at.node after inside
-      ∙ ap (λ d. with_device (registers_of devices) at.node d) becomes_so
+      ∙ ap (λ d. registers_with (registers_of devices) at.node d) becomes_so
 
   -- devices and links stay
   pub accessed-topology : topology_of (slice_set devices at.node after) links host

@@ -3,8 +3,9 @@ use Rattle.std.proofs.Common.{◌≡◌, ◌≢◌, ℕ, ◌<◌, List, [], ◌�
 use Rattle.std.specs.Option.{option_and_then}
 use Rattle.std.proofs.lemmas.Option.{same_Some}
 use Rattle.fabric_script.specs.declared.ports.PortRef.{PortRef}
+use Rattle.fabric_script.specs.Ports.{port_at}
 use Rattle.maint_registers.specs.Routes.{next_port}
-use Rattle.fabric_map.specs.Topology.{Topology, IsTopology, port_at, ports_of, behind, along, followed, entered, node_at}
+use Rattle.fabric_map.specs.Topology.{Topology, IsTopology, device_ports, behind_port, along, ports_followed, entered, node_at}
 use Rattle.fabric_map.specs.Walked.{Before, onward, Walked}
 use Rattle.fabric_map.specs.Routes.{Registers}
 use Rattle.fabric_map.specs.Ways.{IsOpened}
@@ -174,14 +175,14 @@ module _ (topology : Topology) (paths : List (List ℕ)) (bound : List ℕ)
       link =
           (behind-link topology at.node port end
           (sym (along-onward topology (port_at topology.host 0) path port
-          ∙ ap (λ o. option_and_then (λ (p : PortRef). behind topology p.node port) o) enters)
+          ∙ ap (λ o. option_and_then (λ (p : PortRef). behind_port topology p.node port) o) enters)
           ∙ ends)).0
 
       host_end : end ≡ port_at topology.host 0
       host_end =
           let is_port = proper.ports end (port_at at.node port)
           (proper.both_ways (port_at at.node port) end link) in
-          let one = subst (λ n. end.port < ports_of topology n) is is_port.port in
+          let one = subst (λ n. end.port < device_ports topology n) is is_port.port in
           let none = subst (λ o. end.port < unwrap_or o 1) proper.host_is_endpoint one in
           let zero_is : end.port ≡ 0 = omega (arith, none) in
           λ i. record { node = is i; port = zero_is i }
@@ -197,21 +198,21 @@ module _ (topology : Topology) (paths : List (List ℕ)) (bound : List ℕ)
           let node_same : at.node ≡ topology.host = ap (λ (p : PortRef). p.node) (sym at_host) in
           let followed_one = (behind-link topology at.node port end
           (sym (along-onward topology (port_at topology.host 0) path port
-          ∙ ap (λ o. option_and_then (λ (p : PortRef). behind topology p.node port) o) enters)
+          ∙ ap (λ o. option_and_then (λ (p : PortRef). behind_port topology p.node port) o) enters)
           ∙ ends)).1 in
-          let less = subst (λ n. port < n) (ap (λ n. followed topology n) node_same
+          let less = subst (λ n. port < n) (ap (λ n. ports_followed topology n) node_same
           ∙ followed-host topology) followed_one in
           let zero_is : port ≡ 0 = omega (arith, less) in
           let self : port_at at.node port ≡ port_at topology.host 0 =
           λ i. record { node = node_same i; port = zero_is i } in
           proper.two_ports (port_at topology.host 0) (back ∙ ap (λ (p : PortRef). Some p) self)
-      go (x ∷ p) is_path = first_of (behind topology topology.host x) refl
+      go (x ∷ p) is_path = first_of (behind_port topology topology.host x) refl
           (ap (λ l. entered topology l) (sym is_path) ∙ enters)
         where
           some_path : path ≢ []
           some_path empty = let none : [] ≡ x ∷ p = sym empty ∙ is_path in absurd (cc)
 
-          first_of : (o : Option PortRef) → behind topology topology.host x ≡ o
+          first_of : (o : Option PortRef) → behind_port topology topology.host x ≡ o
               → option_and_then (λ next. along topology next p) o ≡ Some at → ⊥
           first_of None is_next on = absurd (cc)
           first_of (Some next) is_next on =
@@ -235,9 +236,9 @@ module _ (topology : Topology) (paths : List (List ℕ)) (bound : List ℕ)
 pub not_host-first : (topology : Topology) (at : PortRef) → IsTopology topology
     → entered topology (0 ∷ []) ≡ Some at → at.node ≢ topology.host
 not_host-first topology at proper enters is =
-    go (behind topology topology.host 0) refl enters
+    go (behind_port topology topology.host 0) refl enters
   where
-    go : (o : Option PortRef) → behind topology topology.host 0 ≡ o
+    go : (o : Option PortRef) → behind_port topology topology.host 0 ≡ o
         → option_and_then (λ (next : PortRef). Some next) o ≡ Some at → ⊥
     go None is_next same = absurd (cc)
     go (Some next) is_next same =
@@ -245,7 +246,7 @@ not_host-first topology at proper enters is =
         first_link topology 0 next is_next ∙ same in
         let is_port = proper.ports at (port_at topology.host 0)
         (proper.both_ways (port_at topology.host 0) at link) in
-        let one = subst (λ n. at.port < ports_of topology n) is is_port.port in
+        let one = subst (λ n. at.port < device_ports topology n) is is_port.port in
         let none = subst (λ o. at.port < unwrap_or o 1) proper.host_is_endpoint one in
         let zero_is : at.port ≡ 0 = omega (arith, none) in
         let self : at ≡ port_at topology.host 0 =

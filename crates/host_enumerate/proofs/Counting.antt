@@ -4,12 +4,12 @@ use Rattle.std.proofs.lemmas.Bool.{cases_eq, cases_lt, lt-ltb, le-ltb}
 use Rattle.std.proofs.lemmas.List.Elements.{Contains-push_cases}
 use Rattle.fabric_map.specs.declared.map.Kind.TheVariants.{Endpoint, Switch}
 use Rattle.fabric_map.specs.declared.map.Device.{Device}
-use Rattle.fabric_map.specs.Numbered.{has_id, is_given, IsLeastFree}
+use Rattle.fabric_map.specs.Numbered.{device_has_id, is_given, IsLeastFree}
 use Rattle.fabric_map.proofs.Given.{has_id-endpoint, has_id-switch, or_false, is_given-later, is_given-not, is_given-new}
-use Rattle.host_enumerate.specs.Underway.{id_after, given_below, IsCounted}
+use Rattle.host_enumerate.specs.Underway.{id_after, given_below, IdsAreCounted}
 
 -- before the host nothing is given
-pub counted-none : (host_id : ℕ) → IsCounted host_id [] 0
+pub counted-none : (host_id : ℕ) → IdsAreCounted host_id [] 0
 counted-none host_id = record {
   below = λ id less other. absurd (omega (arith, less));
   rest = λ id more other. refl;
@@ -18,7 +18,7 @@ counted-none host_id = record {
 }
 
 pub counted-host : (host_id : ℕ) (host : Device) → host.kind ≡ Endpoint host_id
-    → IsCounted host_id (host ∷ []) 0
+    → IdsAreCounted host_id (host ∷ []) 0
 counted-host host_id host is = record {
   below = λ id less other. absurd (omega (arith, less));
   rest = λ id more other. free id other;
@@ -28,7 +28,7 @@ counted-host host_id host is = record {
   where
     free : (id : ℕ) → id ≢ host_id → is_given (host ∷ []) id ≡ false
     free id other =
-        or_false (has_id id host)
+        or_false (device_has_id id host)
         ∙ (has_id-endpoint host id host_id is ∙ ne_eqb host_id id (λ same. other (sym same)))
 
     few : given_below host_id 0 ≤ 1
@@ -47,9 +47,9 @@ counted-host host_id host is = record {
     none device ports entry (suc k, within, same) switch = omega (arith, within)
 
 pub counted-switch : (host_id next ports entry : ℕ) (devices : List Device) (first device : Device)
-    → IsCounted host_id devices next → Contains devices first
+    → IdsAreCounted host_id devices next → Contains devices first
     → device.kind ≡ Switch ports entry
-    → IsCounted host_id (devices ++ device ∷ []) next
+    → IdsAreCounted host_id (devices ++ device ∷ []) next
 counted-switch host_id next ports entry devices first device counted some is = record {
   below = λ id less other. is_given-later devices device id (counted.below id less other);
   rest = λ id more other. is_given-not devices device id (counted.rest id more other)
@@ -99,9 +99,9 @@ id_after-cases host_id next = go (cases_eq next host_id)
     go (inr other) = inr (other, rw (ne_eqb next host_id other) refl)
 
 pub counted-endpoint : (host_id next id : ℕ) (devices : List Device) (first device : Device)
-    → IsCounted host_id devices next → Contains devices first → id ≡ id_after host_id next
+    → IdsAreCounted host_id devices next → Contains devices first → id ≡ id_after host_id next
     → device.kind ≡ Endpoint id
-    → IsCounted host_id (devices ++ device ∷ []) (id + 1)
+    → IdsAreCounted host_id (devices ++ device ∷ []) (id + 1)
 counted-endpoint host_id next id devices first device counted some new is = record {
   below = λ lesser less other. below lesser less other
       (id_after-cases host_id next) (cases_eq id lesser);
@@ -161,7 +161,7 @@ counted-endpoint host_id next id devices first device counted some new is = reco
         absurd (cc)
 
 -- the ID that is given is the least that is free
-pub counted-least : (host_id next : ℕ) (devices : List Device) → IsCounted host_id devices next
+pub counted-least : (host_id next : ℕ) (devices : List Device) → IdsAreCounted host_id devices next
     → is_given devices host_id ≡ true → IsLeastFree devices (id_after host_id next)
 counted-least host_id next devices counted host = record {
   free = free (id_after-cases host_id next);

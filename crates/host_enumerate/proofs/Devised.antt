@@ -21,8 +21,8 @@ use Rattle.fabric_script.specs.Known.{Known, of_script, nothing, known_after, na
 use Rattle.fabric_script.specs.Peers.{peer_in}
 use Rattle.fabric_script.specs.Reading.{MayBe, IsFree}
 use Rattle.fabric_script.specs.Scripts.{PassesFrom}
+use Rattle.fabric_script.specs.Ports.{port_at}
 use Rattle.fabric_script.proofs.PeerLaws.{port_is, same_port-refl, peer-linked, peer-before, peer-behind}
-use Rattle.fabric_map.specs.Topology.{port_at}
 use Rattle.host_enumerate.specs.Devised.{with_linked_end, devices_after, devices_after_all, links_after_all}
 use Rattle.host_enumerate.proofs.NewDevices.{IsNew, AreNew, new_endpoint_is, new_switch_is, routed_is, defaulted_is, held_by_is, large_set_is, kind_known, also, are_changed, are_linked, are_longer, are_as}
 

@@ -7,7 +7,7 @@ use Rattle.maint_registers.specs.Access.{written_at}
 use Rattle.maint_registers.proofs.AccessLaws.{select-written, entry-written}
 use Rattle.fabric_map.specs.Topology.{Topology, entered}
 use Rattle.fabric_map.specs.Routes.{Registers}
-use Rattle.host_enumerate.specs.Accesses.{with_device}
+use Rattle.host_enumerate.specs.Accesses.{registers_with}
 use Rattle.host_enumerate.specs.Asking.{IsAskable, IsApart, IsWritable, Becomes}
 use Rattle.host_enumerate.specs.Setting.{with_entry}
 use Rattle.host_enumerate.proofs.Frames.{with_device-at, with_device-other}
@@ -18,10 +18,10 @@ pub becomes-twice : (old mid new : Registers) (node : ℕ) (first second : Devic
     → Becomes old mid node first → Becomes mid new node second → Becomes old new node second
 becomes-twice old mid new node first second one two other = go (other == node) refl
   where
-    go : (is : Bool) → (other == node) ≡ is → new other ≡ with_device old node second other
+    go : (is : Bool) → (other == node) ≡ is → new other ≡ registers_with old node second other
     go true is =
         let same = eqb-true other node is in
-        subst (λ n. new n ≡ with_device old node second n) (sym same)
+        subst (λ n. new n ≡ registers_with old node second n) (sym same)
         (became mid new node second two ∙ sym (with_device-at old node second))
     go false is =
         let apart : other ≢ node = eqb-false other node is in

@@ -6,18 +6,19 @@ use Rattle.std.proofs.lemmas.Option.{same_Some}
 use Rattle.std.proofs.lemmas.List.{length-map}
 use Rattle.std.proofs.lemmas.List.Elements.{All-contains}
 use Rattle.fabric_script.specs.declared.ports.PortRef.{PortRef}
+use Rattle.fabric_script.specs.Ports.{port_at}
 use Rattle.maint_registers.specs.Devices as registers
 use Rattle.maint_registers.specs.Routes.{next_port}
 use Rattle.maint_registers.proofs.RouteLaws.{entry-next, default-next}
 use Rattle.fabric_map.specs.declared.map.Kind.TheVariants.{Switch}
 use Rattle.fabric_map.specs.declared.map.Device.{Device}
 use Rattle.fabric_map.specs.declared.map.Entry.{Entry}
-use Rattle.fabric_map.specs.Topology.{Topology, IsPort, port_at, behind, along, entered, node_at}
+use Rattle.fabric_map.specs.Topology.{Topology, IsPortIn, behind_port, along, entered, node_at}
 use Rattle.fabric_map.specs.Walked.{after_all_paths}
-use Rattle.fabric_map.specs.Routes.{Registers, Comes}
+use Rattle.fabric_map.specs.Routes.{Registers, PacketComes}
 use Rattle.fabric_map.specs.Fitting.{Fits}
 use Rattle.fabric_map.specs.Locked.{IsForeign}
-use Rattle.fabric_map.specs.Numbered.{has_id, is_given, paths_of, toward, port_toward, port_for, entries_of, AreDescribed, IsMarked, ChangesOnly, IsNumbered}
+use Rattle.fabric_map.specs.Numbered.{device_has_id, is_given, paths_of, toward, port_toward, port_for, entries_of, AreDescribed, IsMarked, ChangesOnly, IsNumbered}
 use Rattle.fabric_map.proofs.Leading.{along-append, port_of_entry, each_is_reached}
 use Rattle.fabric_map.proofs.Ways.{behind-link}
 use Rattle.fabric_map.proofs.Branches.{further_from_toward}
@@ -27,7 +28,7 @@ use Rattle.fabric_map.proofs.Given.{has_id-endpoint, is_given-contains, found-by
 use Rattle.fabric_map.proofs.Routing.{SendsById, comes-from}
 use Rattle.fabric_map.proofs.Tabled.{entry_listed, given_device, one_tag}
 use Rattle.host_enumerate.specs.Underway.{given_below, HasTable, HasTableOf, IsUnderway}
-use Rattle.host_enumerate.specs.Ends.{IsFree}
+use Rattle.host_enumerate.specs.Ends.{IsLockFree}
 use Rattle.host_enumerate.proofs.Meeting.{underway-outside, underway-inside, member-not_foreign}
 use Rattle.host_enumerate.proofs.Stepping.{followed-ports}
 use Rattle.fabric_map.proofs.Few.{entered-port}
@@ -54,7 +55,7 @@ module _ (topology : Topology) (before now : Registers) (host_id next : ℕ)
 
   -- the host is the device to which its ID is given
   host_listed : (host : Device) × Contains devices host × (host.path ≡ [])
-      × (has_id host_id host ≡ true)
+      × (device_has_id host_id host ≡ true)
   host_listed =
       let found = device_on devices [] (underway.walked.host_met tt) in
       let kind = host_kind topology host_id devices after_all_paths found.0
@@ -82,7 +83,7 @@ module _ (topology : Topology) (before now : Registers) (host_id next : ℕ)
       (listed : Contains devices member) (kind : member.kind ≡ Switch ports entry)
       (enters : entered topology member.path ≡ Some at)
       (has_ports : topology.switch_ports at.node ≡ Some ports) (port : at.port ≡ entry) where
-    is_port : IsPort topology at
+    is_port : IsPortIn topology at
     is_port = entered-port topology member.path at underway.proper enters
 
     all_ports : (now at.node).ports ≡ ports
@@ -114,7 +115,7 @@ module _ (topology : Topology) (before now : Registers) (host_id next : ℕ)
     way_below : (goal : Device) (by : ℕ) → Contains devices goal
         → toward member.path goal.path ≡ Some by → by < (now at.node).ports
     way_below goal by within leads =
-        go (behind topology at.node by) refl
+        go (behind_port topology at.node by) refl
         (subst (λ o. IsSome o)
         (ap (λ l. entered topology l) further.1
         ∙ along-append topology (port_at topology.host 0) member.path (by ∷ further.0) at enters)
@@ -130,7 +131,7 @@ module _ (topology : Topology) (before now : Registers) (host_id next : ℕ)
         entered_some None is some = absurd (cc)
         entered_some (Some end) is some = subst (λ o. IsSome o) (sym is) refl
 
-        go : (o : Option PortRef) → behind topology at.node by ≡ o
+        go : (o : Option PortRef) → behind_port topology at.node by ≡ o
             → IsSome (option_and_then (λ next. along topology next further.0) o)
             → by < (now at.node).ports
         go None is some = absurd (cc)
@@ -159,7 +160,7 @@ module _ (topology : Topology) (before now : Registers) (host_id next : ℕ)
                 let both : true ≡ false = sym given ∙ free in
                 absurd (cc)
 
-        goal : (device : Device) × Contains devices device × (has_id id device ≡ true)
+        goal : (device : Device) × Contains devices device × (device_has_id id device ≡ true)
         goal = given_device devices id given
 
         way : port_toward devices member.path id ≡ toward member.path goal.0.path
@@ -202,7 +203,7 @@ module _ (topology : Topology) (before now : Registers) (host_id next : ℕ)
       (sends member ports entry switch.0 listed kind switch.1 switch.2 switch.3 id given)
 
   -- no device that is reached was held by another host
-  pub underway-free : IsFree topology before
+  pub underway-free : IsLockFree topology before
   underway-free node reached =
       let found = each_is_reached topology (paths_of devices) node underway.walked reached in
       let member = device_on devices found.0 found.1 in
@@ -225,10 +226,10 @@ module _ (topology : Topology) (before now : Registers) (host_id next : ℕ)
   routed : (id from to : ℕ) (device goal : Device)
       → Contains devices device → Contains devices goal
       → node_at topology device.path ≡ Some from → node_at topology goal.path ≡ Some to
-      → has_id id goal ≡ true → from ≢ to → Comes topology now id from to
+      → device_has_id id goal ≡ true → from ≢ to → PacketComes topology now id from to
   routed id from to device goal listed within leads ends has other =
       let at = port_of_entry (entered topology device.path) from leads in
-      subst (λ n. Comes topology now id n to) at.2
+      subst (λ n. PacketComes topology now id n to) at.2
       (comes-from topology now host_id id to devices goal underway.proper underway.walked
       underway.described (sends_by_id id (is_given-contains devices goal id within has)) within has
       ends device.path at.0 (path_listed devices device listed) at.1

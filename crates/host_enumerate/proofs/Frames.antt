@@ -1,28 +1,29 @@
 -- What single accesses answer, and what they leave of the registers of all devices.
 use Rattle.std.proofs.Common.{◌≡◌, ◌≢◌, ℕ, ◌<◌, ◌==◌, Bool, true, false, eqb, Some, is_some, if◌then◌else◌, refl, sym, ap, subst, ◌∙◌, ne_eqb, eq-eqb}
 use Rattle.std.proofs.lemmas.Bool.{eqb-true}
+use Rattle.fabric_script.specs.Ports.{port_at}
 use mathlib.Core.Path.{fun_ext}
 use Rattle.maint_registers.specs.Devices.{Device}
 use Rattle.maint_registers.specs.Table.{status_offset}
 use Rattle.maint_registers.specs.Access.{value_at}
 use Rattle.maint_registers.proofs.AccessLaws.{status-read}
-use Rattle.fabric_map.specs.Topology.{Topology, port_at, ports_of}
+use Rattle.fabric_map.specs.Topology.{Topology, device_ports}
 use Rattle.fabric_map.specs.Routes.{Registers}
 use Rattle.fabric_map.specs.Fitting.{Fits}
-use Rattle.host_enumerate.specs.Accesses.{with_device}
+use Rattle.host_enumerate.specs.Accesses.{registers_with}
 
 -- the device itself
 pub with_device-at : (registers : Registers) (node : ℕ) (device : Device)
-    → with_device registers node device node ≡ device
+    → registers_with registers node device node ≡ device
 with_device-at registers node device = rw (eq-eqb node node refl) refl
 
 -- and another
 pub with_device-other : (registers : Registers) (node other : ℕ) (device : Device)
-    → other ≢ node → with_device registers node device other ≡ registers other
+    → other ≢ node → registers_with registers node device other ≡ registers other
 with_device-other registers node other device apart = rw (ne_eqb other node apart) refl
 
 pub with_device-itself : (registers : Registers) (node : ℕ)
-    → with_device registers node (registers node) ≡ registers
+    → registers_with registers node (registers node) ≡ registers
 with_device-itself registers node = fun_ext (λ other. go other (eqb other node) refl)
   where
     go : (other : ℕ) (b : Bool) → eqb other node ≡ b
@@ -33,7 +34,7 @@ with_device-itself registers node = fun_ext (λ other. go other (eqb other node)
 module _ (topology : Topology) (registers : Registers) (fits : Fits topology registers)
     (node : ℕ) (inside : node < topology.nodes) where
   -- whether a port has a link
-  pub status-shows : (n port : ℕ) → n < ports_of topology node
+  pub status-shows : (n port : ℕ) → n < device_ports topology node
       → value_at (registers node) (status_offset n) port
       ≡ Some (if is_some (topology.peer (port_at node n)) then 2 else 1)
   status-shows n port below =

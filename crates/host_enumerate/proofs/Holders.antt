@@ -11,7 +11,7 @@ use Rattle.fabric_map.specs.Fitting.{Fits}
 use Rattle.fabric_map.proofs.Leading.{some_from_same}
 use Rattle.fabric_map.proofs.Few.{entered-inside}
 use Rattle.host_enumerate.specs.declared.taking.Holder.TheVariants.{Taken, Met}
-use Rattle.host_enumerate.specs.Accesses.{with_device}
+use Rattle.host_enumerate.specs.Accesses.{registers_with}
 use Rattle.host_enumerate.specs.Asking.{IsAskable, IsApart, IsWritable, AreSame}
 use Rattle.host_enumerate.specs.Holding.{IsHolder}
 use Rattle.host_enumerate.proofs.Frames.{with_device-itself}
@@ -102,7 +102,7 @@ taken_held old mid new host_id node first second held untagged = (
   inr (held, ap (λ (d : Device). d.tag) (sym (first node)) ∙ untagged),
   λ other. second other ∙ (first other
       ∙ (sym (ap (λ r. r other) (with_device-itself old node))
-      ∙ ap (λ n. with_device old node (record (old node) { lock = n }) other) held)),
+      ∙ ap (λ n. registers_with old node (record (old node) { lock = n }) other) held)),
 )
 
 pub met_held : (old mid new : Registers) (host_id node : ℕ) → AreSame old mid → AreSame mid new

@@ -20,7 +20,7 @@ use Rattle.fabric_map.proofs.Steps.{takes_in}
 use Rattle.fabric_map.proofs.Branches.{port_toward-free, port_toward-other, port_toward-new}
 use Rattle.fabric_map.proofs.Growing.{device_on, paths_of-push, described-push, node_at-entered}
 use Rattle.host_enumerate.specs.Setting.{with_entry}
-use Rattle.host_enumerate.specs.Underway.{HasTable, HasTableOf, IsHeld, IsCounted, IsUnmet, IsUnderway}
+use Rattle.host_enumerate.specs.Underway.{HasTable, HasTableOf, IsHeld, IdsAreCounted, IsUnmet, IsUnderway}
 use Rattle.fabric_map.proofs.Given.{has_id-endpoint, has_id-switch}
 
 -- a switch keeps its table if the list gets longer, if the ports that lead to IDs stay
@@ -185,7 +185,7 @@ module _ (topology : Topology) (before now after : Registers) (host_id next next
     (unmet : IsUnmet topology devices at.node) where
   -- a device is taken in
   pub underway-taken : IsDescribed topology host_id devices device
-      → IsCounted host_id (devices ++ device ∷ []) next_after
+      → IdsAreCounted host_id (devices ++ device ∷ []) next_after
       → ((member : Device) (node : ℕ) → Contains devices member
       → node_at topology member.path ≡ Some node
       → IsHeld host_id (devices ++ device ∷ []) member (before node) (after node))

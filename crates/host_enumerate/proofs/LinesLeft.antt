@@ -12,9 +12,9 @@ use Rattle.fabric_script.specs.declared.lines.Line.TheVariants.{Switch, Link, Ro
 use Rattle.fabric_script.specs.declared.lines.Numbered.{Numbered}
 use Rattle.fabric_script.specs.declared.reasons.Reason.TheVariants.{WrongKind}
 use Rattle.fabric_script.specs.Lines.{new_name}
-use Rattle.fabric_script.specs.Known.{Known, nothing, known_after, links_after, node_is_switch, is_switch as is_known_switch}
+use Rattle.fabric_script.specs.Known.{Known, nothing, known_after, links_after, node_is_switch, is_known_switch}
 use Rattle.fabric_script.specs.Reading.{MayBe, IsFree}
-use Rattle.fabric_script.specs.Scripts.{PassesFrom, Passes}
+use Rattle.fabric_script.specs.Scripts.{PassesFrom, ScriptPasses}
 use Rattle.fabric_map.specs.Plain.{registers_of}
 use Rattle.host_enumerate.specs.Devised.{MayDevise, devices_after, devices_after_all, links_after_all, devices_of, links_of}
 use Rattle.host_enumerate.proofs.NewDevices.{kind_known}
@@ -70,7 +70,7 @@ pub record IsLeft (names : List (List ℕ)) (lines : List Numbered) (taken : ℕ
   pub devices_left : devices_after_all devices (drop taken lines) ≡ devices_of lines
   pub links_left : links_after_all links (drop taken lines) ≡ links_of lines
 
-pub all_left : (names : List (List ℕ)) (lines : List Numbered) → Passes names lines
+pub all_left : (names : List (List ℕ)) (lines : List Numbered) → ScriptPasses names lines
     → IsLeft names lines 0 [] []
 all_left names lines passes = record {
   known = nothing;

@@ -11,9 +11,9 @@ use Rattle.maint_registers.proofs.LinkLaws.{bit_set, bit_others}
 use Rattle.maint_registers.proofs.WithinLaws.{no_routes_long}
 use Rattle.fabric_script.specs.declared.ports.PortRef.{PortRef}
 use Rattle.fabric_script.specs.declared.known.Node.{Node}
-use Rattle.fabric_script.specs.Known.{same_port, node_is_switch, is_switch as is_known_switch}
+use Rattle.fabric_script.specs.Known.{same_port, node_is_switch, is_known_switch}
+use Rattle.fabric_script.specs.Ports.{port_at}
 use Rattle.fabric_script.proofs.PeerLaws.{port_is, same_port-refl}
-use Rattle.fabric_map.specs.Topology.{port_at}
 use Rattle.fabric_map.proofs.Given.{or_false}
 use Rattle.host_enumerate.specs.Devised.{with_linked_end}
 

@@ -9,9 +9,10 @@ use Rattle.fabric_script.specs.declared.known.Node.{Node}
 use Rattle.fabric_script.specs.declared.lines.Numbered.{Numbered}
 use Rattle.fabric_script.specs.Known.{Known, nothing, node_ports, ports_of, node_is_switch, is_linked}
 use Rattle.fabric_script.specs.Peers.{peer_in}
-use Rattle.fabric_script.specs.Scripts.{Passes}
+use Rattle.fabric_script.specs.Scripts.{ScriptPasses}
+use Rattle.fabric_script.specs.Ports.{port_at}
 use Rattle.fabric_script.proofs.PeerLaws.{peer-linked}
-use Rattle.fabric_map.specs.Topology.{Topology, IsTopology, IsPort, port_at, ports_of as ports_of_node}
+use Rattle.fabric_map.specs.Topology.{Topology, IsTopology, IsPortIn, device_ports}
 use Rattle.fabric_map.specs.Fitting.{Fits}
 use Rattle.fabric_map.specs.Plain.{ports_of_switch, topology_of, registers_of}
 use Rattle.host_enumerate.specs.Checking.{IsNewFabric}
@@ -53,7 +54,7 @@ module _ (end : Known) (devices : List Device) (host : ℕ) (stage : Stage end d
       go (inr other) = rw other (sym (is.endpoint_ports other))
 
   ports_at : (node : ℕ) → node < length devices
-      → (registers_of devices node).ports ≡ ports_of_node topology node
+      → (registers_of devices node).ports ≡ device_ports topology node
   ports_at node inside =
       sym (ap (λ o. unwrap_or o 1) (kind_at node inside)
       ∙ ports_shown (registers_of devices node) (is_new node inside).device)
@@ -73,7 +74,7 @@ module _ (end : Known) (devices : List Device) (host : ℕ) (stage : Stage end d
       there (first ∷ nodes) zero less = refl
       there (first ∷ nodes) (suc n) less = there nodes n (omega (arith, less))
 
-  is_port : (p : PortRef) → IsEnd end p → IsPort topology p
+  is_port : (p : PortRef) → IsEnd end p → IsPortIn topology p
   is_port p is =
       let inside = subst (λ n. p.node < n) (sym as_many) is.0 in
       record {
@@ -94,10 +95,10 @@ module _ (end : Known) (devices : List Device) (host : ℕ) (stage : Stage end d
   host_kind = same_Some (is_switch (registers_of devices host)) false
       (sym (ap (option_map is_switch) (device_at host host_inside)) ∙ endpoint)
 
-  most : (node : ℕ) → ports_of_node topology node ≤ 16
+  most : (node : ℕ) → device_ports topology node ≤ 16
   most node = go (cases_lt node (length devices))
     where
-      go : (node < length devices) ⊎ (length devices ≤ node) → ports_of_node topology node ≤ 16
+      go : (node < length devices) ⊎ (length devices ≤ node) → device_ports topology node ≤ 16
       go (inl within) =
           subst (λ n. n ≤ 16) (ports_at node within) (is_new node within).device.most_ports
       go (inr past) =
@@ -160,7 +161,7 @@ module _ (end : Known) (devices : List Device) (host : ℕ) (stage : Stage end d
 
 -- a script that passes makes a fabric that such a host can number
 pub devised_fabric : (names : List (List ℕ)) (lines : List Numbered) (host : ℕ)
-    → Passes names lines → IsHost (devices_of lines) (links_of lines) host
+    → ScriptPasses names lines → IsHost (devices_of lines) (links_of lines) host
     → IsNewFabric (devices_of lines) (links_of lines) host
 devised_fabric names lines host passes is_host =
     let end = stage_after_all nothing names [] lines first_stage passes in
@@ -170,7 +171,7 @@ devised_fabric names lines host passes is_host =
 
 -- devices and links that are those of the lines
 pub made_fabric : (names : List (List ℕ)) (lines : List Numbered) (devices : List Device)
-    (links : List (PortRef × PortRef)) (host : ℕ) → Passes names lines
+    (links : List (PortRef × PortRef)) (host : ℕ) → ScriptPasses names lines
     → IsHost (devices_of lines) (links_of lines) host → devices ≡ devices_of lines
     → links ≡ links_of lines → IsNewFabric devices links host
 made_fabric names lines devices links host passes is_host same_devices same_links =

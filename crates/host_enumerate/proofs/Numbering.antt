@@ -1,16 +1,17 @@
 -- What the whole call knows.
 use Rattle.std.proofs.Common.{◌≡◌, ℕ, ◌<◌, ◌/◌, List, [], Some, IsSome, sym, ap, subst, ◌∙◌}
 use Rattle.fabric_script.specs.declared.ports.PortRef.{PortRef}
+use Rattle.fabric_script.specs.Ports.{port_at}
 use Rattle.maint_registers.specs.Access.{value_at}
 use Rattle.fabric_map.specs.declared.map.Device.{Device}
-use Rattle.fabric_map.specs.Topology.{Topology, IsTopology, port_at, entered}
+use Rattle.fabric_map.specs.Topology.{Topology, IsTopology, entered}
 use Rattle.fabric_map.specs.Walked.{after_all_paths}
 use Rattle.fabric_map.specs.Routes.{Registers}
 use Rattle.fabric_map.specs.Fitting.{Fits}
 use Rattle.fabric_map.specs.Numbered.{entries_of, IsNumbered}
 use Rattle.host_enumerate.specs.Asking.{IsAskable, AreSame}
 use Rattle.host_enumerate.specs.Underway.{AreUntagged, IsUnderway}
-use Rattle.host_enumerate.specs.Ends.{IsFree}
+use Rattle.host_enumerate.specs.Ends.{IsLockFree}
 use Rattle.host_enumerate.proofs.Starting.{begun, own_askable, own_answers, own_id}
 use Rattle.host_enumerate.proofs.Finishing.{underway-numbered, underway-free}
 
@@ -65,5 +66,5 @@ module _ (topology one : Topology) (before now : Registers) (path : List ℕ) (v
       is_numbered = underway-numbered topology before after (value / 65536) done.0 devices done.1
           fits_now
 
-      pub is_free : IsFree topology before
+      pub is_free : IsLockFree topology before
       is_free = underway-free topology before after (value / 65536) done.0 devices done.1 fits_now

@@ -2,10 +2,11 @@
 use Rattle.std.proofs.Common.{◌≡◌, ◌≢◌, ℕ, ◌-◌, ◌==◌, Bool, true, false, List, [], ◌∷◌, ◌++◌, length, Option, Some, None, arith, refl, sym, ap, subst, ◌∙◌, if◌then◌else◌, eqb-true}
 use Rattle.std.proofs.lemmas.Option.{same_Some}
 use Rattle.fabric_script.specs.declared.ports.PortRef.{PortRef}
+use Rattle.fabric_script.specs.Ports.{port_at}
 use Rattle.maint_registers.specs.Devices.{Device}
 use Rattle.maint_registers.specs.Routes.{next_port}
 use Rattle.maint_registers.specs.Access.{value_at}
-use Rattle.fabric_map.specs.Topology.{Topology, IsTopology, port_at, entered}
+use Rattle.fabric_map.specs.Topology.{Topology, IsTopology, entered}
 use Rattle.fabric_map.specs.Routes.{Registers, walk}
 use Rattle.fabric_map.specs.Ways.{IsOpened}
 use Rattle.fabric_map.proofs.Ways.{request_ends, answer_returns}

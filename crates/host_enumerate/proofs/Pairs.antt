@@ -7,7 +7,8 @@ use Rattle.fabric_script.specs.Known.{same_port}
 use Rattle.fabric_script.proofs.PeerLaws.{port_is}
 use Rattle.maint_registers.specs.Devices.{IsDevice, new_endpoint, no_routes, is_switch}
 use Rattle.fabric_script.specs.Peers.{peer_in}
-use Rattle.fabric_map.specs.Topology.{IsTopology, IsPort, port_at, ports_of}
+use Rattle.fabric_script.specs.Ports.{port_at}
+use Rattle.fabric_map.specs.Topology.{IsTopology, IsPortIn, device_ports}
 use Rattle.fabric_map.specs.Fitting.{Fits}
 use Rattle.fabric_map.specs.Plain.{topology_of, registers_of}
 use Rattle.host_enumerate.specs.Examples.{pair_devices, pair_links}
@@ -41,15 +42,15 @@ pair-topology = record {
   two_ports = λ p linked. apart p (ends p p linked);
 }
   where
-    most : (node : ℕ) → ports_of (topology_of pair_devices pair_links 0) node ≤ 16
+    most : (node : ℕ) → device_ports (topology_of pair_devices pair_links 0) node ≤ 16
     most zero = omega arith
     most (suc zero) = omega arith
     most (suc (suc node)) = omega arith
 
-    port : (p q : PortRef) → Ends p q → IsPort (topology_of pair_devices pair_links 0) p
-    port p q (inl at) = subst (λ r. IsPort (topology_of pair_devices pair_links 0) r) at.0
+    port : (p q : PortRef) → Ends p q → IsPortIn (topology_of pair_devices pair_links 0) p
+    port p q (inl at) = subst (λ r. IsPortIn (topology_of pair_devices pair_links 0) r) at.0
         (record { node = omega arith; port = omega arith })
-    port p q (inr at) = subst (λ r. IsPort (topology_of pair_devices pair_links 0) r) at.0
+    port p q (inr at) = subst (λ r. IsPortIn (topology_of pair_devices pair_links 0) r) at.0
         (record { node = omega arith; port = omega arith })
 
     back : (p q : PortRef) → Ends p q → peer_in pair_links q ≡ Some p
@@ -107,9 +108,9 @@ pair-fits = record {
       → is_switch (registers_of pair_devices node) ≡ true)
       (λ none. absurd (cc)) (λ none. absurd (cc)) node inside is;
   ports = both (λ node. (registers_of pair_devices node).ports
-      ≡ ports_of (topology_of pair_devices pair_links 0) node) refl refl;
+      ≡ device_ports (topology_of pair_devices pair_links 0) node) refl refl;
   linked = λ node port inside below. both
-      (λ node. (port : ℕ) → port < ports_of (topology_of pair_devices pair_links 0) node
+      (λ node. (port : ℕ) → port < device_ports (topology_of pair_devices pair_links 0) node
       → Shows node port)
       (only (λ port. Shows 0 port) refl) (only (λ port. Shows 1 port) refl) node inside port below;
 }

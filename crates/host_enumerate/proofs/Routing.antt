@@ -4,15 +4,16 @@ use Rattle.std.specs.Option.{option_and_then}
 use Rattle.std.proofs.lemmas.Bool.{eqb-false}
 use Rattle.std.proofs.lemmas.List.{take_all}
 use Rattle.fabric_script.specs.declared.ports.PortRef.{PortRef}
+use Rattle.fabric_script.specs.Ports.{port_at}
 use Rattle.maint_registers.specs.Devices.{Device, is_switch}
 use Rattle.maint_registers.specs.Routes.{next_port, port_named}
 use Rattle.maint_registers.proofs.RouteLaws.{next-same, entry-set_other}
-use Rattle.fabric_map.specs.Topology.{Topology, port_at, behind, along, entered}
+use Rattle.fabric_map.specs.Topology.{Topology, behind_port, along, entered}
 use Rattle.fabric_map.specs.Walked.{onward}
 use Rattle.fabric_map.specs.Routes.{Registers}
 use Rattle.fabric_map.specs.Ways.{IsOpened}
 use Rattle.host_enumerate.specs.Asking.{IsAskable, IsApart, PassesOnce, Becomes}
-use Rattle.host_enumerate.specs.Setting.{with_entry, Passes, AreRouted}
+use Rattle.host_enumerate.specs.Setting.{with_entry, PathPasses, AreRouted}
 use Rattle.host_enumerate.proofs.Opening.{SendsAs, opened-as, became, stays, same_end}
 
 -- a path that leads on enters a device before
@@ -21,7 +22,7 @@ along_front : (topology : Topology) (at : PortRef) (front rest : List ℕ) (last
     → (mid : PortRef) × (along topology at front ≡ Some mid)
 along_front topology at [] rest last leads = (at, refl)
 along_front topology at (x ∷ front) rest last leads =
-    go (behind topology at.node x) leads
+    go (behind_port topology at.node x) leads
     (λ next on. along_front topology next front rest last on)
   where
     go : (o : Option PortRef)
@@ -185,7 +186,7 @@ module _ (topology : Topology) (old mid new : Registers) (first port id : ℕ) (
     (one : Becomes old mid at.node (with_entry (old at.node) id port))
     (others : AreRouted topology mid new (first ∷ front ++ port ∷ []) rest id) where
   -- no later switch is this one
-  later_apart : (node by : ℕ) → Passes topology (first ∷ front ++ port ∷ []) rest node by
+  later_apart : (node by : ℕ) → PathPasses topology (first ∷ front ++ port ∷ []) rest node by
       → at.node ≢ node
   later_apart node by (between, later, there, is, enters_there, same) is_node =
       once first (front ++ port ∷ between) later by there whole
@@ -214,8 +215,8 @@ module _ (topology : Topology) (old mid new : Registers) (first port id : ℕ) (
         ));
   }
     where
-      further : (node by : ℕ) → Passes topology (first ∷ front ++ port ∷ []) rest node by
-          → Passes topology (first ∷ front) (port ∷ rest) node by
+      further : (node by : ℕ) → PathPasses topology (first ∷ front ++ port ∷ []) rest node by
+          → PathPasses topology (first ∷ front) (port ∷ rest) node by
       further node by passes = (
         port ∷ passes.0,
         passes.1,
@@ -259,7 +260,7 @@ module _ (topology : Topology) (old mid new : Registers) (first port id : ℕ) (
           is_port : x ≡ port
           is_port = cc
 
-          passes : Passes topology (first ∷ front ++ port ∷ []) rest node by
+          passes : PathPasses topology (first ∷ front ++ port ∷ []) rest node by
           passes = (
             between,
             later,

@@ -11,7 +11,7 @@ use Rattle.fabric_map.specs.Routes.{Registers}
 use Rattle.fabric_map.specs.Fitting.{Fits}
 use Rattle.fabric_map.proofs.Few.{entered-inside}
 use Rattle.host_enumerate.specs.Asking.{IsAskable, IsApart, IsWritable, AreSame, Becomes}
-use Rattle.host_enumerate.specs.Setting.{with_entry, IsSameBut, IsCleared, IsSetUp}
+use Rattle.host_enumerate.specs.Setting.{with_entry, IsSameBut, IsCleared, SwitchIsSetUp}
 use Rattle.host_enumerate.proofs.Frames.{with_device-itself}
 use Rattle.fabric_map.proofs.Few.{entered-port}
 use Rattle.host_enumerate.proofs.Opening.{became}
@@ -141,7 +141,7 @@ pub set_up : (topology first : Topology) (old mid new : Registers) (host_id : �
     → IsCleared host_id 63 (record (old at.node) { default_port = at.port }) held
     → Becomes mid new at.node (with_entry (mid at.node) host_id port)
     → Becomes old new at.node (with_entry held host_id at.port)
-    × IsSetUp host_id at.port (old at.node) (with_entry held host_id at.port)
+    × SwitchIsSetUp host_id at.port (old at.node) (with_entry held host_id at.port)
 set_up topology first old mid new host_id path at port held proper fits below is enters stage
     cleared becomes = (
       becomes-twice old mid new at.node held (with_entry held host_id at.port) stage.becomes

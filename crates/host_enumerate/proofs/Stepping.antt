@@ -2,8 +2,9 @@
 use Rattle.std.proofs.Common.{◌≡◌, ◌≢◌, ℕ, ◌+◌, ◌<◌, nat_lt, Bool, true, false, List, [], Option, Some, None, IsSome, option_map, Contains, inr, subst, sym, refl, ap, ◌∙◌, if◌then◌else◌, ne_eqb, lt-ltb}
 use Rattle.std.specs.Option.{option_and_then}
 use Rattle.fabric_script.specs.declared.ports.PortRef.{PortRef}
+use Rattle.fabric_script.specs.Ports.{port_at}
 use Rattle.fabric_map.specs.declared.map.Device.{Device}
-use Rattle.fabric_map.specs.Topology.{Topology, IsTopology, port_at, followed, behind, entered, node_at}
+use Rattle.fabric_map.specs.Topology.{Topology, IsTopology, ports_followed, behind_port, entered, node_at}
 use Rattle.fabric_map.specs.Walked.{onward, IsMet, Walked}
 use Rattle.fabric_map.specs.Routes.{Registers}
 use Rattle.fabric_map.specs.Numbered.{paths_of}
@@ -16,17 +17,17 @@ use Rattle.host_enumerate.specs.Underway.{IsUnderway}
 -- where a path leads with one port more
 pub entered-onward : (topology : Topology) (path : List ℕ) (at : PortRef) (port : ℕ)
     → entered topology path ≡ Some at
-    → entered topology (onward path port) ≡ behind topology at.node port
+    → entered topology (onward path port) ≡ behind_port topology at.node port
 entered-onward topology path at port enters =
     along-onward topology (port_at topology.host 0) path port
-    ∙ ap (λ o. option_and_then (λ (p : PortRef). behind topology p.node port) o) enters
+    ∙ ap (λ o. option_and_then (λ (p : PortRef). behind_port topology p.node port) o) enters
 
 -- nothing is behind a port without a link
 pub unlinked-leads_nowhere : (topology : Topology) (path : List ℕ) (at : PortRef) (port : ℕ)
     → entered topology path ≡ Some at → topology.peer (port_at at.node port) ≡ None
     → ¬ IsSome (node_at topology (onward path port))
 unlinked-leads_nowhere topology path at port enters none leads =
-    go (nat_lt port (followed topology at.node))
+    go (nat_lt port (ports_followed topology at.node))
     (subst (λ o. IsSome (option_map (λ (p : PortRef). p.node) o))
     (entered-onward topology path at port enters) leads)
   where
@@ -39,22 +40,22 @@ unlinked-leads_nowhere topology path at port enters none leads =
 
 -- what is behind a port that is followed
 pub entered-linked : (topology : Topology) (path : List ℕ) (at next : PortRef) (port : ℕ)
-    → entered topology path ≡ Some at → port < followed topology at.node
+    → entered topology path ≡ Some at → port < ports_followed topology at.node
     → topology.peer (port_at at.node port) ≡ Some next
     → entered topology (onward path port) ≡ Some next
 entered-linked topology path at next port enters below link =
     entered-onward topology path at port enters
     ∙ (ap (λ b. if b then topology.peer (port_at at.node port) else None)
-    (lt-ltb port (followed topology at.node) below) ∙ link)
+    (lt-ltb port (ports_followed topology at.node) below) ∙ link)
 
 -- a switch has all its ports followed
 pub followed-ports : (topology : Topology) (node ports : ℕ) → node ≢ topology.host
-    → topology.switch_ports node ≡ Some ports → followed topology node ≡ ports
+    → topology.switch_ports node ≡ Some ports → ports_followed topology node ≡ ports
 followed-ports topology node ports other is = rw (ne_eqb node topology.host other, is) refl
 
 -- and an endpoint other than the host has none
 pub followed-none : (topology : Topology) (node : ℕ) → node ≢ topology.host
-    → topology.switch_ports node ≡ None → followed topology node ≡ 0
+    → topology.switch_ports node ≡ None → ports_followed topology node ≡ 0
 followed-none topology node other is = rw (ne_eqb node topology.host other, is) refl
 
 -- the port of entry leads back
@@ -76,7 +77,7 @@ leads_back topology path at port proper enters leads =
 
     go : (o : Option PortRef) → entered topology path ≡ o
         → entered topology (onward path port)
-        ≡ option_and_then (λ (p : PortRef). behind topology p.node port) o
+        ≡ option_and_then (λ (p : PortRef). behind_port topology p.node port) o
         → node_at topology (onward (onward path port) at.port)
         ≡ option_map (λ (p : PortRef). p.node) o
     go None is behind_none =
@@ -87,7 +88,7 @@ leads_back topology path at port proper enters leads =
         let further = entered-onward topology (onward path port) at at.port enters in
         ap (λ o. option_map (λ (q : PortRef). q.node) o) further
         ∙ back p (proper.both_ways (port_at p.node port) at link.0)
-        (nat_lt at.port (followed topology at.node))
+        (nat_lt at.port (ports_followed topology at.node))
         (subst (λ o. IsSome (option_map (λ (q : PortRef). q.node) o)) further leads)
 
 module _ (topology : Topology) (before now : Registers) (host_id next : ℕ)
@@ -152,7 +153,7 @@ module _ (topology : Topology) (before now : Registers) (host_id next : ℕ)
   pub underway-closed : (path : List ℕ) (at : PortRef) (port ports : ℕ)
       → IsUnderway topology before now host_id devices next
       (onward (onward path port) ports)
-      → entered topology (onward path port) ≡ Some at → followed topology at.node ≡ ports
+      → entered topology (onward path port) ≡ Some at → ports_followed topology at.node ≡ ports
       → IsUnderway topology before now host_id devices next (onward path (port + 1))
   underway-closed path at port ports underway enters all =
       underway-bound (onward (onward path port) ports) (onward path (port + 1)) underway

@@ -5,10 +5,11 @@ use Rattle.std.specs.Option.{option_and_then}
 use Rattle.std.proofs.lemmas.List.{length-map}
 use Rattle.std.proofs.lemmas.List.Elements.{All-contains}
 use Rattle.fabric_script.specs.declared.ports.PortRef.{PortRef}
+use Rattle.fabric_script.specs.Ports.{port_at}
 use Rattle.fabric_map.specs.declared.map.Kind.{Kind}
 use Rattle.fabric_map.specs.declared.map.Kind.TheVariants.{Endpoint, Switch}
 use Rattle.fabric_map.specs.declared.map.Device.{Device}
-use Rattle.fabric_map.specs.Topology.{Topology, port_at, behind, along, entered, node_at}
+use Rattle.fabric_map.specs.Topology.{Topology, behind_port, along, entered, node_at}
 use Rattle.fabric_map.specs.Walked.{Before, onward, Walked}
 use Rattle.fabric_map.specs.Routes.{Registers}
 use Rattle.fabric_map.specs.Fitting.{Fits}
@@ -22,7 +23,7 @@ use Rattle.fabric_map.proofs.Few.{entered-inside, walked-fewer}
 use Rattle.fabric_map.proofs.Growing.{path_listed, device_on, described-listed, node_at-entered, host-first}
 use Rattle.fabric_map.proofs.Fronts.{not_before_empty, passed_listed}
 use Rattle.fabric_map.proofs.Given.{has_id-endpoint}
-use Rattle.host_enumerate.specs.Setting.{with_entry, Passes, AreRouted}
+use Rattle.host_enumerate.specs.Setting.{with_entry, PathPasses, AreRouted}
 use Rattle.host_enumerate.specs.Underway.{id_after, met_as, IsHeld, IsUnmet, IsUnderway}
 use Rattle.host_enumerate.proofs.Counting.{id_after-few, counted-endpoint, counted-least}
 use Rattle.host_enumerate.proofs.Lengthening.{held-beside, held-passed, held-endpoint, underway-taken}
@@ -57,7 +58,7 @@ pub passed_switch : (topology : Topology) (host_id : ℕ) (earlier : List Device
     → entered topology (member.path ++ port ∷ later) ≡ Some end → at.node ≢ topology.host
     → (ports : ℕ) × (entry : ℕ) × (member.kind ≡ Switch ports entry)
 passed_switch topology host_id earlier member at end port later described enters leads other =
-    go (behind topology at.node port) refl
+    go (behind_port topology at.node port) refl
     (sym (along-append topology (port_at topology.host 0) member.path (port ∷ later) at enters)
     ∙ leads)
   where
@@ -71,7 +72,7 @@ passed_switch topology host_id earlier member at end port later described enters
     kind ports (Some n) (Endpoint id) is shown described_so = absurd described_so
     kind ports (Some n) (Switch p entry) is shown described_so = (p, entry, shown)
 
-    go : (o : Option PortRef) → behind topology at.node port ≡ o
+    go : (o : Option PortRef) → behind_port topology at.node port ≡ o
         → option_and_then (λ next. along topology next later) o ≡ Some end
         → (ports : ℕ) × (entry : ℕ) × (member.kind ≡ Switch ports entry)
     go None is on = absurd (cc)
@@ -151,13 +152,13 @@ module _ (topology : Topology) (before now mid after : Registers) (host_id next 
   passes_from_toward : (member : Device) (node port : ℕ)
       → node_at topology member.path ≡ Some node → member.path ≢ []
       → toward member.path (first ∷ rest) ≡ Some port
-      → Passes topology (first ∷ []) rest node port
+      → PathPasses topology (first ∷ []) rest node port
   passes_from_toward member node port same some leads =
       go member.path refl (further_from_toward member.path (first ∷ rest) port leads)
     where
       go : (p : List ℕ) → member.path ≡ p
           → (later : List ℕ) × (first ∷ rest ≡ member.path ++ port ∷ later)
-          → Passes topology (first ∷ []) rest node port
+          → PathPasses topology (first ∷ []) rest node port
       go [] is further = absurd (some is)
       go (x ∷ p) is further =
           let entry = port_of_entry (entered topology member.path) node same in
@@ -176,7 +177,7 @@ module _ (topology : Topology) (before now mid after : Registers) (host_id next 
   -- and no other
   toward_from_passes : (member : Device) (node port : ℕ) → Contains devices member
       → node_at topology member.path ≡ Some node
-      → Passes topology (first ∷ []) rest node port
+      → PathPasses topology (first ∷ []) rest node port
       → (member.path ≢ []) × (toward member.path (first ∷ rest) ≡ Some port)
   toward_from_passes member node port listed same passes =
       let p = passes.0 in
@@ -198,13 +199,13 @@ module _ (topology : Topology) (before now mid after : Registers) (host_id next 
 
   -- a device that is not passed stays
   unpassed : (node : ℕ) → node ≢ at.node
-      → ((port : ℕ) → ¬ Passes topology (first ∷ []) rest node port)
+      → ((port : ℕ) → ¬ PathPasses topology (first ∷ []) rest node port)
       → after node ≡ now node
   unpassed node apart none = routed.others node none ∙ beside node apart
 
   -- no device that was not met is passed
   unmet-unpassed : (node : ℕ) → IsUnmet topology devices node
-      → (port : ℕ) → ¬ Passes topology (first ∷ []) rest node port
+      → (port : ℕ) → ¬ PathPasses topology (first ∷ []) rest node port
   unmet-unpassed node none port passes =
       let p = passes.0 in
       let later = passes.1 in
@@ -234,14 +235,14 @@ module _ (topology : Topology) (before now mid after : Registers) (host_id next 
           (entered-inside topology member.path entry.0 underway.proper entry.1)
 
       none : toward member.path (first ∷ rest) ≡ None
-          → (port : ℕ) → ¬ Passes topology (first ∷ []) rest node port
+          → (port : ℕ) → ¬ PathPasses topology (first ∷ []) rest node port
       none is port passes =
           let leads = (toward_from_passes member node port listed same passes).1 in
           let some_none : Some port ≡ None = sym leads ∙ is in
           absurd (cc)
 
       host_path : member.path ≡ [] → (port : ℕ)
-          → ¬ Passes topology (first ∷ []) rest node port
+          → ¬ PathPasses topology (first ∷ []) rest node port
       host_path empty port passes =
           (toward_from_passes member node port listed same passes).0 empty
 
@@ -269,7 +270,7 @@ module _ (topology : Topology) (before now mid after : Registers) (host_id next 
           least.free leads (few_ids member is_switch.0 is_switch.1 listed is_switch.2)
           not_host_id (fits.devices node inside).destinations)
 
-      stays : ((port : ℕ) → ¬ Passes topology (first ∷ []) rest node port)
+      stays : ((port : ℕ) → ¬ PathPasses topology (first ∷ []) rest node port)
           → IsHeld host_id (devices ++ endpoint ∷ []) member (before node) (now node)
           → IsHeld host_id (devices ++ endpoint ∷ []) member (before node) (after node)
       stays skipped kept = subst

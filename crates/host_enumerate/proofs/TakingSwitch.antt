@@ -3,10 +3,11 @@ use Rattle.std.proofs.Common.{◌≡◌, ◌≢◌, ℕ, ◌+◌, ◌<◌, List,
 use Rattle.std.proofs.lemmas.Option.{same_Some}
 use Rattle.std.proofs.lemmas.List.{get_or-map, length-map}
 use Rattle.fabric_script.specs.declared.ports.PortRef.{PortRef}
+use Rattle.fabric_script.specs.Ports.{port_at}
 use Rattle.maint_registers.specs.Devices as registers
 use Rattle.fabric_map.specs.declared.map.Kind.TheVariants.{Endpoint, Switch}
 use Rattle.fabric_map.specs.declared.map.Device.{Device}
-use Rattle.fabric_map.specs.Topology.{Topology, port_at, entered, node_at}
+use Rattle.fabric_map.specs.Topology.{Topology, entered, node_at}
 use Rattle.fabric_map.specs.Walked.{Before, onward}
 use Rattle.fabric_map.specs.Routes.{Registers}
 use Rattle.fabric_map.specs.Locked.{IsForeign, IsNext}
@@ -14,7 +15,7 @@ use Rattle.fabric_map.specs.Numbered.{paths_of, port_toward, IsKindAt, IsDescrib
 use Rattle.fabric_map.proofs.Lists.{Contains-first, not_in_empty}
 use Rattle.fabric_map.proofs.Branches.{port_toward-unbegun, port_toward-other}
 use Rattle.fabric_map.proofs.Growing.{device_on, node_at-entered}
-use Rattle.host_enumerate.specs.Setting.{IsSetUp}
+use Rattle.host_enumerate.specs.Setting.{SwitchIsSetUp}
 use Rattle.host_enumerate.specs.Underway.{met_as, IsHeld, IsUnmet, IsUnderway}
 use Rattle.fabric_map.proofs.Given.{has_id-switch}
 use Rattle.host_enumerate.proofs.Counting.{counted-switch, counted-host}
@@ -68,7 +69,7 @@ module _ (topology : Topology) (before now after : Registers) (host_id next : �
   pub underway-switch : (ports : ℕ) (mid : registers.Device)
       → topology.switch_ports at.node ≡ Some ports
       → IsTaken host_id devices (before at.node) mid
-      → IsSetUp host_id at.port mid (after at.node)
+      → SwitchIsSetUp host_id at.port mid (after at.node)
       → ((node : ℕ) → node ≢ at.node → after node ≡ now node)
       → IsUnderway topology before after host_id
       (devices ++ met_as devices (Switch ports at.port) path ∷ []) next (onward path 0)

@@ -2,12 +2,13 @@
 use Rattle.std.proofs.Common.{◌≡◌, ◌≢◌, ℕ, ◌+◌, ◌<◌, ◌≤◌, inl, inr, true, false, List, [], ◌∷◌, ◌++◌, length, All, Bool, Some, arith, refl, sym, ap, subst, ◌∙◌}
 use Rattle.std.proofs.lemmas.List.{length-map}
 use Rattle.fabric_script.specs.declared.ports.PortRef.{PortRef}
+use Rattle.fabric_script.specs.Ports.{port_at}
 use Rattle.maint_registers.specs.Devices as registers
 use Rattle.maint_registers.specs.Devices.{is_switch}
 use Rattle.fabric_map.specs.declared.map.Kind.{Kind}
 use Rattle.fabric_map.specs.declared.map.Kind.TheVariants.{Endpoint, Switch}
 use Rattle.fabric_map.specs.declared.map.Device.{Device}
-use Rattle.fabric_map.specs.Topology.{Topology, port_at, entered, node_at}
+use Rattle.fabric_map.specs.Topology.{Topology, entered, node_at}
 use Rattle.fabric_map.specs.Walked.{Before, onward}
 use Rattle.fabric_map.specs.Routes.{Registers}
 use Rattle.fabric_map.specs.Fitting.{Fits}
@@ -18,7 +19,7 @@ use Rattle.fabric_map.proofs.Fronts.{not_before_empty}
 use Rattle.fabric_map.proofs.Few.{entered-inside, walked-few}
 use Rattle.fabric_map.proofs.Growing.{device_on}
 use Rattle.host_enumerate.specs.Asking.{IsAskable, IsApart, PassesOnce, AreSame, Becomes}
-use Rattle.host_enumerate.specs.Setting.{AreRouted, HasNewId, IsSetUp}
+use Rattle.host_enumerate.specs.Setting.{AreRouted, HasNewId, SwitchIsSetUp}
 use Rattle.host_enumerate.specs.Holding.{IsTakable}
 use Rattle.host_enumerate.specs.Underway.{id_after, given_below, met_as, IsUnmet, IsUnderway}
 use Rattle.host_enumerate.specs.TakingIn.{IsKindLeft}
@@ -193,7 +194,7 @@ module _ (topology : Topology) (before now : Registers) (host_id next : ℕ)
             (switch_shown topology now at.node fits inside (shown true is)
             ∙ ap (λ n. Some n) (sym ports_shown))
             taken
-            (subst (λ d. IsSetUp host_id at.port (mid at.node) d)
+            (subst (λ d. SwitchIsSetUp host_id at.port (mid at.node) d)
             (sym (became mid after at.node held becomes)) set_up)
             (λ node elsewhere. stays mid after at.node node held becomes elsewhere
             ∙ others_stay node elsewhere)

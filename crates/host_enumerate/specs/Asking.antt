@@ -7,7 +7,7 @@ use Rattle.fabric_map.specs.Topology.{Topology, entered}
 use Rattle.fabric_map.specs.Routes.{Registers}
 use Rattle.fabric_map.specs.Ways.{IsOpened}
 use Rattle.host_enumerate.specs.declared.maint.Access.{Access}
-use Rattle.host_enumerate.specs.Accesses.{with_device, after_access}
+use Rattle.host_enumerate.specs.Accesses.{registers_with, after_access}
 
 -- A host with this ID can ask the device that a path enters by this port. The switches that the
 -- path passes are open for it. It leads to the host only if it is the host's own.
@@ -42,7 +42,7 @@ AreSame old new = (node : ℕ) → new node ≡ old node
 
 -- only the registers of one device may differ, which are these
 abbrev pub Becomes : Registers → Registers → ℕ → Device → Type 0
-Becomes old new node held = (other : ℕ) → new other ≡ with_device old node held other
+Becomes old new node held = (other : ℕ) → new other ≡ registers_with old node held other
 
 -- The device can be written so without closing the path to it, and the host keeps its ID.
 pub record IsWritable (topology : Topology) (registers : Registers) (path : List ℕ)

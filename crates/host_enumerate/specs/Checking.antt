@@ -5,7 +5,8 @@ use Rattle.fabric_script.specs.declared.ports.PortRef.{PortRef}
 use Rattle.maint_registers.specs.Devices.{Device, IsDevice, is_switch}
 use Rattle.maint_registers.specs.Table.{status_of}
 use Rattle.fabric_script.specs.Peers.{peer_in}
-use Rattle.fabric_map.specs.Topology.{IsTopology, port_at}
+use Rattle.fabric_script.specs.Ports.{port_at}
+use Rattle.fabric_map.specs.Topology.{IsTopology}
 use Rattle.fabric_map.specs.Fitting.{Fits}
 use Rattle.fabric_map.specs.Plain.{topology_of, registers_of}
 use Rattle.host_enumerate.specs.Underway.{AreUntagged}

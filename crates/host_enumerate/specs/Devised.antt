@@ -8,7 +8,7 @@ use Rattle.fabric_script.specs.declared.lines.Line.TheVariants.{Endpoint, Switch
 use Rattle.fabric_script.specs.declared.lines.Numbered.{Numbered}
 use Rattle.fabric_script.specs.Known.{links_after}
 use Rattle.fabric_script.specs.Peers.{peer_in}
-use Rattle.fabric_map.specs.Topology.{port_at}
+use Rattle.fabric_script.specs.Ports.{port_at}
 use Rattle.host_enumerate.specs.declared.devising.NoHost.{NoHost}
 use Rattle.host_enumerate.specs.declared.devising.NoHost.TheVariants.{Unknown, WrongKind, NotLinked}
 use Rattle.fabric_map.specs.Plain.{registers_of}

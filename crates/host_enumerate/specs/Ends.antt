@@ -7,17 +7,17 @@ use Rattle.fabric_map.specs.Topology.{Topology, node_at, IsReached}
 use Rattle.fabric_map.specs.Routes.{Registers}
 use Rattle.fabric_map.specs.Locked.{IsForeign, IsFirstLocked}
 use Rattle.fabric_map.specs.Numbered.{ChangesOnly}
-use Rattle.host_enumerate.specs.Causes.{Stays}
+use Rattle.host_enumerate.specs.Causes.{CountStays}
 use Rattle.host_enumerate.specs.declared.maint.MaintEnd.{MaintEnd}
 use Rattle.host_enumerate.specs.declared.maint.MaintEnd.TheVariants as maint
 use Rattle.host_enumerate.specs.declared.ends.EnumEnd.{EnumEnd}
 use Rattle.host_enumerate.specs.declared.ends.EnumEnd.TheVariants.{LockedBy, Undetected, WriteFault, NoMemory}
 
 -- why a walk ends, if an access has no answer
-abbrev pub end_of : MaintEnd → EnumEnd
-end_of (maint.Undetected port event) = Undetected port event
-end_of maint.WriteFault = WriteFault
-end_of maint.NoMemory = NoMemory
+abbrev pub walk_end_of : MaintEnd → EnumEnd
+walk_end_of (maint.Undetected port event) = Undetected port event
+walk_end_of maint.WriteFault = WriteFault
+walk_end_of maint.NoMemory = NoMemory
 
 -- The walk ends at the first device with the lock of another host, which is on this path and has
 -- this lock. Devices that were met before keep the host's lock, and all others, the locked one
@@ -37,8 +37,8 @@ pub record EndsAtLock (topology : Topology) (before after : Registers) (path : L
       → ChangesOnly ((before topology.host).base_id ∷ []) (before node) (after node)
 
 -- no device that is reached has the lock of another host
-abbrev pub IsFree : Topology → Registers → Type 0
-IsFree topology registers = (node : ℕ) → IsReached topology node
+abbrev pub IsLockFree : Topology → Registers → Type 0
+IsLockFree topology registers = (node : ℕ) → IsReached topology node
     → ¬ IsForeign (registers topology.host).base_id (registers node).lock
 
 -- An undetected event comes only if it was met and its count rose, a failed write only if its count
@@ -46,8 +46,8 @@ IsFree topology registers = (node : ℕ) → IsReached topology node
 abbrev pub IsEnded : ℕ × ℕ → ℕ × ℕ → (PortRef → Event → Type 0) → (List ℕ → ℕ → Type 0)
     → EnumEnd → Type 0
 IsEnded undetected faults met at_lock (LockedBy path id) =
-    at_lock path id × Stays undetected × Stays faults
+    at_lock path id × CountStays undetected × CountStays faults
 IsEnded undetected faults met at_lock (Undetected port event) =
-    met port event × Rose undetected.0 undetected.1 × Stays faults
-IsEnded undetected faults met at_lock WriteFault = Rose faults.0 faults.1 × Stays undetected
-IsEnded undetected faults met at_lock NoMemory = Stays undetected × Stays faults
+    met port event × Rose undetected.0 undetected.1 × CountStays faults
+IsEnded undetected faults met at_lock WriteFault = Rose faults.0 faults.1 × CountStays undetected
+IsEnded undetected faults met at_lock NoMemory = CountStays undetected × CountStays faults

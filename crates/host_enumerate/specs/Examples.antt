@@ -1,8 +1,8 @@
 -- The least fabric: a host, and an endpoint at the other end of its link.
 use Rattle.std.specs.Prelude.{true, List, [], ◌∷◌}
 use Rattle.fabric_script.specs.declared.ports.PortRef.{PortRef}
+use Rattle.fabric_script.specs.Ports.{port_at}
 use Rattle.maint_registers.specs.Devices.{Device, new_endpoint}
-use Rattle.fabric_map.specs.Topology.{port_at}
 
 abbrev pub pair_devices : List Device
 pair_devices = new_endpoint 5 true ∷ new_endpoint 255 true ∷ []

@@ -12,13 +12,13 @@ abbrev pub spaced : ℕ → List ℕ
 spaced number = codes " " ++ decimal number
 
 -- a port behind a point
-abbrev pub port_text : ℕ → List ℕ
-port_text port = codes "." ++ decimal port
+abbrev pub port_behind_point : ℕ → List ℕ
+port_behind_point port = codes "." ++ decimal port
 
 -- the ports of a path with points between them; the path of the host has none
 abbrev pub path_text : List ℕ → List ℕ
 path_text [] = codes "host"
-path_text (port ∷ ports) = decimal port ++ flat_map port_text ports
+path_text (port ∷ ports) = decimal port ++ flat_map port_behind_point ports
 
 -- the ID of an endpoint, or how many ports a switch has
 abbrev pub kind_text : Kind → List ℕ

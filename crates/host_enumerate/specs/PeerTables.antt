@@ -2,7 +2,7 @@
 use Rattle.std.specs.Prelude.{◌≡◌, ◌<◌, ℕ, ◌/◌, ◌%◌, List, Option, None, length, get_or}
 use Rattle.fabric_script.specs.declared.ports.PortRef.{PortRef}
 use Rattle.fabric_script.specs.Peers.{peer_in}
-use Rattle.fabric_map.specs.Topology.{port_at}
+use Rattle.fabric_script.specs.Ports.{port_at}
 
 -- A table with sixteen places for each node has the other end of the link of each port, from the
 -- first port of the first node on, as far as it goes.

@@ -13,8 +13,8 @@ with_entry device id port =
     record device { select = id; routes = slice_set device.routes id port }
 
 -- the path goes through this device, and on by this port, once it has passed a front
-abbrev pub Passes : Topology → List ℕ → List ℕ → ℕ → ℕ → Type 0
-Passes topology front rest node port = (mid later : List ℕ) × (at : PortRef)
+abbrev pub PathPasses : Topology → List ℕ → List ℕ → ℕ → ℕ → Type 0
+PathPasses topology front rest node port = (mid later : List ℕ) × (at : PortRef)
     × (rest ≡ mid ++ port ∷ later) × (entered topology (front ++ mid) ≡ Some at)
     × (at.node ≡ node)
 
@@ -22,9 +22,9 @@ Passes topology front rest node port = (mid later : List ℕ) × (at : PortRef)
 -- devices are the same.
 pub record AreRouted (topology : Topology) (old new : Registers) (front rest : List ℕ)
     (id : ℕ) : Type 0 where
-  pub passed : (node port : ℕ) → Passes topology front rest node port
+  pub passed : (node port : ℕ) → PathPasses topology front rest node port
       → new node ≡ with_entry (old node) id port
-  pub others : (node : ℕ) → ((port : ℕ) → ¬ Passes topology front rest node port)
+  pub others : (node : ℕ) → ((port : ℕ) → ¬ PathPasses topology front rest node port)
       → new node ≡ old node
 
 -- An endpoint has an ID, and each switch that its path passes sends packets for the ID along the
@@ -44,7 +44,7 @@ pub record IsSameBut (old new : Device) : Type 0 where
 
 -- A switch sends packets for every ID from 0 to 62, and for the host's, by the port by which it was
 -- entered. It has no entry of its own for the former.
-pub record IsSetUp (host_id entry : ℕ) (old new : Device) : Type 0 where
+pub record SwitchIsSetUp (host_id entry : ℕ) (old new : Device) : Type 0 where
   pub same : IsSameBut old new
   pub default : new.default_port ≡ entry
   pub home : entry_of new host_id ≡ entry

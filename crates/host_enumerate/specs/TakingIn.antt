@@ -11,7 +11,7 @@ use Rattle.fabric_map.specs.Walked.{onward, IsMet}
 use Rattle.fabric_map.specs.Routes.{Registers}
 use Rattle.fabric_map.specs.Numbered.{paths_of}
 use Rattle.host_enumerate.specs.Asking.{AreSame, Becomes}
-use Rattle.host_enumerate.specs.Setting.{HasNewId, IsSetUp}
+use Rattle.host_enumerate.specs.Setting.{HasNewId, SwitchIsSetUp}
 use Rattle.host_enumerate.specs.Underway.{id_after, met_as, IsUnderway}
 
 -- The host keeps its own ID. Another endpoint has the next one.
@@ -31,7 +31,7 @@ IsKindLeft topology host_id next next_after old new path at (Switch ports entry)
     (is_switch (old at.node) ≡ true) × (ports ≡ (old at.node).ports) × (entry ≡ at.port)
     × (next_after ≡ next)
     × ((held : registers.Device) × Becomes old new at.node held
-    × IsSetUp host_id at.port (old at.node) held)
+    × SwitchIsSetUp host_id at.port (old at.node) held)
 
 -- The device has the next tag, and then what its kind asks for.
 abbrev pub IsTakenIn : Topology → ℕ → List Device → ℕ → ℕ → Registers → Registers → List ℕ

@@ -51,7 +51,7 @@ given_below host_id next = if nat_lt host_id next then next else next + 1
 
 -- IDs are given in order, leaving out the host's. Once the host is met, no more are given than
 -- devices are met, and fewer if a switch is among them.
-pub record IsCounted (host_id : ℕ) (devices : List Device) (next : ℕ) : Type 0 where
+pub record IdsAreCounted (host_id : ℕ) (devices : List Device) (next : ℕ) : Type 0 where
   pub below : (id : ℕ) → id < next → id ≢ host_id → is_given devices id ≡ true
   pub rest : (id : ℕ) → next ≤ id → id ≢ host_id → is_given devices id ≡ false
   pub endpoints : (device : Device) → Contains devices device
@@ -83,7 +83,7 @@ pub record IsUnderway (topology : Topology) (before now : Registers) (host_id : 
   pub untagged : AreOwnUntagged topology before host_id
   pub walked : Walked topology (paths_of devices) bound
   pub described : AreDescribed topology host_id [] devices
-  pub counted : IsCounted host_id devices next
+  pub counted : IdsAreCounted host_id devices next
   pub short : (device : Device) → Contains devices device → length device.path < length devices
   pub held : (device : Device) (node : ℕ) → Contains devices device
       → node_at topology device.path ≡ Some node

@@ -4,7 +4,7 @@ ghost use Rattle.fabric_script.specs.declared.ports.PortRef.{PortRef};
 ghost use Rattle.maint_registers.specs.Devices as registers;
 ghost use Rattle.maint_registers.specs.Access.{value_at, written_at};
 ghost use Rattle.fabric_map.specs.Topology.{entered};
-ghost use Rattle.host_enumerate.specs.Accesses.{answered, offset_of};
+ghost use Rattle.host_enumerate.specs.Accesses.{answered, access_offset};
 ghost use Rattle.host_enumerate.specs.Causes.{IsCaused};
 ghost use Rattle.host_enumerate.specs.Asking.{IsAskable, IsOpenAfter, IsWritable, AreSame, Becomes};
 
@@ -21,7 +21,7 @@ fn ask<M: Maint>(
     access: Access,
 ) -> Result<Answer, MaintEnd>
     requires whole { M.IsWhole maint.old }
-    requires offset { offset_of access < 2 ^ 24 }
+    requires offset { access_offset access < 2 ^ 24 }
     requires askable { (host_id : ℕ) × (at : PortRef)
         × IsAskable (M.topology maint.old) (M.registers maint.old) host_id path.now at
         × IsOpenAfter (M.topology maint.old) (M.registers maint.old) host_id path.now at access }

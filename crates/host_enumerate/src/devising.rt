@@ -3,7 +3,7 @@ ghost use Rattle.std.specs.Prelude.{◌≡◌, ◌<◌, ℕ, true, false, length
 ghost use Rattle.maint_registers.specs.Devices.{is_switch};
 ghost use Rattle.maint_registers.specs.Changes.{with_device, routed, defaulted, held_by, large_set};
 ghost use Rattle.fabric_script.specs.Known.{links_after};
-ghost use Rattle.fabric_script.specs.Scripts.{Passes};
+ghost use Rattle.fabric_script.specs.Scripts.{ScriptPasses};
 ghost use Rattle.fabric_map.specs.Plain.{registers_of};
 ghost use Rattle.host_enumerate.specs.Devised.{with_linked_end, devices_after, devices_of, links_of, MayDevise, JudgesHost};
 
@@ -37,7 +37,7 @@ pub(crate) struct Devised {
 /// Says whether a node of a script can be the host that numbers the fabric, or why not. The script
 /// passes. The reasons are looked at in their order.
 pub fn judge_host(alloc: Global, script: &Script, node: u8) -> Result<Result<(), NoHost>, NoMemory>
-    requires passes { Passes script.now.names.items script.now.lines.items }
+    requires passes { ScriptPasses script.now.names.items script.now.lines.items }
     ensures { IfOk result (λ judged. JudgesHost (devices_of script.now.lines.items)
         (links_of script.now.lines.items) node judged) }
 {
@@ -51,7 +51,7 @@ pub fn devise(
     alloc: Global,
     script: &Script,
 ) -> Result<(Vec<Registers>, Vec<(PortRef, PortRef)>), NoMemory>
-    requires passes { Passes script.now.names.items script.now.lines.items }
+    requires passes { ScriptPasses script.now.names.items script.now.lines.items }
     ensures devices { IfOk result (λ made. made.0.items ≡ devices_of script.now.lines.items) }
     ensures links { IfOk result (λ made. made.1.items ≡ links_of script.now.lines.items) }
 {
@@ -62,7 +62,7 @@ pub fn devise(
 impl Devised {
     /// What the set-up lines of a script make. The script passes.
     pub(crate) fn by(alloc: Global, script: &Script) -> Result<Devised, AllocError>
-        requires passes { Passes script.now.names.items script.now.lines.items }
+        requires passes { ScriptPasses script.now.names.items script.now.lines.items }
         ensures devices { IfOk result (λ devised.
             devised.devices.items ≡ devices_of script.now.lines.items) }
         ensures links { IfOk result (λ devised.

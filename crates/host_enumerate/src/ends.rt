@@ -23,9 +23,9 @@ pub enum EnumEnd {
 }
 
 impl From<MaintEnd> for EnumEnd {
-    ghost use Rattle.host_enumerate.specs.Ends.{end_of};
+    ghost use Rattle.host_enumerate.specs.Ends.{walk_end_of};
 
-    ghost from_gives = { λ given end. end ≡ end_of given };
+    ghost from_gives = { λ given end. end ≡ walk_end_of given };
 
     fn from(end: MaintEnd) -> Self {
         match end {

@@ -1,6 +1,6 @@
 //! The host among the nodes of a script, by its name.
 ghost use Rattle.std.specs.Prelude.{◌≡◌, ◌<◌, IfOk, MatchOption, Contains, length};
-ghost use Rattle.fabric_script.specs.Scripts.{Passes};
+ghost use Rattle.fabric_script.specs.Scripts.{ScriptPasses};
 ghost use Rattle.host_enumerate.specs.Devised.{devices_of, links_of};
 ghost use Rattle.host_enumerate.specs.Hosts.{reason_of, FindsHost, IsFirstNamed};
 
@@ -29,7 +29,7 @@ pub fn find_host(
     script: &Script,
     name: &[u8],
 ) -> Result<Result<u8, NoHost>, NoMemory>
-    requires passes { Passes script.now.names.items script.now.lines.items }
+    requires passes { ScriptPasses script.now.names.items script.now.lines.items }
     ensures { IfOk result (λ found. FindsHost script.now.names.items
         (devices_of script.now.lines.items) (links_of script.now.lines.items) name.now found) }
 {

@@ -2,10 +2,11 @@
 ghost use Rattle.std.specs.Prelude.{◌≡◌, ◌<◌, ◌^◌, ℕ, OnOk, OnErr, IfOk, IfErr};
 ghost use Rattle.link_model.specs.declared.event.Event.{Event};
 ghost use Rattle.fabric_script.specs.declared.ports.PortRef.{PortRef};
-ghost use Rattle.fabric_map.specs.Topology.{Topology, IsTopology, port_at};
+ghost use Rattle.fabric_script.specs.Ports.{port_at};
+ghost use Rattle.fabric_map.specs.Topology.{Topology, IsTopology};
 ghost use Rattle.fabric_map.specs.Routes.{Registers};
 ghost use Rattle.fabric_map.specs.Fitting.{Fits};
-ghost use Rattle.host_enumerate.specs.Accesses.{answered, offset_of, after_access, IsAnswered};
+ghost use Rattle.host_enumerate.specs.Accesses.{answered, access_offset, after_access, IsAnswered};
 ghost use Rattle.host_enumerate.specs.Causes.{IsCaused};
 
 use fabric_script::PortRef;
@@ -78,7 +79,7 @@ pub trait Maint {
     /// other call is made.
     fn ask(&mut self, alloc: Global, dest: u8, hops: u8, access: Access) -> Result<Answer, MaintEnd>
         requires whole { IsWhole self.old }
-        requires offset { offset_of access < 2 ^ 24 }
+        requires offset { access_offset access < 2 ^ 24 }
         requires answered { (at : PortRef) × IsAnswered (topology self.old) (registers self.old) dest hops access at }
         ensures answer { IfOk result (λ answer. (at : PortRef)
             → IsAnswered (topology self.old) (registers self.old) dest hops access at
@@ -100,7 +101,7 @@ pub trait Maint {
     /// Reads or writes a register of the host itself.
     fn own(&mut self, access: Access) -> Answer
         requires whole { IsWhole self.old }
-        requires offset { offset_of access < 2 ^ 24 }
+        requires offset { access_offset access < 2 ^ 24 }
         ensures answer { result ≡ (answered (registers self.old (topology self.old).host) 0 access).answer }
         ensures registers { registers self.new
             ≡ after_access (registers self.old) (port_at (topology self.old).host 0) access }

@@ -3,7 +3,7 @@ ghost use Rattle.std.specs.Prelude.{◌++◌};
 ghost use Rattle.std.specs.List.{flat_map};
 ghost use Rattle.std.specs.Fmt.{decimal};
 ghost use Rattle.rio_chars.specs.Written.{Writes};
-ghost use Rattle.host_enumerate.specs.MapTexts.{spaced, port_text, path_text, kind_text, device_text, entry_text, map_text, locked_text};
+ghost use Rattle.host_enumerate.specs.MapTexts.{spaced, port_behind_point, path_text, kind_text, device_text, entry_text, map_text, locked_text};
 
 use fabric_map::{Device, Entry, Kind, Map};
 use rio_chars::{Outbox, Sink};
@@ -111,7 +111,8 @@ fn write_path<K: Sink>(outbox: &mut Outbox<K>, ports: &[u8])
 
 /// Tells each port behind a point.
 fn write_ports<K: Sink>(outbox: &mut Outbox<K>, ports: &[u8])
-    ensures { Writes K.written K.faults outbox.old outbox.new (flat_map port_text ports.now) }
+    ensures { Writes K.written K.faults outbox.old outbox.new
+        (flat_map port_behind_point ports.now) }
 {
     for port in ports {
         outbox.write(b".");

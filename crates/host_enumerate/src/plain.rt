@@ -7,7 +7,7 @@ ghost use Rattle.fabric_script.specs.Peers.{peer_in};
 ghost use Rattle.fabric_map.specs.Topology.{Topology, IsTopology};
 ghost use Rattle.fabric_map.specs.Routes.{walk};
 ghost use Rattle.fabric_map.specs.Fitting.{Fits};
-ghost use Rattle.fabric_script.specs.Scripts.{Passes};
+ghost use Rattle.fabric_script.specs.Scripts.{ScriptPasses};
 ghost use Rattle.host_enumerate.specs.Accesses.{answered};
 ghost use Rattle.host_enumerate.specs.Devised.{IsHost, devices_of, links_of};
 ghost use Rattle.host_enumerate.specs.Underway.{AreUntagged};
@@ -41,7 +41,7 @@ impl PlainMaint {
     /// The fabric that the set-up lines of a script make, with this host, which is an endpoint with a
     /// link and an ID below 255. The script passes. It can be asked, and no device has a tag.
     pub fn new(alloc: Global, script: &Script, host: u8) -> Result<PlainMaint, NoMemory>
-        requires passes { Passes script.now.names.items script.now.lines.items }
+        requires passes { ScriptPasses script.now.names.items script.now.lines.items }
         requires host { IsHost (devices_of script.now.lines.items) (links_of script.now.lines.items)
             host }
         ensures topology { IfOk result (λ maint. ⟦<PlainMaint as Maint>⟧.topology maint

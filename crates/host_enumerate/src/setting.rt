@@ -6,7 +6,7 @@ ghost use Rattle.maint_registers.specs.Devices.{is_switch};
 ghost use Rattle.fabric_map.specs.Topology.{entered};
 ghost use Rattle.host_enumerate.specs.Causes.{IsCaused};
 ghost use Rattle.host_enumerate.specs.Asking.{IsAskable, IsApart, PassesOnce, Becomes};
-ghost use Rattle.host_enumerate.specs.Setting.{with_entry, AreRouted, HasNewId, IsCleared, IsSetUp};
+ghost use Rattle.host_enumerate.specs.Setting.{with_entry, AreRouted, HasNewId, IsCleared, SwitchIsSetUp};
 
 use crate::asking::{read, write};
 use crate::maint::{Maint, MaintEnd};
@@ -184,7 +184,7 @@ pub(crate) fn send_home<M: Maint>(
         → entered (M.topology maint.old) path.now ≡ Some at
         → (held : registers.Device)
         × Becomes (M.registers maint.old) (M.registers maint.new) at.node held
-        × IsSetUp host_id at.port (M.registers maint.old at.node) held) }
+        × SwitchIsSetUp host_id at.port (M.registers maint.old at.node) held) }
     ensures topology { M.topology maint.new ≡ M.topology maint.old }
     ensures follows { OnOk result ((origin : _) → M.Follows origin maint.old
         → M.Follows origin maint.new) }

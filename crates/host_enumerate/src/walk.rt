@@ -10,7 +10,7 @@ ghost use Rattle.host_enumerate.specs.Asking.{IsAskable};
 ghost use Rattle.host_enumerate.specs.Underway.{AreUntagged, IsUnderway};
 ghost use Rattle.host_enumerate.specs.TakingIn.{IsTried};
 ghost use Rattle.host_enumerate.specs.Founds.{IsFound, IsUnderwayBehind, IsFoundBehind};
-ghost use Rattle.host_enumerate.specs.Ends.{IsEnded, EndsAtLock, IsFree};
+ghost use Rattle.host_enumerate.specs.Ends.{IsEnded, EndsAtLock, IsLockFree};
 
 use crate::asking::read;
 use crate::ends::EnumEnd;
@@ -256,7 +256,7 @@ pub fn enumerate<M: Maint>(alloc: Global, maint: &mut M) -> Result<Map, EnumEnd>
     requires host { (M.registers maint.old (M.topology maint.old).host).base_id < 255 }
     ensures numbered { IfOk result (λ map. IsNumbered (M.topology maint.old) map.devices.items
         map.entries.items (M.registers maint.old) (M.registers maint.new)) }
-    ensures free { OnOk result (IsFree (M.topology maint.old) (M.registers maint.old)) }
+    ensures free { OnOk result (IsLockFree (M.topology maint.old) (M.registers maint.old)) }
     ensures end { IfErr result (IsEnded (M.undetected maint.old, M.undetected maint.new)
         (M.faults maint.old, M.faults maint.new) (M.IsMet maint.new) (λ path id. M.IsWhole maint.new
         × ((origin : _) → M.Follows origin maint.old → M.Follows origin maint.new)

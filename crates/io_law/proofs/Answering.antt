@@ -7,7 +7,7 @@ use Rattle.std.proofs.lemmas.Option.{slice_get-map}
 use Rattle.rio_packets.specs.Fields.{ftype_of}
 use Rattle.fabric_script.specs.declared.lines.Numbered.{Numbered}
 use Rattle.fabric_model.specs.Network.{Item}
-use Rattle.fabric_model.specs.Laws.History.{Left, ended_by, taken_by, taken, gone, WasTaken}
+use Rattle.fabric_model.specs.Laws.History.{EndLeft, ended_by, taken_by, items_taken, gone, WasTaken}
 use Rattle.fabric_model.specs.Laws.Holding.{how_often}
 use Rattle.fabric_model.specs.Laws.Leaving.{IsAfterMoves, moves}
 use Rattle.fabric_model.proofs.Lists.{all-parts}
@@ -17,13 +17,13 @@ use Rattle.fabric_trace.proofs.Starting.{lawful}
 use Rattle.io_memory.specs.declared.meeting.Met.TheVariants.{Done}
 use Rattle.io_script.specs.declared.lines.NumberedIo.{NumberedIo}
 use Rattle.io_rounds.specs.Stations.{met_by}
-use Rattle.io_rounds.specs.Going.{IoState, IoGoes, IoComes, Here, Goes}
+use Rattle.io_rounds.specs.Going.{IoState, IoGoes, IoComes, Here, Further}
 use Rattle.io_rounds.specs.Drives.{IsIoFit, first_state}
 use Rattle.io_packets.specs.Reading.{io_of}
-use Rattle.io_law.specs.Telling.{Told, Came, told, told_by, and_told}
-use Rattle.io_law.specs.Items.{asked, asked_by, network_at, came, IsSentBy}
+use Rattle.io_law.specs.Telling.{IoTold, ToldCame, io_told, told_by, and_told}
+use Rattle.io_law.specs.Items.{io_asked, asked_by, network_at, came, IsSentBy}
 use Rattle.io_law.specs.Laws.{DonesAnswerRequests}
-use Rattle.io_law.specs.Replies.{number_of, Arrival, Served, arrived_by, arrived, served_by, served_at, reply_to, Sent, sent_by, sent_at, IsServed, IsReplyTo}
+use Rattle.io_law.specs.Replies.{io_number_of, IoArrival, Served, arrived_by, io_arrived, served_by, io_served_at, reply_to, IoSent, io_sent_by, sent_at, IsIoServed, IsReplyTo}
 use Rattle.io_law.proofs.Arriving.{same_after}
 use Rattle.io_law.proofs.Dones.{IsAReply, all_replied, arrived_came, DoneBy, done_by}
 use Rattle.io_law.proofs.Fit.{fit_comes, first_fit}
@@ -98,17 +98,17 @@ one_place (item ∷ items) (suc i) (suc j) x y few at other same =
 -- ---- with what is served a node asked
 
 item_at : {names : List (List ℕ)} {script : List Numbered} {first s : IoState}
-    (comes : IoComes names script first s) (n : ℕ) (arrival : Arrival)
-    → slice_get (arrived comes) n ≡ Some arrival → slice_get (came comes) n ≡ Some arrival.item
+    (comes : IoComes names script first s) (n : ℕ) (arrival : IoArrival)
+    → slice_get (io_arrived comes) n ≡ Some arrival → slice_get (came comes) n ≡ Some arrival.item
 item_at comes n arrival is =
     ap (λ l. slice_get l n) (sym (arrived_came comes))
-    ∙ slice_get-map (λ (a : Arrival). a.item) (arrived comes) n
-    ∙ ap (option_map (λ (a : Arrival). a.item)) is
+    ∙ slice_get-map (λ (a : IoArrival). a.item) (io_arrived comes) n
+    ∙ ap (option_map (λ (a : IoArrival). a.item)) is
 
 request_asked : {names : List (List ℕ)} {script : List Numbered} {io : List NumberedIo}
     {s : IoState} (comes : IoComes names script (first_state names io) s)
-    → IsIoFit names script io → (arrival : Arrival) (tid : ℕ) → IsIn (arrived comes) arrival
-    → number_of (io_of arrival.item.now) ≡ Some tid → IsIn (asked comes) arrival.item
+    → IsIoFit names script io → (arrival : IoArrival) (tid : ℕ) → IsIn (io_arrived comes) arrival
+    → io_number_of (io_of arrival.item.now) ≡ Some tid → IsIn (io_asked comes) arrival.item
 request_asked {names} {script} {io} {s} comes fit arrival tid there number =
     let set_up = fit_set_up names script io fit in
     let own = first_fit names io in
@@ -128,11 +128,12 @@ request_asked {names} {script} {io} {s} comes fit arrival tid there number =
     let no_response = request.no_response in
     let same = same_after item.taken _ item.now was.0
     (not_maintenance item.now no_maintenance) in
-    let in_asked = get_all (λ x. (IsReplied x → ⊥) → IsIn (asked comes) x) (taken net steps)
+    let in_asked = get_all (λ x. (IsReplied x → ⊥)
+    → IsIn (io_asked comes) x) (items_taken net steps)
     item.number (record item { now = item.taken })
     (all_asked comes own refl (run_plain comes set_up refl own).none) was.1
     (λ response. no_response (ap ftype_of same ∙ response)) in
-    subst (λ p. IsIn (asked comes) (record item { now = p })) (sym same) in_asked
+    subst (λ p. IsIn (io_asked comes) (record item { now = p })) (sym same) in_asked
 
 -- ---- the last line
 
@@ -140,8 +141,8 @@ module _ {names : List (List ℕ)} {script : List Numbered} {io : List NumberedI
     (fit : IsIoFit names script io) where
   done_here : {before s : IoState} (comes : IoComes names script (first_state names io) before)
       (goes : IoGoes names script before s) (node tid status : ℕ) (load : Option (List ℕ))
-      → DoneBy (length (told comes)) goes node tid status load
-      → IsReplyTo (Goes before comes goes) (length (told comes)) node tid status load
+      → DoneBy (length (io_told comes)) goes node tid status load
+      → IsReplyTo (Further before comes goes) (length (io_told comes)) node tid status load
   done_here {before} {s} comes goes node tid status load it =
       let set_up = fit_set_up names script io fit in
       let own = first_fit names io in
@@ -155,28 +156,29 @@ module _ {names : List (List ℕ)} {script : List Numbered} {io : List NumberedI
       let leaves = it.leaves in
       let takes = it.takes in
       let plain = (last_none script before (added goes) s (trace_goes goes)
-      (run_plain (Goes before comes goes) set_up refl own).none) in
-      let shown = lawful net s.trace set_up (sent_comes set_up refl (Goes before comes goes)).made
+      (run_plain (Further before comes goes) set_up refl own).none) in
+      let shown = lawful net s.trace set_up
+      (sent_comes set_up refl (Further before comes goes)).made
       in
       let P = λ (x : Item). IsAfterMoves x.taken (how_often x.number (moves net steps)) x.now
       × WasTaken net steps x in
       let mine = (subst (AllByRecursion P) (goes_gone goes own_before ∙ leaves)
       (all-parts P (gone net (steps_of before.trace))
       (gone (network_at script before) (steps_of (added goes)))
-      (subst (AllByRecursion P) (gathered_goes (ended_by Left) goes)
+      (subst (AllByRecursion P) (gathered_goes (ended_by EndLeft) goes)
       shown.unchanged.same)).1).0 in
       let type = reply_type item.now status tid load (met_done held item.now tid status load met)
       in
       let unchanged = same_after item.taken _ item.now mine.0 (no_maintenance item.now type) in
-      let was : slice_get (taken net (steps_of before.trace)) item.number
+      let was : slice_get (items_taken net (steps_of before.trace)) item.number
       ≡ Some (record item { now = item.taken }) =
       subst (λ l. slice_get l item.number ≡ Some (record item { now = item.taken }))
       (gathered_goes taken_by goes
-      ∙ ap (λ l. taken net (steps_of before.trace) ++ l)
+      ∙ ap (λ l. items_taken net (steps_of before.trace) ++ l)
       (goes_taken goes own_before plain.1 ∙ takes)
-      ∙ append-nil (taken net (steps_of before.trace))) mine.1 in
+      ∙ append-nil (items_taken net (steps_of before.trace))) mine.1 in
       let replied = get_all (λ x. ftype_of x.taken ≡ 13 → IsAReply comes x)
-      (taken net (steps_of before.trace)) item.number (record item { now = item.taken })
+      (items_taken net (steps_of before.trace)) item.number (record item { now = item.taken })
       (all_replied comes own refl plain.0) was (ap ftype_of (sym unchanged) ∙ type) in
       let server = replied.server in
       let turn = replied.turn in
@@ -185,17 +187,18 @@ module _ {names : List (List ℕ)} {script : List Numbered} {io : List NumberedI
       let same : reply.item ≡ item =
       replied.same ∙ ap (λ p. record item { now = p }) (sym unchanged) in
       let law = replies_answer names script io before comes server fit in
-      let from = made_at (reply_to server) (served_at server comes) turn reply.line
+      let from = made_at (reply_to server) (io_served_at server comes) turn reply.line
       (subst (λ l. slice_get l turn ≡ Some reply.line) (sym law.in_turn.1)
-      (slice_get-append (map (λ (x : Sent). x.line) (sent_at server comes)) law.in_turn.0 turn
-      reply.line (slice_get-map (λ (x : Sent). x.line) (sent_at server comes) turn
-      ∙ ap (option_map (λ (x : Sent). x.line)) reply_at))) in
+      (slice_get-append (map (λ (x : IoSent). x.line) (sent_at server comes)) law.in_turn.0 turn
+      reply.line (slice_get-map (λ (x : IoSent). x.line) (sent_at server comes) turn
+      ∙ ap (option_map (λ (x : IoSent). x.line)) reply_at))) in
       let request = from.from in
       let request_at = from.is in
       let replies = from.same in
-      let served = get_all (IsServed (told comes) server) (served_at server comes) turn request
+      let served = get_all (IsIoServed (io_told comes) server) (io_served_at server comes) turn
+      request
       law.served request_at in
-      let sent = get_all (λ (x : Sent). IsSentBy (start script).network x.line x.item)
+      let sent = get_all (λ (x : IoSent). IsSentBy (start script).network x.line x.item)
       (sent_at server comes) turn reply law.sent reply_at in
       let answer = answer_is_told (start script).network server held _ request.item.now
       request.answer item tid status load served.answer
@@ -205,34 +208,34 @@ module _ {names : List (List ℕ)} {script : List Numbered} {io : List NumberedI
       let number = answered_number _ request.item.now request.answer status tid load served.answer
       answer in
       let ask = request_asked comes fit (arrival_of server request) tid
-      (get_all (λ x. IsIn (arrived comes) (arrival_of server x)) (served_at server comes) turn
+      (get_all (λ x. IsIn (io_arrived comes) (arrival_of server x)) (io_served_at server comes) turn
       request (served_in server comes) request_at) number in
       let ask_place = ask.place in
       let ask_at = ask.is in
-      let arrival : Arrival =
-      record { before = length (told comes); node = node; item = item } in
+      let arrival : IoArrival =
+      record { before = length (io_told comes); node = node; item = item } in
       record {
-        at = length (arrived comes);
+        at = length (io_arrived comes);
         arrival = arrival;
-        arrival_is = subst (λ l. slice_get (arrived comes ++ l) (length (arrived comes))
-            ≡ Some arrival) (sym arrives) (slice_get-seam (arrived comes) arrival []);
+        arrival_is = subst (λ l. slice_get (io_arrived comes ++ l) (length (io_arrived comes))
+            ≡ Some arrival) (sym arrives) (slice_get-seam (io_arrived comes) arrival []);
         of_line = refl;
         of_node = refl;
         server = server;
         turn = turn;
         reply = reply;
-        reply_is = slice_get-append (sent_at server comes) (sent_by server goes) turn reply
+        reply_is = slice_get-append (sent_at server comes) (io_sent_by server goes) turn reply
             reply_at;
         request = request;
-        request_is = slice_get-append (served_at server comes)
-            (served_by server (length (told comes)) goes) turn request request_at;
+        request_is = slice_get-append (io_served_at server comes)
+            (served_by server (length (io_told comes)) goes) turn request request_at;
         replies = replies;
         same = same;
         unchanged = unchanged;
-        earlier = get_below (told comes) request.before _ served.line;
+        earlier = get_below (io_told comes) request.before _ served.line;
         answer = answer;
         ask = ask_place;
-        ask_is = slice_get-append (asked comes) (asked_by goes) ask_place request.item ask_at;
+        ask_is = slice_get-append (io_asked comes) (asked_by goes) ask_place request.item ask_at;
         number = number;
       }
 
@@ -241,7 +244,7 @@ module _ {names : List (List ℕ)} {script : List Numbered} {io : List NumberedI
 reply_on : {names : List (List ℕ)} {script : List Numbered} {first before s : IoState}
     (comes : IoComes names script first before) (goes : IoGoes names script before s)
     (k node tid status : ℕ) (load : Option (List ℕ)) → IsReplyTo comes k node tid status load
-    → IsReplyTo (Goes before comes goes) k node tid status load
+    → IsReplyTo (Further before comes goes) k node tid status load
 reply_on comes goes k node tid status load is =
     let at = is.at in
     let arrival = is.arrival in
@@ -265,29 +268,30 @@ reply_on comes goes k node tid status load is =
     record {
       at = at;
       arrival = arrival;
-      arrival_is = slice_get-append (arrived comes) (arrived_by (length (told comes)) goes) at
+      arrival_is = slice_get-append (io_arrived comes) (arrived_by (length (io_told comes)) goes) at
           arrival arrival_is;
       of_line = of_line;
       of_node = of_node;
       server = server;
       turn = turn;
       reply = reply;
-      reply_is = slice_get-append (sent_at server comes) (sent_by server goes) turn reply reply_is;
+      reply_is =
+          slice_get-append (sent_at server comes) (io_sent_by server goes) turn reply reply_is;
       request = request;
-      request_is = slice_get-append (served_at server comes)
-          (served_by server (length (told comes)) goes) turn request request_is;
+      request_is = slice_get-append (io_served_at server comes)
+          (served_by server (length (io_told comes)) goes) turn request request_is;
       replies = replies;
       same = same;
       unchanged = unchanged;
       earlier = earlier;
       answer = answer;
       ask = ask;
-      ask_is = slice_get-append (asked comes) (asked_by goes) ask request.item ask_is;
+      ask_is = slice_get-append (io_asked comes) (asked_by goes) ask request.item ask_is;
       number = number;
     }
 
 -- if it is so of all lines told before and of the last one
-by_last : (P : ℕ → Type 0) (lines : List Told) (more : Option Told) (k : ℕ) (line : Told)
+by_last : (P : ℕ → Type 0) (lines : List IoTold) (more : Option IoTold) (k : ℕ) (line : IoTold)
     → (slice_get lines k ≡ Some line → P k) → (more ≡ Some line → P (length lines))
     → slice_get (and_told lines more) k ≡ Some line → P k
 by_last P lines None k line before last is = before is
@@ -300,17 +304,17 @@ by_last P lines (Some own) k line before last is = by (get_last lines own line k
 all_done : {names : List (List ℕ)} {script : List Numbered} {io : List NumberedIo} {s : IoState}
     (fit : IsIoFit names script io) (comes : IoComes names script (first_state names io) s)
     (k node tid status : ℕ) (load : Option (List ℕ))
-    → slice_get (told comes) k ≡ Some (Came node (Done tid status load))
+    → slice_get (io_told comes) k ≡ Some (ToldCame node (Done tid status load))
     → IsReplyTo comes k node tid status load
 all_done fit (Here is) zero node tid status load at = absurd cc
 all_done fit (Here is) (suc k) node tid status load at = absurd cc
-all_done fit (Goes before comes goes) k node tid status load at =
-    by_last (λ n. IsReplyTo (Goes before comes goes) n node tid status load) (told comes)
-    (told_by goes) k (Came node (Done tid status load))
+all_done fit (Further before comes goes) k node tid status load at =
+    by_last (λ n. IsReplyTo (Further before comes goes) n node tid status load) (io_told comes)
+    (told_by goes) k (ToldCame node (Done tid status load))
     (λ is. reply_on comes goes k node tid status load
     (all_done fit comes k node tid status load is))
     (λ is. done_here fit comes goes node tid status load
-    (done_by fit comes goes (length (told comes)) node tid status load is)) at
+    (done_by fit comes goes (length (io_told comes)) node tid status load is)) at
 
 -- ---- no two are of one request
 
@@ -324,40 +328,40 @@ record SameTurn (a b t u : ℕ) : Type 0 where
 
 module _ {names : List (List ℕ)} {script : List Numbered} {first s : IoState}
     (comes : IoComes names script first s) (once : (n : ℕ) → how_often n (came comes) ≤ 1) where
-  same_arrival : (i j : ℕ) (a b : Arrival) → slice_get (arrived comes) i ≡ Some a
-      → slice_get (arrived comes) j ≡ Some b → a.item ≡ b.item → a ≡ b
+  same_arrival : (i j : ℕ) (a b : IoArrival) → slice_get (io_arrived comes) i ≡ Some a
+      → slice_get (io_arrived comes) j ≡ Some b → a.item ≡ b.item → a ≡ b
   same_arrival i j a b one other items =
-      some_is (sym one ∙ ap (slice_get (arrived comes))
+      some_is (sym one ∙ ap (slice_get (io_arrived comes))
       (one_place (came comes) i j a.item b.item (once a.item.number) (item_at comes i a one)
       (item_at comes j b other) (ap (λ (x : Item). x.number) items)) ∙ other)
 
-  served_item : (node turn : ℕ) (x : Served) → slice_get (served_at node comes) turn ≡ Some x
-      → slice_get (map (λ (x : Served). x.item) (served_at node comes)) turn ≡ Some x.item
+  served_item : (node turn : ℕ) (x : Served) → slice_get (io_served_at node comes) turn ≡ Some x
+      → slice_get (map (λ (x : Served). x.item) (io_served_at node comes)) turn ≡ Some x.item
   served_item node turn x is =
-      slice_get-map (λ (x : Served). x.item) (served_at node comes) turn
+      slice_get-map (λ (x : Served). x.item) (io_served_at node comes) turn
       ∙ ap (option_map (λ (x : Served). x.item)) is
 
-  same_turn : (a b t u : ℕ) (x y : Served) → slice_get (served_at a comes) t ≡ Some x
-      → slice_get (served_at b comes) u ≡ Some y → x.item ≡ y.item → SameTurn a b t u
+  same_turn : (a b t u : ℕ) (x y : Served) → slice_get (io_served_at a comes) t ≡ Some x
+      → slice_get (io_served_at b comes) u ≡ Some y → x.item ≡ y.item → SameTurn a b t u
   same_turn a b t u x y one other items =
-      let here = get_all (λ x. IsIn (arrived comes) (arrival_of a x)) (served_at a comes) t x
+      let here = get_all (λ x. IsIn (io_arrived comes) (arrival_of a x)) (io_served_at a comes) t x
       (served_in a comes) one in
-      let there = get_all (λ x. IsIn (arrived comes) (arrival_of b x)) (served_at b comes) u y
+      let there = get_all (λ x. IsIn (io_arrived comes) (arrival_of b x)) (io_served_at b comes) u y
       (served_in b comes) other in
       let here_place = here.place in
       let here_is = here.is in
       let there_place = there.place in
       let there_is = there.is in
-      let servers = ap (λ (a : Arrival). a.node)
+      let servers = ap (λ (a : IoArrival). a.node)
       (same_arrival here_place there_place (arrival_of a x) (arrival_of b y) here_is there_is
       items) in
       let few = once x.item.number in
       let fewer = served_few x.item.number a comes in
       record {
         servers = servers;
-        turns = one_place (map (λ (x : Served). x.item) (served_at a comes)) t u x.item y.item
+        turns = one_place (map (λ (x : Served). x.item) (io_served_at a comes)) t u x.item y.item
             (omega (arith, few, fewer)) (served_item a t x one)
-            (subst (λ n. slice_get (map (λ (x : Served). x.item) (served_at n comes)) u
+            (subst (λ n. slice_get (map (λ (x : Served). x.item) (io_served_at n comes)) u
             ≡ Some y.item) (sym servers) (served_item b u y other))
             (ap (λ (x : Item). x.number) items);
       }
@@ -369,7 +373,7 @@ module _ {names : List (List ℕ)} {script : List Numbered} {first s : IoState}
       let other_ask_is = other.ask_is in
       let request_is = one.request_is in
       let other_request_is = other.request_is in
-      let requests = some_is (sym ask_is ∙ ap (slice_get (asked comes)) asks ∙ other_ask_is) in
+      let requests = some_is (sym ask_is ∙ ap (slice_get (io_asked comes)) asks ∙ other_ask_is) in
       let it = same_turn one.server other.server one.turn other.turn one.request other.request
       request_is other_request_is requests in
       let reply_is = one.reply_is in
@@ -382,10 +386,10 @@ module _ {names : List (List ℕ)} {script : List Numbered} {first s : IoState}
       let arrival_is = one.arrival_is in
       let other_is = other.arrival_is in
       let arrivals = same_arrival one.at other.at one.arrival other.arrival arrival_is other_is
-      (sym same ∙ ap (λ (x : Sent). x.item) replies ∙ other_same) in
+      (sym same ∙ ap (λ (x : IoSent). x.item) replies ∙ other_same) in
       let of_line = one.of_line in
       let other_line = other.of_line in
-      sym of_line ∙ ap (λ (a : Arrival). a.before) arrivals ∙ other_line
+      sym of_line ∙ ap (λ (a : IoArrival). a.before) arrivals ∙ other_line
 
 pub dones_answer : DonesAnswerRequests
 dones_answer names script io s comes fit = record {

@@ -6,7 +6,7 @@ use Rattle.std.proofs.lemmas.List.{map-append}
 use Rattle.rio_packets.specs.Fields.{is_maintenance, Lowered}
 use Rattle.fabric_script.specs.declared.lines.Numbered.{Numbered}
 use Rattle.fabric_model.specs.Network.{Item}
-use Rattle.fabric_model.specs.Laws.History.{Left, ended_by, gone, WasTaken}
+use Rattle.fabric_model.specs.Laws.History.{EndLeft, ended_by, gone, WasTaken}
 use Rattle.fabric_model.specs.Laws.Holding.{how_often}
 use Rattle.fabric_model.specs.Laws.Leaving.{IsAfterMoves, AsItWas, OnceMore, moves}
 use Rattle.fabric_model.proofs.Lists.{all-append, all_weaker, all-parts}
@@ -18,8 +18,8 @@ use Rattle.fabric_trace.proofs.Starting.{lawful}
 use Rattle.fabric_ports.specs.Events.{happened}
 use Rattle.fabric_ports.specs.declared.answers.Happened.{Happened}
 use Rattle.fabric_ports.specs.declared.answers.Happened.TheVariants as Answers
-use Rattle.io_rounds.specs.Tasks.{IoTask, Carry, Ask, Settle, Turn, Reply, Take, Finish}
-use Rattle.io_rounds.specs.Going.{IoState, IoGoes, Begins, Turns, Acts, Ends, IoComes, Here, Goes}
+use Rattle.io_rounds.specs.Tasks.{IoTask, Carry, Ask, Settle, Turn, Reply, Fetch, Finish}
+use Rattle.io_rounds.specs.Going.{IoState, IoGoes, IoBegins, IoTurns, IoActs, IoEnds, IoComes, Here, Further}
 use Rattle.io_law.specs.Items.{came_behind, packet_behind, network_at, came_by, came, packets_by, packets_told}
 use Rattle.io_law.specs.Laws.{PacketsComeAsTaken}
 use Rattle.io_law.proofs.Items.{left_one}
@@ -55,8 +55,8 @@ packet_act : (task : IoTask) (what : Happened) (items : List Item)
     → ((packet : List ℕ) → what ≡ Answers.Left packet
     → map (λ item. item.now) items ≡ packet ∷ [])
     → map (λ item. item.now) (came_behind task what items) ≡ packet_behind task what
-packet_act (Take node) (Answers.Left packet) items one = one packet refl
-packet_act (Take node) _ items one = refl
+packet_act (Fetch node) (Answers.Left packet) items one = one packet refl
+packet_act (Fetch node) _ items one = refl
 packet_act (Ask node tid line) what items one = refl
 packet_act (Carry line) what items one = refl
 packet_act Settle what items one = refl
@@ -68,19 +68,20 @@ packet_goes : {names : List (List ℕ)} {script : List Numbered} {s t : IoState}
     (goes : IoGoes names script s t) → IsSetUp (set_up_all bare script)
     → IsSentTrace script s.trace
     → map (λ item. item.now) (came_by goes) ≡ packets_by goes
-packet_goes (Begins line rest is to) set_up own = refl
-packet_goes (Turns node rest is to) set_up own = refl
-packet_goes {names} {script} {s} (Acts task rest line block is event block_is sent to) set_up own =
+packet_goes (IoBegins line rest is to) set_up own = refl
+packet_goes (IoTurns node rest is to) set_up own = refl
+packet_goes {names} {script} {s} (IoActs task rest line block is event block_is sent to) set_up own
+    =
     packet_act task (happened line block) (gone (network_at script s) (steps_of block))
     (λ packet left. left_one (seen (start script) s.trace) line block packet _ block_is left
     (event_legal script s.trace line block set_up own block_is))
-packet_goes (Ends rest is to) set_up own = refl
+packet_goes (IoEnds rest is to) set_up own = refl
 
 packets_come : {names : List (List ℕ)} {script : List Numbered} {first s : IoState}
     (comes : IoComes names script first s) → IsSetUp (set_up_all bare script)
     → first.trace ≡ [] → map (λ item. item.now) (came comes) ≡ packets_told comes
 packets_come (Here is) set_up none = refl
-packets_come (Goes before comes goes) set_up none =
+packets_come (Further before comes goes) set_up none =
     map-append (λ item. item.now) (came comes) (came_by goes)
     ∙ ap₂ ◌++◌ (packets_come comes set_up none)
     (packet_goes goes set_up (sent_comes set_up none comes))
@@ -89,8 +90,8 @@ packets_come (Goes before comes goes) set_up none =
 
 all_act : (P : Item → Type 0) (task : IoTask) (what : Happened) (items : List Item)
     → AllByRecursion P items → AllByRecursion P (came_behind task what items)
-all_act P (Take node) (Answers.Left packet) items all = all
-all_act P (Take node) _ items all = tt
+all_act P (Fetch node) (Answers.Left packet) items all = all
+all_act P (Fetch node) _ items all = tt
 all_act P (Ask node tid line) what items all = tt
 all_act P (Carry line) what items all = tt
 all_act P Settle what items all = tt
@@ -102,21 +103,21 @@ all_goes : {names : List (List ℕ)} {script : List Numbered} {s t : IoState} (P
     (goes : IoGoes names script s t)
     → AllByRecursion P (gone (network_at script s) (steps_of (added goes)))
     → AllByRecursion P (came_by goes)
-all_goes P (Begins line rest is to) all = tt
-all_goes P (Turns node rest is to) all = tt
-all_goes {names} {script} {s} P (Acts task rest line block is event block_is sent to) all =
+all_goes P (IoBegins line rest is to) all = tt
+all_goes P (IoTurns node rest is to) all = tt
+all_goes {names} {script} {s} P (IoActs task rest line block is event block_is sent to) all =
     all_act P task (happened line block) (gone (network_at script s) (steps_of block)) all
-all_goes P (Ends rest is to) all = tt
+all_goes P (IoEnds rest is to) all = tt
 
 pub all_come : {names : List (List ℕ)} {script : List Numbered} {first s : IoState}
     (P : Item → Type 0) (comes : IoComes names script first s)
     → AllByRecursion P (gone (start script).network (steps_of s.trace))
     → AllByRecursion P (came comes)
 all_come P (Here is) all = tt
-all_come {names} {script} {first} {s} P (Goes before comes goes) all =
+all_come {names} {script} {first} {s} P (Further before comes goes) all =
     let parts = all-parts P (gone (start script).network (steps_of before.trace))
     (gone (network_at script before) (steps_of (added goes)))
-    (subst (AllByRecursion P) (gathered_goes (ended_by Left) goes) all) in
+    (subst (AllByRecursion P) (gathered_goes (ended_by EndLeft) goes) all) in
     all-append P (came comes) (came_by goes) (all_come P comes parts.0)
     (all_goes P goes parts.1)
 

@@ -23,8 +23,8 @@ use Rattle.io_script.specs.declared.lines.IoLine.{IoLine}
 use Rattle.io_script.specs.declared.lines.IoLine.TheVariants.{Memory, NRead, NWrite, NWriteR, SWrite, Round}
 use Rattle.io_script.specs.declared.lines.NumberedIo.{NumberedIo}
 use Rattle.io_rounds.specs.Stations.{new_station, memory_of, kept_of_node, with_kept, counted_on, answer_by, answer_at_node, stations_after, stations_met}
-use Rattle.io_rounds.specs.Tasks.{IoTask, Carry, Ask, Settle, Turn, Reply, Take, Finish, reply_line, tasks_of, stations_by, task_behind}
-use Rattle.io_rounds.specs.Going.{IoState, left_to_do, with_event, first_of_turn, behind_event, endpoints_of, IoGoes, Begins, Turns, Acts, Ends, IoComes, Here, Goes}
+use Rattle.io_rounds.specs.Tasks.{IoTask, Carry, Ask, Settle, Turn, Reply, Fetch, Finish, reply_line, tasks_of, stations_by, task_behind}
+use Rattle.io_rounds.specs.Going.{IoState, left_to_do, with_event, first_of_turn, behind_event, endpoints_of, IoGoes, IoBegins, IoTurns, IoActs, IoEnds, IoComes, Here, Further}
 use Rattle.io_rounds.specs.Drives.{first_state}
 use Rattle.io_rounds.proofs.StateLaws.{met_length}
 use Rattle.io_law.proofs.Memories.{has_place}
@@ -50,7 +50,7 @@ KeptFit node (Some line) = RepliesFit node line
 abbrev pub RestFit : IoTask → Type 0
 RestFit (Ask node tid line) = AsksFit node line
 RestFit (Reply node line) = ⊥
-RestFit (Take node) = ⊥
+RestFit (Fetch node) = ⊥
 RestFit _ = Unit {0}
 
 -- the first task: a node that replies or collects keeps no reply
@@ -58,7 +58,7 @@ abbrev pub HeadFit : (ℕ → Option Line) → ℕ → IoTask → Type 0
 HeadFit kept count (Ask node tid line) = AsksFit node line
 HeadFit kept count (Reply node line) = RepliesFit node line
     × (kept node ≡ None) × (node < count)
-HeadFit kept count (Take node) = kept node ≡ None
+HeadFit kept count (Fetch node) = kept node ≡ None
 HeadFit kept count _ = Unit {0}
 
 abbrev pub TasksFit : (ℕ → Option Line) → ℕ → List IoTask → Type 0
@@ -76,7 +76,7 @@ head_fit kept count (Ask node tid line) fit = fit
 head_fit kept count Settle fit = tt
 head_fit kept count (Turn node) fit = tt
 head_fit kept count (Reply node line) fit = absurd fit
-head_fit kept count (Take node) fit = absurd fit
+head_fit kept count (Fetch node) fit = absurd fit
 head_fit kept count Finish fit = tt
 
 tasks_fit : (stations : List _) (tasks : List IoTask) → AllByRecursion RestFit tasks
@@ -284,23 +284,23 @@ event_fit names (Reply node line) _ s head rest kept = record {
   tasks = tasks_fit (with_kept s.stations node (Some line)) s.tasks rest;
   kept = kept_with s.stations node (Some line) head.0 kept;
 }
-event_fit names (Take node) (Answers.Left packet) s head rest kept = record {
+event_fit names (Fetch node) (Answers.Left packet) s head rest kept = record {
   tasks = (
     reply_fit s.stations node packet (answer_at_node s.stations node packet) refl head,
     rest,
   );
   kept = λ n. subst (KeptFit n) (sym (met_kept s.stations node packet n)) (kept n);
 }
-event_fit names (Take node) Answers.Answered s head rest kept =
+event_fit names (Fetch node) Answers.Answered s head rest kept =
     record { tasks = (head, rest); kept = kept }
-event_fit names (Take node) _ s head rest kept =
+event_fit names (Fetch node) _ s head rest kept =
     record { tasks = tasks_fit s.stations s.tasks rest; kept = kept }
 event_fit names Finish what s head rest kept =
     record { tasks = tasks_fit s.stations s.tasks rest; kept = kept }
 
 fit_goes : {names : List (List ℕ)} {script : List Numbered} {s t : IoState}
     (goes : IoGoes names script s t) → IsFit s → IsFit t
-fit_goes {names} {script} {s} (Begins line rest is to) fit =
+fit_goes {names} {script} {s} (IoBegins line rest is to) fit =
     let left = subst (TasksFit (kept_of_node s.stations) (length s.stations)) is fit.tasks in
     subst IsFit (sym to) (record {
       tasks = tasks_fit (stations_by line s.stations) _
@@ -308,7 +308,7 @@ fit_goes {names} {script} {s} (Begins line rest is to) fit =
           (line_fit (endpoints_of script) s.stations line) left.1);
       kept = λ n. subst (KeptFit n) (sym (begun_kept s.stations line n)) (fit.kept n);
     })
-fit_goes {names} {script} {s} (Turns node rest is to) fit =
+fit_goes {names} {script} {s} (IoTurns node rest is to) fit =
     let left = subst (TasksFit (kept_of_node s.stations) (length s.stations)) is fit.tasks in
     subst IsFit (sym to) (record {
       tasks = (
@@ -317,19 +317,19 @@ fit_goes {names} {script} {s} (Turns node rest is to) fit =
       );
       kept = kept_with s.stations node None tt fit.kept;
     })
-fit_goes {names} {script} {s} (Acts task rest line block is event block_is sent to) fit =
+fit_goes {names} {script} {s} (IoActs task rest line block is event block_is sent to) fit =
     let left = subst (TasksFit (kept_of_node s.stations) (length s.stations)) is fit.tasks in
     subst IsFit (sym to)
     (event_fit names task (happened line block) (with_event (left_to_do s rest) line block)
     left.0 left.1 fit.kept)
-fit_goes {names} {script} {s} (Ends rest is to) fit =
+fit_goes {names} {script} {s} (IoEnds rest is to) fit =
     let left = subst (TasksFit (kept_of_node s.stations) (length s.stations)) is fit.tasks in
     subst IsFit (sym to) (record { tasks = tasks_fit s.stations rest left.1; kept = fit.kept })
 
 pub fit_comes : {names : List (List ℕ)} {script : List Numbered} {first s : IoState}
     (comes : IoComes names script first s) → IsFit first → IsFit s
 fit_comes (Here is) fit = subst IsFit (sym is) fit
-fit_comes (Goes before comes goes) fit = fit_goes goes (fit_comes comes fit)
+fit_comes (Further before comes goes) fit = fit_goes goes (fit_comes comes fit)
 
 -- a station at first keeps nothing
 pub new_none : (count n : ℕ) → kept_of_node (replicate count new_station) n ≡ None

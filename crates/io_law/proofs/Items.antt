@@ -9,11 +9,11 @@ use Rattle.fabric_script.specs.declared.lines.Line.{Line}
 use Rattle.fabric_script.specs.declared.lines.Line.TheVariants.{Send, Read, Write, Collect, Send16, Read16, Write16}
 use Rattle.fabric_script.specs.declared.lines.Numbered.{Numbered}
 use Rattle.fabric_model.specs.Network.{Network, Item, port_of, first_packet, room_out}
-use Rattle.fabric_model.specs.Steps.{Take as Takes, Step, AtNode, only_first, LegalFrom}
-use Rattle.fabric_model.specs.Laws.History.{Left, gathered, taken_by, ended_by, taken, gone}
+use Rattle.fabric_model.specs.Steps.{Take, Step, AtNode, only_first, LegalFrom}
+use Rattle.fabric_model.specs.Laws.History.{EndLeft, gathered, taken_by, ended_by, items_taken, gone}
 use Rattle.fabric_model.specs.Laws.Holding.{how_often}
 use Rattle.fabric_model.proofs.Holding.{how_often-append}
-use Rattle.fabric_trace.specs.Blocks.{Sends, IsBlock}
+use Rattle.fabric_trace.specs.Blocks.{SendsBody, IsBlock}
 use Rattle.fabric_trace.specs.Fold.{seen}
 use Rattle.fabric_trace.specs.Known.{Seen}
 use Rattle.fabric_trace.specs.Lines.{Full as NoRoom, TraceLine, Stepped, Lacked, steps_of}
@@ -21,13 +21,13 @@ use Rattle.fabric_trace.specs.Runs.{start, set_up_all, bare}
 use Rattle.fabric_trace.specs.Served.{face_in, collect_lines}
 use Rattle.fabric_trace.specs.SetUps.{IsSetUp}
 use Rattle.fabric_trace.proofs.Starting.{lawful}
-use Rattle.fabric_ports.specs.Events.{happened, taken as answer_taken, collected as answer_collected}
+use Rattle.fabric_ports.specs.Events.{happened, answer_taken, answer_collected}
 use Rattle.fabric_ports.specs.declared.answers.Happened.{Happened}
 use Rattle.fabric_ports.specs.declared.answers.Happened.TheVariants as Answers
-use Rattle.io_rounds.specs.Tasks.{IoTask, Carry, Ask, Settle, Turn, Reply, Take, Finish}
-use Rattle.io_rounds.specs.Going.{IoState, IoGoes, Begins, Turns, Acts, Ends, IoComes, Here, Goes}
-use Rattle.io_law.specs.Telling.{Told, told, told_by, told_behind, and_told}
-use Rattle.io_law.specs.Items.{asked_behind, came_behind, network_at, asked_by, came_by, asked, came, asked_line, came_line, lines_in}
+use Rattle.io_rounds.specs.Tasks.{IoTask, Carry, Ask, Settle, Turn, Reply, Fetch, Finish}
+use Rattle.io_rounds.specs.Going.{IoState, IoGoes, IoBegins, IoTurns, IoActs, IoEnds, IoComes, Here, Further}
+use Rattle.io_law.specs.Telling.{IoTold, io_told, told_by, told_behind, and_told}
+use Rattle.io_law.specs.Items.{asked_behind, came_behind, network_at, asked_by, came_by, io_asked, came, asked_line, came_line, lines_in}
 use Rattle.io_law.specs.Laws.{PacketsHaveOneLine}
 use Rattle.io_law.proofs.Numbers.{taken_once}
 use Rattle.io_law.proofs.Tracing.{added, IsSentTrace, event_legal, sent_comes, fit_set_up, gathered_goes}
@@ -42,13 +42,13 @@ asked_few n (Carry line) what items = omega arith
 asked_few n Settle what items = omega arith
 asked_few n (Turn node) what items = omega arith
 asked_few n (Reply node line) what items = omega arith
-asked_few n (Take node) what items = omega arith
+asked_few n (Fetch node) what items = omega arith
 asked_few n Finish what items = omega arith
 
 came_few : (n : ℕ) (task : IoTask) (what : Happened) (items : List Item)
     → how_often n (came_behind task what items) ≤ how_often n items
-came_few n (Take node) (Answers.Left packet) items = omega arith
-came_few n (Take node) _ items = omega arith
+came_few n (Fetch node) (Answers.Left packet) items = omega arith
+came_few n (Fetch node) _ items = omega arith
 came_few n (Carry line) what items = omega arith
 came_few n Settle what items = omega arith
 came_few n (Turn node) what items = omega arith
@@ -59,22 +59,22 @@ came_few n Finish what items = omega arith
 asked_goes_few : {names : List (List ℕ)} {script : List Numbered} {s t : IoState} (n : ℕ)
     (goes : IoGoes names script s t)
     → how_often n (asked_by goes)
-    ≤ how_often n (taken (network_at script s) (steps_of (added goes)))
-asked_goes_few n (Begins line rest is to) = omega arith
-asked_goes_few n (Turns node rest is to) = omega arith
-asked_goes_few {names} {script} {s} n (Acts task rest line block is event block_is sent to) =
-    asked_few n task (happened line block) (taken (network_at script s) (steps_of block))
-asked_goes_few n (Ends rest is to) = omega arith
+    ≤ how_often n (items_taken (network_at script s) (steps_of (added goes)))
+asked_goes_few n (IoBegins line rest is to) = omega arith
+asked_goes_few n (IoTurns node rest is to) = omega arith
+asked_goes_few {names} {script} {s} n (IoActs task rest line block is event block_is sent to) =
+    asked_few n task (happened line block) (items_taken (network_at script s) (steps_of block))
+asked_goes_few n (IoEnds rest is to) = omega arith
 
 came_goes_few : {names : List (List ℕ)} {script : List Numbered} {s t : IoState} (n : ℕ)
     (goes : IoGoes names script s t)
     → how_often n (came_by goes)
     ≤ how_often n (gone (network_at script s) (steps_of (added goes)))
-came_goes_few n (Begins line rest is to) = omega arith
-came_goes_few n (Turns node rest is to) = omega arith
-came_goes_few {names} {script} {s} n (Acts task rest line block is event block_is sent to) =
+came_goes_few n (IoBegins line rest is to) = omega arith
+came_goes_few n (IoTurns node rest is to) = omega arith
+came_goes_few {names} {script} {s} n (IoActs task rest line block is event block_is sent to) =
     came_few n task (happened line block) (gone (network_at script s) (steps_of block))
-came_goes_few n (Ends rest is to) = omega arith
+came_goes_few n (IoEnds rest is to) = omega arith
 
 -- what the steps of a run give is what they gave before a task, and what its steps give
 pub given_goes : {names : List (List ℕ)} {script : List Numbered} {s t : IoState} (n : ℕ)
@@ -89,13 +89,13 @@ given_goes {names} {script} {s} n each goes =
 
 asked_comes_few : {names : List (List ℕ)} {script : List Numbered} {first s : IoState} (n : ℕ)
     (comes : IoComes names script first s)
-    → how_often n (asked comes)
-    ≤ how_often n (taken (start script).network (steps_of s.trace))
+    → how_often n (io_asked comes)
+    ≤ how_often n (items_taken (start script).network (steps_of s.trace))
 asked_comes_few n (Here is) = omega arith
-asked_comes_few n (Goes before comes goes) =
+asked_comes_few n (Further before comes goes) =
     omega (
       arith,
-      how_often-append n (asked comes) (asked_by goes),
+      how_often-append n (io_asked comes) (asked_by goes),
       asked_comes_few n comes,
       asked_goes_few n goes,
       given_goes n taken_by goes,
@@ -106,28 +106,28 @@ came_comes_few : {names : List (List ℕ)} {script : List Numbered} {first s : I
     → how_often n (came comes)
     ≤ how_often n (gone (start script).network (steps_of s.trace))
 came_comes_few n (Here is) = omega arith
-came_comes_few n (Goes before comes goes) =
+came_comes_few n (Further before comes goes) =
     omega (
       arith,
       how_often-append n (came comes) (came_by goes),
       came_comes_few n comes,
       came_goes_few n goes,
-      given_goes n (ended_by Left) goes,
+      given_goes n (ended_by EndLeft) goes,
     )
 
 -- ---- what answers say of blocks
 
 sends_one : (s : Seen) (node : ℕ) (body : List ℕ) (block : List TraceLine)
-    → Sends s node body block → answer_taken block ≡ Answers.Took
-    → length (taken s.network (steps_of block)) ≡ 1
+    → SendsBody s node body block → answer_taken block ≡ Answers.Took
+    → length (items_taken s.network (steps_of block)) ≡ 1
 sends_one s node body block is took =
     by (room_out s.network (port_of node) (prio_of is.packet)) is.lines
   where
     by : (room : Bool)
         → block
-        ≡ (if room then Stepped (AtNode (Takes node is.packet)) ∷ [] else Lacked NoRoom ∷ [])
-        → length (taken s.network (steps_of block)) ≡ 1
-    by true same = ap (λ l. length (taken s.network (steps_of l))) same
+        ≡ (if room then Stepped (AtNode (Take node is.packet)) ∷ [] else Lacked NoRoom ∷ [])
+        → length (items_taken s.network (steps_of block)) ≡ 1
+    by true same = ap (λ l. length (items_taken s.network (steps_of l))) same
     by false same = absurd (cc (sym (ap answer_taken same) ∙ took))
 
 collect_not_taken : (node : ℕ) (what : Collected)
@@ -139,7 +139,7 @@ collect_not_taken node Collects.Full is = absurd cc
 
 -- a packet was taken, so it is one
 pub took_one : (s : Seen) (line : Line) (block : List TraceLine) → IsBlock s line block
-    → happened line block ≡ Answers.Took → length (taken s.network (steps_of block)) ≡ 1
+    → happened line block ≡ Answers.Took → length (items_taken s.network (steps_of block)) ≡ 1
 took_one s (Send node prio ftype dest hex) block is took = sends_one s node _ block is took
 took_one s (Read node prio dest hop tid offset) block is took = sends_one s node _ block is took
 took_one s (Write node prio dest hop tid offset value) block is took =
@@ -153,13 +153,13 @@ took_one s (Collect node) block is took =
 took_one s _ block is took = absurd cc
 
 sends_not_left : (s : Seen) (node : ℕ) (body : List ℕ) (block : List TraceLine) (packet : List ℕ)
-    → Sends s node body block → answer_taken block ≡ Answers.Left packet → ⊥
+    → SendsBody s node body block → answer_taken block ≡ Answers.Left packet → ⊥
 sends_not_left s node body block packet is left =
     by (room_out s.network (port_of node) (prio_of is.packet)) is.lines
   where
     by : (room : Bool)
         → block
-        ≡ (if room then Stepped (AtNode (Takes node is.packet)) ∷ [] else Lacked NoRoom ∷ [])
+        ≡ (if room then Stepped (AtNode (Take node is.packet)) ∷ [] else Lacked NoRoom ∷ [])
         → ⊥
     by true same = absurd (cc (sym (ap answer_taken same) ∙ left))
     by false same = absurd (cc (sym (ap answer_taken same) ∙ left))
@@ -207,16 +207,16 @@ left_one s _ block packet end is left legal = absurd cc
 
 -- ---- a task tells as many lines as it has packets
 
-abbrev told_lines : (Told → ℕ) → Option Told → ℕ
+abbrev told_lines : (IoTold → ℕ) → Option IoTold → ℕ
 told_lines each None = 0
 told_lines each (Some line) = each line
 
-lines_and : (each : Told → ℕ) (lines : List Told) (more : Option Told)
+lines_and : (each : IoTold → ℕ) (lines : List IoTold) (more : Option IoTold)
     → lines_in each (and_told lines more) ≡ lines_in each lines + told_lines each more
 lines_and each lines None = omega arith
 lines_and each lines (Some line) = push lines
   where
-    push : (lines : List Told)
+    push : (lines : List IoTold)
         → lines_in each (lines ++ line ∷ []) ≡ lines_in each lines + each line
     push [] = omega arith
     push (first ∷ lines) = omega (arith, push lines)
@@ -230,15 +230,15 @@ asked_act s (Carry line) what items one = refl
 asked_act s Settle what items one = refl
 asked_act s (Turn node) what items one = refl
 asked_act s (Reply node line) what items one = refl
-asked_act s (Take node) (Answers.Left packet) items one = refl
-asked_act s (Take node) _ items one = refl
+asked_act s (Fetch node) (Answers.Left packet) items one = refl
+asked_act s (Fetch node) _ items one = refl
 asked_act s Finish what items one = refl
 
 came_act : (s : IoState) (task : IoTask) (what : Happened) (items : List Item)
     → ((packet : List ℕ) → what ≡ Answers.Left packet → length items ≡ 1)
     → length (came_behind task what items) ≡ told_lines came_line (told_behind s task what)
-came_act s (Take node) (Answers.Left packet) items one = one packet refl
-came_act s (Take node) _ items one = refl
+came_act s (Fetch node) (Answers.Left packet) items one = one packet refl
+came_act s (Fetch node) _ items one = refl
 came_act s (Ask node tid line) Answers.Took items one = refl
 came_act s (Ask node tid line) _ items one = refl
 came_act s (Carry line) what items one = refl
@@ -250,54 +250,54 @@ came_act s Finish what items one = refl
 asked_goes_each : {names : List (List ℕ)} {script : List Numbered} {s t : IoState}
     (goes : IoGoes names script s t)
     → length (asked_by goes) ≡ told_lines asked_line (told_by goes)
-asked_goes_each (Begins line rest is to) = refl
-asked_goes_each (Turns node rest is to) = refl
-asked_goes_each {names} {script} {s} (Acts task rest line block is event block_is sent to) =
-    asked_act s task (happened line block) (taken (network_at script s) (steps_of block))
+asked_goes_each (IoBegins line rest is to) = refl
+asked_goes_each (IoTurns node rest is to) = refl
+asked_goes_each {names} {script} {s} (IoActs task rest line block is event block_is sent to) =
+    asked_act s task (happened line block) (items_taken (network_at script s) (steps_of block))
     (took_one (seen (start script) s.trace) line block block_is)
-asked_goes_each (Ends rest is to) = refl
+asked_goes_each (IoEnds rest is to) = refl
 
 came_goes_each : {names : List (List ℕ)} {script : List Numbered} {s t : IoState}
     (goes : IoGoes names script s t) → IsSetUp (set_up_all bare script)
     → IsSentTrace script s.trace
     → length (came_by goes) ≡ told_lines came_line (told_by goes)
-came_goes_each (Begins line rest is to) set_up own = refl
-came_goes_each (Turns node rest is to) set_up own = refl
-came_goes_each {names} {script} {s} (Acts task rest line block is event block_is sent to)
+came_goes_each (IoBegins line rest is to) set_up own = refl
+came_goes_each (IoTurns node rest is to) set_up own = refl
+came_goes_each {names} {script} {s} (IoActs task rest line block is event block_is sent to)
     set_up own =
     let items = gone (network_at script s) (steps_of block) in
     came_act s task (happened line block) items
     (λ packet left. sym (length-map items (λ item. item.now))
     ∙ ap length (left_one (seen (start script) s.trace) line block packet _ block_is left
     (event_legal script s.trace line block set_up own block_is)))
-came_goes_each (Ends rest is to) set_up own = refl
+came_goes_each (IoEnds rest is to) set_up own = refl
 
 -- ---- all tasks
 
 asked_comes_each : {names : List (List ℕ)} {script : List Numbered} {first s : IoState}
     (comes : IoComes names script first s)
-    → length (asked comes) ≡ lines_in asked_line (told comes)
+    → length (io_asked comes) ≡ lines_in asked_line (io_told comes)
 asked_comes_each (Here is) = refl
-asked_comes_each (Goes before comes goes) =
+asked_comes_each (Further before comes goes) =
     omega (
       arith,
-      length-append (asked comes) (asked_by goes),
+      length-append (io_asked comes) (asked_by goes),
       asked_comes_each comes,
       asked_goes_each goes,
-      lines_and asked_line (told comes) (told_by goes),
+      lines_and asked_line (io_told comes) (told_by goes),
     )
 
 came_comes_each : {names : List (List ℕ)} {script : List Numbered} {first s : IoState}
     (comes : IoComes names script first s) → IsSetUp (set_up_all bare script)
-    → first.trace ≡ [] → length (came comes) ≡ lines_in came_line (told comes)
+    → first.trace ≡ [] → length (came comes) ≡ lines_in came_line (io_told comes)
 came_comes_each (Here is) set_up none = refl
-came_comes_each (Goes before comes goes) set_up none =
+came_comes_each (Further before comes goes) set_up none =
     omega (
       arith,
       length-append (came comes) (came_by goes),
       came_comes_each comes set_up none,
       came_goes_each goes set_up (sent_comes set_up none comes),
-      lines_and came_line (told comes) (told_by goes),
+      lines_and came_line (io_told comes) (told_by goes),
     )
 
 pub one_line_each : PacketsHaveOneLine

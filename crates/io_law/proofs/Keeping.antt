@@ -14,11 +14,11 @@ use Rattle.io_script.specs.declared.lines.IoLine.{IoLine}
 use Rattle.io_script.specs.declared.lines.IoLine.TheVariants.{Memory, NRead, NWrite, NWriteR, SWrite, Round}
 use Rattle.io_script.specs.declared.lines.NumberedIo.{NumberedIo}
 use Rattle.io_rounds.specs.Stations.{new_station, memory_of, kept_of_node, answer_at_node}
-use Rattle.io_rounds.specs.Tasks.{IoTask, Carry, Ask, Settle, Turn, Reply, Take, Finish, tasks_of, stations_by, task_behind}
-use Rattle.io_rounds.specs.Going.{IoState, left_to_do, with_event, first_of_turn, behind_event, endpoints_of, IoGoes, Begins, Turns, Acts, Ends, IoComes, Here, Goes}
+use Rattle.io_rounds.specs.Tasks.{IoTask, Carry, Ask, Settle, Turn, Reply, Fetch, Finish, tasks_of, stations_by, task_behind}
+use Rattle.io_rounds.specs.Going.{IoState, left_to_do, with_event, first_of_turn, behind_event, endpoints_of, IoGoes, IoBegins, IoTurns, IoActs, IoEnds, IoComes, Here, Further}
 use Rattle.io_rounds.specs.Drives.{IsIoFit, MayCarry, first_state}
 use Rattle.io_rounds.proofs.StateLaws.{met_length}
-use Rattle.io_law.specs.Telling.{Told, Begun, Over, told, told_by, told_behind, and_told, memory_by, memory_on, memory_left}
+use Rattle.io_law.specs.Telling.{IoTold, ToldBegun, ToldOver, io_told, told_by, told_behind, and_told, memory_by, memory_on, memory_left}
 use Rattle.io_law.specs.Laws.{MemoriesAreTold}
 use Rattle.io_law.proofs.Memories.{same_memory, put_memory, memory_came}
 
@@ -77,22 +77,22 @@ turn_task count node (Some line) = tt
 -- ---- what a state keeps
 
 -- these are the stations and the tasks behind lines told
-pub record Keeps (count : ℕ) (lines : List Told) (s : IoState) : Type 0 where
+pub record Keeps (count : ℕ) (lines : List IoTold) (s : IoState) : Type 0 where
   pub tasks : All (IsTaskOf count) s.tasks
   pub long : length s.stations ≡ count
   pub same : (n : ℕ) → memory_of s.stations n ≡ memory_left n lines
 
 -- one line more changes a memory as that line says
-abbrev memory_with : ℕ → Option (List ℕ) → Option Told → Option (List ℕ)
+abbrev memory_with : ℕ → Option (List ℕ) → Option IoTold → Option (List ℕ)
 memory_with n memory None = memory
 memory_with n memory (Some line) = memory_by n memory line
 
-on_push : (n : ℕ) (memory : Option (List ℕ)) (lines : List Told) (line : Told)
+on_push : (n : ℕ) (memory : Option (List ℕ)) (lines : List IoTold) (line : IoTold)
     → memory_on n memory (lines ++ line ∷ []) ≡ memory_by n (memory_on n memory lines) line
 on_push n memory [] line = refl
 on_push n memory (first ∷ lines) line = on_push n (memory_by n memory first) lines line
 
-left_with : (n : ℕ) (lines : List Told) (more : Option Told)
+left_with : (n : ℕ) (lines : List IoTold) (more : Option IoTold)
     → memory_left n (and_told lines more) ≡ memory_with n (memory_left n lines) more
 left_with n lines None = refl
 left_with n lines (Some line) = on_push n None lines line
@@ -101,7 +101,7 @@ left_with n lines (Some line) = on_push n None lines line
 
 begun_memory : (stations : List _) (line : IoLine) (n : ℕ)
     → IsLineOf (length stations) line
-    → memory_of (stations_by line stations) n ≡ memory_by n (memory_of stations n) (Begun line)
+    → memory_of (stations_by line stations) n ≡ memory_by n (memory_of stations n) (ToldBegun line)
 begun_memory stations (Memory node bytes) n within =
     put_memory stations node (replicate bytes 0) n within
 begun_memory stations (NRead node dest addr size) n within = refl
@@ -133,10 +133,10 @@ event_memory names Settle what s n = refl
 event_memory names (Turn node) what s n = refl
 event_memory names (Reply node line) Answers.Took s n = refl
 event_memory names (Reply node line) _ s n = same_memory s.stations node _ n refl
-event_memory names (Take node) (Answers.Left packet) s n =
+event_memory names (Fetch node) (Answers.Left packet) s n =
     memory_came s.stations node packet n
-event_memory names (Take node) Answers.Answered s n = refl
-event_memory names (Take node) _ s n = refl
+event_memory names (Fetch node) Answers.Answered s n = refl
+event_memory names (Fetch node) _ s n = refl
 event_memory names Finish what s n = refl
 
 event_length : (names : List (List ℕ)) (task : IoTask) (what : Happened) (s : IoState)
@@ -149,9 +149,9 @@ event_length names Settle what s = refl
 event_length names (Turn node) what s = refl
 event_length names (Reply node line) Answers.Took s = refl
 event_length names (Reply node line) _ s = length-set s.stations node _
-event_length names (Take node) (Answers.Left packet) s = met_length s.stations node packet
-event_length names (Take node) Answers.Answered s = refl
-event_length names (Take node) _ s = refl
+event_length names (Fetch node) (Answers.Left packet) s = met_length s.stations node packet
+event_length names (Fetch node) Answers.Answered s = refl
+event_length names (Fetch node) _ s = refl
 event_length names Finish what s = refl
 
 event_tasks : (names : List (List ℕ)) (count : ℕ) (task : IoTask) (what : Happened) (s : IoState)
@@ -163,35 +163,35 @@ event_tasks names count (Ask node tid line) _ s all = all
 event_tasks names count Settle what s all = all
 event_tasks names count (Turn node) what s all = all
 event_tasks names count (Reply node line) Answers.Took s all =
-    one_more count (Take node) s.tasks tt all
+    one_more count (Fetch node) s.tasks tt all
 event_tasks names count (Reply node line) _ s all = all
-event_tasks names count (Take node) (Answers.Left packet) s all =
+event_tasks names count (Fetch node) (Answers.Left packet) s all =
     one_more count _ s.tasks
     (reply_task count node packet (answer_at_node s.stations node packet)) all
-event_tasks names count (Take node) Answers.Answered s all =
-    one_more count (Take node) s.tasks tt all
-event_tasks names count (Take node) _ s all = all
+event_tasks names count (Fetch node) Answers.Answered s all =
+    one_more count (Fetch node) s.tasks tt all
+event_tasks names count (Fetch node) _ s all = all
 event_tasks names count Finish what s all = all
 
 -- ---- one task
 
 behind_goes : {names : List (List ℕ)} {script : List Numbered} {s t : IoState} (count : ℕ)
-    (lines : List Told) (goes : IoGoes names script s t) → Keeps count lines s
+    (lines : List IoTold) (goes : IoGoes names script s t) → Keeps count lines s
     → Keeps count (and_told lines (told_by goes)) t
-behind_goes {names} {script} {s} count lines (Begins line rest is to) keeps =
+behind_goes {names} {script} {s} count lines (IoBegins line rest is to) keeps =
     let all = subst (All (IsTaskOf count)) is keeps.tasks in
     let of = All-head (IsTaskOf count) (Carry line) rest all in
     let within : IsLineOf (length s.stations) line =
     subst (λ c. IsLineOf c line) (sym keeps.long) of in
-    subst (Keeps count (lines ++ Begun line ∷ [])) (sym to) (record {
+    subst (Keeps count (lines ++ ToldBegun line ∷ [])) (sym to) (record {
       tasks = line_tasks count (endpoints_of script) s.stations line rest
           (All-tail (IsTaskOf count) (Carry line) rest all);
       long = begun_length s.stations line ∙ keeps.long;
       same = λ n. begun_memory s.stations line n within
-          ∙ ap (λ m. memory_by n m (Begun line)) (keeps.same n)
-          ∙ sym (left_with n lines (Some (Begun line)));
+          ∙ ap (λ m. memory_by n m (ToldBegun line)) (keeps.same n)
+          ∙ sym (left_with n lines (Some (ToldBegun line)));
     })
-behind_goes {names} {script} {s} count lines (Turns node rest is to) keeps =
+behind_goes {names} {script} {s} count lines (IoTurns node rest is to) keeps =
     let all = subst (All (IsTaskOf count)) is keeps.tasks in
     subst (Keeps count lines) (sym to) (record {
       tasks = one_more count _ rest (turn_task count node (kept_of_node s.stations node))
@@ -200,7 +200,7 @@ behind_goes {names} {script} {s} count lines (Turns node rest is to) keeps =
       same = λ n. same_memory s.stations node _ n refl ∙ keeps.same n;
     })
 behind_goes {names} {script} {s} count lines
-    (Acts task rest line block is event block_is sent to) keeps =
+    (IoActs task rest line block is event block_is sent to) keeps =
     let all = subst (All (IsTaskOf count)) is keeps.tasks in
     let what = happened line block in
     let on = with_event (left_to_do s rest) line block in
@@ -212,12 +212,12 @@ behind_goes {names} {script} {s} count lines
           ∙ ap (λ m. memory_with n m more) (keeps.same n)
           ∙ sym (left_with n lines more);
     })
-behind_goes {names} {script} {s} count lines (Ends rest is to) keeps =
+behind_goes {names} {script} {s} count lines (IoEnds rest is to) keeps =
     let all = subst (All (IsTaskOf count)) is keeps.tasks in
-    subst (Keeps count (lines ++ Over ∷ [])) (sym to) (record {
+    subst (Keeps count (lines ++ ToldOver ∷ [])) (sym to) (record {
       tasks = All-tail (IsTaskOf count) Finish rest all;
       long = keeps.long;
-      same = λ n. keeps.same n ∙ sym (left_with n lines (Some Over));
+      same = λ n. keeps.same n ∙ sym (left_with n lines (Some ToldOver));
     })
 
 -- ---- all tasks
@@ -240,14 +240,14 @@ at_first names script io fit = record {
     none (suc count) (suc n) = none count n
 
 pub behind_all : {names : List (List ℕ)} {script : List Numbered} {first s : IoState} (count : ℕ)
-    → Keeps count [] first → (comes : IoComes names script first s) → Keeps count (told comes) s
+    → Keeps count [] first → (comes : IoComes names script first s) → Keeps count (io_told comes) s
 behind_all count keeps (Here is) = subst (Keeps count []) (sym is) keeps
-behind_all count keeps (Goes before comes goes) =
-    behind_goes count (told comes) goes (behind_all count keeps comes)
+behind_all count keeps (Further before comes goes) =
+    behind_goes count (io_told comes) goes (behind_all count keeps comes)
 
 pub fit_keeps : (names : List (List ℕ)) (script : List Numbered) (io : List NumberedIo)
     (s : IoState) (comes : IoComes names script (first_state names io) s)
-    → IsIoFit names script io → Keeps (length names) (told comes) s
+    → IsIoFit names script io → Keeps (length names) (io_told comes) s
 fit_keeps names script io s comes fit =
     behind_all (length names) (at_first names script io fit) comes
 

@@ -7,9 +7,9 @@ use Rattle.std.proofs.lemmas.Bool.{eqb-true, eqb-false}
 use Rattle.std.proofs.lemmas.List.{get_or-set_same, get_or-set_other}
 use Rattle.rio_packets.specs.Fields.{ftype_of}
 use Rattle.io_packets.specs.Reading.{io_of}
-use Rattle.io_packets.specs.Serving.{put_at, memory_after}
+use Rattle.io_packets.specs.Serving.{memory_put, memory_after}
 use Rattle.io_memory.specs.declared.meeting.Met.TheVariants.{Written, Failed}
-use Rattle.io_memory.specs.Meeting.{met_of, held}
+use Rattle.io_memory.specs.Meeting.{met_of, memory_held}
 use Rattle.io_memory.proofs.MeetLaws.{after_held}
 use Rattle.io_rounds.specs.Stations.{new_station, station_at, memory_of, with_memory, met_by, met_at_node, stations_after, stations_met}
 use Rattle.io_law.specs.Telling.{memory_behind}
@@ -18,8 +18,8 @@ use Rattle.io_law.specs.Telling.{memory_behind}
 
 -- what it leaves is what its line says
 behind_write : (memory : List ℕ) (ftype addr : ℕ) (load : List ℕ) (b : Bool)
-    → (if b then put_at memory addr load else memory)
-    ≡ held memory ((if b then Written addr load else Failed ftype) ∷ [])
+    → (if b then memory_put memory addr load else memory)
+    ≡ memory_held memory ((if b then Written addr load else Failed ftype) ∷ [])
 behind_write memory ftype addr load true = refl
 behind_write memory ftype addr load false = refl
 

@@ -13,7 +13,7 @@ use Rattle.fabric_trace.specs.Blocks.{lines_of, IsSettle}
 use Rattle.fabric_trace.specs.Fold.{seen}
 use Rattle.fabric_trace.specs.Known.{Found, Seen, link_at}
 use Rattle.fabric_trace.specs.Lines.{TraceLine, Begun, Stepped, Signed, Lacked, Ended, Undetected}
-use Rattle.fabric_trace.specs.Rounds.{Follows, NamesNothing, Joined, SettleAll, ServesAll, Rests, Goes, ServeNodes, Round, Rounds}
+use Rattle.fabric_trace.specs.Rounds.{Follows, NamesNothing, Joined, SettleAll, ServesAll, ServeRests, ServeGoes, ServeNodes, Round, Rounds}
 use Rattle.fabric_trace.specs.Served.{collect_lines}
 use Rattle.fabric_trace.proofs.Rounds.{by_test}
 
@@ -95,8 +95,8 @@ module _ (Fits : NodeStep → Type 0) where
 
   serves_none : {s : Seen} {node : ℕ} {lines : List TraceLine} → ServesAll s node lines
       → OnlyAt Fits lines
-  serves_none {s} {node} {lines} (Rests move is) = no_by is tt
-  serves_none {s} {node} {lines} (Goes step rest move is more) = no_by is (serves_none more)
+  serves_none {s} {node} {lines} (ServeRests move is) = no_by is tt
+  serves_none {s} {node} {lines} (ServeGoes step rest move is more) = no_by is (serves_none more)
 
   serve_none : (devices : List Device) (k : ℕ) (s : Seen) (lines : List TraceLine)
       → ServeNodes k devices s lines → OnlyAt Fits lines

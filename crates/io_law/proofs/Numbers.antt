@@ -5,7 +5,7 @@ use Rattle.rio_packets.specs.Fields.{prio_of}
 use Rattle.fabric_script.specs.declared.ports.PortRef.{PortRef}
 use Rattle.fabric_model.specs.Network.{Network, Item, port_of, peer_in}
 use Rattle.fabric_model.specs.Steps.{Hold, Free, Take as Takes, Leave, Move, Drop, Answer, Step, Linked, AtNode, ByDevice, item_of, after, after_hold}
-use Rattle.fabric_model.specs.Laws.History.{taken_by, taken}
+use Rattle.fabric_model.specs.Laws.History.{taken_by, items_taken}
 use Rattle.fabric_model.specs.Laws.Holding.{how_often}
 use Rattle.fabric_model.proofs.Holding.{how_often-append}
 
@@ -55,13 +55,13 @@ none_of_other : (n : ℕ) (item : Item) → eqb item.number n ≡ false → how_
 none_of_other n item other = ap (λ b. (if b then 1 else 0) + 0) other
 
 taken_not_before : (n : ℕ) (net : Network) (steps : List Step) → n < net.given
-    → how_often n (taken net steps) ≡ 0
+    → how_often n (items_taken net steps) ≡ 0
 taken_not_before n net [] low = refl
 taken_not_before n net (step ∷ steps) low =
     by (gives net step) (taken_not_before n (after net step) steps)
   where
     rest : List Item
-    rest = taken (after net step) steps
+    rest = items_taken (after net step) steps
 
     both : how_often n (taken_by net step ++ rest)
         ≡ how_often n (taken_by net step) + how_often n rest
@@ -87,12 +87,13 @@ taken_not_before n net (step ∷ steps) low =
         let own = away one (eqb one.item.number n) refl in
         omega (arith, both, ap (how_often n) one.only, own, behind)
 
-pub taken_once : (n : ℕ) (net : Network) (steps : List Step) → how_often n (taken net steps) ≤ 1
+pub taken_once : (n : ℕ) (net : Network) (steps : List Step)
+    → how_often n (items_taken net steps) ≤ 1
 taken_once n net [] = omega arith
 taken_once n net (step ∷ steps) = by (gives net step) (taken_once n (after net step) steps)
   where
     rest : List Item
-    rest = taken (after net step) steps
+    rest = items_taken (after net step) steps
 
     both : how_often n (taken_by net step ++ rest)
         ≡ how_often n (taken_by net step) + how_often n rest

@@ -9,9 +9,9 @@ use Rattle.fabric_script.specs.declared.lines.Line.{Line}
 use Rattle.fabric_script.specs.declared.lines.Line.TheVariants.{Send}
 use Rattle.fabric_script.specs.declared.lines.Numbered.{Numbered}
 use Rattle.fabric_model.specs.Network.{Item, port_of, room_out}
-use Rattle.fabric_model.specs.Steps.{Take as Takes, AtNode}
+use Rattle.fabric_model.specs.Steps.{Take, AtNode}
 use Rattle.fabric_model.proofs.Lists.{all-append}
-use Rattle.fabric_model.specs.Laws.History.{taken, gone}
+use Rattle.fabric_model.specs.Laws.History.{items_taken, gone}
 use Rattle.fabric_trace.specs.Blocks.{IsBlock}
 use Rattle.fabric_trace.specs.Fold.{seen}
 use Rattle.fabric_trace.specs.Known.{Seen}
@@ -23,10 +23,10 @@ use Rattle.fabric_ports.specs.declared.answers.Happened.{Happened}
 use Rattle.fabric_ports.specs.declared.answers.Happened.TheVariants as Answers
 use Rattle.io_packets.specs.declared.io.Io.{Io}
 use Rattle.io_rounds.specs.Stations.{new_station, station_at, kept_of_node, with_kept, counted_on, answer_at_node, stations_met}
-use Rattle.io_rounds.specs.Tasks.{IoTask, stations_by, Carry, Ask, Settle, Turn, Reply, Take, Finish, reply_line, event_of, task_behind, tasks_of}
-use Rattle.io_rounds.specs.Going.{IoState, left_to_do, with_event, first_of_turn, behind_event, endpoints_of, IoGoes, Begins, Turns, Acts, Ends, IoComes, Here, Goes}
-use Rattle.io_law.specs.Telling.{told}
-use Rattle.io_law.specs.Replies.{Sent, served_with, served_behind, served_by, served_at, reply_to, sent_behind, sent_by, sent_at}
+use Rattle.io_rounds.specs.Tasks.{IoTask, stations_by, Carry, Ask, Settle, Turn, Reply, Fetch, Finish, reply_line, task_event, task_behind, tasks_of}
+use Rattle.io_rounds.specs.Going.{IoState, left_to_do, with_event, first_of_turn, behind_event, endpoints_of, IoGoes, IoBegins, IoTurns, IoActs, IoEnds, IoComes, Here, Further}
+use Rattle.io_law.specs.Telling.{io_told}
+use Rattle.io_law.specs.Replies.{IoSent, served_with, served_behind, served_by, io_served_at, reply_to, sent_behind, io_sent_by, sent_at}
 use Rattle.io_law.proofs.Fit.{RestFit, HeadFit, TasksFit, IsFit, none_kept, line_fit, begun_kept, counted_kept, met_kept, fit_comes}
 use Rattle.io_law.proofs.Items.{left_one, took_one}
 use Rattle.io_law.proofs.Places.{same_line}
@@ -55,7 +55,7 @@ rest_none node (Ask at tid line ∷ rest) all = refl
 rest_none node (Settle ∷ rest) all = refl
 rest_none node (Turn at ∷ rest) all = refl
 rest_none node (Reply at line ∷ rest) all = absurd all.0
-rest_none node (Take at ∷ rest) all = absurd all.0
+rest_none node (Fetch at ∷ rest) all = absurd all.0
 rest_none node (Finish ∷ rest) all = refl
 
 rest_kept : (node : ℕ) (stations : List _) (tasks : List IoTask)
@@ -125,14 +125,14 @@ turn_pending node at stations kept rest is = by (eqb at node) refl kept is
 reply_sent : (node at : ℕ) (line : Line) (stations : List _) (rest : List IoTask)
     (items : List Item) → length items ≡ 1 → kept_of_node stations at ≡ None
     → Balanced (pending node (kept_of_node stations node) (Reply at line ∷ rest)) []
-    (map (λ (x : Sent). x.line) (sent_behind node (Reply at line) items))
-    (pending node (kept_of_node stations node) (Take at ∷ rest))
+    (map (λ (x : IoSent). x.line) (sent_behind node (Reply at line) items))
+    (pending node (kept_of_node stations node) (Fetch at ∷ rest))
 reply_sent node at line stations rest [] one none = absurd (omega (arith, one))
 reply_sent node at line stations rest (item ∷ []) one none = by (eqb at node) refl
   where
     by : (b : Bool) → eqb at node ≡ b
         → ((if b then line ∷ [] else []) ++ kept_lines (kept_of_node stations node)) ++ []
-        ≡ map (λ (x : Sent). x.line)
+        ≡ map (λ (x : IoSent). x.line)
         (if b then map (λ item. record { line = line; item = item }) (item ∷ []) else [])
         ++ kept_lines (kept_of_node stations node)
     by true same = append-nil _
@@ -144,20 +144,20 @@ reply_waits : (node at : ℕ) (line : Line) (stations : List _) (rest : List IoT
     (items : List Item) → items ≡ [] → kept_of_node stations at ≡ None → at < length stations
     → AllByRecursion RestFit rest
     → Balanced (pending node (kept_of_node stations node) (Reply at line ∷ rest)) []
-    (map (λ (x : Sent). x.line) (sent_behind node (Reply at line) items))
+    (map (λ (x : IoSent). x.line) (sent_behind node (Reply at line) items))
     (pending node (kept_of_node (with_kept stations at (Some line)) node) rest)
 reply_waits node at line stations rest items nothing none within all =
     by (eqb at node) refl
     ∙ ap (λ l. l ++ pending node (kept_of_node (with_kept stations at (Some line)) node) rest)
     (sym (sends items nothing))
   where
-    none_sent : (b : Bool) → map (λ (x : Sent). x.line)
+    none_sent : (b : Bool) → map (λ (x : IoSent). x.line)
         (if b then map (λ item. record { line = line; item = item }) [] else []) ≡ []
     none_sent true = refl
     none_sent false = refl
 
     sends : (items : List Item) → items ≡ []
-        → map (λ (x : Sent). x.line) (sent_behind node (Reply at line) items) ≡ []
+        → map (λ (x : IoSent). x.line) (sent_behind node (Reply at line) items) ≡ []
     sends [] is = none_sent (eqb at node)
     sends (item ∷ items) is = absurd cc
 
@@ -225,26 +225,26 @@ take_serves node before at packet stations answer rest items one none =
 -- if the packet of a reply was not taken there is none
 not_taken : (s : Seen) (block : List TraceLine) (line : Line) → SendsPlain line
     → IsBlock s line block → (happened line block ≡ Answers.Took → ⊥)
-    → taken s.network (steps_of block) ≡ []
+    → items_taken s.network (steps_of block) ≡ []
 not_taken s block (Send node prio ftype dest hex) plain is other =
     by (room_out s.network (port_of node) (prio_of is.packet)) is.lines
   where
     by : (room : Bool)
         → block
-        ≡ (if room then Stepped (AtNode (Takes node is.packet)) ∷ [] else Lacked NoRoom ∷ [])
-        → taken s.network (steps_of block) ≡ []
+        ≡ (if room then Stepped (AtNode (Take node is.packet)) ∷ [] else Lacked NoRoom ∷ [])
+        → items_taken s.network (steps_of block) ≡ []
     by true same = absurd (other (ap (happened (Send node prio ftype dest hex)) same))
-    by false same = ap (λ l. taken s.network (steps_of l)) same
+    by false same = ap (λ l. items_taken s.network (steps_of l)) same
 not_taken s block _ plain is other = absurd plain
 
 -- so it is where the task is one to reply
 reply_none : (s : Seen) (block : List TraceLine) (kept : ℕ → Option Line) (count : ℕ)
-    (task : IoTask) (line : Line) → HeadFit kept count task → event_of task ≡ Some line
+    (task : IoTask) (line : Line) → HeadFit kept count task → task_event task ≡ Some line
     → IsBlock s line block → (node : ℕ) (own : Line) → task ≡ Reply node own
-    → (happened line block ≡ Answers.Took → ⊥) → taken s.network (steps_of block) ≡ []
+    → (happened line block ≡ Answers.Took → ⊥) → items_taken s.network (steps_of block) ≡ []
 reply_none s block kept count task line fit event is node own same other =
     let own_fit = subst (HeadFit kept count) same fit in
-    let own_line = same_line (sym (ap event_of same) ∙ event) in
+    let own_line = same_line (sym (ap task_event same) ∙ event) in
     not_taken s block line
     (subst SendsPlain own_line (replies_plain node own own_fit.0)) is other
 
@@ -258,7 +258,7 @@ module _ (names : List (List ℕ)) (node before : ℕ) (asked left : List Item) 
       → map (λ item. item.now) left ≡ packet ∷ [])
       → Balanced (pending node (kept_of_node s.stations node) (task ∷ s.tasks))
       (map (reply_to node) (served_behind node before (answer_at_node s.stations) task what left))
-      (map (λ (x : Sent). x.line) (sent_behind node task asked))
+      (map (λ (x : IoSent). x.line) (sent_behind node task asked))
       (pending node (kept_of_node (behind_event names task what s).stations node)
       (behind_event names task what s).tasks)
   event_pending (Carry line) what s head rest one none came =
@@ -284,11 +284,11 @@ module _ (names : List (List ℕ)) (node before : ℕ) (asked left : List Item) 
   event_pending (Reply at line) _ s head rest one none came =
       reply_waits node at line s.stations s.tasks asked (none at line refl (λ is. absurd cc))
       head.1 head.2 rest
-  event_pending (Take at) (Answers.Left packet) s head rest one none came =
+  event_pending (Fetch at) (Answers.Left packet) s head rest one none came =
       take_serves node before at packet s.stations (answer_at_node s.stations at packet) s.tasks
       left (came packet refl) head
-  event_pending (Take at) Answers.Answered s head rest one none came = same_pending _ _ refl
-  event_pending (Take at) _ s head rest one none came =
+  event_pending (Fetch at) Answers.Answered s head rest one none came = same_pending _ _ refl
+  event_pending (Fetch at) _ s head rest one none came =
       same_pending _ _ (sym (rest_kept node s.stations s.tasks rest))
   event_pending Finish what s head rest one none came =
       same_pending _ _ (sym (rest_kept node s.stations s.tasks rest))
@@ -300,9 +300,9 @@ goes_pending : {names : List (List ℕ)} {script : List Numbered} {s t : IoState
     → IsSentTrace script s.trace → IsFit s
     → Balanced (pending node (kept_of_node s.stations node) s.tasks)
     (map (reply_to node) (served_by node before goes))
-    (map (λ (x : Sent). x.line) (sent_by node goes))
+    (map (λ (x : IoSent). x.line) (io_sent_by node goes))
     (pending node (kept_of_node t.stations node) t.tasks)
-goes_pending {names} {script} {s} node before (Begins line rest is to) set_up own fit =
+goes_pending {names} {script} {s} node before (IoBegins line rest is to) set_up own fit =
     let left = subst (TasksFit (kept_of_node s.stations) (length s.stations)) is fit.tasks in
     subst (λ (x : IoState). Balanced (pending node (kept_of_node s.stations node) s.tasks) [] []
     (pending node (kept_of_node x.stations node) x.tasks)) (sym to)
@@ -315,7 +315,7 @@ goes_pending {names} {script} {s} node before (Begins line rest is to) set_up ow
     (all-append RestFit (tasks_of (endpoints_of script) s.stations line) rest
     (line_fit (endpoints_of script) s.stations line) left.1)
     ∙ ap kept_lines (begun_kept s.stations line node)))))
-goes_pending {names} {script} {s} node before (Turns at rest is to) set_up own fit =
+goes_pending {names} {script} {s} node before (IoTurns at rest is to) set_up own fit =
     subst (λ (x : IoState). Balanced (pending node (kept_of_node s.stations node) s.tasks) [] []
     (pending node (kept_of_node x.stations node) x.tasks)) (sym to)
     (subst (λ l. Balanced (pending node (kept_of_node s.stations node) l) [] []
@@ -324,20 +324,20 @@ goes_pending {names} {script} {s} node before (Turns at rest is to) set_up own f
     (same_pending _ _
     (sym (turn_pending node at s.stations (kept_of_node s.stations at) rest refl))))
 goes_pending {names} {script} {s} node before
-    (Acts task rest line block is event block_is sent to) set_up own fit =
+    (IoActs task rest line block is event block_is sent to) set_up own fit =
     let left = subst (TasksFit (kept_of_node s.stations) (length s.stations)) is fit.tasks in
     let on = with_event (left_to_do s rest) line block in
     let what = happened line block in
     let now = seen (start script) s.trace in
-    let asks = taken now.network (steps_of block) in
+    let asks = items_taken now.network (steps_of block) in
     let came = gone now.network (steps_of block) in
     subst (λ (x : IoState). Balanced (pending node (kept_of_node s.stations node) s.tasks)
     (map (reply_to node) (served_behind node before (answer_at_node s.stations) task what came))
-    (map (λ (x : Sent). x.line) (sent_behind node task asks))
+    (map (λ (x : IoSent). x.line) (sent_behind node task asks))
     (pending node (kept_of_node x.stations node) x.tasks)) (sym to)
     (subst (λ l. Balanced (pending node (kept_of_node s.stations node) l)
     (map (reply_to node) (served_behind node before (answer_at_node s.stations) task what came))
-    (map (λ (x : Sent). x.line) (sent_behind node task asks))
+    (map (λ (x : IoSent). x.line) (sent_behind node task asks))
     (pending node (kept_of_node (behind_event names task what on).stations node)
     (behind_event names task what on).tasks)) (sym is)
     (event_pending names node before asks came task what on left.0 left.1
@@ -346,7 +346,7 @@ goes_pending {names} {script} {s} node before
     block_is)
     (λ packet gone_is. left_one now line block packet _ block_is gone_is
     (event_legal script s.trace line block set_up own block_is))))
-goes_pending {names} {script} {s} node before (Ends rest is to) set_up own fit =
+goes_pending {names} {script} {s} node before (IoEnds rest is to) set_up own fit =
     let left = subst (TasksFit (kept_of_node s.stations) (length s.stations)) is fit.tasks in
     subst (λ (x : IoState). Balanced (pending node (kept_of_node s.stations node) s.tasks) [] []
     (pending node (kept_of_node x.stations node) x.tasks)) (sym to)
@@ -364,24 +364,24 @@ pub comes_pending : {names : List (List ℕ)} {script : List Numbered} {first s 
     (node : ℕ) (comes : IoComes names script first s) → IsSetUp (set_up_all bare script)
     → first.trace ≡ [] → IsFit first
     → [] ≡ pending node (kept_of_node first.stations node) first.tasks
-    → map (reply_to node) (served_at node comes)
-    ≡ map (λ (x : Sent). x.line) (sent_at node comes)
+    → map (reply_to node) (io_served_at node comes)
+    ≡ map (λ (x : IoSent). x.line) (sent_at node comes)
     ++ pending node (kept_of_node s.stations node) s.tasks
 comes_pending node (Here is) set_up none fit nothing =
     nothing
     ∙ sym (ap (λ (x : IoState). pending node (kept_of_node x.stations node) x.tasks) is)
-comes_pending {names} {script} {first} {s} node (Goes before comes goes) set_up none fit
+comes_pending {names} {script} {first} {s} node (Further before comes goes) set_up none fit
     nothing =
-    map-append (reply_to node) (served_at node comes)
-    (served_by node (length (told comes)) goes)
-    ∙ joins (map (reply_to node) (served_at node comes))
-    (map (λ (x : Sent). x.line) (sent_at node comes))
+    map-append (reply_to node) (io_served_at node comes)
+    (served_by node (length (io_told comes)) goes)
+    ∙ joins (map (reply_to node) (io_served_at node comes))
+    (map (λ (x : IoSent). x.line) (sent_at node comes))
     (pending node (kept_of_node before.stations node) before.tasks)
-    (map (reply_to node) (served_by node (length (told comes)) goes))
-    (map (λ (x : Sent). x.line) (sent_by node goes))
+    (map (reply_to node) (served_by node (length (io_told comes)) goes))
+    (map (λ (x : IoSent). x.line) (io_sent_by node goes))
     (pending node (kept_of_node s.stations node) s.tasks)
     (comes_pending node comes set_up none fit nothing)
-    (goes_pending node (length (told comes)) goes set_up (sent_comes set_up none comes)
+    (goes_pending node (length (io_told comes)) goes set_up (sent_comes set_up none comes)
     (fit_comes comes fit))
     ∙ ap (λ l. l ++ pending node (kept_of_node s.stations node) s.tasks)
-    (sym (map-append (λ (x : Sent). x.line) (sent_at node comes) (sent_by node goes)))
+    (sym (map-append (λ (x : IoSent). x.line) (sent_at node comes) (io_sent_by node goes)))

@@ -5,7 +5,7 @@ use Rattle.std.specs.Prelude.{slice_get, option_map, option_and_then}
 use Rattle.rio_packets.specs.Fields.{prio_of, ftype_of, is_maintenance}
 use Rattle.std.proofs.lemmas.Bool.{ne_eqb}
 use Rattle.maint_registers.specs.Devices.{Device}
-use Rattle.maint_packets.specs.Answers.{answered}
+use Rattle.maint_packets.specs.Answers.{request_answered}
 use Rattle.rio_packets.specs.Hops.{lowered}
 use Rattle.maint_packets.specs.Requests.{request_of}
 use Rattle.maint_packets.specs.Responses.{response_bytes}
@@ -90,7 +90,8 @@ no_response : (net : Network) (p : PortRef) (packet response : List ℕ) → IsP
 no_response net p packet response plain is =
     by (slice_get net.registers p.node)
     (sym (ap (λ o. option_and_then (λ d. option_map
-    (λ r. response_bytes (answered d r p.port).response) o) (slice_get net.registers p.node))
+    (λ r. response_bytes (request_answered d r p.port).response) o) (slice_get net.registers
+    p.node))
     none) ∙ is)
   where
     none : request_of packet ≡ None
@@ -98,7 +99,7 @@ no_response net p packet response plain is =
 
     by : (o : Option Device)
         → option_and_then (λ d. option_map
-        (λ r. response_bytes (answered d r p.port).response) None) o ≡ Some response → ⊥
+        (λ r. response_bytes (request_answered d r p.port).response) None) o ≡ Some response → ⊥
     by None is = absurd cc
     by (Some device) is = absurd cc
 

@@ -14,9 +14,9 @@ use Rattle.io_memory.specs.declared.meeting.Met.TheVariants.{Read}
 use Rattle.io_memory.specs.Meeting.{met_without}
 use Rattle.io_memory.proofs.MeetLaws.{reads_held}
 use Rattle.io_rounds.specs.Stations.{memory_of, met_by}
-use Rattle.io_rounds.specs.Tasks.{IoTask, Carry, Ask, Settle, Turn, Reply, Take, Finish}
-use Rattle.io_rounds.specs.Going.{IoState, IoGoes, Begins, Turns, Acts, Ends, IoComes, Here, Goes}
-use Rattle.io_law.specs.Telling.{Told, Came, told, told_by, told_behind, and_told, memory_left}
+use Rattle.io_rounds.specs.Tasks.{IoTask, Carry, Ask, Settle, Turn, Reply, Fetch, Finish}
+use Rattle.io_rounds.specs.Going.{IoState, IoGoes, IoBegins, IoTurns, IoActs, IoEnds, IoComes, Here, Further}
+use Rattle.io_law.specs.Telling.{IoTold, ToldCame, io_told, told_by, told_behind, and_told, memory_left}
 use Rattle.io_law.specs.Laws.{ReadsAreTold}
 use Rattle.io_law.proofs.Keeping.{Keeps, behind_all, at_first}
 
@@ -47,21 +47,21 @@ met_stands None packet addr load is =
 met_stands (Some memory) packet addr load is =
     (memory, refl, reads_held memory (packet ∷ []) 0 addr load (ap (λ m. Some m) is))
 
-pub came_node : {a b : ℕ} {x y : Met} → Some (Came a x) ≡ Some (Came b y) → a ≡ b
+pub came_node : {a b : ℕ} {x y : Met} → Some (ToldCame a x) ≡ Some (ToldCame b y) → a ≡ b
 came_node is = cc
 
-pub came_met : {a b : ℕ} {x y : Met} → Some (Came a x) ≡ Some (Came b y) → x ≡ y
+pub came_met : {a b : ℕ} {x y : Met} → Some (ToldCame a x) ≡ Some (ToldCame b y) → x ≡ y
 came_met is = cc
 
 event_stands : (s : IoState) (task : IoTask) (what : Happened) (node addr : ℕ)
-    (load : List ℕ) → told_behind s task what ≡ Some (Came node (Read addr load))
+    (load : List ℕ) → told_behind s task what ≡ Some (ToldCame node (Read addr load))
     → Stand (memory_of s.stations node) addr load
-event_stands s (Take at) (Answers.Left packet) node addr load is =
+event_stands s (Fetch at) (Answers.Left packet) node addr load is =
     subst (λ n. Stand (memory_of s.stations n) addr load) (came_node is)
     (met_stands (memory_of s.stations at) packet addr load (came_met is))
-event_stands s (Take at) Answers.Took node addr load is = absurd cc
-event_stands s (Take at) Answers.Answered node addr load is = absurd cc
-event_stands s (Take at) _ node addr load is = absurd cc
+event_stands s (Fetch at) Answers.Took node addr load is = absurd cc
+event_stands s (Fetch at) Answers.Answered node addr load is = absurd cc
+event_stands s (Fetch at) _ node addr load is = absurd cc
 event_stands s (Ask at tid line) Answers.Took node addr load is = absurd cc
 event_stands s (Ask at tid line) _ node addr load is = absurd cc
 event_stands s (Carry line) what node addr load is = absurd cc
@@ -72,14 +72,14 @@ event_stands s Finish what node addr load is = absurd cc
 
 goes_stands : {names : List (List ℕ)} {script : List Numbered} {s t : IoState}
     (goes : IoGoes names script s t) (node addr : ℕ) (load : List ℕ)
-    → told_by goes ≡ Some (Came node (Read addr load))
+    → told_by goes ≡ Some (ToldCame node (Read addr load))
     → Stand (memory_of s.stations node) addr load
-goes_stands (Begins line rest is to) node addr load same = absurd cc
-goes_stands (Turns at rest is to) node addr load same = absurd cc
-goes_stands {names} {script} {s} (Acts task rest line block is event block_is sent to)
+goes_stands (IoBegins line rest is to) node addr load same = absurd cc
+goes_stands (IoTurns at rest is to) node addr load same = absurd cc
+goes_stands {names} {script} {s} (IoActs task rest line block is event block_is sent to)
     node addr load same =
     event_stands s task (happened line block) node addr load same
-goes_stands (Ends rest is to) node addr load same = absurd cc
+goes_stands (IoEnds rest is to) node addr load same = absurd cc
 
 -- ---- the lines before a line
 
@@ -102,19 +102,19 @@ get_push (first ∷ xs) y x (suc k) is = by (get_push xs y x k is)
     by (inr last) = inr (last.0, ap (λ l. first ∷ l) last.1)
 
 -- if what is told last stands, and all told before
-told_stands : (lines : List Told) (more : Option Told) (k node addr : ℕ) (load : List ℕ)
-    → (slice_get lines k ≡ Some (Came node (Read addr load))
+told_stands : (lines : List IoTold) (more : Option IoTold) (k node addr : ℕ) (load : List ℕ)
+    → (slice_get lines k ≡ Some (ToldCame node (Read addr load))
     → Stand (memory_left node (take k lines)) addr load)
-    → (more ≡ Some (Came node (Read addr load)) → Stand (memory_left node lines) addr load)
-    → slice_get (and_told lines more) k ≡ Some (Came node (Read addr load))
+    → (more ≡ Some (ToldCame node (Read addr load)) → Stand (memory_left node lines) addr load)
+    → slice_get (and_told lines more) k ≡ Some (ToldCame node (Read addr load))
     → Stand (memory_left node (take k (and_told lines more))) addr load
 told_stands lines None k node addr load before last is = before is
 told_stands lines (Some line) k node addr load before last is =
-    by (get_push lines line (Came node (Read addr load)) k is)
+    by (get_push lines line (ToldCame node (Read addr load)) k is)
   where
-    by : ((slice_get lines k ≡ Some (Came node (Read addr load)))
+    by : ((slice_get lines k ≡ Some (ToldCame node (Read addr load)))
         × (take k (lines ++ line ∷ []) ≡ take k lines))
-        ⊎ ((line ≡ Came node (Read addr load)) × (take k (lines ++ line ∷ []) ≡ lines))
+        ⊎ ((line ≡ ToldCame node (Read addr load)) × (take k (lines ++ line ∷ []) ≡ lines))
         → Stand (memory_left node (take k (lines ++ line ∷ []))) addr load
     by (inl one) =
         subst (λ l. Stand (memory_left node l) addr load) (sym one.1) (before one.0)
@@ -125,12 +125,12 @@ told_stands lines (Some line) k node addr load before last is =
 comes_stands : {names : List (List ℕ)} {script : List Numbered} {first s : IoState} (count : ℕ)
     → Keeps count [] first → (comes : IoComes names script first s)
     → (k node addr : ℕ) (load : List ℕ)
-    → slice_get (told comes) k ≡ Some (Came node (Read addr load))
-    → Stand (memory_left node (take k (told comes))) addr load
+    → slice_get (io_told comes) k ≡ Some (ToldCame node (Read addr load))
+    → Stand (memory_left node (take k (io_told comes))) addr load
 comes_stands count keeps (Here is) zero node addr load at = absurd cc
 comes_stands count keeps (Here is) (suc k) node addr load at = absurd cc
-comes_stands count keeps (Goes before comes goes) k node addr load at =
-    told_stands (told comes) (told_by goes) k node addr load
+comes_stands count keeps (Further before comes goes) k node addr load at =
+    told_stands (io_told comes) (told_by goes) k node addr load
     (comes_stands count keeps comes k node addr load)
     (λ last. subst (λ m. Stand m addr load) ((behind_all count keeps comes).same node)
     (goes_stands goes node addr load last))

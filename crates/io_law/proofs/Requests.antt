@@ -7,7 +7,7 @@ use Rattle.std.proofs.lemmas.List.{map-append}
 use Rattle.rio_packets.specs.Fields.{ftype_of}
 use Rattle.fabric_script.specs.declared.lines.Numbered.{Numbered}
 use Rattle.fabric_model.specs.Network.{Item}
-use Rattle.fabric_model.specs.Laws.History.{taken_by, taken, gone, WasTaken}
+use Rattle.fabric_model.specs.Laws.History.{taken_by, items_taken, gone, WasTaken}
 use Rattle.fabric_model.specs.Laws.Leaving.{IsAfterMoves, moves}
 use Rattle.fabric_model.specs.Laws.Holding.{how_often}
 use Rattle.fabric_model.proofs.Lists.{all-append, all_weaker}
@@ -20,11 +20,11 @@ use Rattle.fabric_ports.specs.declared.answers.Happened.{Happened}
 use Rattle.fabric_ports.specs.declared.answers.Happened.TheVariants as Answers
 use Rattle.io_packets.specs.declared.io.Io.{Io}
 use Rattle.io_rounds.specs.Stations.{answer_at_node}
-use Rattle.io_rounds.specs.Tasks.{IoTask, Carry, Ask, Settle, Turn, Reply, Take, Finish}
-use Rattle.io_rounds.specs.Going.{IoState, IoGoes, Begins, Turns, Acts, Ends, IoComes, Here, Goes}
-use Rattle.io_law.specs.Telling.{told}
-use Rattle.io_law.specs.Items.{came_behind, network_at, asked_by, replied_by, came_by, asked, came}
-use Rattle.io_law.specs.Replies.{Arrival, arrived_behind, arrived_by, arrived, Served, served_with, served_behind, served_by, served_at}
+use Rattle.io_rounds.specs.Tasks.{IoTask, Carry, Ask, Settle, Turn, Reply, Fetch, Finish}
+use Rattle.io_rounds.specs.Going.{IoState, IoGoes, IoBegins, IoTurns, IoActs, IoEnds, IoComes, Here, Further}
+use Rattle.io_law.specs.Telling.{io_told}
+use Rattle.io_law.specs.Items.{came_behind, network_at, asked_by, replied_by, came_by, io_asked, came}
+use Rattle.io_law.specs.Replies.{IoArrival, arrived_behind, arrived_by, io_arrived, Served, served_with, served_behind, served_by, io_served_at}
 use Rattle.io_law.specs.Laws.{RequestsWereAsked}
 use Rattle.io_law.proofs.Arriving.{stays_same}
 use Rattle.io_law.proofs.Fit.{IsFit, fit_comes, first_fit}
@@ -61,26 +61,26 @@ all_in old (x ∷ xs) = (
 pub all_asked : {names : List (List ℕ)} {script : List Numbered} {first s : IoState}
     (comes : IoComes names script first s) → IsFit first → first.trace ≡ []
     → NoAnswers (steps_of s.trace)
-    → AllByRecursion (λ x. (IsReplied x → ⊥) → IsIn (asked comes) x)
-    (taken (start script).network (steps_of s.trace))
+    → AllByRecursion (λ x. (IsReplied x → ⊥) → IsIn (io_asked comes) x)
+    (items_taken (start script).network (steps_of s.trace))
 all_asked {names} {script} (Here is) fit none plain =
     subst (λ l. AllByRecursion (λ x. (IsReplied x → ⊥) → IsIn [] x)
-    (taken (start script).network (steps_of l)))
+    (items_taken (start script).network (steps_of l)))
     (sym (ap (λ (x : IoState). x.trace) is ∙ none)) tt
-all_asked {names} {script} {first} {s} (Goes before comes goes) fit none plain =
+all_asked {names} {script} {first} {s} (Further before comes goes) fit none plain =
     let parts = last_none script before (added goes) s (trace_goes goes) plain in
-    let old = taken (start script).network (steps_of before.trace) in
+    let old = items_taken (start script).network (steps_of before.trace) in
     let own = fit_comes comes fit in
-    let P = λ (x : Item). (IsReplied x → ⊥) → IsIn (asked comes ++ asked_by goes) x in
+    let P = λ (x : Item). (IsReplied x → ⊥) → IsIn (io_asked comes ++ asked_by goes) x in
     subst (AllByRecursion P)
     (sym (gathered_goes taken_by goes ∙ ap (λ l. old ++ l) (goes_taken goes own parts.1)))
     (all-append P old (asked_by goes ++ replied_by goes)
-    (all_weaker (λ x. (IsReplied x → ⊥) → IsIn (asked comes) x) P
-    (λ x is other. in_append (asked comes) (asked_by goes) x (is other)) old
+    (all_weaker (λ x. (IsReplied x → ⊥) → IsIn (io_asked comes) x) P
+    (λ x is other. in_append (io_asked comes) (asked_by goes) x (is other)) old
     (all_asked comes fit none parts.0))
     (all-append P (asked_by goes) (replied_by goes)
-    (all_weaker (IsIn (asked comes ++ asked_by goes)) P (λ x is other. is) (asked_by goes)
-    (all_in (asked comes) (asked_by goes)))
+    (all_weaker (IsIn (io_asked comes ++ asked_by goes)) P (λ x is other. is) (asked_by goes)
+    (all_in (io_asked comes) (asked_by goes)))
     (all_weaker IsReplied P (λ x is other. absurd (other is)) (replied_by goes)
     (goes_replied goes own))))
 
@@ -88,14 +88,14 @@ all_asked {names} {script} {first} {s} (Goes before comes goes) fit none plain =
 all_plain : {names : List (List ℕ)} {script : List Numbered} {first s : IoState}
     (comes : IoComes names script first s) → IsFit first → first.trace ≡ []
     → NoAnswers (steps_of s.trace)
-    → AllByRecursion (λ x. IsPlain x.taken) (taken (start script).network (steps_of s.trace))
+    → AllByRecursion (λ x. IsPlain x.taken) (items_taken (start script).network (steps_of s.trace))
 all_plain {names} {script} (Here is) fit none plain =
     subst (λ l. AllByRecursion (λ x. IsPlain x.taken)
-    (taken (start script).network (steps_of l)))
+    (items_taken (start script).network (steps_of l)))
     (sym (ap (λ (x : IoState). x.trace) is ∙ none)) tt
-all_plain {names} {script} {first} {s} (Goes before comes goes) fit none plain =
+all_plain {names} {script} {first} {s} (Further before comes goes) fit none plain =
     let parts = last_none script before (added goes) s (trace_goes goes) plain in
-    let old = taken (start script).network (steps_of before.trace) in
+    let old = items_taken (start script).network (steps_of before.trace) in
     let own = fit_comes comes fit in
     let P = λ (x : Item). IsPlain x.taken in
     subst (AllByRecursion P)
@@ -115,35 +115,35 @@ requests_asked names script io s comes fit =
     let shown = lawful net s.trace set_up (sent_comes set_up refl comes).made in
     let was = λ (x : Item). IsAfterMoves x.taken (how_often x.number (moves net steps)) x.now
     × WasTaken net steps x in
-    all_weaker was (λ x. (ftype_of x.now ≡ 13 → ⊥) → 0 < how_often x.number (asked comes))
+    all_weaker was (λ x. (ftype_of x.now ≡ 13 → ⊥) → 0 < how_often x.number (io_asked comes))
     (λ x is other.
     let before : Item = record x { now = x.taken } in
-    let plain = get_all (λ y. IsPlain y.taken) (taken net steps) x.number before
+    let plain = get_all (λ y. IsPlain y.taken) (items_taken net steps) x.number before
     (all_plain comes own refl none) is.1 in
     let same = stays_same x.taken _ x.now is.0 (not_maintenance x.taken plain) in
-    let stands = get_all (λ y. (IsReplied y → ⊥) → IsIn (asked comes) y) (taken net steps)
+    let stands = get_all (λ y. (IsReplied y → ⊥) → IsIn (io_asked comes) y) (items_taken net steps)
     x.number before (all_asked comes own refl none) is.1
     (λ response. other (ap ftype_of same ∙ response)) in
     let stands_is = stands.is in
-    often_at (asked comes) stands.place before stands_is)
+    often_at (io_asked comes) stands.place before stands_is)
     (came comes)
     (subst (AllByRecursion was) (comes_gone comes refl own) shown.unchanged.same)
 
 -- ---- what is served came
 
 -- the arrival of what is served
-abbrev pub arrival_of : ℕ → Served → Arrival
+abbrev pub arrival_of : ℕ → Served → IoArrival
 arrival_of node x = record { before = x.before; node = node; item = x.item }
 
-with_in : (lines node : ℕ) (old : List Arrival) (answer : Option Io) (items : List Item)
+with_in : (lines node : ℕ) (old : List IoArrival) (answer : Option Io) (items : List Item)
     → AllByRecursion (λ x. IsIn
     (old ++ map (λ item. record { before = lines; node = node; item = item }) items)
     (arrival_of node x)) (served_with lines answer items)
 with_in lines node old None items = tt
 with_in lines node old (Some io) [] = tt
 with_in lines node old (Some io) (item ∷ items) =
-    let mine : Arrival = record { before = lines; node = node; item = item } in
-    let rest : List Arrival =
+    let mine : IoArrival = record { before = lines; node = node; item = item } in
+    let rest : List IoArrival =
     map (λ item. record { before = lines; node = node; item = item }) items in (
       record { place = length old; is = slice_get-seam old mine rest },
       subst (λ l. AllByRecursion (λ x. IsIn l (arrival_of node x))
@@ -151,11 +151,11 @@ with_in lines node old (Some io) (item ∷ items) =
           (with_in lines node (old ++ mine ∷ []) (Some io) items),
     )
 
-task_in : (lines node : ℕ) (old : List Arrival) (answers : ℕ → List ℕ → Option Io) (task : IoTask)
+task_in : (lines node : ℕ) (old : List IoArrival) (answers : ℕ → List ℕ → Option Io) (task : IoTask)
     (what : Happened) (items : List Item)
     → AllByRecursion (λ x. IsIn (old ++ arrived_behind lines task what items) (arrival_of node x))
     (served_behind node lines answers task what items)
-task_in lines node old answers (Take at) (Answers.Left packet) items = by (eqb at node) refl
+task_in lines node old answers (Fetch at) (Answers.Left packet) items = by (eqb at node) refl
   where
     by : (b : Bool) → eqb at node ≡ b
         → AllByRecursion (λ x. IsIn
@@ -167,9 +167,9 @@ task_in lines node old answers (Take at) (Answers.Left packet) items = by (eqb a
         (arrival_of n x)) (served_with lines (answers at packet) items)) (eqb-true at node same)
         (with_in lines at old (answers at packet) items)
     by false other = tt
-task_in lines node old answers (Take at) Answers.Took items = tt
-task_in lines node old answers (Take at) Answers.Answered items = tt
-task_in lines node old answers (Take at) _ items = tt
+task_in lines node old answers (Fetch at) Answers.Took items = tt
+task_in lines node old answers (Fetch at) Answers.Answered items = tt
+task_in lines node old answers (Fetch at) _ items = tt
 task_in lines node old answers (Ask at tid line) what items = tt
 task_in lines node old answers (Carry line) what items = tt
 task_in lines node old answers Settle what items = tt
@@ -178,29 +178,29 @@ task_in lines node old answers (Reply at line) what items = tt
 task_in lines node old answers Finish what items = tt
 
 goes_in : {names : List (List ℕ)} {script : List Numbered} {s t : IoState} (lines node : ℕ)
-    (old : List Arrival) (goes : IoGoes names script s t)
+    (old : List IoArrival) (goes : IoGoes names script s t)
     → AllByRecursion (λ x. IsIn (old ++ arrived_by lines goes) (arrival_of node x))
     (served_by node lines goes)
-goes_in lines node old (Begins line rest is to) = tt
-goes_in lines node old (Turns at rest is to) = tt
+goes_in lines node old (IoBegins line rest is to) = tt
+goes_in lines node old (IoTurns at rest is to) = tt
 goes_in {names} {script} {s} lines node old
-    (Acts task rest line block is event block_is sent to) =
+    (IoActs task rest line block is event block_is sent to) =
     task_in lines node old (answer_at_node s.stations) task (happened line block)
     (gone (network_at script s) (steps_of block))
-goes_in lines node old (Ends rest is to) = tt
+goes_in lines node old (IoEnds rest is to) = tt
 
 pub served_in : {names : List (List ℕ)} {script : List Numbered} {first s : IoState} (node : ℕ)
     (comes : IoComes names script first s)
-    → AllByRecursion (λ x. IsIn (arrived comes) (arrival_of node x)) (served_at node comes)
+    → AllByRecursion (λ x. IsIn (io_arrived comes) (arrival_of node x)) (io_served_at node comes)
 served_in node (Here is) = tt
-served_in node (Goes before comes goes) =
-    let lines = length (told comes) in
-    let P = λ (x : Served). IsIn (arrived comes ++ arrived_by lines goes) (arrival_of node x) in
-    all-append P (served_at node comes) (served_by node lines goes)
-    (all_weaker (λ x. IsIn (arrived comes) (arrival_of node x)) P
-    (λ x is. in_append (arrived comes) (arrived_by lines goes) (arrival_of node x) is)
-    (served_at node comes) (served_in node comes))
-    (goes_in lines node (arrived comes) goes)
+served_in node (Further before comes goes) =
+    let lines = length (io_told comes) in
+    let P = λ (x : Served). IsIn (io_arrived comes ++ arrived_by lines goes) (arrival_of node x) in
+    all-append P (io_served_at node comes) (served_by node lines goes)
+    (all_weaker (λ x. IsIn (io_arrived comes) (arrival_of node x)) P
+    (λ x is. in_append (io_arrived comes) (arrived_by lines goes) (arrival_of node x) is)
+    (io_served_at node comes) (served_in node comes))
+    (goes_in lines node (io_arrived comes) goes)
 
 -- ---- each of them once
 
@@ -217,16 +217,16 @@ task_few : (n lines node : ℕ) (answers : ℕ → List ℕ → Option Io) (task
     → how_often n (map (λ (x : Served). x.item)
     (served_behind node lines answers task what items))
     ≤ how_often n (came_behind task what items)
-task_few n lines node answers (Take at) (Answers.Left packet) items = by (eqb at node)
+task_few n lines node answers (Fetch at) (Answers.Left packet) items = by (eqb at node)
   where
     by : (b : Bool)
         → how_often n (map (λ (x : Served). x.item)
         (if b then served_with lines (answers at packet) items else [])) ≤ how_often n items
     by true = with_few n lines (answers at packet) items
     by false = omega arith
-task_few n lines node answers (Take at) Answers.Took items = omega arith
-task_few n lines node answers (Take at) Answers.Answered items = omega arith
-task_few n lines node answers (Take at) _ items = omega arith
+task_few n lines node answers (Fetch at) Answers.Took items = omega arith
+task_few n lines node answers (Fetch at) Answers.Answered items = omega arith
+task_few n lines node answers (Fetch at) _ items = omega arith
 task_few n lines node answers (Ask at tid line) what items = omega arith
 task_few n lines node answers (Carry line) what items = omega arith
 task_few n lines node answers Settle what items = omega arith
@@ -238,26 +238,26 @@ goes_few : {names : List (List ℕ)} {script : List Numbered} {s t : IoState} (n
     (goes : IoGoes names script s t)
     → how_often n (map (λ (x : Served). x.item) (served_by node lines goes))
     ≤ how_often n (came_by goes)
-goes_few n lines node (Begins line rest is to) = omega arith
-goes_few n lines node (Turns at rest is to) = omega arith
+goes_few n lines node (IoBegins line rest is to) = omega arith
+goes_few n lines node (IoTurns at rest is to) = omega arith
 goes_few {names} {script} {s} n lines node
-    (Acts task rest line block is event block_is sent to) =
+    (IoActs task rest line block is event block_is sent to) =
     task_few n lines node (answer_at_node s.stations) task (happened line block)
     (gone (network_at script s) (steps_of block))
-goes_few n lines node (Ends rest is to) = omega arith
+goes_few n lines node (IoEnds rest is to) = omega arith
 
 pub served_few : {names : List (List ℕ)} {script : List Numbered} {first s : IoState} (n node : ℕ)
     (comes : IoComes names script first s)
-    → how_often n (map (λ (x : Served). x.item) (served_at node comes))
+    → how_often n (map (λ (x : Served). x.item) (io_served_at node comes))
     ≤ how_often n (came comes)
 served_few n node (Here is) = omega arith
-served_few n node (Goes before comes goes) =
-    let lines = length (told comes) in
+served_few n node (Further before comes goes) =
+    let lines = length (io_told comes) in
     omega (
       arith,
-      ap (how_often n) (map-append (λ (x : Served). x.item) (served_at node comes)
+      ap (how_often n) (map-append (λ (x : Served). x.item) (io_served_at node comes)
           (served_by node lines goes)),
-      how_often-append n (map (λ (x : Served). x.item) (served_at node comes))
+      how_often-append n (map (λ (x : Served). x.item) (io_served_at node comes))
           (map (λ (x : Served). x.item) (served_by node lines goes)),
       how_often-append n (came comes) (came_by goes),
       served_few n node comes,

@@ -5,7 +5,7 @@ use Rattle.std.proofs.lemmas.Bool.{eq-eqb}
 use Rattle.rio_packets.specs.Fields.{ftype_of, is_maintenance}
 use Rattle.fabric_script.specs.declared.lines.Numbered.{Numbered}
 use Rattle.fabric_model.specs.Network.{Item}
-use Rattle.fabric_model.specs.Laws.History.{taken_by, taken, WasTaken}
+use Rattle.fabric_model.specs.Laws.History.{taken_by, items_taken, WasTaken}
 use Rattle.fabric_model.specs.Laws.Holding.{how_often}
 use Rattle.fabric_model.specs.Laws.Leaving.{IsAfterMoves, moves}
 use Rattle.fabric_model.proofs.Lists.{all-append, all_weaker}
@@ -13,9 +13,9 @@ use Rattle.fabric_model.proofs.Holding.{how_often-append}
 use Rattle.fabric_trace.specs.Lines.{steps_of}
 use Rattle.fabric_trace.specs.Runs.{start, set_up_all, bare}
 use Rattle.fabric_trace.proofs.Starting.{lawful}
-use Rattle.io_rounds.specs.Tasks.{IoTask, Carry, Ask, Settle, Turn, Reply, Take, Finish}
-use Rattle.io_rounds.specs.Going.{IoState, IoGoes, Begins, Turns, Acts, Ends, IoComes, Here, Goes}
-use Rattle.io_law.specs.Items.{replied_behind, network_at, asked_by, replied_by, replied, came}
+use Rattle.io_rounds.specs.Tasks.{IoTask, Carry, Ask, Settle, Turn, Reply, Fetch, Finish}
+use Rattle.io_rounds.specs.Going.{IoState, IoGoes, IoBegins, IoTurns, IoActs, IoEnds, IoComes, Here, Further}
+use Rattle.io_law.specs.Items.{replied_behind, network_at, asked_by, replied_by, io_replied, came}
 use Rattle.io_law.specs.Laws.{ResponsesWereReplied}
 use Rattle.io_law.proofs.Arriving.{same_after, all_come}
 use Rattle.io_law.proofs.Fit.{IsFit, fit_comes, first_fit}
@@ -48,23 +48,23 @@ all_among (item ∷ items) = (
 comes_among : {names : List (List ℕ)} {script : List Numbered} {first s : IoState}
     (comes : IoComes names script first s) → IsFit first → first.trace ≡ []
     → NoAnswers (steps_of s.trace)
-    → AllByRecursion (IsAmong (replied comes))
-    (taken (start script).network (steps_of s.trace))
+    → AllByRecursion (IsAmong (io_replied comes))
+    (items_taken (start script).network (steps_of s.trace))
 comes_among {names} {script} (Here is) fit none plain =
-    subst (λ l. AllByRecursion (IsAmong []) (taken (start script).network (steps_of l)))
+    subst (λ l. AllByRecursion (IsAmong []) (items_taken (start script).network (steps_of l)))
     (sym (ap (λ (x : IoState). x.trace) is ∙ none)) tt
-comes_among {names} {script} {first} {s} (Goes before comes goes) fit none plain =
+comes_among {names} {script} {first} {s} (Further before comes goes) fit none plain =
     let parts = last_none script before (added goes) s (trace_goes goes) plain in
     let own = fit_comes comes fit in
-    let old = taken (start script).network (steps_of before.trace) in
-    let replies = replied comes ++ replied_by goes in
+    let old = items_taken (start script).network (steps_of before.trace) in
+    let replies = io_replied comes ++ replied_by goes in
     subst (AllByRecursion (IsAmong replies))
     (sym (gathered_goes taken_by goes ∙ ap (λ l. old ++ l) (goes_taken goes own parts.1)))
     (all-append (IsAmong replies) old (asked_by goes ++ replied_by goes)
-    (all_weaker (IsAmong (replied comes)) (IsAmong replies)
+    (all_weaker (IsAmong (io_replied comes)) (IsAmong replies)
     (λ x among response.
     let few = among response in
-    omega (arith, few, how_often-append x.number (replied comes) (replied_by goes)))
+    omega (arith, few, how_often-append x.number (io_replied comes) (replied_by goes)))
     old (comes_among comes fit none parts.0))
     (all-append (IsAmong replies) (asked_by goes) (replied_by goes)
     (all_weaker IsAsked (IsAmong replies) (λ x is response. absurd (is.2 response))
@@ -72,7 +72,7 @@ comes_among {names} {script} {first} {s} (Goes before comes goes) fit none plain
     (all_weaker (IsAmong (replied_by goes)) (IsAmong replies)
     (λ x among response.
     let few = among response in
-    omega (arith, few, how_often-append x.number (replied comes) (replied_by goes)))
+    omega (arith, few, how_often-append x.number (io_replied comes) (replied_by goes)))
     (replied_by goes) (all_among (replied_by goes)))))
 
 -- ---- no reply is one of another
@@ -84,28 +84,28 @@ replied_few n (Ask node tid line) items = omega arith
 replied_few n (Carry line) items = omega arith
 replied_few n Settle items = omega arith
 replied_few n (Turn node) items = omega arith
-replied_few n (Take node) items = omega arith
+replied_few n (Fetch node) items = omega arith
 replied_few n Finish items = omega arith
 
 replied_goes_few : {names : List (List ℕ)} {script : List Numbered} {s t : IoState} (n : ℕ)
     (goes : IoGoes names script s t)
     → how_often n (replied_by goes)
-    ≤ how_often n (taken (network_at script s) (steps_of (added goes)))
-replied_goes_few n (Begins line rest is to) = omega arith
-replied_goes_few n (Turns node rest is to) = omega arith
-replied_goes_few {names} {script} {s} n (Acts task rest line block is event block_is sent to) =
-    replied_few n task (taken (network_at script s) (steps_of block))
-replied_goes_few n (Ends rest is to) = omega arith
+    ≤ how_often n (items_taken (network_at script s) (steps_of (added goes)))
+replied_goes_few n (IoBegins line rest is to) = omega arith
+replied_goes_few n (IoTurns node rest is to) = omega arith
+replied_goes_few {names} {script} {s} n (IoActs task rest line block is event block_is sent to) =
+    replied_few n task (items_taken (network_at script s) (steps_of block))
+replied_goes_few n (IoEnds rest is to) = omega arith
 
 replied_comes_few : {names : List (List ℕ)} {script : List Numbered} {first s : IoState} (n : ℕ)
     (comes : IoComes names script first s)
-    → how_often n (replied comes)
-    ≤ how_often n (taken (start script).network (steps_of s.trace))
+    → how_often n (io_replied comes)
+    ≤ how_often n (items_taken (start script).network (steps_of s.trace))
 replied_comes_few n (Here is) = omega arith
-replied_comes_few n (Goes before comes goes) =
+replied_comes_few n (Further before comes goes) =
     omega (
       arith,
-      how_often-append n (replied comes) (replied_by goes),
+      how_often-append n (io_replied comes) (replied_by goes),
       replied_comes_few n comes,
       replied_goes_few n goes,
       given_goes n taken_by goes,
@@ -128,11 +128,11 @@ were_replied names script io s comes fit =
       replies = all_weaker
           (λ item. IsAfterMoves item.taken (how_often item.number (moves net steps)) item.now
           × WasTaken net steps item)
-          (λ item. ftype_of item.now ≡ 13 → 0 < how_often item.number (replied comes))
+          (λ item. ftype_of item.now ≡ 13 → 0 < how_often item.number (io_replied comes))
           (λ item was response.
           let same = same_after item.taken _ item.now was.0
           (no_maintenance item.now response) in
-          get_all (IsAmong (replied comes)) (taken net steps) item.number
+          get_all (IsAmong (io_replied comes)) (items_taken net steps) item.number
           (record item { now = item.taken }) among was.1
           (ap ftype_of (sym same) ∙ response))
           (came comes)

@@ -6,7 +6,7 @@ use Rattle.std.proofs.lemmas.List.{length-append}
 use Rattle.fabric_script.specs.declared.lines.Numbered.{Numbered}
 use Rattle.fabric_model.specs.Network.{Network, Item}
 use Rattle.fabric_model.specs.Steps.{Step, after}
-use Rattle.fabric_model.specs.Laws.History.{taken_by, taken}
+use Rattle.fabric_model.specs.Laws.History.{taken_by, items_taken}
 use Rattle.fabric_model.specs.Laws.Tables.{is_answer}
 use Rattle.fabric_model.proofs.Lists.{all-append, all-parts}
 use Rattle.fabric_trace.specs.Lines.{TraceLine, steps_of}
@@ -14,8 +14,8 @@ use Rattle.fabric_trace.specs.Runs.{start, set_up_all, bare}
 use Rattle.fabric_trace.specs.SetUps.{IsSetUp}
 use Rattle.fabric_trace.proofs.Keeping.{steps_of-append}
 use Rattle.fabric_trace.proofs.Starting.{lawful}
-use Rattle.io_rounds.specs.Going.{IoState, IoGoes, IoComes, Here, Goes}
-use Rattle.io_law.specs.Items.{network_at, asked_by, replied_by, asked, replied}
+use Rattle.io_rounds.specs.Going.{IoState, IoGoes, IoComes, Here, Further}
+use Rattle.io_law.specs.Items.{network_at, asked_by, replied_by, io_asked, io_replied}
 use Rattle.io_law.proofs.Fit.{IsFit, fit_comes}
 use Rattle.io_law.proofs.Numbers.{GivesNone, GivesOne, gives}
 use Rattle.io_law.proofs.Places.{slice_get-seam}
@@ -30,13 +30,14 @@ abbrev NumberedFrom : ℕ → List Item → Type 0
 NumberedFrom low [] = Unit {0}
 NumberedFrom low (x ∷ xs) = (x.number ≡ low) × NumberedFrom (suc low) xs
 
-taken_numbered : (net : Network) (steps : List Step) → NumberedFrom net.given (taken net steps)
+taken_numbered : (net : Network) (steps : List Step)
+    → NumberedFrom net.given (items_taken net steps)
 taken_numbered net [] = tt
 taken_numbered net (step ∷ steps) =
     by (gives net step) (taken_numbered (after net step) steps)
   where
     rest : List Item
-    rest = taken (after net step) steps
+    rest = items_taken (after net step) steps
 
     by : GivesNone net step ⊎ GivesOne net step → NumberedFrom (after net step).given rest
         → NumberedFrom net.given (taken_by net step ++ rest)
@@ -66,10 +67,11 @@ numbered_at front (x ∷ items) is = (
 
 -- each item that is taken stands under its number
 pub taken_at : (net : Network) (steps : List Step) → net.given ≡ 0
-    → AllByRecursion (λ x. slice_get (taken net steps) x.number ≡ Some x) (taken net steps)
+    → AllByRecursion (λ x. slice_get (items_taken net steps) x.number ≡ Some x)
+    (items_taken net steps)
 taken_at net steps none =
-    numbered_at [] (taken net steps)
-    (subst (λ n. NumberedFrom n (taken net steps)) none (taken_numbered net steps))
+    numbered_at [] (items_taken net steps)
+    (subst (λ n. NumberedFrom n (items_taken net steps)) none (taken_numbered net steps))
 
 -- numbers from one on, each greater than the one before, up to another
 abbrev pub Rises : ℕ → List Item → ℕ → Type 0
@@ -141,7 +143,7 @@ rises_two low (first ∷ xs) high (suc i) (suc j) x y is less at later =
 -- ---- what is asked and what is replied rises
 
 abbrev pub count_at : (script : List Numbered) (s : IoState) → ℕ
-count_at script s = length (taken (start script).network (steps_of s.trace))
+count_at script s = length (items_taken (start script).network (steps_of s.trace))
 
 pub last_none : (script : List Numbered) (before : IoState) (lines : List TraceLine) (t : IoState)
     → t.trace ≡ before.trace ++ lines → NoAnswers (steps_of t.trace)
@@ -160,12 +162,13 @@ goes_rises {names} {script} {s} {t} goes set_up own fit none =
     let counted = (lawful (set_up_all bare script) s.trace set_up own.made).holding_exactly.counted
     in
     let whole = ap length (gathered_goes taken_by goes)
-    ∙ length-append (taken (start script).network (steps_of s.trace)) (taken net steps) in
+    ∙ length-append (items_taken (start script).network (steps_of s.trace)) (items_taken net steps)
+    in
     subst (λ l. Rises (count_at script s) l (count_at script t)) (goes_taken goes fit none)
-    (subst (λ n. Rises (count_at script s) (taken net steps) n)
+    (subst (λ n. Rises (count_at script s) (items_taken net steps) n)
     (sym (whole))
-    (numbered_rises (count_at script s) (taken net steps)
-    (subst (λ n. NumberedFrom n (taken net steps)) counted (taken_numbered net steps))))
+    (numbered_rises (count_at script s) (items_taken net steps)
+    (subst (λ n. NumberedFrom n (items_taken net steps)) counted (taken_numbered net steps))))
 
 pub record SentRise (asks replies : List Item) (count : ℕ) : Type 0 where
   pub asks_rise : Rises 0 asks count
@@ -174,20 +177,20 @@ pub record SentRise (asks replies : List Item) (count : ℕ) : Type 0 where
 pub comes_rise : {names : List (List ℕ)} {script : List Numbered} {first s : IoState}
     (comes : IoComes names script first s) → IsSetUp (set_up_all bare script)
     → first.trace ≡ [] → IsFit first → NoAnswers (steps_of s.trace)
-    → SentRise (asked comes) (replied comes) (count_at script s)
+    → SentRise (io_asked comes) (io_replied comes) (count_at script s)
 comes_rise (Here is) set_up none fit plain =
     record { asks_rise = omega arith; replies_rise = omega arith }
-comes_rise {names} {script} {first} {s} (Goes before comes goes) set_up none fit plain =
+comes_rise {names} {script} {first} {s} (Further before comes goes) set_up none fit plain =
     let parts = last_none script before (added goes) s (trace_goes goes) plain in
     let first_part = comes_rise comes set_up none fit parts.0 in
     let more = goes_rises goes set_up (sent_comes set_up none comes) (fit_comes comes fit) parts.1
     in
     record {
-      asks_rise = rises_append 0 (asked comes) (count_at script before) (asked_by goes)
+      asks_rise = rises_append 0 (io_asked comes) (count_at script before) (asked_by goes)
           (count_at script s) first_part.asks_rise
           (rises_front (count_at script before) (asked_by goes) (replied_by goes)
           (count_at script s) more);
-      replies_rise = rises_append 0 (replied comes) (count_at script before) (replied_by goes)
+      replies_rise = rises_append 0 (io_replied comes) (count_at script before) (replied_by goes)
           (count_at script s) first_part.replies_rise
           (rises_back (count_at script before) (asked_by goes) (replied_by goes)
           (count_at script s) more);
@@ -202,18 +205,18 @@ pub record AllSent (P : Item → Type 0) (asks replies : List Item) : Type 0 whe
 pub all_sent : {names : List (List ℕ)} {script : List Numbered} {first s : IoState}
     (P : Item → Type 0) (comes : IoComes names script first s) → IsFit first
     → NoAnswers (steps_of s.trace)
-    → AllByRecursion P (taken (start script).network (steps_of s.trace))
-    → AllSent P (asked comes) (replied comes)
+    → AllByRecursion P (items_taken (start script).network (steps_of s.trace))
+    → AllSent P (io_asked comes) (io_replied comes)
 all_sent P (Here is) fit plain all = record { asks_are = tt; replies_are = tt }
-all_sent {names} {script} {first} {s} P (Goes before comes goes) fit plain all =
+all_sent {names} {script} {first} {s} P (Further before comes goes) fit plain all =
     let parts = last_none script before (added goes) s (trace_goes goes) plain in
-    let both = all-parts P (taken (start script).network (steps_of before.trace))
-    (taken (network_at script before) (steps_of (added goes)))
+    let both = all-parts P (items_taken (start script).network (steps_of before.trace))
+    (items_taken (network_at script before) (steps_of (added goes)))
     (subst (AllByRecursion P) (gathered_goes taken_by goes) all) in
     let first_part = all_sent P comes fit parts.0 both.0 in
     let more = all-parts P (asked_by goes) (replied_by goes)
     (subst (AllByRecursion P) (goes_taken goes (fit_comes comes fit) parts.1) both.1) in
     record {
-      asks_are = all-append P (asked comes) (asked_by goes) first_part.asks_are more.0;
-      replies_are = all-append P (replied comes) (replied_by goes) first_part.replies_are more.1;
+      asks_are = all-append P (io_asked comes) (asked_by goes) first_part.asks_are more.0;
+      replies_are = all-append P (io_replied comes) (replied_by goes) first_part.replies_are more.1;
     }

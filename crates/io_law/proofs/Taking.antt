@@ -10,8 +10,8 @@ use Rattle.fabric_script.specs.declared.lines.Line.{Line}
 use Rattle.fabric_script.specs.declared.lines.Line.TheVariants.{Send, Collect}
 use Rattle.fabric_script.specs.declared.lines.Numbered.{Numbered}
 use Rattle.fabric_model.specs.Network.{Network, port_of, id_of, room_out}
-use Rattle.fabric_model.specs.Steps.{Take as Takes, Leave, Move, Drop, Answer, Linked, AtNode, ByDevice, after}
-use Rattle.fabric_model.specs.Laws.History.{Left, ended_by, taken, gone}
+use Rattle.fabric_model.specs.Steps.{Take, Leave, Move, Drop, Answer, Linked, AtNode, ByDevice, after}
+use Rattle.fabric_model.specs.Laws.History.{EndLeft, ended_by, items_taken, gone}
 use Rattle.fabric_model.proofs.Lists.{all-append}
 use Rattle.fabric_trace.specs.Blocks.{IsBlock}
 use Rattle.fabric_trace.specs.Fold.{seen}
@@ -24,8 +24,8 @@ use Rattle.fabric_trace.proofs.Keeping.{steps_of-append}
 use Rattle.fabric_trace.proofs.Starting.{legal}
 use Rattle.fabric_ports.specs.Events.{happened}
 use Rattle.io_rounds.specs.Stations.{kept_of_node}
-use Rattle.io_rounds.specs.Tasks.{IoTask, Carry, Ask, Settle, Turn, Reply, Take, Finish, event_of}
-use Rattle.io_rounds.specs.Going.{IoState, IoGoes, Begins, Turns, Acts, Ends, IoComes, Here, Goes}
+use Rattle.io_rounds.specs.Tasks.{IoTask, Carry, Ask, Settle, Turn, Reply, Fetch, Finish, task_event}
+use Rattle.io_rounds.specs.Going.{IoState, IoGoes, IoBegins, IoTurns, IoActs, IoEnds, IoComes, Here, Further}
 use Rattle.io_law.specs.Items.{asked_behind, replied_behind, came_behind, network_at, asked_by, replied_by, came_by, came}
 use Rattle.io_law.proofs.Fit.{AsksFit, RepliesFit, HeadFit, TasksFit, IsFit, fit_comes}
 use Rattle.io_law.proofs.NoTakes.{OnlyAt, Leaves, Never, rounds_none, collect_none}
@@ -59,7 +59,7 @@ module _ (s : Seen) (block : List TraceLine) where
     where
       by : (room : Bool)
           → block
-          ≡ (if room then Stepped (AtNode (Takes node is.packet)) ∷ [] else Lacked NoRoom ∷ [])
+          ≡ (if room then Stepped (AtNode (Take node is.packet)) ∷ [] else Lacked NoRoom ∷ [])
           → AllByRecursion TakesPlain (steps_of block)
       by true same =
           subst (λ l. AllByRecursion TakesPlain (steps_of l)) (sym same) (
@@ -77,7 +77,7 @@ module _ (s : Seen) (block : List TraceLine) where
     where
       by : (room : Bool)
           → block
-          ≡ (if room then Stepped (AtNode (Takes node is.packet)) ∷ [] else Lacked NoRoom ∷ [])
+          ≡ (if room then Stepped (AtNode (Take node is.packet)) ∷ [] else Lacked NoRoom ∷ [])
           → gone s.network (steps_of block) ≡ []
       by true same = ap (λ l. gone s.network (steps_of l)) same
       by false same = ap (λ l. gone s.network (steps_of l)) same
@@ -85,8 +85,9 @@ module _ (s : Seen) (block : List TraceLine) where
 
   -- a request that was not taken is none
   send_asks : (node : ℕ) (tid : Option ℕ) (line : Line) → SendsPlain line → IsBlock s line block
-      → taken s.network (steps_of block)
-      ≡ asked_behind (Ask node tid line) (happened line block) (taken s.network (steps_of block))
+      → items_taken s.network (steps_of block)
+      ≡ asked_behind (Ask node tid line) (happened line block)
+      (items_taken s.network (steps_of block))
   send_asks at tid (Send node prio ftype dest hex) plain is =
       by (room_out s.network (port_of node) (prio_of is.packet)) is.lines
     where
@@ -94,12 +95,12 @@ module _ (s : Seen) (block : List TraceLine) where
       line = Send node prio ftype dest hex
 
       Same : List TraceLine → Type 0
-      Same l = taken s.network (steps_of l)
-          ≡ asked_behind (Ask at tid line) (happened line l) (taken s.network (steps_of l))
+      Same l = items_taken s.network (steps_of l)
+          ≡ asked_behind (Ask at tid line) (happened line l) (items_taken s.network (steps_of l))
 
       by : (room : Bool)
           → block
-          ≡ (if room then Stepped (AtNode (Takes node is.packet)) ∷ [] else Lacked NoRoom ∷ [])
+          ≡ (if room then Stepped (AtNode (Take node is.packet)) ∷ [] else Lacked NoRoom ∷ [])
           → Same block
       by true same = subst Same (sym same) refl
       by false same = subst Same (sym same) refl
@@ -110,7 +111,7 @@ module _ (s : Seen) (block : List TraceLine) where
 leaves_plain : (lines : List TraceLine) → OnlyAt Leaves lines
     → AllByRecursion TakesPlain (steps_of lines)
 leaves_plain [] none = tt
-leaves_plain (Stepped (AtNode (Takes n packet)) ∷ lines) none = absurd none.0
+leaves_plain (Stepped (AtNode (Take n packet)) ∷ lines) none = absurd none.0
 leaves_plain (Stepped (AtNode (Leave n packet)) ∷ lines) none =
     (tt, leaves_plain lines none.1)
 leaves_plain (Stepped (Linked step) ∷ lines) none = (tt, leaves_plain lines none)
@@ -140,9 +141,9 @@ none_gone net (Ended ∷ lines) none = none_gone net lines none
 none_gone net (Undetected number q e ∷ lines) none = none_gone net lines none
 
 none_taken : (net : Network) (lines : List TraceLine) → OnlyAt Leaves lines
-    → NoAnswers (steps_of lines) → taken net (steps_of lines) ≡ []
+    → NoAnswers (steps_of lines) → items_taken net (steps_of lines) ≡ []
 none_taken net [] none plain = refl
-none_taken net (Stepped (AtNode (Takes n packet)) ∷ lines) none plain = absurd none.0
+none_taken net (Stepped (AtNode (Take n packet)) ∷ lines) none plain = absurd none.0
 none_taken net (Stepped (AtNode (Leave n packet)) ∷ lines) none plain =
     none_taken (after net (AtNode (Leave n packet))) lines none.1 plain.1
 none_taken net (Stepped (Linked step) ∷ lines) none plain =
@@ -161,7 +162,7 @@ none_taken net (Undetected number q e ∷ lines) none plain = none_taken net lin
 
 collect_came : (net : Network) (node : ℕ) (what : Collected)
     → gone net (steps_of (collect_lines node what))
-    ≡ came_behind (Take node) (happened (Collect node) (collect_lines node what))
+    ≡ came_behind (Fetch node) (happened (Collect node) (collect_lines node what))
     (gone net (steps_of (collect_lines node what)))
 collect_came net node (Collects.Left packet) = refl
 collect_came net node (Collects.Answered request response) = refl
@@ -172,7 +173,8 @@ collect_came net node Collects.Full = refl
 
 module _ (s : Seen) (block : List TraceLine) (kept : ℕ → Option Line) (count : ℕ)
   where
-    task_takes : (task : IoTask) (line : Line) → HeadFit kept count task → event_of task ≡ Some line
+    task_takes : (task : IoTask) (line : Line) → HeadFit kept count task
+        → task_event task ≡ Some line
         → IsBlock s line block → AllByRecursion TakesPlain (steps_of block)
     task_takes (Ask node tid own) line fit event is =
         send_takes s block own (asks_plain node own fit)
@@ -183,7 +185,7 @@ module _ (s : Seen) (block : List TraceLine) (kept : ℕ → Option Line) (count
     task_takes Settle line fit event is =
         leaves_plain block (rounds_none Leaves 1 s block
         (subst (λ l. IsBlock s l block) (sym (same_line event)) is))
-    task_takes (Take node) line fit event is =
+    task_takes (Fetch node) line fit event is =
         let one = subst (λ l. IsBlock s l block) (sym (same_line event)) is in
         leaves_plain block (subst (OnlyAt Leaves) (sym one.lines)
         (collect_none node (collected one.device (face_in s.network (port_of node)))))
@@ -191,7 +193,8 @@ module _ (s : Seen) (block : List TraceLine) (kept : ℕ → Option Line) (count
     task_takes (Turn node) line fit event is = absurd cc
     task_takes Finish line fit event is = absurd cc
 
-    task_gone : (task : IoTask) (line : Line) → HeadFit kept count task → event_of task ≡ Some line
+    task_gone : (task : IoTask) (line : Line) → HeadFit kept count task
+        → task_event task ≡ Some line
         → IsBlock s line block
         → gone s.network (steps_of block)
         ≡ came_behind task (happened line block) (gone s.network (steps_of block))
@@ -204,36 +207,38 @@ module _ (s : Seen) (block : List TraceLine) (kept : ℕ → Option Line) (count
     task_gone Settle line fit event is =
         none_gone s.network block (rounds_none Never 1 s block
         (subst (λ l. IsBlock s l block) (sym (same_line event)) is))
-    task_gone (Take node) line fit event is =
+    task_gone (Fetch node) line fit event is =
         let one = subst (λ l. IsBlock s l block) (sym (same_line event)) is in
         subst (λ l. gone s.network (steps_of block)
-        ≡ came_behind (Take node) (happened l block) (gone s.network (steps_of block)))
+        ≡ came_behind (Fetch node) (happened l block) (gone s.network (steps_of block)))
         (same_line event)
         (subst (λ b. gone s.network (steps_of b)
-        ≡ came_behind (Take node) (happened (Collect node) b) (gone s.network (steps_of b)))
+        ≡ came_behind (Fetch node) (happened (Collect node) b) (gone s.network (steps_of b)))
         (sym one.lines)
         (collect_came s.network node (collected one.device (face_in s.network (port_of node)))))
     task_gone (Carry own) line fit event is = absurd cc
     task_gone (Turn node) line fit event is = absurd cc
     task_gone Finish line fit event is = absurd cc
 
-    task_taken : (task : IoTask) (line : Line) → HeadFit kept count task → event_of task ≡ Some line
+    task_taken : (task : IoTask) (line : Line) → HeadFit kept count task
+        → task_event task ≡ Some line
         → IsBlock s line block → NoAnswers (steps_of block)
-        → taken s.network (steps_of block)
-        ≡ asked_behind task (happened line block) (taken s.network (steps_of block))
-        ++ replied_behind task (taken s.network (steps_of block))
+        → items_taken s.network (steps_of block)
+        ≡ asked_behind task (happened line block) (items_taken s.network (steps_of block))
+        ++ replied_behind task (items_taken s.network (steps_of block))
     task_taken (Ask node tid own) line fit event is plain =
         let it = subst (λ l. IsBlock s l block) (sym (same_line event)) is in
-        subst (λ l. taken s.network (steps_of block)
-        ≡ asked_behind (Ask node tid own) (happened l block) (taken s.network (steps_of block)))
+        subst (λ l. items_taken s.network (steps_of block)
+        ≡ asked_behind (Ask node tid own) (happened l block)
+        (items_taken s.network (steps_of block)))
         (same_line event) (send_asks s block node tid own (asks_plain node own fit) it)
         ∙ sym (append-nil (asked_behind (Ask node tid own) (happened line block)
-        (taken s.network (steps_of block))))
+        (items_taken s.network (steps_of block))))
     task_taken (Reply node own) line fit event is plain = refl
     task_taken Settle line fit event is plain =
         none_taken s.network block (rounds_none Leaves 1 s block
         (subst (λ l. IsBlock s l block) (sym (same_line event)) is)) plain
-    task_taken (Take node) line fit event is plain =
+    task_taken (Fetch node) line fit event is plain =
         let one = subst (λ l. IsBlock s l block) (sym (same_line event)) is in
         none_taken s.network block (subst (OnlyAt Leaves) (sym one.lines)
         (collect_none node (collected one.device (face_in s.network (port_of node))))) plain
@@ -245,13 +250,13 @@ module _ (s : Seen) (block : List TraceLine) (kept : ℕ → Option Line) (count
 
 goes_takes : {names : List (List ℕ)} {script : List Numbered} {s t : IoState}
     (goes : IoGoes names script s t) → IsFit s → AllByRecursion TakesPlain (steps_of (added goes))
-goes_takes (Begins line rest is to) fit = tt
-goes_takes (Turns node rest is to) fit = tt
-goes_takes {names} {script} {s} (Acts task rest line block is event block_is sent to) fit =
+goes_takes (IoBegins line rest is to) fit = tt
+goes_takes (IoTurns node rest is to) fit = tt
+goes_takes {names} {script} {s} (IoActs task rest line block is event block_is sent to) fit =
     task_takes (seen (start script) s.trace) block (kept_of_node s.stations) (length s.stations)
     task line
     (subst (TasksFit (kept_of_node s.stations) (length s.stations)) is fit.tasks).0 event block_is
-goes_takes (Ends rest is to) fit = tt
+goes_takes (IoEnds rest is to) fit = tt
 
 comes_takes : {names : List (List ℕ)} {script : List Numbered} {first s : IoState}
     (comes : IoComes names script first s) → first.trace ≡ [] → IsFit first
@@ -259,7 +264,7 @@ comes_takes : {names : List (List ℕ)} {script : List Numbered} {first s : IoSt
 comes_takes (Here is) none fit =
     subst (λ l. AllByRecursion TakesPlain (steps_of l))
     (sym (ap (λ (x : IoState). x.trace) is ∙ none)) tt
-comes_takes (Goes before comes goes) none fit =
+comes_takes (Further before comes goes) none fit =
     subst (AllByRecursion TakesPlain)
     (sym (ap steps_of (trace_goes goes) ∙ steps_of-append before.trace (added goes)))
     (all-append TakesPlain (steps_of before.trace) (steps_of (added goes))
@@ -278,13 +283,13 @@ run_plain {names} {script} {first} {s} comes set_up none fit =
 pub goes_gone : {names : List (List ℕ)} {script : List Numbered} {s t : IoState}
     (goes : IoGoes names script s t) → IsFit s
     → gone (network_at script s) (steps_of (added goes)) ≡ came_by goes
-goes_gone (Begins line rest is to) fit = refl
-goes_gone (Turns node rest is to) fit = refl
-goes_gone {names} {script} {s} (Acts task rest line block is event block_is sent to) fit =
+goes_gone (IoBegins line rest is to) fit = refl
+goes_gone (IoTurns node rest is to) fit = refl
+goes_gone {names} {script} {s} (IoActs task rest line block is event block_is sent to) fit =
     task_gone (seen (start script) s.trace) block (kept_of_node s.stations) (length s.stations)
     task line
     (subst (TasksFit (kept_of_node s.stations) (length s.stations)) is fit.tasks).0 event block_is
-goes_gone (Ends rest is to) fit = refl
+goes_gone (IoEnds rest is to) fit = refl
 
 -- what came is what left
 pub comes_gone : {names : List (List ℕ)} {script : List Numbered} {first s : IoState}
@@ -293,19 +298,19 @@ pub comes_gone : {names : List (List ℕ)} {script : List Numbered} {first s : I
 comes_gone {names} {script} (Here is) none fit =
     ap (λ l. gone (start script).network (steps_of l))
     (ap (λ (x : IoState). x.trace) is ∙ none)
-comes_gone (Goes before comes goes) none fit =
-    gathered_goes (ended_by Left) goes
+comes_gone (Further before comes goes) none fit =
+    gathered_goes (ended_by EndLeft) goes
     ∙ ap₂ ◌++◌ (comes_gone comes none fit) (goes_gone goes (fit_comes comes fit))
 
 -- what a task's steps take is what it asked with and replied
 pub goes_taken : {names : List (List ℕ)} {script : List Numbered} {s t : IoState}
     (goes : IoGoes names script s t) → IsFit s → NoAnswers (steps_of (added goes))
-    → taken (network_at script s) (steps_of (added goes)) ≡ asked_by goes ++ replied_by goes
-goes_taken (Begins line rest is to) fit plain = refl
-goes_taken (Turns node rest is to) fit plain = refl
-goes_taken {names} {script} {s} (Acts task rest line block is event block_is sent to) fit plain =
+    → items_taken (network_at script s) (steps_of (added goes)) ≡ asked_by goes ++ replied_by goes
+goes_taken (IoBegins line rest is to) fit plain = refl
+goes_taken (IoTurns node rest is to) fit plain = refl
+goes_taken {names} {script} {s} (IoActs task rest line block is event block_is sent to) fit plain =
     task_taken (seen (start script) s.trace) block (kept_of_node s.stations) (length s.stations)
     task line
     (subst (TasksFit (kept_of_node s.stations) (length s.stations)) is fit.tasks).0 event block_is
     plain
-goes_taken (Ends rest is to) fit plain = refl
+goes_taken (IoEnds rest is to) fit plain = refl

@@ -4,24 +4,24 @@ use Rattle.fabric_script.specs.declared.lines.Numbered.{Numbered}
 use Rattle.fabric_ports.specs.Events.{happened}
 use Rattle.fabric_ports.specs.declared.answers.Happened.{Happened}
 use Rattle.fabric_ports.specs.declared.answers.Happened.TheVariants as Answers
-use Rattle.io_rounds.specs.Tasks.{IoTask, Carry, Ask, Settle, Turn, Reply, Take, Finish}
-use Rattle.io_rounds.specs.Going.{IoState, left_to_do, with_event, behind_event, IoGoes, Begins, Turns, Acts, Ends, IoComes, Here, Goes}
-use Rattle.io_law.specs.Telling.{Told, told, told_by, told_behind, and_told, told_text, text_told}
+use Rattle.io_rounds.specs.Tasks.{IoTask, Carry, Ask, Settle, Turn, Reply, Fetch, Finish}
+use Rattle.io_rounds.specs.Going.{IoState, left_to_do, with_event, behind_event, IoGoes, IoBegins, IoTurns, IoActs, IoEnds, IoComes, Here, Further}
+use Rattle.io_law.specs.Telling.{IoTold, io_told, told_by, told_behind, and_told, told_text, text_told}
 use Rattle.io_law.specs.Laws.{OutputIsTold}
 
 -- the text of one line, if there is one
-abbrev text_of : List (List ℕ) → Option Told → List ℕ
+abbrev text_of : List (List ℕ) → Option IoTold → List ℕ
 text_of names None = []
 text_of names (Some line) = told_text names line
 
-text_push : (names : List (List ℕ)) (lines : List Told) (line : Told)
+text_push : (names : List (List ℕ)) (lines : List IoTold) (line : IoTold)
     → text_told names (lines ++ line ∷ []) ≡ text_told names lines ++ told_text names line
 text_push names [] line = append-nil (told_text names line)
 text_push names (first ∷ lines) line =
     ap (λ l. told_text names first ++ l) (text_push names lines line)
     ∙ sym (append_assoc (told_text names first) (text_told names lines) (told_text names line))
 
-text_and : (names : List (List ℕ)) (lines : List Told) (more : Option Told)
+text_and : (names : List (List ℕ)) (lines : List IoTold) (more : Option IoTold)
     → text_told names (and_told lines more) ≡ text_told names lines ++ text_of names more
 text_and names lines None = sym (append-nil (text_told names lines))
 text_and names lines (Some line) = text_push names lines line
@@ -38,35 +38,35 @@ event_text names first Settle what s same = sym (append-nil s.output)
 event_text names first (Turn node) what s same = sym (append-nil s.output)
 event_text names first (Reply node line) Answers.Took s same = sym (append-nil s.output)
 event_text names first (Reply node line) _ s same = sym (append-nil s.output)
-event_text names first (Take node) (Answers.Left packet) s same =
-    ap (λ l. (behind_event names (Take node) (Answers.Left packet)
+event_text names first (Fetch node) (Answers.Left packet) s same =
+    ap (λ l. (behind_event names (Fetch node) (Answers.Left packet)
     (record s { stations = l })).output)
     same
-event_text names first (Take node) Answers.Answered s same = sym (append-nil s.output)
-event_text names first (Take node) _ s same = sym (append-nil s.output)
+event_text names first (Fetch node) Answers.Answered s same = sym (append-nil s.output)
+event_text names first (Fetch node) _ s same = sym (append-nil s.output)
 event_text names first Finish what s same = sym (append-nil s.output)
 
 -- what a task writes
 goes_text : {names : List (List ℕ)} {script : List Numbered} {s t : IoState}
     (goes : IoGoes names script s t)
     → t.output ≡ s.output ++ text_of names (told_by goes)
-goes_text (Begins line rest is to) = ap (λ (x : IoState). x.output) to
-goes_text {names} {script} {s} (Turns node rest is to) =
+goes_text (IoBegins line rest is to) = ap (λ (x : IoState). x.output) to
+goes_text {names} {script} {s} (IoTurns node rest is to) =
     ap (λ (x : IoState). x.output) to ∙ sym (append-nil s.output)
-goes_text {names} {script} {s} (Acts task rest line block is event block_is sent to) =
+goes_text {names} {script} {s} (IoActs task rest line block is event block_is sent to) =
     ap (λ (x : IoState). x.output) to
     ∙ event_text names s task (happened line block)
     (with_event (left_to_do s rest) line block) refl
-goes_text (Ends rest is to) = ap (λ (x : IoState). x.output) to
+goes_text (IoEnds rest is to) = ap (λ (x : IoState). x.output) to
 
 comes_text : {names : List (List ℕ)} {script : List Numbered} {first s : IoState}
     → first.output ≡ [] → (comes : IoComes names script first s)
-    → s.output ≡ text_told names (told comes)
+    → s.output ≡ text_told names (io_told comes)
 comes_text none (Here is) = ap (λ (x : IoState). x.output) is ∙ none
-comes_text {names} none (Goes before comes goes) =
+comes_text {names} none (Further before comes goes) =
     goes_text goes
     ∙ ap (λ l. l ++ text_of names (told_by goes)) (comes_text none comes)
-    ∙ sym (text_and names (told comes) (told_by goes))
+    ∙ sym (text_and names (io_told comes) (told_by goes))
 
 pub output_told : OutputIsTold
 output_told names script io s comes = comes_text refl comes

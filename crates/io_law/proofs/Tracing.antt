@@ -9,7 +9,7 @@ use Rattle.fabric_trace.specs.Blocks.{IsBlock}
 use Rattle.fabric_trace.specs.Fold.{seen}
 use Rattle.fabric_trace.specs.Known.{Seen}
 use Rattle.fabric_trace.specs.Lines.{TraceLine, Begun, steps_of}
-use Rattle.fabric_trace.specs.Parts.{Made, Done, Then, Begins as BeginsEvent}
+use Rattle.fabric_trace.specs.Parts.{Made, Done, Then, PartBegins}
 use Rattle.fabric_trace.specs.Runs.{start, set_up_all, bare}
 use Rattle.fabric_trace.specs.SetUps.{IsSetUp}
 use Rattle.fabric_trace.proofs.Folding.{network_is}
@@ -22,8 +22,8 @@ use Rattle.fabric_ports.specs.Events.{happened}
 use Rattle.fabric_ports.specs.declared.answers.Happened.{Happened}
 use Rattle.fabric_ports.specs.declared.answers.Happened.TheVariants as Answers
 use Rattle.io_script.specs.declared.lines.NumberedIo.{NumberedIo}
-use Rattle.io_rounds.specs.Tasks.{IoTask, Carry, Ask, Settle, Turn, Reply, Take, Finish}
-use Rattle.io_rounds.specs.Going.{IoState, left_to_do, with_event, behind_event, IoGoes, Begins, Turns, Acts, Ends, IoComes, Here, Goes}
+use Rattle.io_rounds.specs.Tasks.{IoTask, Carry, Ask, Settle, Turn, Reply, Fetch, Finish}
+use Rattle.io_rounds.specs.Going.{IoState, left_to_do, with_event, behind_event, IoGoes, IoBegins, IoTurns, IoActs, IoEnds, IoComes, Here, Further}
 use Rattle.io_rounds.specs.Drives.{IsIoFit}
 use Rattle.io_law.specs.Items.{network_at}
 
@@ -39,27 +39,27 @@ event_trace names Settle what s = refl
 event_trace names (Turn node) what s = refl
 event_trace names (Reply node line) Answers.Took s = refl
 event_trace names (Reply node line) _ s = refl
-event_trace names (Take node) (Answers.Left packet) s = refl
-event_trace names (Take node) Answers.Answered s = refl
-event_trace names (Take node) _ s = refl
+event_trace names (Fetch node) (Answers.Left packet) s = refl
+event_trace names (Fetch node) Answers.Answered s = refl
+event_trace names (Fetch node) _ s = refl
 event_trace names Finish what s = refl
 
 -- the lines of a task
 abbrev pub added : {names : List (List ℕ)} {script : List Numbered} {s t : IoState}
     → IoGoes names script s t → List TraceLine
-added (Acts task rest line block is event block_is sent to) = Begun line ∷ block
+added (IoActs task rest line block is event block_is sent to) = Begun line ∷ block
 added _ = []
 
 pub trace_goes : {names : List (List ℕ)} {script : List Numbered} {s t : IoState}
     (goes : IoGoes names script s t) → t.trace ≡ s.trace ++ added goes
-trace_goes {names} {script} {s} (Begins line rest is to) =
+trace_goes {names} {script} {s} (IoBegins line rest is to) =
     ap (λ (x : IoState). x.trace) to ∙ sym (append-nil s.trace)
-trace_goes {names} {script} {s} (Turns node rest is to) =
+trace_goes {names} {script} {s} (IoTurns node rest is to) =
     ap (λ (x : IoState). x.trace) to ∙ sym (append-nil s.trace)
-trace_goes {names} {script} {s} (Acts task rest line block is event block_is sent to) =
+trace_goes {names} {script} {s} (IoActs task rest line block is event block_is sent to) =
     ap (λ (x : IoState). x.trace) to
     ∙ event_trace names task (happened line block) (with_event (left_to_do s rest) line block)
-trace_goes {names} {script} {s} (Ends rest is to) =
+trace_goes {names} {script} {s} (IoEnds rest is to) =
     ap (λ (x : IoState). x.trace) to ∙ sym (append-nil s.trace)
 
 -- ---- the trace is made of parts
@@ -76,7 +76,7 @@ event_made : (script : List Numbered) (trace : List TraceLine) (line : Line)
     → Made (seen (start script) trace) (Begun line ∷ block)
 event_made script trace line block is own block_is =
     let good = (made_keeps (good_start (set_up_all bare script) is) own.made).good in
-    Then (Begun line ∷ []) block refl (BeginsEvent line refl)
+    Then (Begun line ∷ []) block refl (PartBegins line refl)
     (block_made line (seen (start script) trace) block good own.sent block_is)
 
 -- and its steps are legal
@@ -102,13 +102,13 @@ sent_on script trace line block is own block_is sent =
 sent_goes : {names : List (List ℕ)} {script : List Numbered} {s t : IoState}
     (goes : IoGoes names script s t) → IsSetUp (set_up_all bare script)
     → IsSentTrace script s.trace → IsSentTrace script (s.trace ++ added goes)
-sent_goes {names} {script} {s} (Begins line rest is to) set_up own =
+sent_goes {names} {script} {s} (IoBegins line rest is to) set_up own =
     subst (IsSentTrace script) (sym (append-nil s.trace)) own
-sent_goes {names} {script} {s} (Turns node rest is to) set_up own =
+sent_goes {names} {script} {s} (IoTurns node rest is to) set_up own =
     subst (IsSentTrace script) (sym (append-nil s.trace)) own
-sent_goes {names} {script} {s} (Acts task rest line block is event block_is sent to) set_up own =
+sent_goes {names} {script} {s} (IoActs task rest line block is event block_is sent to) set_up own =
     sent_on script s.trace line block set_up own block_is sent
-sent_goes {names} {script} {s} (Ends rest is to) set_up own =
+sent_goes {names} {script} {s} (IoEnds rest is to) set_up own =
     subst (IsSentTrace script) (sym (append-nil s.trace)) own
 
 pub sent_comes : {names : List (List ℕ)} {script : List Numbered} {first s : IoState}
@@ -117,7 +117,7 @@ pub sent_comes : {names : List (List ℕ)} {script : List Numbered} {first s : I
 sent_comes {names} {script} set_up none (Here is) =
     subst (IsSentTrace script) (sym (ap (λ (x : IoState). x.trace) is ∙ none))
     (record { made = Done refl; sent = refl })
-sent_comes {names} {script} set_up none (Goes before comes goes) =
+sent_comes {names} {script} set_up none (Further before comes goes) =
     subst (IsSentTrace script) (sym (trace_goes goes))
     (sent_goes goes set_up (sent_comes set_up none comes))
 

@@ -9,9 +9,9 @@ use Rattle.fabric_script.specs.declared.lines.Line.{Line}
 use Rattle.fabric_script.specs.declared.lines.Line.TheVariants.{Send}
 use Rattle.fabric_script.specs.declared.lines.Numbered.{Numbered}
 use Rattle.fabric_model.specs.Network.{Network, Item, port_of, id_of, room_out}
-use Rattle.fabric_model.specs.Steps.{Take as Takes, AtNode}
+use Rattle.fabric_model.specs.Steps.{Take, AtNode}
 use Rattle.fabric_model.specs.Laws.Flows.{SameCourse}
-use Rattle.fabric_model.specs.Laws.History.{Left, taken, gone, WasTaken}
+use Rattle.fabric_model.specs.Laws.History.{EndLeft, items_taken, gone, WasTaken}
 use Rattle.fabric_model.specs.Laws.Holding.{Over}
 use Rattle.fabric_model.proofs.Lists.{all-append, all_weaker}
 use Rattle.fabric_trace.specs.Blocks.{IsBlock}
@@ -25,10 +25,10 @@ use Rattle.fabric_ports.specs.declared.answers.Happened.{Happened}
 use Rattle.fabric_ports.specs.declared.answers.Happened.TheVariants as Answers
 use Rattle.io_script.specs.declared.lines.NumberedIo.{NumberedIo}
 use Rattle.io_rounds.specs.Stations.{kept_of_node}
-use Rattle.io_rounds.specs.Tasks.{IoTask, Carry, Ask, Settle, Turn, Reply, Take, Finish, event_of}
-use Rattle.io_rounds.specs.Going.{IoState, IoGoes, Begins, Turns, Acts, Ends, IoComes, Here, Goes}
+use Rattle.io_rounds.specs.Tasks.{IoTask, Carry, Ask, Settle, Turn, Reply, Fetch, Finish, task_event}
+use Rattle.io_rounds.specs.Going.{IoState, IoGoes, IoBegins, IoTurns, IoActs, IoEnds, IoComes, Here, Further}
 use Rattle.io_rounds.specs.Drives.{IsIoFit, first_state}
-use Rattle.io_law.specs.Items.{asked_behind, replied_behind, asked_by, replied_by, asked, replied, came, IsSentBy}
+use Rattle.io_law.specs.Items.{asked_behind, replied_behind, asked_by, replied_by, io_asked, io_replied, came, IsSentBy}
 use Rattle.io_law.specs.Laws.{SameWay, ComesBefore, PacketsComeInTurn}
 use Rattle.io_law.proofs.Fit.{AsksFit, RepliesFit, HeadFit, TasksFit, IsFit, fit_comes, first_fit}
 use Rattle.io_law.proofs.Order.{first_goes_first}
@@ -42,17 +42,17 @@ use Rattle.io_law.proofs.Tracing.{sent_comes, fit_set_up}
 
 pub send_items : (s : Seen) (line : Line) (block : List TraceLine) → SendsPlain line
     → IsBlock s line block
-    → AllByRecursion (IsSentBy s.network line) (taken s.network (steps_of block))
+    → AllByRecursion (IsSentBy s.network line) (items_taken s.network (steps_of block))
 send_items s (Send node prio ftype dest hex) block plain is =
     by (room_out s.network (port_of node) (prio_of is.packet)) is.lines
   where
     All : List TraceLine → Type 0
     All l = AllByRecursion (IsSentBy s.network (Send node prio ftype dest hex))
-        (taken s.network (steps_of l))
+        (items_taken s.network (steps_of l))
 
     by : (room : Bool)
         → block
-        ≡ (if room then Stepped (AtNode (Takes node is.packet)) ∷ [] else Lacked NoRoom ∷ [])
+        ≡ (if room then Stepped (AtNode (Take node is.packet)) ∷ [] else Lacked NoRoom ∷ [])
         → All block
     by true same = subst All (sym same) ((refl, is.form), tt)
     by false same = subst All (sym same) tt
@@ -94,73 +94,73 @@ replied_right net node _ item fit is = absurd fit
 module _ (s : Seen) (block : List TraceLine) (kept : ℕ → Option Line) (count : ℕ)
   where
     task_asked : (task : IoTask) (line : Line) (what : Happened) → HeadFit kept count task
-        → event_of task ≡ Some line → IsBlock s line block
-        → AllByRecursion IsAsked (asked_behind task what (taken s.network (steps_of block)))
+        → task_event task ≡ Some line → IsBlock s line block
+        → AllByRecursion IsAsked (asked_behind task what (items_taken s.network (steps_of block)))
     task_asked (Ask node tid own) line Answers.Took fit event is =
         all_weaker (IsSentBy s.network own) IsAsked
         (λ x by. asked_right s.network node own x fit by)
-        (taken s.network (steps_of block))
+        (items_taken s.network (steps_of block))
         (send_items s own block (asks_plain node own fit)
         (subst (λ l. IsBlock s l block) (sym (same_line event)) is))
     task_asked (Ask node tid own) line _ fit event is = tt
     task_asked (Reply node own) line what fit event is = tt
     task_asked Settle line what fit event is = tt
-    task_asked (Take node) line what fit event is = tt
+    task_asked (Fetch node) line what fit event is = tt
     task_asked (Carry own) line what fit event is = tt
     task_asked (Turn node) line what fit event is = tt
     task_asked Finish line what fit event is = tt
 
     task_replied : (task : IoTask) (line : Line) → HeadFit kept count task
-        → event_of task ≡ Some line → IsBlock s line block
+        → task_event task ≡ Some line → IsBlock s line block
         → AllByRecursion IsReplied
-        (replied_behind task (taken s.network (steps_of block)))
+        (replied_behind task (items_taken s.network (steps_of block)))
     task_replied (Reply node own) line fit event is =
         all_weaker (IsSentBy s.network own) IsReplied
         (λ x by. replied_right s.network node own x fit.0 by)
-        (taken s.network (steps_of block))
+        (items_taken s.network (steps_of block))
         (send_items s own block (replies_plain node own fit.0)
         (subst (λ l. IsBlock s l block) (sym (same_line event)) is))
     task_replied (Ask node tid own) line fit event is = tt
     task_replied Settle line fit event is = tt
-    task_replied (Take node) line fit event is = tt
+    task_replied (Fetch node) line fit event is = tt
     task_replied (Carry own) line fit event is = tt
     task_replied (Turn node) line fit event is = tt
     task_replied Finish line fit event is = tt
 
 pub goes_asked : {names : List (List ℕ)} {script : List Numbered} {s t : IoState}
     (goes : IoGoes names script s t) → IsFit s → AllByRecursion IsAsked (asked_by goes)
-goes_asked (Begins line rest is to) fit = tt
-goes_asked (Turns node rest is to) fit = tt
-goes_asked {names} {script} {s} (Acts task rest line block is event block_is sent to) fit =
+goes_asked (IoBegins line rest is to) fit = tt
+goes_asked (IoTurns node rest is to) fit = tt
+goes_asked {names} {script} {s} (IoActs task rest line block is event block_is sent to) fit =
     task_asked (seen (start script) s.trace) block (kept_of_node s.stations) (length s.stations)
     task line (happened line block)
     (subst (TasksFit (kept_of_node s.stations) (length s.stations)) is fit.tasks).0 event block_is
-goes_asked (Ends rest is to) fit = tt
+goes_asked (IoEnds rest is to) fit = tt
 
 pub goes_replied : {names : List (List ℕ)} {script : List Numbered} {s t : IoState}
     (goes : IoGoes names script s t) → IsFit s
     → AllByRecursion IsReplied (replied_by goes)
-goes_replied (Begins line rest is to) fit = tt
-goes_replied (Turns node rest is to) fit = tt
-goes_replied {names} {script} {s} (Acts task rest line block is event block_is sent to) fit =
+goes_replied (IoBegins line rest is to) fit = tt
+goes_replied (IoTurns node rest is to) fit = tt
+goes_replied {names} {script} {s} (IoActs task rest line block is event block_is sent to) fit =
     task_replied (seen (start script) s.trace) block (kept_of_node s.stations) (length s.stations)
     task line
     (subst (TasksFit (kept_of_node s.stations) (length s.stations)) is fit.tasks).0 event block_is
-goes_replied (Ends rest is to) fit = tt
+goes_replied (IoEnds rest is to) fit = tt
 
 comes_asked : {names : List (List ℕ)} {script : List Numbered} {first s : IoState}
-    (comes : IoComes names script first s) → IsFit first → AllByRecursion IsAsked (asked comes)
+    (comes : IoComes names script first s) → IsFit first → AllByRecursion IsAsked (io_asked comes)
 comes_asked (Here is) fit = tt
-comes_asked (Goes before comes goes) fit =
-    all-append IsAsked (asked comes) (asked_by goes) (comes_asked comes fit)
+comes_asked (Further before comes goes) fit =
+    all-append IsAsked (io_asked comes) (asked_by goes) (comes_asked comes fit)
     (goes_asked goes (fit_comes comes fit))
 
 comes_replied : {names : List (List ℕ)} {script : List Numbered} {first s : IoState}
     (comes : IoComes names script first s) → IsFit first
-    → AllByRecursion IsReplied (replied comes)
+    → AllByRecursion IsReplied (io_replied comes)
 comes_replied (Here is) fit = tt
-comes_replied (Goes before comes goes) fit =
-    all-append IsReplied (replied comes) (replied_by goes) (comes_replied comes fit)
+comes_replied (Further before comes goes) fit =
+    all-append IsReplied (io_replied comes) (replied_by goes) (comes_replied comes fit)
     (goes_replied goes (fit_comes comes fit))
 
 -- ---- the law
@@ -189,8 +189,8 @@ module _ {names : List (List ℕ)} {script : List Numbered} {io : List NumberedI
     (comes : IoComes names script (first_state names io) s) (fit : IsIoFit names script io) where
   -- two packets that were taken, of which the later one has come
   two_in_turn : (x y z : Item) (k : ℕ)
-      → slice_get (taken (start script).network (steps_of s.trace)) x.number ≡ Some x
-      → slice_get (taken (start script).network (steps_of s.trace)) y.number ≡ Some y
+      → slice_get (items_taken (start script).network (steps_of s.trace)) x.number ≡ Some x
+      → slice_get (items_taken (start script).network (steps_of s.trace)) y.number ≡ Some y
       → SameCourse x y → x.number < y.number → slice_get (came comes) k ≡ Some z
       → z.number ≡ y.number → ComesBefore (came comes) x.number k
   two_in_turn x y z k x_taken y_taken same less at number =
@@ -202,9 +202,9 @@ module _ {names : List (List ℕ)} {script : List Numbered} {io : List NumberedI
       let all_gone = comes_gone comes refl own in
       let left = subst (λ l. slice_get l k ≡ Some z) (sym all_gone) at in
       let was = get_all (WasTaken net steps) (gone net steps) k z
-      (shown.holding_exactly.known (Over Left)) left in
+      (shown.holding_exactly.known (Over EndLeft)) left in
       let it : y ≡ record z { now = z.taken } =
-      some_is (sym y_taken ∙ ap (slice_get (taken net steps)) (sym number) ∙ was) in
+      some_is (sym y_taken ∙ ap (slice_get (items_taken net steps)) (sym number) ∙ was) in
       let with_z = subst (SameCourse x) it same in
       let port = with_z.port in
       let dest = with_z.dest in
@@ -230,29 +230,29 @@ come_in_turn names script io s comes fit =
     let own = first_fit names io in
     let plain = (run_plain comes set_up refl own).none in
     let rise = comes_rise comes set_up refl own plain in
-    let stand = all_sent (λ x. slice_get (taken net steps) x.number ≡ Some x) comes own plain
+    let stand = all_sent (λ x. slice_get (items_taken net steps) x.number ≡ Some x) comes own plain
     (taken_at net steps set_up.empty.given) in
     record {
       asked_in_turn = λ i j k x y z less at later same came_at number.
-          let x_is = get_all IsAsked (asked comes) i x (comes_asked comes own) at in
-          let y_is = get_all IsAsked (asked comes) j y (comes_asked comes own) later in
+          let x_is = get_all IsAsked (io_asked comes) i x (comes_asked comes own) at in
+          let y_is = get_all IsAsked (io_asked comes) j y (comes_asked comes own) later in
           two_in_turn comes fit x y z k
-          (get_all (λ x. slice_get (taken net steps) x.number ≡ Some x) (asked comes) i x
+          (get_all (λ x. slice_get (items_taken net steps) x.number ≡ Some x) (io_asked comes) i x
           stand.asks_are at)
-          (get_all (λ x. slice_get (taken net steps) x.number ≡ Some x) (asked comes) j y
+          (get_all (λ x. slice_get (items_taken net steps) x.number ≡ Some x) (io_asked comes) j y
           stand.asks_are later)
           (same_course x y same (x_is.0 ∙ sym y_is.0) x_is.1 y_is.1)
-          (rises_two 0 (asked comes) _ i j x y rise.asks_rise less at later) came_at number;
+          (rises_two 0 (io_asked comes) _ i j x y rise.asks_rise less at later) came_at number;
       replied_in_turn = λ i j k x y z less at later same came_at number.
-          let x_is = get_all IsReplied (replied comes) i x (comes_replied comes own)
+          let x_is = get_all IsReplied (io_replied comes) i x (comes_replied comes own)
           at in
-          let y_is = get_all IsReplied (replied comes) j y (comes_replied comes own)
+          let y_is = get_all IsReplied (io_replied comes) j y (comes_replied comes own)
           later in
           two_in_turn comes fit x y z k
-          (get_all (λ x. slice_get (taken net steps) x.number ≡ Some x) (replied comes) i x
+          (get_all (λ x. slice_get (items_taken net steps) x.number ≡ Some x) (io_replied comes) i x
           stand.replies_are at)
-          (get_all (λ x. slice_get (taken net steps) x.number ≡ Some x) (replied comes) j y
+          (get_all (λ x. slice_get (items_taken net steps) x.number ≡ Some x) (io_replied comes) j y
           stand.replies_are later)
           (same_course x y same.0 same.1 (replied_plain x x_is) (replied_plain y y_is))
-          (rises_two 0 (replied comes) _ i j x y rise.replies_rise less at later) came_at number;
+          (rises_two 0 (io_replied comes) _ i j x y rise.replies_rise less at later) came_at number;
     }

@@ -10,12 +10,12 @@ use Rattle.io_memory.proofs.AnswerLaws.{answers_done}
 use Rattle.io_packets.specs.declared.io.Io.{Io}
 use Rattle.io_packets.specs.declared.io.Io.TheVariants as Ios
 use Rattle.io_packets.specs.Layout.{high_half_of, size_of, source_in}
-use Rattle.io_packets.specs.Reading.{read_or_bad, read_of, has_data, write_of, write_with_response_of, any_write_of, is_stream, streaming_write_of, is_plain_reply, is_reply_with_data, response_of, io_of_type, io_of}
+use Rattle.io_packets.specs.Reading.{read_or_bad, read_of, has_data, write_of, write_with_response_of, any_write_of, is_stream, streaming_write_of, is_plain_reply, is_reply_with_data, io_response_of, io_of_type, io_of}
 use Rattle.io_packets.specs.Serving.{is_within, answer_to}
 use Rattle.io_rounds.specs.Stations.{met_by, answer_by}
 use Rattle.io_rounds.specs.Tasks.{reply_line}
 use Rattle.io_law.specs.Items.{IsSentBy}
-use Rattle.io_law.specs.Replies.{number_of}
+use Rattle.io_law.specs.Replies.{io_number_of}
 use Rattle.io_law.proofs.Fit.{reply_prio}
 
 -- ---- what is met
@@ -123,7 +123,7 @@ reply_type packet status tid load is =
     in
     let six = the_other (t == 6) (streaming_write_of packet) _ status tid load
     (stream_none packet) five in
-    eqb-true t 13 (the_first (t == 13) (response_of packet) Ios.Other status tid load tt six).0
+    eqb-true t 13 (the_first (t == 13) (io_response_of packet) Ios.Other status tid load tt six).0
 
 -- ---- what an answer carries
 
@@ -200,7 +200,7 @@ if_number true tid s l m x status t load is same = cc (is, same)
 if_number false tid s l m x status t load is same = cc (is, same)
 
 answer_number : (memory : List ℕ) (io : Io) (status tid : ℕ) (load : Option (List ℕ))
-    → answer_to memory io ≡ Some (Ios.Reply status tid load) → number_of io ≡ Some tid
+    → answer_to memory io ≡ Some (Ios.Reply status tid load) → io_number_of io ≡ Some tid
 answer_number memory (Ios.NRead t addr size) status tid load is =
     if_number (is_within memory addr size) t 0 (Some (slice_range memory addr (addr + size))) None
     (Some t) status tid load refl is
@@ -216,34 +216,34 @@ answer_number memory Ios.Other status tid load is = absurd cc
 
 pub answered_number : (memory : Option (List ℕ)) (packet : List ℕ) (answer : Io)
     (status tid : ℕ) (load : Option (List ℕ)) → answer_by memory packet ≡ Some answer
-    → answer ≡ Ios.Reply status tid load → number_of (io_of packet) ≡ Some tid
+    → answer ≡ Ios.Reply status tid load → io_number_of (io_of packet) ≡ Some tid
 answered_number None packet answer status tid load answered is = absurd cc
 answered_number (Some memory) packet answer status tid load answered is =
     answer_number memory (io_of packet) status tid load (answered ∙ ap (λ a. Some a) is)
 
 -- a packet of this type carries no request that is answered
-no_number : (b : Bool) (x y : Io) → number_of x ≡ None → number_of y ≡ None
-    → number_of (if b then x else y) ≡ None
+no_number : (b : Bool) (x y : Io) → io_number_of x ≡ None → io_number_of y ≡ None
+    → io_number_of (if b then x else y) ≡ None
 no_number true x y one other = one
 no_number false x y one other = other
 
-response_number : (packet : List ℕ) → ftype_of packet ≡ 13 → number_of (io_of packet) ≡ None
+response_number : (packet : List ℕ) → ftype_of packet ≡ 13 → io_number_of (io_of packet) ≡ None
 response_number packet is =
     no_number (tt_of packet == 0) (io_of_type (ftype_of packet) packet) Ios.Other
-    (ap (λ t. number_of (io_of_type t packet)) is
+    (ap (λ t. io_number_of (io_of_type t packet)) is
     ∙ no_number (is_plain_reply packet) _ _ refl
     (no_number (is_reply_with_data packet) _ Ios.Other refl refl)) refl
 
-maintenance_number : (packet : List ℕ) → ftype_of packet ≡ 8 → number_of (io_of packet) ≡ None
+maintenance_number : (packet : List ℕ) → ftype_of packet ≡ 8 → io_number_of (io_of packet) ≡ None
 maintenance_number packet is =
     no_number (tt_of packet == 0) (io_of_type (ftype_of packet) packet) Ios.Other
-    (ap (λ t. number_of (io_of_type t packet)) is) refl
+    (ap (λ t. io_number_of (io_of_type t packet)) is) refl
 
 pub record IsRequest (packet : List ℕ) : Type 0 where
   pub no_response : ftype_of packet ≡ 13 → ⊥
   pub no_maintenance : ftype_of packet ≡ 8 → ⊥
 
-pub numbered_request : (packet : List ℕ) (tid : ℕ) → number_of (io_of packet) ≡ Some tid
+pub numbered_request : (packet : List ℕ) (tid : ℕ) → io_number_of (io_of packet) ≡ Some tid
     → IsRequest packet
 numbered_request packet tid is = record {
   no_response = λ type. absurd (cc (response_number packet type, is));

@@ -7,16 +7,16 @@ use Rattle.fabric_script.specs.declared.lines.Line.{Line}
 use Rattle.fabric_script.specs.declared.lines.Line.TheVariants.{Send}
 use Rattle.fabric_script.specs.declared.lines.Numbered.{Numbered}
 use Rattle.fabric_model.specs.Network.{Network, Item, port_of, id_of}
-use Rattle.fabric_model.specs.Laws.History.{taken, gone}
+use Rattle.fabric_model.specs.Laws.History.{items_taken, gone}
 use Rattle.fabric_trace.specs.Fold.{seen}
 use Rattle.fabric_trace.specs.Lines.{steps_of}
 use Rattle.fabric_trace.specs.Runs.{start}
 use Rattle.fabric_ports.specs.Events.{happened}
 use Rattle.fabric_ports.specs.declared.answers.Happened.{Happened}
 use Rattle.fabric_ports.specs.declared.answers.Happened.TheVariants as Answers
-use Rattle.io_rounds.specs.Tasks.{IoTask, Ask, Reply, Take}
-use Rattle.io_rounds.specs.Going.{IoState, IoGoes, Acts, IoComes, Here, Goes}
-use Rattle.io_law.specs.Telling.{Told, Asked, Came}
+use Rattle.io_rounds.specs.Tasks.{IoTask, Ask, Reply, Fetch}
+use Rattle.io_rounds.specs.Going.{IoState, IoGoes, IoActs, IoComes, Here, Further}
+use Rattle.io_law.specs.Telling.{IoTold, ToldAsked, ToldCame}
 
 -- ---- the packets of lines
 
@@ -32,12 +32,12 @@ replied_behind _ items = []
 
 -- of these items, which left by its steps, what a task says that came to a node
 abbrev pub came_behind : IoTask → Happened → List Item → List Item
-came_behind (Take node) (Answers.Left packet) items = items
+came_behind (Fetch node) (Answers.Left packet) items = items
 came_behind _ _ items = []
 
 -- the packet that a task says came to a node
 abbrev pub packet_behind : IoTask → Happened → List (List ℕ)
-packet_behind (Take node) (Answers.Left packet) = packet ∷ []
+packet_behind (Fetch node) (Answers.Left packet) = packet ∷ []
 packet_behind _ _ = []
 
 -- the network before a task
@@ -46,65 +46,65 @@ network_at script s = (seen (start script) s.trace).network
 
 abbrev pub asked_by : {names : List (List ℕ)} {script : List Numbered} {s t : IoState}
     → IoGoes names script s t → List Item
-asked_by {names} {script} {s} (Acts task rest line block is event block_is sent to) =
-    asked_behind task (happened line block) (taken (network_at script s) (steps_of block))
+asked_by {names} {script} {s} (IoActs task rest line block is event block_is sent to) =
+    asked_behind task (happened line block) (items_taken (network_at script s) (steps_of block))
 asked_by _ = []
 
 abbrev pub came_by : {names : List (List ℕ)} {script : List Numbered} {s t : IoState}
     → IoGoes names script s t → List Item
-came_by {names} {script} {s} (Acts task rest line block is event block_is sent to) =
+came_by {names} {script} {s} (IoActs task rest line block is event block_is sent to) =
     came_behind task (happened line block) (gone (network_at script s) (steps_of block))
 came_by _ = []
 
 -- The packets with which nodes asked, in the order of the lines that say so, and those that came.
-abbrev pub asked : {names : List (List ℕ)} {script : List Numbered} {first s : IoState}
+abbrev pub io_asked : {names : List (List ℕ)} {script : List Numbered} {first s : IoState}
     → IoComes names script first s → List Item
-asked (Here is) = []
-asked (Goes before comes goes) = asked comes ++ asked_by goes
+io_asked (Here is) = []
+io_asked (Further before comes goes) = io_asked comes ++ asked_by goes
 
 abbrev pub came : {names : List (List ℕ)} {script : List Numbered} {first s : IoState}
     → IoComes names script first s → List Item
 came (Here is) = []
-came (Goes before comes goes) = came comes ++ came_by goes
+came (Further before comes goes) = came comes ++ came_by goes
 
 abbrev pub replied_by : {names : List (List ℕ)} {script : List Numbered} {s t : IoState}
     → IoGoes names script s t → List Item
-replied_by {names} {script} {s} (Acts task rest line block is event block_is sent to) =
-    replied_behind task (taken (network_at script s) (steps_of block))
+replied_by {names} {script} {s} (IoActs task rest line block is event block_is sent to) =
+    replied_behind task (items_taken (network_at script s) (steps_of block))
 replied_by _ = []
 
 -- the packets with which nodes replied to what was served there
-abbrev pub replied : {names : List (List ℕ)} {script : List Numbered} {first s : IoState}
+abbrev pub io_replied : {names : List (List ℕ)} {script : List Numbered} {first s : IoState}
     → IoComes names script first s → List Item
-replied (Here is) = []
-replied (Goes before comes goes) = replied comes ++ replied_by goes
+io_replied (Here is) = []
+io_replied (Further before comes goes) = io_replied comes ++ replied_by goes
 
 -- the bytes of those that came, as the lines tell what became of them
 abbrev pub packets_by : {names : List (List ℕ)} {script : List Numbered} {s t : IoState}
     → IoGoes names script s t → List (List ℕ)
-packets_by (Acts task rest line block is event block_is sent to) =
+packets_by (IoActs task rest line block is event block_is sent to) =
     packet_behind task (happened line block)
 packets_by _ = []
 
 abbrev pub packets_told : {names : List (List ℕ)} {script : List Numbered} {first s : IoState}
     → IoComes names script first s → List (List ℕ)
 packets_told (Here is) = []
-packets_told (Goes before comes goes) = packets_told comes ++ packets_by goes
+packets_told (Further before comes goes) = packets_told comes ++ packets_by goes
 
 -- ---- how many lines
 
 -- a line says that a node asked
-abbrev pub asked_line : Told → ℕ
-asked_line (Asked node tid) = 1
+abbrev pub asked_line : IoTold → ℕ
+asked_line (ToldAsked node tid) = 1
 asked_line _ = 0
 
 -- a line says that a packet came to a node
-abbrev pub came_line : Told → ℕ
-came_line (Came node met) = 1
+abbrev pub came_line : IoTold → ℕ
+came_line (ToldCame node met) = 1
 came_line _ = 0
 
 -- how many of the lines are such
-abbrev pub lines_in : (Told → ℕ) → List Told → ℕ
+abbrev pub lines_in : (IoTold → ℕ) → List IoTold → ℕ
 lines_in each [] = 0
 lines_in each (line ∷ lines) = each line + lines_in each lines
 

@@ -13,8 +13,8 @@ use Rattle.io_script.specs.declared.lines.NumberedIo.{NumberedIo}
 use Rattle.io_rounds.specs.Stations.{memory_of}
 use Rattle.io_rounds.specs.Drives.{IsIoFit, first_state}
 use Rattle.io_rounds.specs.Going.{IoState, IoComes}
-use Rattle.io_law.specs.Telling.{Came, told, text_told, memory_left}
-use Rattle.io_law.specs.Items.{asked, came, replied, packets_told, asked_line, came_line, lines_in}
+use Rattle.io_law.specs.Telling.{ToldCame, io_told, text_told, memory_left}
+use Rattle.io_law.specs.Items.{io_asked, came, io_replied, packets_told, asked_line, came_line, lines_in}
 use Rattle.io_law.specs.Replies.{RepliesToServed, DonesAreReplies}
 
 -- A read that is told gives the bytes that stand in the memory that the lines before it leave.
@@ -22,30 +22,30 @@ abbrev pub ReadsAreTold : Type 0
 ReadsAreTold = (names : List (List ℕ)) (script : List Numbered) (io : List NumberedIo)
     (s : IoState) (comes : IoComes names script (first_state names io) s)
     (k node addr : ℕ) (load : List ℕ) → IsIoFit names script io
-    → slice_get (told comes) k ≡ Some (Came node (Read addr load))
+    → slice_get (io_told comes) k ≡ Some (ToldCame node (Read addr load))
     → (memory : List ℕ)
-    × (memory_left node (take k (told comes)) ≡ Some memory)
+    × (memory_left node (take k (io_told comes)) ≡ Some memory)
     × (load ≡ slice_range memory addr (addr + length load))
 
 -- What is kept as the memory of a node is what the lines leave there.
 abbrev pub MemoriesAreTold : Type 0
 MemoriesAreTold = (names : List (List ℕ)) (script : List Numbered) (io : List NumberedIo)
     (s : IoState) (comes : IoComes names script (first_state names io) s) (node : ℕ)
-    → IsIoFit names script io → memory_of s.stations node ≡ memory_left node (told comes)
+    → IsIoFit names script io → memory_of s.stations node ≡ memory_left node (io_told comes)
 
 -- What is written is the text of the lines.
 abbrev pub OutputIsTold : Type 0
 OutputIsTold = (names : List (List ℕ)) (script : List Numbered) (io : List NumberedIo)
     (s : IoState) (comes : IoComes names script (first_state names io) s)
-    → s.output ≡ text_told names (told comes)
+    → s.output ≡ text_told names (io_told comes)
 
 -- Each line that says that a node asked, or that a packet came to a node, is of one packet. No two
 -- lines that say that a node asked are of one, nor two that say that a packet came.
 pub record OneLineEach {names : List (List ℕ)} {script : List Numbered} {first s : IoState}
     (comes : IoComes names script first s) : Type 0 where
-  pub asked_each : length (asked comes) ≡ lines_in asked_line (told comes)
-  pub asked_once : (n : ℕ) → how_often n (asked comes) ≤ 1
-  pub came_each : length (came comes) ≡ lines_in came_line (told comes)
+  pub asked_each : length (io_asked comes) ≡ lines_in asked_line (io_told comes)
+  pub asked_once : (n : ℕ) → how_often n (io_asked comes) ≤ 1
+  pub came_each : length (came comes) ≡ lines_in came_line (io_told comes)
   pub came_once : (n : ℕ) → how_often n (came comes) ≤ 1
 
 abbrev pub PacketsHaveOneLine : Type 0
@@ -72,8 +72,8 @@ PacketsComeAsTaken = (names : List (List ℕ)) (script : List Numbered) (io : Li
 pub record ResponsesAreReplies {names : List (List ℕ)} {script : List Numbered} {first s : IoState}
     (comes : IoComes names script first s) : Type 0 where
   pub replies : AllByRecursion
-      (λ item. ftype_of item.now ≡ 13 → 0 < how_often item.number (replied comes)) (came comes)
-  pub replied_once : (n : ℕ) → how_often n (replied comes) ≤ 1
+      (λ item. ftype_of item.now ≡ 13 → 0 < how_often item.number (io_replied comes)) (came comes)
+  pub replied_once : (n : ℕ) → how_often n (io_replied comes) ≤ 1
 
 abbrev pub ResponsesWereReplied : Type 0
 ResponsesWereReplied = (names : List (List ℕ)) (script : List Numbered) (io : List NumberedIo)
@@ -86,7 +86,7 @@ RequestsWereAsked = (names : List (List ℕ)) (script : List Numbered) (io : Lis
     (s : IoState) (comes : IoComes names script (first_state names io) s)
     → IsIoFit names script io
     → AllByRecursion
-    (λ item. (ftype_of item.now ≡ 13 → ⊥) → 0 < how_often item.number (asked comes)) (came comes)
+    (λ item. (ftype_of item.now ≡ 13 → ⊥) → 0 < how_often item.number (io_asked comes)) (came comes)
 
 -- ---- the order in which packets come
 
@@ -118,8 +118,8 @@ InTurn Alike sent came = (i j k : ℕ) (x y z : Item) → i < j → slice_get se
 -- device at one priority.
 pub record ComeInTurn {names : List (List ℕ)} {script : List Numbered} {first s : IoState}
     (comes : IoComes names script first s) : Type 0 where
-  pub asked_in_turn : InTurn SameWay (asked comes) (came comes)
-  pub replied_in_turn : InTurn SameWayAndPriority (replied comes) (came comes)
+  pub asked_in_turn : InTurn SameWay (io_asked comes) (came comes)
+  pub replied_in_turn : InTurn SameWayAndPriority (io_replied comes) (came comes)
 
 abbrev pub PacketsComeInTurn : Type 0
 PacketsComeInTurn = (names : List (List ℕ)) (script : List Numbered) (io : List NumberedIo)

@@ -5,38 +5,38 @@ use Rattle.rio_packets.specs.Fields.{ftype_of}
 use Rattle.io_packets.specs.declared.io.Io.{Io}
 use Rattle.io_packets.specs.declared.io.Io.TheVariants.{NRead, NWrite, NWriteR, SWrite, Reply, BadRead, BadWriteR, BadWrite, Other as NoIo}
 use Rattle.io_packets.specs.Reading.{io_of}
-use Rattle.io_packets.specs.Serving.{is_within, put_at, written, memory_after}
+use Rattle.io_packets.specs.Serving.{is_within, memory_put, written, memory_after}
 use Rattle.io_memory.specs.declared.meeting.Met.{Met}
 use Rattle.io_memory.specs.declared.meeting.Met.TheVariants.{Read, Written, Failed, Done, Other}
-use Rattle.io_memory.specs.Meeting.{met_read, met_write, met_at, met_of, met_in_turn, held}
+use Rattle.io_memory.specs.Meeting.{met_read, met_write, met_at, met_of, met_in_turn, memory_held}
 use Rattle.io_memory.specs.Laws.{ReadsAreHeld}
 
 -- ---- what a meeting leaves is what its line says
 
 -- a write
 write_held : (memory : List ℕ) (ftype addr : ℕ) (load : List ℕ)
-    → written memory addr load ≡ held memory (met_write memory ftype addr load ∷ [])
+    → written memory addr load ≡ memory_held memory (met_write memory ftype addr load ∷ [])
 write_held memory ftype addr load = by (is_within memory addr (length load))
   where
-    by : (b : Bool) → (if b then put_at memory addr load else memory)
-        ≡ held memory ((if b then Written addr load else Failed ftype) ∷ [])
+    by : (b : Bool) → (if b then memory_put memory addr load else memory)
+        ≡ memory_held memory ((if b then Written addr load else Failed ftype) ∷ [])
     by true = refl
     by false = refl
 
 -- a read
 read_held : (memory : List ℕ) (ftype addr size : ℕ)
-    → memory ≡ held memory (met_read memory ftype addr size ∷ [])
+    → memory ≡ memory_held memory (met_read memory ftype addr size ∷ [])
 read_held memory ftype addr size = by (is_within memory addr size)
   where
     by : (b : Bool)
         → memory
-        ≡ held memory
+        ≡ memory_held memory
         ((if b then Read addr (slice_range memory addr (addr + size)) else Failed ftype) ∷ [])
     by true = refl
     by false = refl
 
 pub after_held : (memory : List ℕ) (ftype : ℕ) (io : Io)
-    → memory_after memory io ≡ held memory (met_at memory ftype io ∷ [])
+    → memory_after memory io ≡ memory_held memory (met_at memory ftype io ∷ [])
 after_held memory ftype (NRead tid addr size) = read_held memory ftype addr size
 after_held memory ftype (NWrite addr load) = write_held memory ftype addr load
 after_held memory ftype (NWriteR tid addr load) = write_held memory ftype addr load
@@ -49,7 +49,7 @@ after_held memory ftype NoIo = refl
 
 -- one line and then others
 held-cons : (memory : List ℕ) (met : Met) (mets : List Met)
-    → held memory (met ∷ mets) ≡ held (held memory (met ∷ [])) mets
+    → memory_held memory (met ∷ mets) ≡ memory_held (memory_held memory (met ∷ [])) mets
 held-cons memory (Read addr load) mets = refl
 held-cons memory (Written addr load) mets = refl
 held-cons memory (Failed ftype) mets = refl
@@ -116,8 +116,8 @@ reads_held memory (packet ∷ packets) (suc k) addr load is =
     let next = memory_after memory (io_of packet) in
     let met = met_of memory packet in
     let lines = take k (met_in_turn next packets) in
-    let same : held next lines ≡ held memory (met ∷ lines) =
-    ap (λ (m : List ℕ). held m lines) (after_held memory (ftype_of packet) (io_of packet))
+    let same : memory_held next lines ≡ memory_held memory (met ∷ lines) =
+    ap (λ (m : List ℕ). memory_held m lines) (after_held memory (ftype_of packet) (io_of packet))
     ∙ sym (held-cons memory met lines) in
     reads_held next packets k addr load is
     ∙ ap (λ (m : List ℕ). slice_range m addr (addr + length load)) same

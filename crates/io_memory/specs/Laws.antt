@@ -7,13 +7,13 @@ use Rattle.io_packets.specs.Reading.{io_of}
 use Rattle.io_packets.specs.Writing.{io_body}
 use Rattle.io_packets.specs.Serving.{answer_to}
 use Rattle.io_memory.specs.declared.meeting.Met.TheVariants.{Read, Done}
-use Rattle.io_memory.specs.Meeting.{met_of, met_without, met_in_turn, held}
+use Rattle.io_memory.specs.Meeting.{met_of, met_without, met_in_turn, memory_held}
 
 -- The bytes that are read are those that the writes before left.
 abbrev pub ReadsAreHeld : Type 0
 ReadsAreHeld = (memory : List ℕ) (packets : List (List ℕ)) (k addr : ℕ) (load : List ℕ)
     → slice_get (met_in_turn memory packets) k ≡ Some (Read addr load)
-    → load ≡ slice_range (held memory (take k (met_in_turn memory packets)))
+    → load ≡ slice_range (memory_held memory (take k (met_in_turn memory packets)))
     addr (addr + length load)
 
 -- The packet of an answer is a response wherever it comes, with the number, the status and the data

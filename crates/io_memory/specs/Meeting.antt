@@ -4,7 +4,7 @@ use Rattle.rio_packets.specs.Fields.{ftype_of}
 use Rattle.io_packets.specs.declared.io.Io.{Io}
 use Rattle.io_packets.specs.declared.io.Io.TheVariants.{NRead, NWrite, NWriteR, SWrite, Reply, Other as NoIo}
 use Rattle.io_packets.specs.Reading.{io_of}
-use Rattle.io_packets.specs.Serving.{is_within, put_at, memory_after}
+use Rattle.io_packets.specs.Serving.{is_within, memory_put, memory_after}
 use Rattle.io_memory.specs.declared.meeting.Met.{Met}
 use Rattle.io_memory.specs.declared.meeting.Met.TheVariants.{Read, Written, Failed, Done, Other}
 
@@ -47,7 +47,7 @@ met_in_turn memory (packet ∷ packets) =
     met_of memory packet ∷ met_in_turn (memory_after memory (io_of packet)) packets
 
 -- a memory in which what was written stands, and nothing else has changed
-abbrev pub held : List ℕ → List Met → List ℕ
-held memory [] = memory
-held memory (Written addr load ∷ mets) = held (put_at memory addr load) mets
-held memory (_ ∷ mets) = held memory mets
+abbrev pub memory_held : List ℕ → List Met → List ℕ
+memory_held memory [] = memory
+memory_held memory (Written addr load ∷ mets) = memory_held (memory_put memory addr load) mets
+memory_held memory (_ ∷ mets) = memory_held memory mets

@@ -7,8 +7,8 @@
 -- An address is eight hexadecimal digits, data are two a byte, and all else is decimal.
 use Rattle.std.specs.Prelude.{ℕ, List, ◌++◌, codes, Option, Some, None}
 use Rattle.std.specs.Fmt.{decimal}
+use Rattle.rio_packets.specs.Words.{word_bytes}
 use Rattle.rio_chars.specs.HexText.{hex_of}
-use Rattle.io_packets.specs.Layout.{word_bytes}
 use Rattle.io_memory.specs.declared.meeting.Met.{Met}
 use Rattle.io_memory.specs.declared.meeting.Met.TheVariants.{Read, Written, Failed, Done, Other}
 

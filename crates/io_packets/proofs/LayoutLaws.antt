@@ -2,10 +2,11 @@
 use Rattle.std.proofs.Common.{◌≡◌, ℕ, ◌+◌, ◌*◌, ◌<◌, true, Some, List, ◌∷◌, ◌++◌, get_or, ap, ◌∙◌, arith, eq-eqb, false}
 use Rattle.rio_packets.specs.LinkForm.{LinkForm}
 use Rattle.rio_packets.specs.Fields.{body_of}
+use Rattle.rio_packets.specs.Words.{word_at, word_bytes}
 use Rattle.rio_packets.proofs.FieldLaws.{get_or-link_form}
-use Rattle.io_packets.specs.Layout.{low_half_of, tid_of, word_at, addr_in, wdptr_in, extension_in, size_of, word_bytes, high_half_of}
+use Rattle.io_packets.specs.Layout.{io_low_half_of, io_tid_of, addr_in, wdptr_in, extension_in, size_of, high_half_of}
 use Rattle.io_packets.specs.Forms.{is_size, IsAligned}
-use Rattle.io_packets.specs.Writing.{code_of, wdptr_of, asked}
+use Rattle.io_packets.specs.Writing.{code_of, wdptr_of, io_request_head}
 use Rattle.io_packets.proofs.SizeLaws.{code_small, wdptr_small, size_named-size}
 
 -- ---- an address word is made of an address and wdptr
@@ -24,8 +25,8 @@ extension_in-made addr wdptr h = omega arith
 
 record Bytes (p : List ℕ) (ttype half tid word : ℕ) : Type 0 where
   kind : high_half_of p ≡ ttype
-  low : low_half_of p ≡ half
-  number : tid_of p ≡ tid
+  low : io_low_half_of p ≡ half
+  number : io_tid_of p ≡ tid
   place : word_at p 6 ≡ word
 
 module _ (prio ftype dest source ttype low tid word : ℕ) (load p : List ℕ)
@@ -53,14 +54,15 @@ module _ (prio ftype dest source ttype low tid word : ℕ) (load p : List ℕ)
 
 pub record Asks (p : List ℕ) (ttype n tid at : ℕ) : Type 0 where
   pub kind : high_half_of p ≡ ttype
-  pub number : tid_of p ≡ tid
+  pub number : io_tid_of p ≡ tid
   pub size : size_of p ≡ Some n
   pub addr : addr_in (word_at p 6) ≡ at
 
 -- what a request of a good size asks for, at an address that begins a double-word
 pub asks : (prio ftype dest source ttype size tid addr : ℕ) (load p : List ℕ) → IsAligned addr
     → is_size size ≡ true
-    → LinkForm (body_of prio ftype false dest source (asked ttype size tid addr ++ load)) p
+    → LinkForm (body_of prio ftype false dest source (io_request_head ttype size tid addr ++ load))
+    p
     → Asks p ttype size tid addr
 asks prio ftype dest source ttype size tid addr load p aligned good form =
     let wdptr = wdptr_of size in

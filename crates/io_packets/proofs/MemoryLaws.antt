@@ -5,7 +5,7 @@ use Rattle.std.proofs.Math.Seq.{drop-append_seam, take-append_seam}
 use Rattle.std.proofs.lemmas.List.{drop-take, take-append-le, take-take}
 use Rattle.std.proofs.lemmas.Slice.{drop-append-drop}
 use Rattle.std.proofs.lemmas.Bool.{cases_lt}
-use Rattle.io_packets.specs.Serving.{put_at, written}
+use Rattle.io_packets.specs.Serving.{memory_put, written}
 use Rattle.io_packets.specs.Laws.{KeepsWritten, KeepsOthers, KeepsLength}
 
 as_range : (xs : List ℕ) (from to : ℕ) → from ≤ to → slice_range xs from to ≡ drop from (take to xs)
@@ -16,13 +16,13 @@ as_range xs from to k =
 module _ (memory load : List ℕ) (addr : ℕ) where
   -- if all is within the memory
   module _ (h : addr + length load ≤ length memory) where
-    written_within : written memory addr load ≡ put_at memory addr load
+    written_within : written memory addr load ≡ memory_put memory addr load
     written_within = rw (le-leb (addr + length load) (length memory) h) refl
 
     front_size : length (take addr memory) ≡ addr
     front_size = length-take-le addr memory (omega arith)
 
-    reads_load : slice_range (put_at memory addr load) addr (addr + length load) ≡ load
+    reads_load : slice_range (memory_put memory addr load) addr (addr + length load) ≡ load
     reads_load =
         let rest = load ++ drop (addr + length load) memory in
         let count : addr + length load - addr ≡ length load = omega arith in
@@ -33,7 +33,7 @@ module _ (memory load : List ℕ) (addr : ℕ) where
         ∙ ap (λ n. take n rest) count
         ∙ take-append_seam load (drop (addr + length load) memory)
 
-    length-put : length (put_at memory addr load) ≡ length memory
+    length-put : length (memory_put memory addr load) ≡ length memory
     length-put =
         let front = front_size in
         let whole = length-append (take addr memory) (load ++ drop (addr + length load) memory) in
@@ -43,7 +43,7 @@ module _ (memory load : List ℕ) (addr : ℕ) where
 
     -- before what was written
     reads_before : (from to : ℕ) → to ≤ addr
-        → slice_range (put_at memory addr load) from to ≡ slice_range memory from to
+        → slice_range (memory_put memory addr load) from to ≡ slice_range memory from to
     reads_before from to k =
         let front = front_size in
         let rest = load ++ drop (addr + length load) memory in
@@ -52,17 +52,17 @@ module _ (memory load : List ℕ) (addr : ℕ) where
         elim (cases_lt to from) [
           | inl none ↦
               (let zero : to - from ≡ 0 = omega arith in
-              ap (λ n. take n (drop from (put_at memory addr load))) zero
+              ap (λ n. take n (drop from (memory_put memory addr load))) zero
               ∙ sym (ap (λ n. take n (drop from memory)) zero))
           | inr some ↦
-              as_range (put_at memory addr load) from to some
+              as_range (memory_put memory addr load) from to some
               ∙ ap (λ (l : List ℕ). drop from l) taken
               ∙ sym (as_range memory from to some)
         ]
 
     -- and behind it
     reads_behind : (from to : ℕ) → addr + length load ≤ from
-        → slice_range (put_at memory addr load) from to ≡ slice_range memory from to
+        → slice_range (memory_put memory addr load) from to ≡ slice_range memory from to
     reads_behind from to k =
         let front = front_size in
         let both = length-append (take addr memory) load in
@@ -77,12 +77,12 @@ keeps_written memory load addr h =
     rw (written_within memory load addr h) (reads_load memory load addr h)
 
 by_within : (memory load : List ℕ) (addr : ℕ) (P : List ℕ → Type 0) → P memory
-    → (addr + length load ≤ length memory → P (put_at memory addr load))
+    → (addr + length load ≤ length memory → P (memory_put memory addr load))
     → P (written memory addr load)
 by_within memory load addr P out within = by (nat_le (addr + length load) (length memory)) refl
   where
     by : (b : Bool) → nat_le (addr + length load) (length memory) ≡ b
-        → P (if b then put_at memory addr load else memory)
+        → P (if b then memory_put memory addr load else memory)
     by true h = within (leb-true (addr + length load) (length memory) h)
     by false h = out
 

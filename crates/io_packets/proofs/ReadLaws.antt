@@ -3,11 +3,12 @@ use Rattle.std.proofs.Common.{◌≡◌, ℕ, ◌+◌, ◌-◌, ◌%◌, ◌≤�
 use Rattle.std.specs.Prelude.{nat_le}
 use Rattle.std.proofs.lemmas.Bool.{and_parts}
 use Rattle.rio_packets.specs.Fields.{tt_of, ftype_of}
+use Rattle.rio_packets.specs.Words.{word_at, is_status}
 use Rattle.io_packets.specs.declared.io.Io.{Io}
 use Rattle.io_packets.specs.declared.io.Io.TheVariants.{NRead, NWrite, NWriteR, SWrite, Reply, BadRead, BadWriteR, BadWrite, Other}
-use Rattle.io_packets.specs.Layout.{low_half_of, tid_of, word_at, addr_in, wdptr_in, extension_in, size_named, size_of, between, high_half_of}
-use Rattle.io_packets.specs.Forms.{is_size, is_stream_size, is_status, IsAligned, CanBeRead, IsSized}
-use Rattle.io_packets.specs.Reading.{read_or_bad, read_of, has_data, write_of, write_with_response_of, any_write_of, is_stream, has_pad, streaming_write_of, is_plain_reply, is_reply_with_data, response_of, io_of_type, io_of}
+use Rattle.io_packets.specs.Layout.{io_low_half_of, io_tid_of, addr_in, wdptr_in, extension_in, size_named, size_of, between, high_half_of}
+use Rattle.io_packets.specs.Forms.{is_size, is_stream_size, IsAligned, CanBeRead, IsSized}
+use Rattle.io_packets.specs.Reading.{read_or_bad, read_of, has_data, write_of, write_with_response_of, any_write_of, is_stream, has_pad, streaming_write_of, is_plain_reply, is_reply_with_data, io_response_of, io_of_type, io_of}
 use Rattle.io_packets.proofs.SizeLaws.{size_least, named_size}
 
 aligned : (word : ℕ) → IsAligned (addr_in word)
@@ -22,10 +23,10 @@ size_read : (bytes : List ℕ) (size : ℕ) → size_of bytes ≡ Some size → 
 size_read bytes size is = by (extension_in (word_at bytes 6) == 0) is
   where
     by : (plain : Bool)
-        → (if plain then size_named (low_half_of bytes) (wdptr_in (word_at bytes 6)) else None)
+        → (if plain then size_named (io_low_half_of bytes) (wdptr_in (word_at bytes 6)) else None)
         ≡ Some size
         → is_size size ≡ true
-    by true e = named_size (low_half_of bytes) (wdptr_in (word_at bytes 6)) size e
+    by true e = named_size (io_low_half_of bytes) (wdptr_in (word_at bytes 6)) size e
     by false e = absurd (cc)
 
 length-between : (bytes : List ℕ) (from behind : ℕ) → from + behind ≤ length bytes
@@ -63,7 +64,7 @@ any_write_good bytes =
     (λ _. choose (high_half_of bytes == 4) (write_of bytes) _
     (λ _. choose (has_data bytes (size_of bytes)) _ BadWrite good tt)
     (choose (high_half_of bytes == 5) (write_with_response_of bytes) Other
-    (λ _. choose (has_data bytes (size_of bytes)) _ (BadWriteR (tid_of bytes)) good tt) tt)) tt
+    (λ _. choose (has_data bytes (size_of bytes)) _ (BadWriteR (io_tid_of bytes)) good tt) tt)) tt
   where
     good : has_data bytes (size_of bytes) ≡ true
         → IsAligned (addr_in (word_at bytes 6)) × (is_size (length (between bytes 10 2)) ≡ true)
@@ -86,19 +87,19 @@ streaming_write_good bytes = choose (is_stream bytes) _ BadWrite good tt
         let same : n ≡ length (between bytes 8 4) = omega (arith, loaded) in
         (aligned (word_at bytes 4), subst (λ n. is_stream_size n ≡ true) same size)
 
-pub response_good : (bytes : List ℕ) → CanBeRead (response_of bytes)
+pub response_good : (bytes : List ℕ) → CanBeRead (io_response_of bytes)
 response_good bytes =
     choose (is_plain_reply bytes) _ _
-    (λ is. (and_parts (is_status (low_half_of bytes)) (length bytes == 8)
-    (and_parts (high_half_of bytes == 0) (is_status (low_half_of bytes) && (length bytes == 8))
+    (λ is. (and_parts (is_status (io_low_half_of bytes)) (length bytes == 8)
+    (and_parts (high_half_of bytes == 0) (is_status (io_low_half_of bytes) && (length bytes == 8))
     is).1).0)
     (choose (is_reply_with_data bytes) _ Other (λ is. (refl, good is)) tt)
   where
     good : is_reply_with_data bytes ≡ true → is_size (length (between bytes 6 2)) ≡ true
     good is =
         let n = length bytes - 8 in
-        let size = (and_parts (low_half_of bytes == 0) (is_size n)
-        (and_parts (high_half_of bytes == 8) ((low_half_of bytes == 0) && is_size n) is).1).1 in
+        let size = (and_parts (io_low_half_of bytes == 0) (is_size n)
+        (and_parts (high_half_of bytes == 8) ((io_low_half_of bytes == 0) && is_size n) is).1).1 in
         let least = size_least n size in
         let loaded = length-between bytes 6 2 (omega arith) in
         let same : n ≡ length (between bytes 6 2) = omega (arith, loaded) in
@@ -114,7 +115,7 @@ io_good bytes =
         choose (ftype == 2) (read_of bytes) _ (λ _. read_good bytes)
         (choose (ftype == 5) (any_write_of bytes) _ (λ _. any_write_good bytes)
         (choose (ftype == 6) (streaming_write_of bytes) _ (λ _. streaming_write_good bytes)
-        (choose (ftype == 13) (response_of bytes) Other (λ _. response_good bytes) tt)))
+        (choose (ftype == 13) (io_response_of bytes) Other (λ _. response_good bytes) tt)))
 
 -- and if it is a read, its size is good
 pub sized-from_read : (io : Io) → CanBeRead io → IsSized io

@@ -2,10 +2,11 @@
 use Rattle.std.proofs.Common.{◌≡◌, ℕ, ◌-◌, ◌%◌, ◌<◌, ◌≤◌, true, Some, None, List, [], ◌∷◌, ◌++◌, length, get_or, refl, ap, subst, ◌∙◌, arith, false}
 use Rattle.rio_packets.specs.LinkForm.{LinkForm}
 use Rattle.rio_packets.specs.Fields.{body_of}
+use Rattle.rio_packets.specs.Words.{is_status}
 use Rattle.rio_packets.proofs.FieldLaws.{get_or-link_form, length-link_form, ftype_of-link_form, tt_of-link_form}
 use Rattle.io_packets.specs.declared.io.Io.TheVariants.{Reply}
 use Rattle.io_packets.specs.Layout.{between}
-use Rattle.io_packets.specs.Forms.{is_size, is_status}
+use Rattle.io_packets.specs.Forms.{is_size}
 use Rattle.io_packets.specs.Reading.{io_of}
 use Rattle.io_packets.specs.Writing.{io_body}
 use Rattle.io_packets.proofs.SizeLaws.{size_most, size_eights, status_small}

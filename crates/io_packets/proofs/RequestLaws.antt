@@ -7,7 +7,7 @@ use Rattle.io_packets.specs.declared.io.Io.TheVariants.{NRead, NWrite, NWriteR}
 use Rattle.io_packets.specs.Layout.{between}
 use Rattle.io_packets.specs.Forms.{is_size, IsAligned}
 use Rattle.io_packets.specs.Reading.{io_of}
-use Rattle.io_packets.specs.Writing.{asked, io_body}
+use Rattle.io_packets.specs.Writing.{io_request_head, io_body}
 use Rattle.io_packets.proofs.SizeLaws.{size_most, size_eights}
 use Rattle.io_packets.proofs.FormLaws.{plain_form, between-parts}
 use Rattle.io_packets.proofs.FieldLaws.{reads, writes, writes_with_response}
@@ -18,7 +18,7 @@ module _ (prio dest source : ℕ) (p : List ℕ) (h : prio < 4) where
       → LinkForm (io_body prio dest source (NRead tid addr size)) p
       → io_of p ≡ NRead tid addr size
   read_back-read tid addr size aligned good form =
-      let rest = asked 4 size tid addr in
+      let rest = io_request_head 4 size tid addr in
       let fields = asks prio 2 dest source 4 size tid addr [] p aligned good form in
       reads p tid addr size
       (tt_of-link_form prio 2 false dest source rest p form h (omega arith))
@@ -30,10 +30,10 @@ module _ (prio dest source : ℕ) (p : List ℕ) (h : prio < 4) where
   -- the form of a write
   module _ (ttype tid addr : ℕ) (load : List ℕ) (good : is_size (length load) ≡ true)
       (form : LinkForm
-      (body_of prio 5 false dest source (asked ttype (length load) tid addr ++ load)) p)
+      (body_of prio 5 false dest source (io_request_head ttype (length load) tid addr ++ load)) p)
     where
       abbrev front : List ℕ
-      front = body_of prio 5 false dest source (asked ttype (length load) tid addr)
+      front = body_of prio 5 false dest source (io_request_head ttype (length load) tid addr)
 
       short : length (front ++ load) ≤ 80
       short = let most = size_most (length load) good in omega arith
@@ -42,7 +42,7 @@ module _ (prio dest source : ℕ) (p : List ℕ) (h : prio < 4) where
       twos = let eights = size_eights (length load) good in omega arith
 
       abbrev rest : List ℕ
-      rest = asked ttype (length load) tid addr ++ load
+      rest = io_request_head ttype (length load) tid addr ++ load
 
       width : tt_of p ≡ 0
       width = tt_of-link_form prio 5 false dest source rest p form h (omega arith)

@@ -2,8 +2,9 @@
 use Rattle.std.proofs.Common.{◌≡◌, ℕ, ◌%◌, ◌<◌, ◌≤◌, ◌==◌, ◌&&◌, ◌||◌, Bool, true, false, Some, None, if◌then◌else◌, refl, subst, sym, inl, inr, arith, eqb-true, leb-true}
 use Rattle.std.specs.Prelude.{nat_le}
 use Rattle.std.proofs.lemmas.Bool.{and_parts, or_cases}
+use Rattle.rio_packets.specs.Words.{is_status}
 use Rattle.io_packets.specs.Layout.{size_named}
-use Rattle.io_packets.specs.Forms.{is_size, is_stream_size, is_status}
+use Rattle.io_packets.specs.Forms.{is_size, is_stream_size}
 use Rattle.io_packets.specs.Writing.{code_of, wdptr_of}
 
 -- ---- sizes

@@ -2,9 +2,10 @@
 use Rattle.std.proofs.Common.{◌≡◌, ℕ, zero, suc, ◌+◌, ◌-◌, ◌%◌, ◌<◌, ◌≤◌, true, List, [], ◌∷◌, ◌++◌, length, get_or, refl, ap, subst, ◌∙◌, arith, eq-eqb, length-append, get_or-append-add, false}
 use Rattle.rio_packets.specs.LinkForm.{LinkForm}
 use Rattle.rio_packets.specs.Fields.{body_of}
+use Rattle.rio_packets.specs.Words.{word_at, word_bytes}
 use Rattle.rio_packets.proofs.FieldLaws.{get_or-link_form, ftype_of-link_form, tt_of-link_form}
 use Rattle.io_packets.specs.declared.io.Io.TheVariants.{SWrite}
-use Rattle.io_packets.specs.Layout.{word_at, addr_in, extension_in, between, word_bytes}
+use Rattle.io_packets.specs.Layout.{addr_in, extension_in, between}
 use Rattle.io_packets.specs.Forms.{is_stream_size, IsAligned}
 use Rattle.io_packets.specs.Reading.{is_stream, io_of}
 use Rattle.io_packets.specs.Writing.{io_body}

@@ -8,7 +8,7 @@ use Rattle.io_packets.specs.declared.io.Io.{Io}
 use Rattle.io_packets.specs.declared.io.Io.TheVariants.{NRead, NWrite, NWriteR, SWrite, Reply, BadRead, BadWriteR, BadWrite, Other}
 use Rattle.io_packets.specs.Forms.{IsGood}
 use Rattle.io_packets.specs.Reading.{io_of}
-use Rattle.io_packets.specs.Writing.{type_of, behind_ids, io_body, io_bytes}
+use Rattle.io_packets.specs.Writing.{type_of, io_behind_ids, io_body, io_bytes}
 use Rattle.io_packets.specs.Laws.{ReadsBack}
 use Rattle.io_packets.proofs.RequestLaws.{read_back-read, read_back-write, read_back-write_with_response}
 use Rattle.io_packets.proofs.StreamLaws.{read_back-stream}
@@ -48,7 +48,7 @@ is_bytes prio dest source io p form =
 
 -- where the form is that of its parts
 pub form_of : (prio dest source to from ftype : ℕ) (rest : List ℕ) (io : Io) (p : List ℕ)
-    → to ≡ dest → from ≡ source → ftype ≡ type_of io → rest ≡ behind_ids io
+    → to ≡ dest → from ≡ source → ftype ≡ type_of io → rest ≡ io_behind_ids io
     → LinkForm (body_of prio ftype false to from rest) p → LinkForm (io_body prio dest source io) p
 form_of prio dest source to from ftype rest io p d s f r form =
     let same : body_of prio ftype false to from rest ≡ io_body prio dest source io =

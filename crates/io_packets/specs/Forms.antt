@@ -1,6 +1,7 @@
 -- Which reads, writes and responses this project's profile has (RapidIO Interconnect Specification
 -- 1.3, Part 1, has more sizes and other statuses).
 use Rattle.std.specs.Prelude.{◌≡◌, ℕ, ◌%◌, ◌==◌, ◌&&◌, ◌||◌, Bool, nat_le, length, Some, None, IsTrue}
+use Rattle.rio_packets.specs.Words.{is_status}
 use Rattle.io_packets.specs.declared.io.Io.{Io}
 use Rattle.io_packets.specs.declared.io.Io.TheVariants.{NRead, NWrite, NWriteR, SWrite, Reply, BadRead, BadWriteR, BadWrite, Other}
 
@@ -11,10 +12,6 @@ is_size n = (n == 8) || ((n == 16) || ((n == 32) || (n == 64)))
 -- how many bytes a streaming write has: 8 to 64, in whole double-words
 abbrev pub is_stream_size : ℕ → Bool
 is_stream_size n = (n % 8 == 0) && (nat_le 8 n && nat_le n 64)
-
--- status 0 is done, and 7 is an error
-abbrev pub is_status : ℕ → Bool
-is_status status = (status == 0) || (status == 7)
 
 -- an address begins a double-word
 abbrev pub IsAligned : ℕ → Type 0

@@ -14,6 +14,7 @@
 -- packet of ftype 6, and two bits that extend the address. The first byte of a number is its
 -- highest. A missing byte is read as 0.
 use Rattle.std.specs.Prelude.{ℕ, ◌+◌, ◌-◌, ◌*◌, ◌/◌, ◌%◌, ◌==◌, List, [], ◌∷◌, length, slice_index, slice_range, Option, Some, None, if◌then◌else◌}
+use Rattle.rio_packets.specs.Words.{word_at}
 
 -- the source ID, of eight bits
 abbrev pub source_in : List ℕ → ℕ
@@ -25,18 +26,12 @@ high_half_of bytes = slice_index bytes 4 / 16
 
 -- the lower half of the byte with the transaction type: of a request a code of its size, of a
 -- response its status
-abbrev pub low_half_of : List ℕ → ℕ
-low_half_of bytes = slice_index bytes 4 % 16
+abbrev pub io_low_half_of : List ℕ → ℕ
+io_low_half_of bytes = slice_index bytes 4 % 16
 
 -- the transaction number
-abbrev pub tid_of : List ℕ → ℕ
-tid_of bytes = slice_index bytes 5
-
--- the address word in the four bytes from a place on
-abbrev pub word_at : List ℕ → ℕ → ℕ
-word_at bytes at =
-    0x1000000 * slice_index bytes at + 0x10000 * slice_index bytes (at + 1)
-    + 0x100 * slice_index bytes (at + 2) + slice_index bytes (at + 3)
+abbrev pub io_tid_of : List ℕ → ℕ
+io_tid_of bytes = slice_index bytes 5
 
 -- its address in bytes, which is a multiple of 8
 abbrev pub addr_in : ℕ → ℕ
@@ -59,12 +54,8 @@ size_named code wdptr =
 abbrev pub size_of : List ℕ → Option ℕ
 size_of bytes =
     if extension_in (word_at bytes 6) == 0
-    then size_named (low_half_of bytes) (wdptr_in (word_at bytes 6)) else None
+    then size_named (io_low_half_of bytes) (wdptr_in (word_at bytes 6)) else None
 
 -- the bytes from a place on, without so many at the end
 abbrev pub between : List ℕ → ℕ → ℕ → List ℕ
 between bytes from behind = slice_range bytes from (length bytes - behind)
-
--- the four bytes of an address word
-abbrev pub word_bytes : ℕ → List ℕ
-word_bytes n = n / 0x1000000 ∷ n / 0x10000 % 0x100 ∷ n / 0x100 % 0x100 ∷ n % 0x100 ∷ []

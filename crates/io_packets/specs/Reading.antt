@@ -3,16 +3,17 @@
 -- one, are this project's profile).
 use Rattle.std.specs.Prelude.{ℕ, ◌+◌, ◌-◌, ◌==◌, ◌&&◌, Bool, false, nat_le, List, length, slice_index, Option, Some, None, if◌then◌else◌}
 use Rattle.rio_packets.specs.Fields.{tt_of, ftype_of}
+use Rattle.rio_packets.specs.Words.{word_at, is_status}
 use Rattle.io_packets.specs.declared.io.Io.{Io}
 use Rattle.io_packets.specs.declared.io.Io.TheVariants.{NRead, NWrite, NWriteR, SWrite, Reply, BadRead, BadWriteR, BadWrite, Other}
-use Rattle.io_packets.specs.Layout.{low_half_of, tid_of, word_at, addr_in, extension_in, size_of, between, high_half_of}
-use Rattle.io_packets.specs.Forms.{is_size, is_stream_size, is_status}
+use Rattle.io_packets.specs.Layout.{io_low_half_of, io_tid_of, addr_in, extension_in, size_of, between, high_half_of}
+use Rattle.io_packets.specs.Forms.{is_size, is_stream_size}
 
 -- ---- ftype 2: NREAD has transaction type 4, and 12 bytes
 
 abbrev pub read_or_bad : List ℕ → Option ℕ → Io
-read_or_bad bytes (Some size) = NRead (tid_of bytes) (addr_in (word_at bytes 6)) size
-read_or_bad bytes None = BadRead (tid_of bytes)
+read_or_bad bytes (Some size) = NRead (io_tid_of bytes) (addr_in (word_at bytes 6)) size
+read_or_bad bytes None = BadRead (io_tid_of bytes)
 
 abbrev pub read_of : List ℕ → Io
 read_of bytes =
@@ -34,8 +35,8 @@ write_of bytes =
 abbrev pub write_with_response_of : List ℕ → Io
 write_with_response_of bytes =
     if has_data bytes (size_of bytes)
-    then NWriteR (tid_of bytes) (addr_in (word_at bytes 6)) (between bytes 10 2)
-    else BadWriteR (tid_of bytes)
+    then NWriteR (io_tid_of bytes) (addr_in (word_at bytes 6)) (between bytes 10 2)
+    else BadWriteR (io_tid_of bytes)
 
 abbrev pub any_write_of : List ℕ → Io
 any_write_of bytes =
@@ -64,17 +65,17 @@ streaming_write_of bytes =
 
 abbrev pub is_plain_reply : List ℕ → Bool
 is_plain_reply bytes =
-    (high_half_of bytes == 0) && (is_status (low_half_of bytes) && (length bytes == 8))
+    (high_half_of bytes == 0) && (is_status (io_low_half_of bytes) && (length bytes == 8))
 
 abbrev pub is_reply_with_data : List ℕ → Bool
 is_reply_with_data bytes =
-    (high_half_of bytes == 8) && ((low_half_of bytes == 0) && is_size (length bytes - 8))
+    (high_half_of bytes == 8) && ((io_low_half_of bytes == 0) && is_size (length bytes - 8))
 
-abbrev pub response_of : List ℕ → Io
-response_of bytes =
-    if is_plain_reply bytes then Reply (low_half_of bytes) (tid_of bytes) None
+abbrev pub io_response_of : List ℕ → Io
+io_response_of bytes =
+    if is_plain_reply bytes then Reply (io_low_half_of bytes) (io_tid_of bytes) None
     else (if is_reply_with_data bytes
-    then Reply 0 (tid_of bytes) (Some (between bytes 6 2)) else Other)
+    then Reply 0 (io_tid_of bytes) (Some (between bytes 6 2)) else Other)
 
 -- ---- by the format type
 
@@ -83,7 +84,7 @@ io_of_type ftype bytes =
     if ftype == 2 then read_of bytes
     else (if ftype == 5 then any_write_of bytes
     else (if ftype == 6 then streaming_write_of bytes
-    else (if ftype == 13 then response_of bytes else Other)))
+    else (if ftype == 13 then io_response_of bytes else Other)))
 
 -- what a packet carries; with IDs of another width than eight bits it carries nothing that is known
 -- here

@@ -10,13 +10,13 @@ abbrev pub is_within : List ℕ → ℕ → ℕ → Bool
 is_within memory addr size = nat_le (addr + size) (length memory)
 
 -- a memory with bytes put at an address
-abbrev pub put_at : List ℕ → ℕ → List ℕ → List ℕ
-put_at memory addr load = take addr memory ++ (load ++ drop (addr + length load) memory)
+abbrev pub memory_put : List ℕ → ℕ → List ℕ → List ℕ
+memory_put memory addr load = take addr memory ++ (load ++ drop (addr + length load) memory)
 
 -- the memory after a write: it changes only if all that is written is within it
 abbrev pub written : List ℕ → ℕ → List ℕ → List ℕ
 written memory addr load =
-    if is_within memory addr (length load) then put_at memory addr load else memory
+    if is_within memory addr (length load) then memory_put memory addr load else memory
 
 -- the memory after anything that is served: only a write changes it
 abbrev pub memory_after : List ℕ → Io → List ℕ

@@ -4,9 +4,9 @@
 use Rattle.std.specs.Prelude.{ℕ, ◌+◌, ◌*◌, ◌==◌, ◌||◌, nat_lt, List, [], ◌∷◌, ◌++◌, length, Some, None, if◌then◌else◌, false}
 use Rattle.rio_packets.specs.Fields.{body_of}
 use Rattle.rio_packets.specs.Making.{made}
+use Rattle.rio_packets.specs.Words.{word_bytes}
 use Rattle.io_packets.specs.declared.io.Io.{Io}
 use Rattle.io_packets.specs.declared.io.Io.TheVariants.{NRead, NWrite, NWriteR, SWrite, Reply}
-use Rattle.io_packets.specs.Layout.{word_bytes}
 
 -- the code of a size of the profile
 abbrev pub code_of : ℕ → ℕ
@@ -25,23 +25,23 @@ type_of (SWrite addr load) = 6
 type_of _ = 13
 
 -- what stands before the data of a request for so many bytes
-abbrev pub asked : ℕ → ℕ → ℕ → ℕ → List ℕ
-asked ttype size tid addr =
+abbrev pub io_request_head : ℕ → ℕ → ℕ → ℕ → List ℕ
+io_request_head ttype size tid addr =
     (16 * ttype + code_of size) ∷ tid ∷ word_bytes (addr + 4 * wdptr_of size)
 
 -- what stands behind the IDs
-abbrev pub behind_ids : Io → List ℕ
-behind_ids (NRead tid addr size) = asked 4 size tid addr
-behind_ids (NWrite addr load) = asked 4 (length load) 0 addr ++ load
-behind_ids (NWriteR tid addr load) = asked 5 (length load) tid addr ++ load
-behind_ids (SWrite addr load) = word_bytes addr ++ load
-behind_ids (Reply status tid None) = status ∷ tid ∷ []
-behind_ids (Reply status tid (Some load)) = (16 * 8 + status) ∷ tid ∷ load
-behind_ids _ = []
+abbrev pub io_behind_ids : Io → List ℕ
+io_behind_ids (NRead tid addr size) = io_request_head 4 size tid addr
+io_behind_ids (NWrite addr load) = io_request_head 4 (length load) 0 addr ++ load
+io_behind_ids (NWriteR tid addr load) = io_request_head 5 (length load) tid addr ++ load
+io_behind_ids (SWrite addr load) = word_bytes addr ++ load
+io_behind_ids (Reply status tid None) = status ∷ tid ∷ []
+io_behind_ids (Reply status tid (Some load)) = (16 * 8 + status) ∷ tid ∷ load
+io_behind_ids _ = []
 
 -- the body of the packet of a read, a write or a response
 abbrev pub io_body : ℕ → ℕ → ℕ → Io → List ℕ
-io_body prio dest source io = body_of prio (type_of io) false dest source (behind_ids io)
+io_body prio dest source io = body_of prio (type_of io) false dest source (io_behind_ids io)
 
 -- and the packet
 abbrev pub io_bytes : ℕ → ℕ → ℕ → Io → List ℕ

@@ -1,9 +1,10 @@
 //! What a packet carries.
 ghost use Rattle.std.specs.Prelude.{◌≡◌, ◌+◌, ◌<◌, ◌≤◌, length};
 ghost use Rattle.rio_packets.specs.LinkForm.{Passes};
-ghost use Rattle.io_packets.specs.Layout.{word_at, addr_in, wdptr_in, extension_in, size_named, size_of, between};
-ghost use Rattle.io_packets.specs.Forms.{is_size, is_stream_size, is_status, CanBeRead, IsSized};
-ghost use Rattle.io_packets.specs.Reading.{read_of, has_data, write_of, write_with_response_of, any_write_of, has_pad, is_stream, streaming_write_of, is_plain_reply, is_reply_with_data, response_of, io_of};
+ghost use Rattle.rio_packets.specs.Words.{word_at, is_status};
+ghost use Rattle.io_packets.specs.Layout.{addr_in, wdptr_in, extension_in, size_named, size_of, between};
+ghost use Rattle.io_packets.specs.Forms.{is_size, is_stream_size, CanBeRead, IsSized};
+ghost use Rattle.io_packets.specs.Reading.{read_of, has_data, write_of, write_with_response_of, any_write_of, has_pad, is_stream, streaming_write_of, is_plain_reply, is_reply_with_data, io_response_of, io_of};
 
 use crate::classes::{
     DONE, ERROR, NREAD, NWRITE, NWRITE_R, READ_CLASS, RESPONSE_CLASS, STREAMING_WRITE_CLASS,
@@ -118,7 +119,7 @@ fn streaming_write_of(bytes: &[u8]) -> Io
 /// What a packet of the class of responses says.
 fn response_of(bytes: &[u8]) -> Io
     requires { 8 ≤ length bytes.now }
-    ensures { result ≡ response_of bytes.now }
+    ensures { result ≡ io_response_of bytes.now }
 {
     let tid = bytes[5];
     if is_plain_reply(bytes) {

@@ -4,7 +4,7 @@ ghost use Rattle.arrayvec.specs.ArrayVec.{array_vec_len};
 ghost use Rattle.rio_packets.specs.LinkForm.{LinkForm};
 ghost use Rattle.io_packets.specs.Forms.{is_size, IsAligned, IsGood};
 ghost use Rattle.io_packets.specs.Reading.{io_of};
-ghost use Rattle.io_packets.specs.Writing.{code_of, wdptr_of, type_of, asked, behind_ids, io_body, io_bytes};
+ghost use Rattle.io_packets.specs.Writing.{code_of, wdptr_of, type_of, io_request_head, io_behind_ids, io_body, io_bytes};
 
 use crate::classes::{
     NREAD, NWRITE, NWRITE_R, READ_CLASS, RESPONSE_CLASS, STREAMING_WRITE_CLASS, WITH_DATA,
@@ -59,7 +59,7 @@ impl Io {
     /// What stands behind the IDs of the packet that carries it.
     pub fn behind_ids(&self) -> ArrayVec<u8, MAX_BEHIND_IDS>
         requires { IsGood self.now }
-        ensures value { result.items ≡ behind_ids self.now }
+        ensures value { result.items ≡ io_behind_ids self.now }
         ensures even { array_vec_len result % 2 ≡ 0 }
     {
         match self {
@@ -86,7 +86,7 @@ fn asked(ttype: u8, size: usize, tid: u8, addr: u32) -> [u8; 6]
     requires ttype { ttype < 16 }
     requires size { IsTrue (is_size size) }
     requires aligned { IsAligned addr }
-    ensures { result ≡ asked ttype size tid addr }
+    ensures { result ≡ io_request_head ttype size tid addr }
 {
     let [a, b, c, d] = (addr + 4 * wdptr_of(size)).to_be_bytes();
     [16 * ttype + code_of(size), tid, a, b, c, d]
@@ -95,7 +95,7 @@ fn asked(ttype: u8, size: usize, tid: u8, addr: u32) -> [u8; 6]
 /// What stands behind the IDs of a response.
 fn replied(status: u8, tid: u8, load: &Option<Load>) -> ArrayVec<u8, MAX_BEHIND_IDS>
     requires { status < 16 }
-    ensures { result.items ≡ behind_ids (Io.Reply status tid load.now) }
+    ensures { result.items ≡ io_behind_ids (Io.Reply status tid load.now) }
 {
     match load {
         None => joined(&[16 * WITHOUT_DATA + status, tid], &[]),

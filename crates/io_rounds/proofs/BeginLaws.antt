@@ -8,7 +8,7 @@ use Rattle.rio_chars.proofs.WrittenLaws.{Writes-nil}
 use Rattle.rio_packets.specs.Fields.{prio_of}
 use Rattle.maint_registers.specs.Devices.{Device, is_switch}
 use Rattle.fabric_script.specs.Lines.{is_event}
-use Rattle.fabric_script.specs.Scripts.{Passes}
+use Rattle.fabric_script.specs.Scripts.{ScriptPasses}
 use Rattle.fabric_script.specs.declared.lines.Line.{Line}
 use Rattle.fabric_script.specs.declared.lines.Line.TheVariants.{Endpoint, Switch, Run, Collect}
 use Rattle.fabric_script.specs.declared.lines.Numbered.{Numbered}
@@ -19,7 +19,7 @@ use Rattle.fabric_trace.specs.Runs.{bare, set_up_all, start, BlocksFrom, BlockTh
 use Rattle.fabric_trace.proofs.SettingUp.{made_by, set_up-kinds, set_up_all-append}
 use Rattle.fabric_ports.specs.Standing.{Stands}
 use Rattle.io_packets.specs.Forms.{IsGood}
-use Rattle.io_packets.specs.Writing.{type_of, behind_ids}
+use Rattle.io_packets.specs.Writing.{type_of, io_behind_ids}
 use Rattle.io_packets.specs.declared.io.Io.{Io}
 use Rattle.io_packets.specs.declared.io.Io.TheVariants.{NRead, NWrite, NWriteR, SWrite, Reply, BadRead, BadWriteR, BadWrite, Other}
 use Rattle.io_packets.proofs.SizeLaws.{size_most, size_eights, stream_most, stream_eights}
@@ -28,7 +28,7 @@ use Rattle.io_rounds.specs.declared.stations.Station.{Station}
 use Rattle.io_rounds.specs.Stations.{new_station}
 use Rattle.io_rounds.specs.Tasks.{IoTask, sends_io, reply_line}
 use Rattle.io_rounds.specs.Going.{IoState, Here}
-use Rattle.io_rounds.specs.Course.{kinds_of, KeepsFit, CanSend, Holds, MayAct, IoAt}
+use Rattle.io_rounds.specs.Course.{kinds_of, KeepsFit, CanSend, CourseHolds, MayAct, IoAt}
 use Rattle.io_rounds.specs.Turns.{Underway, MayTurn}
 use Rattle.io_rounds.proofs.CalmLaws.{begins_calm}
 
@@ -45,11 +45,11 @@ no_blocks s (line ∷ script) none =
     (no_blocks s script (All-tail (λ (l : Numbered). is_event l.line ≡ false) line script none))
 
 pub holds_first : (names : List (List ℕ)) (script : List Numbered) (course : Course)
-    → Passes names script → All (λ line. is_event line.line ≡ false) script
+    → ScriptPasses names script → All (λ line. is_event line.line ≡ false) script
     → Stands (start script) [] course.fabric
     → course.stations.items ≡ replicate (length names) new_station
     → course.switches.items ≡ map is_switch (start script).network.registers
-    → Holds names script [] [] (replicate (length names) new_station) course
+    → CourseHolds names script [] [] (replicate (length names) new_station) course
 holds_first names script course passes sets_up stands stations switches = record {
   passes = passes;
   sets_up = sets_up;
@@ -85,7 +85,7 @@ at_itself written faults out way tasks =
 
 abbrev pub underway : {names : List (List ℕ)} {script : List Numbered} {events : List Numbered}
     {trace : List TraceLine} {stations : List Station} {course : Course}
-    → Holds names script events trace stations course → Underway names course
+    → CourseHolds names script events trace stations course → Underway names course
 underway {names} {script} {events} {trace} {stations} holds = record {
   script = script;
   events = events;
@@ -128,7 +128,7 @@ record FewBytes (bytes : List ℕ) : Type 0 where
   even : length bytes % 2 ≡ 0
   few : length bytes ≤ 70
 
-few_bytes : (io : Io) → IsGood io → FewBytes (behind_ids io)
+few_bytes : (io : Io) → IsGood io → FewBytes (io_behind_ids io)
 few_bytes (NRead tid addr size) good = record { even = refl; few = omega arith }
 few_bytes (NWrite addr load) good =
     let most = size_most (length load) good.1 in

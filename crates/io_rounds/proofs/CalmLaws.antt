@@ -13,7 +13,7 @@ use Rattle.rio_packets.specs.Fields.{prio_of}
 use Rattle.fabric_model.specs.Network.{Network, port_of, peer_in, link_in, room_out}
 use Rattle.fabric_model.specs.Steps.{Take, AtNode}
 use Rattle.fabric_model.proofs.Peers.{ArePeers, link_peers}
-use Rattle.fabric_trace.specs.Blocks.{takes, IsSettle, IsBlock}
+use Rattle.fabric_trace.specs.Blocks.{take_lines, IsSettle, IsBlock}
 use Rattle.fabric_trace.specs.Fold.{seen_line, seen}
 use Rattle.fabric_trace.specs.Known.{Seen, link_at}
 use Rattle.fabric_trace.specs.Lines.{Full, TraceLine, Begun, Stepped, Signed, Lacked, Ended, Undetected}
@@ -166,7 +166,7 @@ rounds_calm (suc n) s lines good none calm joined =
 
 -- ---- events
 
-one_take : (s : Seen) (node : ℕ) (packet : List ℕ) → OnlySteps (takes s node packet)
+one_take : (s : Seen) (node : ℕ) (packet : List ℕ) → OnlySteps (take_lines s node packet)
 unfolding OnlySteps
 one_take s node packet = by_room (room_out s.network (port_of node) (prio_of packet))
   where

@@ -24,7 +24,7 @@ use Rattle.io_rounds.specs.declared.course.Course.{Course}
 use Rattle.io_rounds.specs.Stations.{new_station}
 use Rattle.io_rounds.specs.Tasks.{IoTask, Carry, Finish}
 use Rattle.io_rounds.specs.Going.{IoState, Here}
-use Rattle.io_rounds.specs.Course.{Holds, IoArrived, IoStopped}
+use Rattle.io_rounds.specs.Course.{CourseHolds, IoArrived, IoStopped}
 use Rattle.io_rounds.specs.Drives.{first_state, Drives, DrivenWhole, DrivenFront, IsIoFit, MayCarry}
 use Rattle.io_rounds.specs.Turns.{MayBegin}
 use Rattle.io_rounds.proofs.BeginLaws.{underway}
@@ -44,7 +44,7 @@ LinesDone written faults begun names script io i out course =
 module _ {K : Type 0} (written : K → Option (List ℕ)) (faults : K → ℕ) (begun : Outbox K)
     (names : List (List ℕ)) (script : List Numbered) (io : List NumberedIo) where
   pub lines_begin : (course : Course)
-      → Holds names script [] [] (replicate (length names) new_station) course
+      → CourseHolds names script [] [] (replicate (length names) new_station) course
       → LinesDone written faults begun names script io 0 begun course
   lines_begin course holds = record {
     state = first_state names io;

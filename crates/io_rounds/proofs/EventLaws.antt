@@ -4,7 +4,7 @@ use Rattle.std.proofs.lemmas.List.Elements.{All-push}
 use Rattle.rio_chars.specs.declared.outbox.Outbox.{Outbox}
 use Rattle.rio_packets.specs.Fields.{prio_of}
 use Rattle.link_model.specs.declared.event.Event.{Event}
-use Rattle.switch_core.specs.EndpointSteps.{collected as collects}
+use Rattle.switch_core.specs.EndpointSteps.{collected}
 use Rattle.switch_core.specs.declared.endpoint.Collected.{Collected}
 use Rattle.switch_core.specs.declared.endpoint.Collected.TheVariants as Collects
 use Rattle.fabric_script.specs.Lines.{is_event}
@@ -23,7 +23,7 @@ use Rattle.fabric_trace.specs.Served.{face_in, collect_lines, IsCollect}
 use Rattle.fabric_trace.proofs.Boards.{happens_still}
 use Rattle.fabric_trace.proofs.Folding.{seen-append}
 use Rattle.fabric_ask.proofs.Gathering.{stays_endpoint, collected_fewer}
-use Rattle.fabric_ports.specs.Events.{MayFollow, Evented, Exposed, EventEnds, collected}
+use Rattle.fabric_ports.specs.Events.{MayFollow, Evented, Exposed, EventEnds, answer_collected}
 use Rattle.fabric_ports.specs.declared.answers.EventEnd.{EventEnd}
 use Rattle.fabric_ports.specs.declared.answers.EventEnd.TheVariants as Ends
 use Rattle.fabric_ports.specs.declared.answers.Happened.{Happened}
@@ -37,7 +37,7 @@ use Rattle.fabric_replay.proofs.Naming.{names_suffice, names_few}
 use Rattle.io_rounds.specs.declared.course.Course.{Course}
 use Rattle.io_rounds.specs.declared.stations.Station.{Station}
 use Rattle.io_rounds.specs.Calm.{LinksAreCalm}
-use Rattle.io_rounds.specs.Course.{Holds, IsIoEvent, IsSending, MayAct, Acted, held_behind}
+use Rattle.io_rounds.specs.Course.{CourseHolds, IsIoEvent, SendsPacket, MayAct, EventActed, held_behind}
 use Rattle.io_rounds.proofs.CalmLaws.{StayCalm, event_calm}
 
 is_an_event : (line : Line) → IsIoEvent line → is_event line ≡ true
@@ -46,7 +46,7 @@ is_an_event (Collect node) event = refl
 is_an_event (Run n) event = refl
 is_an_event _ event = absurd event
 
-pub sending_event : (line : Line) → IsSending line → IsIoEvent line
+pub sending_event : (line : Line) → SendsPacket line → IsIoEvent line
 sending_event (Send node prio ftype dest hex) event = tt
 sending_event _ event = absurd event
 
@@ -68,7 +68,7 @@ follows names course line may = record {
 -- behind what was done an event leaves the links calm
 stays_calm : (names : List (List ℕ)) (script events : List Numbered) (trace block : List TraceLine)
     (stations : List Station) (course : Course) (line : Line)
-    → Holds names script events trace stations course → IsIoEvent line
+    → CourseHolds names script events trace stations course → IsIoEvent line
     → IsBlock (seen (start script) trace) line block
     → StayCalm (seen (start script) trace) (Begun line ∷ block)
 stays_calm names script events trace block stations course line holds kind is =
@@ -111,10 +111,10 @@ only_wanting names course line written faults old new Ends.NoMemory may ends = i
 pub acted : (names : List (List ℕ)) (script events : List Numbered) (trace : List TraceLine)
     (stations : List Station) (line : Line) (old new : Course) (what : Happened) {K : Type 0}
     (written : K → Option (List ℕ)) (faults : K → ℕ) (o1 o2 : Outbox K)
-    → Holds names script events trace stations old → IsIoEvent line
+    → CourseHolds names script events trace stations old → IsIoEvent line
     → Evented line names written faults o1 o2 (start script) trace new.fabric what
     → new.stations.items ≡ old.stations.items → new.switches.items ≡ old.switches.items
-    → Acted names script events trace stations line what new
+    → EventActed names script events trace stations line what new
 acted names script events trace stations line old new what written faults o1 o2 holds kind done
     same switches =
     let s = start script in
@@ -147,7 +147,7 @@ acted names script events trace stations line old new what written faults o1 o2 
 -- ---- how many packets a node holds
 
 -- a packet that is sent is received nowhere
-send_held : (s : Seen) (line : Line) (block : List TraceLine) (p : PortRef) → IsSending line
+send_held : (s : Seen) (line : Line) (block : List TraceLine) (p : PortRef) → SendsPacket line
     → IsBlock s line block → held (seen s (Begun line ∷ block)).network p ≡ held s.network p
 send_held s (Send node prio ftype dest hex) block p sending is =
     subst (λ b. held (seen s b).network p ≡ held s.network p) (sym is.lines)
@@ -161,7 +161,7 @@ send_held s (Send node prio ftype dest hex) block p sending is =
 send_held s _ block p sending is = absurd sending
 
 pub sent_held : (script : List Numbered) (trace block : List TraceLine) (line : Line) (node : ℕ)
-    → IsSending line → IsBlock (seen (start script) trace) line block
+    → SendsPacket line → IsBlock (seen (start script) trace) line block
     → held_behind script (trace ++ Begun line ∷ block) node ≡ held_behind script trace node
 sent_held script trace block line node sending is =
     ap (λ (x : Seen). held x.network (port_of node))
@@ -175,27 +175,27 @@ goes_on Answers.Answered = true
 goes_on _ = false
 
 one_step : (node : ℕ) (made : Collected) (block : List TraceLine) → block ≡ collect_lines node made
-    → goes_on (collected block) ≡ true → (step : Step) × (block ≡ Stepped step ∷ [])
+    → goes_on (answer_collected block) ≡ true → (step : Step) × (block ≡ Stepped step ∷ [])
 unfolding goes_on
 one_step node (Collects.Left packet) block is more = (AtNode (Leave node packet), is)
 one_step node (Collects.Answered request response) block is more =
     (ByDevice (Answer (port_of node) request response), is)
 one_step node Collects.Empty block is more =
-    absurd (cc (ap (λ b. goes_on (collected b)) is, more))
+    absurd (cc (ap (λ b. goes_on (answer_collected b)) is, more))
 one_step node Collects.Full block is more =
-    absurd (cc (ap (λ b. goes_on (collected b)) is, more))
+    absurd (cc (ap (λ b. goes_on (answer_collected b)) is, more))
 
 pub took_fewer : (names : List (List ℕ)) (script events : List Numbered) (trace : List TraceLine)
     (stations : List Station) (node : ℕ) (what : Happened) (old new : Course)
-    → Holds names script events trace stations old
-    → (acted : Acted names script events trace stations (Collect node) what new)
+    → CourseHolds names script events trace stations old
+    → (acted : EventActed names script events trace stations (Collect node) what new)
     → goes_on what ≡ true
     → held_behind script (trace ++ Begun (Collect node) ∷ acted.block) node
     < held_behind script trace node
 took_fewer names script events trace stations node what old new holds acted more =
     let s = seen (start script) trace in
     let is = acted.is in
-    let one = one_step node (collects is.device (face_in s.network (port_of node))) acted.block
+    let one = one_step node (collected is.device (face_in s.network (port_of node))) acted.block
     is.lines (ap goes_on (sym acted.answered) ∙ more) in
     let fewer = collected_fewer s node one.0 (good_behind holds.stands.ready holds.stands.made)
     (subst (IsCollect s.network node) one.1 is) in
@@ -209,7 +209,7 @@ took_fewer names script events trace stations node what old new holds acted more
 -- how many packets a fabric has at the port of an endpoint
 pub held_is : (names : List (List ℕ)) (script events : List Numbered) (trace : List TraceLine)
     (stations : List Station) (course : Course) (node : ℕ)
-    → Holds names script events trace stations course → IsEndpoint (start script).network node
+    → CourseHolds names script events trace stations course → IsEndpoint (start script).network node
     → held_at course.fabric node ≡ held_behind script trace node
 held_is names script events trace stations course node holds endpoint =
     let shows = holds.stands.shows in

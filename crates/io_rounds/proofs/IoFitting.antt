@@ -3,12 +3,12 @@ use Rattle.std.proofs.Common.{◌≡◌, ℕ, ◌+◌, ◌%◌, suc, false, List
 use Rattle.std.proofs.lemmas.Bool.{eqb-true, not-true}
 use Rattle.std.proofs.lemmas.List.Elements.{All-cons, All-nil}
 use Rattle.fabric_script.specs.declared.lines.Numbered.{Numbered}
-use Rattle.fabric_script.specs.Known.{Known, is_switch, known_after, nothing_in, of_set_up}
+use Rattle.fabric_script.specs.Known.{Known, is_known_switch, known_after, nothing_in, of_set_up}
 use Rattle.fabric_script.specs.Lines.{is_event}
 use Rattle.fabric_script.specs.Reading.{new_name_in}
 use Rattle.fabric_script.specs.Scripts.{is_skipped, KeptThen, pieces_of, SpellsFrom}
 use Rattle.fabric_script.specs.SetUps.{NoEvents}
-use Rattle.fabric_script.specs.Texts.{AtNode}
+use Rattle.fabric_script.specs.Texts.{NodeValue}
 use Rattle.fabric_script.proofs.ScriptLaws.{Passes-from_script}
 use Rattle.fabric_script.proofs.SetUpLaws.{set_up_passes}
 use Rattle.fabric_model.specs.Network.{Network}
@@ -21,7 +21,7 @@ use Rattle.io_script.specs.declared.lines.IoLine.TheVariants.{Memory, NRead, NWr
 use Rattle.io_script.specs.declared.lines.NumberedIo.{NumberedIo}
 use Rattle.io_script.specs.IoForms.{AnEndpoint, io_fields_of}
 use Rattle.io_script.specs.IoLines.{io_form_of, io_values_of}
-use Rattle.io_script.specs.IoReading.{Earlier, earlier_with, no_lines}
+use Rattle.io_script.specs.IoReading.{Earlier, earlier_with, nothing_earlier}
 use Rattle.io_script.specs.IoScripts.{first_behind, IsIoScript, SpellIoFrom}
 use Rattle.io_script.specs.IoWords.{FitIoAll, FitsIo}
 use Rattle.io_script.proofs.IoOnce.{KeptIo}
@@ -50,9 +50,9 @@ knows_all number known net (text ∷ texts) lines end knows spelled =
 -- ---- a node that is known to be no switch
 
 station_is : (known : Known) (net : Network) (n : ℕ) → KnowsNetwork known net
-    → FitsIo known AnEndpoint (AtNode n) → IsStation known.names net n
+    → FitsIo known AnEndpoint (NodeValue n) → IsStation known.names net n
 station_is known net n knows fit =
-    (fit.0, endpoint_at known net n knows fit.0 (not-true (is_switch known.nodes n) fit.1))
+    (fit.0, endpoint_at known net n knows fit.0 (not-true (is_known_switch known.nodes n) fit.1))
 
 -- ---- the lines behind the set-up lines
 
@@ -123,6 +123,6 @@ script_fits bytes names lines io script =
       passes = passes.0;
       sets_up = no_events lines passes.1;
       may = subst (λ n. MayCarryAll n net io) script.named
-          (spelled_carry (first_behind bytes) script.known net no_lines script.texts io knows
+          (spelled_carry (first_behind bytes) script.known net nothing_earlier script.texts io knows
           script.spelled);
     }

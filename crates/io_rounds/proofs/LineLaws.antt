@@ -17,7 +17,7 @@ use Rattle.io_rounds.specs.declared.stations.Station.{Station}
 use Rattle.io_rounds.specs.Stations.{new_station, next_tid_of, with_memory}
 use Rattle.io_rounds.specs.Tasks.{IoTask, Carry, Ask, tasks_of, stations_by}
 use Rattle.io_rounds.specs.Going.{IoState, left_to_do, begun_line, endpoints_of}
-use Rattle.io_rounds.specs.Course.{KeepsFit, CanSend, Holds, IoAt, IoArrived}
+use Rattle.io_rounds.specs.Course.{KeepsFit, CanSend, CourseHolds, IoAt, IoArrived}
 use Rattle.io_rounds.specs.Drives.{MayCarry, AsksWithin}
 use Rattle.io_rounds.specs.Turns.{MayBegin, MaySend}
 use Rattle.io_rounds.proofs.BeginLaws.{may_send_io}
@@ -125,7 +125,7 @@ module _ {K : Type 0} {written : K → Option (List ℕ)} {faults : K → ℕ} {
       (begun_line names (endpoints_of script) line (left_to_do s rest)) course
   begins_other {course} line rest at is told other =
       begins_line line rest course at is told
-      (subst (λ l. Holds names script s.events s.trace l course)
+      (subst (λ l. CourseHolds names script s.events s.trace l course)
       (sym (other_stations line s.stations other)) at.holds)
 
   pub begins_memory : {course : Course} (next : Course) (node bytes : ℕ) (memory : List ℕ)
@@ -145,7 +145,7 @@ module _ {K : Type 0} {written : K → Option (List ℕ)} {faults : K → ℕ} {
       record {
         state = begun_line names (endpoints_of script) line (left_to_do s rest);
         at = begins_line line rest next at is told
-            (subst (λ l. Holds names script s.events s.trace l next) (sym after)
+            (subst (λ l. CourseHolds names script s.events s.trace l next) (sym after)
             (holds_with (with_memory s.stations node (replicate bytes 0)) next holds fabric
             (stations ∙ ap (λ l. with_memory l node memory) holds.same_stations
             ∙ ap (λ m. with_memory s.stations node m) zeros) switches

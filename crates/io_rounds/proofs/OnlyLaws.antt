@@ -10,8 +10,8 @@ use Rattle.fabric_trace.proofs.Unique.{block_one}
 use Rattle.fabric_ports.specs.Events.{happened}
 use Rattle.fabric_ports.specs.declared.answers.Happened.{Happened}
 use Rattle.fabric_ports.specs.declared.answers.Happened.TheVariants as Answers
-use Rattle.io_rounds.specs.Tasks.{IoTask, Carry, Ask, Settle, Turn, Reply, Take, Finish, event_of}
-use Rattle.io_rounds.specs.Going.{IoState, left_to_do, with_event, telling, begun_line, turned_to, behind_event, endpoints_of, IoGoes, Begins, Turns, Acts, Ends, IoComes, Here, Goes}
+use Rattle.io_rounds.specs.Tasks.{IoTask, Carry, Ask, Settle, Turn, Reply, Fetch, Finish, task_event}
+use Rattle.io_rounds.specs.Going.{IoState, left_to_do, with_event, telling, begun_line, turned_to, behind_event, endpoints_of, IoGoes, IoBegins, IoTurns, IoActs, IoEnds, IoComes, Here, Further}
 use Rattle.io_rounds.specs.Stations.{kept_of_node}
 
 -- ---- what is written grows
@@ -32,27 +32,27 @@ event_front names Settle what s = front_same refl
 event_front names (Turn node) what s = front_same refl
 event_front names (Reply node line) Answers.Took s = front_same refl
 event_front names (Reply node line) _ s = front_same refl
-event_front names (Take node) (Answers.Left packet) s = (_, refl)
-event_front names (Take node) Answers.Answered s = front_same refl
-event_front names (Take node) _ s = front_same refl
+event_front names (Fetch node) (Answers.Left packet) s = (_, refl)
+event_front names (Fetch node) Answers.Answered s = front_same refl
+event_front names (Fetch node) _ s = front_same refl
 event_front names Finish what s = front_same refl
 
 goes_front : {names : List (List ℕ)} {script : List Numbered} {s t : IoState}
     → IoGoes names script s t → IsFront s.output t.output
-goes_front {names} {script} {s} {t} (Begins line rest is to) =
+goes_front {names} {script} {s} {t} (IoBegins line rest is to) =
     subst (λ (x : IoState). IsFront s.output x.output) (sym to) (_, refl)
-goes_front {names} {script} {s} {t} (Turns node rest is to) =
+goes_front {names} {script} {s} {t} (IoTurns node rest is to) =
     subst (λ (x : IoState). IsFront s.output x.output) (sym to) (front_same refl)
-goes_front {names} {script} {s} {t} (Acts task rest line block is event block_is sent to) =
+goes_front {names} {script} {s} {t} (IoActs task rest line block is event block_is sent to) =
     subst (λ (x : IoState). IsFront s.output x.output) (sym to)
     (event_front names task (happened line block) (with_event (left_to_do s rest) line block))
-goes_front {names} {script} {s} {t} (Ends rest is to) =
+goes_front {names} {script} {s} {t} (IoEnds rest is to) =
     subst (λ (x : IoState). IsFront s.output x.output) (sym to) (_, refl)
 
 pub comes_front : {names : List (List ℕ)} {script : List Numbered} {s t : IoState}
     → IoComes names script s t → IsFront s.output t.output
 comes_front (Here is) = front_same (ap (λ (x : IoState). x.output) is)
-comes_front {names} {script} {s} {t} (Goes before comes goes) =
+comes_front {names} {script} {s} {t} (Further before comes goes) =
     front_on s.output before.output t.output (comes_front comes) (goes_front goes)
 
 -- ---- one task after another
@@ -64,69 +64,69 @@ same_head is = cc
 same_rest : {a b : IoTask} {xs ys : List IoTask} → a ∷ xs ≡ b ∷ ys → xs ≡ ys
 same_rest is = cc
 
-no_event : {task : IoTask} {line : Line} (other : IoTask) → task ≡ other → event_of other ≡ None
-    → event_of task ≡ Some line → ⊥
-no_event other is none some = let clash = sym none ∙ ap event_of (sym is) ∙ some in absurd cc
+no_event : {task : IoTask} {line : Line} (other : IoTask) → task ≡ other → task_event other ≡ None
+    → task_event task ≡ Some line → ⊥
+no_event other is none some = let clash = sym none ∙ ap task_event (sym is) ∙ some in absurd cc
 
 goes_one : {names : List (List ℕ)} {script : List Numbered} {s t u : IoState}
     → IoGoes names script s t → IoGoes names script s u → t ≡ u
-goes_one {names} {script} {s} (Begins line rest is to) (Begins line2 rest2 is2 to2) =
+goes_one {names} {script} {s} (IoBegins line rest is to) (IoBegins line2 rest2 is2 to2) =
     let tasks = sym is ∙ is2 in
     let one : line ≡ line2 = let head = same_head tasks in cc in
     let rests = same_rest tasks in
     to ∙ (λ i. begun_line names (endpoints_of script) (one i) (left_to_do s (rests i))) ∙ sym to2
-goes_one (Begins line rest is to) (Turns node rest2 is2 to2) =
+goes_one (IoBegins line rest is to) (IoTurns node rest2 is2 to2) =
     let head = same_head (sym is ∙ is2) in absurd cc
-goes_one (Begins line rest is to) (Acts task rest2 line2 block is2 event block_is sent to2) =
+goes_one (IoBegins line rest is to) (IoActs task rest2 line2 block is2 event block_is sent to2) =
     absurd (no_event (Carry line) (same_head (sym is2 ∙ is)) refl event)
-goes_one (Begins line rest is to) (Ends rest2 is2 to2) =
+goes_one (IoBegins line rest is to) (IoEnds rest2 is2 to2) =
     let head = same_head (sym is ∙ is2) in absurd cc
-goes_one (Turns node rest is to) (Begins line rest2 is2 to2) =
+goes_one (IoTurns node rest is to) (IoBegins line rest2 is2 to2) =
     let head = same_head (sym is ∙ is2) in absurd cc
-goes_one {names} {script} {s} (Turns node rest is to) (Turns node2 rest2 is2 to2) =
+goes_one {names} {script} {s} (IoTurns node rest is to) (IoTurns node2 rest2 is2 to2) =
     let tasks = sym is ∙ is2 in
     let one : node ≡ node2 = let head = same_head tasks in cc in
     let rests = same_rest tasks in
     to ∙ (λ i. turned_to (one i) (kept_of_node s.stations (one i)) (left_to_do s (rests i)))
     ∙ sym to2
-goes_one (Turns node rest is to) (Acts task rest2 line block is2 event block_is sent to2) =
+goes_one (IoTurns node rest is to) (IoActs task rest2 line block is2 event block_is sent to2) =
     absurd (no_event (Turn node) (same_head (sym is2 ∙ is)) refl event)
-goes_one (Turns node rest is to) (Ends rest2 is2 to2) =
+goes_one (IoTurns node rest is to) (IoEnds rest2 is2 to2) =
     let head = same_head (sym is ∙ is2) in absurd cc
-goes_one (Acts task rest line block is event block_is sent to) (Begins line2 rest2 is2 to2) =
+goes_one (IoActs task rest line block is event block_is sent to) (IoBegins line2 rest2 is2 to2) =
     absurd (no_event (Carry line2) (same_head (sym is ∙ is2)) refl event)
-goes_one (Acts task rest line block is event block_is sent to) (Turns node rest2 is2 to2) =
+goes_one (IoActs task rest line block is event block_is sent to) (IoTurns node rest2 is2 to2) =
     absurd (no_event (Turn node) (same_head (sym is ∙ is2)) refl event)
-goes_one {names} {script} {s} (Acts task rest line block is event block_is sent to)
-    (Acts task2 rest2 line2 block2 is2 event2 block_is2 sent2 to2) =
+goes_one {names} {script} {s} (IoActs task rest line block is event block_is sent to)
+    (IoActs task2 rest2 line2 block2 is2 event2 block_is2 sent2 to2) =
     let tasks = sym is ∙ is2 in
     let head = same_head tasks in
     let rests = same_rest tasks in
-    let one : line ≡ line2 = let both = sym event ∙ ap event_of head ∙ event2 in cc in
+    let one : line ≡ line2 = let both = sym event ∙ ap task_event head ∙ event2 in cc in
     let blocks : block ≡ block2 = block_one line2 (seen (start script) s.trace) block block2
     (subst (λ l. IsBlock (seen (start script) s.trace) l block) one block_is) block_is2 in
     to ∙ (λ i. behind_event names (head i) (happened (one i) (blocks i))
     (with_event (left_to_do s (rests i)) (one i) (blocks i))) ∙ sym to2
-goes_one (Acts task rest line block is event block_is sent to) (Ends rest2 is2 to2) =
+goes_one (IoActs task rest line block is event block_is sent to) (IoEnds rest2 is2 to2) =
     absurd (no_event Finish (same_head (sym is ∙ is2)) refl event)
-goes_one (Ends rest is to) (Begins line rest2 is2 to2) =
+goes_one (IoEnds rest is to) (IoBegins line rest2 is2 to2) =
     let head = same_head (sym is ∙ is2) in absurd cc
-goes_one (Ends rest is to) (Turns node rest2 is2 to2) =
+goes_one (IoEnds rest is to) (IoTurns node rest2 is2 to2) =
     let head = same_head (sym is ∙ is2) in absurd cc
-goes_one (Ends rest is to) (Acts task rest2 line block is2 event block_is sent to2) =
+goes_one (IoEnds rest is to) (IoActs task rest2 line block is2 event block_is sent to2) =
     absurd (no_event Finish (same_head (sym is2 ∙ is)) refl event)
-goes_one {names} {script} {s} (Ends rest is to) (Ends rest2 is2 to2) =
+goes_one {names} {script} {s} (IoEnds rest is to) (IoEnds rest2 is2 to2) =
     let rests = same_rest (sym is ∙ is2) in
     to ∙ (λ i. telling (left_to_do s (rests i)) (codes "end")) ∙ sym to2
 
 -- nothing follows a state in which nothing is left to do
 goes_none : {names : List (List ℕ)} {script : List Numbered} {s t : IoState} → s.tasks ≡ []
     → IoGoes names script s t → ⊥
-goes_none over (Begins line rest is to) = let clash = sym is ∙ over in absurd cc
-goes_none over (Turns node rest is to) = let clash = sym is ∙ over in absurd cc
-goes_none over (Acts task rest line block is event block_is sent to) =
+goes_none over (IoBegins line rest is to) = let clash = sym is ∙ over in absurd cc
+goes_none over (IoTurns node rest is to) = let clash = sym is ∙ over in absurd cc
+goes_none over (IoActs task rest line block is event block_is sent to) =
     let clash = sym is ∙ over in absurd cc
-goes_none over (Ends rest is to) = let clash = sym is ∙ over in absurd cc
+goes_none over (IoEnds rest is to) = let clash = sym is ∙ over in absurd cc
 
 -- ---- many
 
@@ -139,14 +139,14 @@ record FirstOf (names : List (List ℕ)) (script : List Numbered) (s t : IoState
 first_of : {names : List (List ℕ)} {script : List Numbered} {s t : IoState}
     → IoComes names script s t → (t ≡ s) ⊎ FirstOf names script s t
 first_of (Here is) = inl is
-first_of {names} {script} {s} {t} (Goes before comes goes) = elim (first_of comes) [
+first_of {names} {script} {s} {t} (Further before comes goes) = elim (first_of comes) [
   | inl is ↦ inr (record {
     next = t;
     goes = subst (λ x. IoGoes names script x t) is goes;
     comes = Here refl;
   })
   | inr first ↦
-      inr (record { next = first.next; goes = first.goes; comes = Goes before first.comes goes })
+      inr (record { next = first.next; goes = first.goes; comes = Further before first.comes goes })
 ]
 
 -- of two states that are reached one comes before the other
@@ -155,11 +155,11 @@ pub comes_two : {names : List (List ℕ)} {script : List Numbered} {first s t : 
     → IoComes names script s t ⊎ IoComes names script t s
 comes_two {names} {script} {first} {s} {t} comes (Here is) =
     inr (subst (λ x. IoComes names script x s) (sym is) comes)
-comes_two {names} {script} {first} {s} {t} comes (Goes before more goes) =
+comes_two {names} {script} {first} {s} {t} comes (Further before more goes) =
     elim (comes_two comes more) [
-      | inl on ↦ inl (Goes before on goes)
+      | inl on ↦ inl (Further before on goes)
       | inr back ↦ elim (first_of back) [
-        | inl is ↦ inl (Goes before (Here (sym is)) goes)
+        | inl is ↦ inl (Further before (Here (sym is)) goes)
         | inr step ↦
             inr (subst (λ x. IoComes names script x s) (goes_one step.goes goes) step.comes)
       ]

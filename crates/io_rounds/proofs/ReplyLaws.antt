@@ -15,11 +15,11 @@ use Rattle.io_packets.specs.declared.io.Io.{Io}
 use Rattle.io_rounds.specs.declared.course.Course.{Course}
 use Rattle.io_rounds.specs.declared.stations.Station.{Station}
 use Rattle.io_rounds.specs.Stations.{kept_of_node, with_kept, stations_met}
-use Rattle.io_rounds.specs.Tasks.{IoTask, reply_line, Turn, Reply, Take}
-use Rattle.io_rounds.specs.Going.{IoState, left_to_do, with_event, doing, turned_to, behind_reply, first_of_turn, IoGoes, Turns, Here, Goes}
-use Rattle.io_rounds.specs.Course.{CanSend, IsSending, Holds, Acted, tasks_on}
+use Rattle.io_rounds.specs.Tasks.{IoTask, reply_line, Turn, Reply, Fetch}
+use Rattle.io_rounds.specs.Going.{IoState, left_to_do, with_event, doing, turned_to, behind_reply, first_of_turn, IoGoes, IoTurns, Here, Further}
+use Rattle.io_rounds.specs.Course.{CanSend, SendsPacket, CourseHolds, EventActed, tasks_on}
 use Rattle.io_packets.specs.Forms.{IsGood}
-use Rattle.io_rounds.specs.Turns.{Underway, MayTurn, MaySend, Sent}
+use Rattle.io_rounds.specs.Turns.{Underway, MayTurn, MaySend, TaskSent}
 use Rattle.io_rounds.proofs.BeginLaws.{may_reply}
 use Rattle.io_rounds.proofs.EventLaws.{sent_held}
 use Rattle.io_rounds.proofs.StateLaws.{met_keeps, comes_on, goes_by, holds_with, keeps_none, keeps_one, kept_fits, met_length}
@@ -28,15 +28,16 @@ use Rattle.io_rounds.proofs.StateLaws.{met_keeps, comes_on, goes_by, holds_with,
 
 pub reply_took : {names : List (List ℕ)} {script : List Numbered} {s : IoState} {new : Course}
     (node : ℕ) (line : Line) (rest : List IoTask)
-    → s.tasks ≡ Reply node line ∷ rest → IsSending line
-    → Acted names script s.events s.trace s.stations line Answers.Took new
-    → Sent names script s node (Take node ∷ rest) new
+    → s.tasks ≡ Reply node line ∷ rest → SendsPacket line
+    → EventActed names script s.events s.trace s.stations line Answers.Took new
+    → TaskSent names script s node (Fetch node ∷ rest) new
 reply_took {names} {script} {s} node line rest is sending acted =
-    let t = doing (with_event (left_to_do s rest) line acted.block) (Take node) in
+    let t = doing (with_event (left_to_do s rest) line acted.block) (Fetch node) in
     let held = sent_held script s.trace acted.block line node sending acted.is in
     record {
       state = t;
-      comes = Goes s (Here refl) (goes_by (Reply node line) rest line Answers.Took is refl acted);
+      comes =
+          Further s (Here refl) (goes_by (Reply node line) rest line Answers.Took is refl acted);
       left = refl;
       output = refl;
       holds = acted.holds;
@@ -51,10 +52,10 @@ is_kept node line _ s other = refl
 pub reply_kept : {names : List (List ℕ)} {script : List Numbered} {s : IoState} {mid : Course}
     (node : ℕ) (line : Line) (rest : List IoTask) (what : Happened) (new : Course)
     → s.tasks ≡ Reply node line ∷ rest → CanSend names (start script).network line
-    → what ≢ Answers.Took → Acted names script s.events s.trace s.stations line what mid
+    → what ≢ Answers.Took → EventActed names script s.events s.trace s.stations line what mid
     → new.fabric ≡ mid.fabric → new.switches ≡ mid.switches
     → new.stations.items ≡ with_kept mid.stations.items node (Some line)
-    → Sent names script s node rest new
+    → TaskSent names script s node rest new
 reply_kept {names} {script} {s} {mid} node line rest what new is can other acted fabric switches
     stations =
     let u = with_event (left_to_do s rest) line acted.block in
@@ -62,7 +63,7 @@ reply_kept {names} {script} {s} {mid} node line rest what new is can other acted
     let held = sent_held script s.trace acted.block line node can.0 acted.is in
     record {
       state = t;
-      comes = Goes s (Here refl) (subst (IoGoes names script s) (is_kept node line what u other)
+      comes = Further s (Here refl) (subst (IoGoes names script s) (is_kept node line what u other)
           (goes_by (Reply node line) rest line what is refl acted));
       left = refl;
       output = refl;
@@ -78,17 +79,17 @@ reply_kept {names} {script} {s} {mid} node line rest what new is can other acted
 -- a turn begins
 turn_begins : {names : List (List ℕ)} {script : List Numbered} {s : IoState}
     {old new : Course} (node : ℕ) (kept : Option Line) (rest : List IoTask)
-    → s.tasks ≡ Turn node ∷ rest → Holds names script s.events s.trace s.stations old
+    → s.tasks ≡ Turn node ∷ rest → CourseHolds names script s.events s.trace s.stations old
     → kept ≡ kept_of_node old.stations.items node → new.fabric ≡ old.fabric
     → new.switches ≡ old.switches → new.stations.items ≡ with_kept old.stations.items node None
-    → Sent names script s node (first_of_turn node kept ∷ rest) new
+    → TaskSent names script s node (first_of_turn node kept ∷ rest) new
 turn_begins {names} {script} {s} {old} {new} node kept rest is holds keeps fabric switches
     stations =
     let same = holds.same_stations in
     let t = turned_to node kept (left_to_do s rest) in
     record {
       state = t;
-      comes = Goes s (Here refl) (Turns node rest is
+      comes = Further s (Here refl) (IoTurns node rest is
           (ap (λ k. turned_to node k (left_to_do s rest))
           (keeps ∙ ap (λ l. kept_of_node l node) same)));
       left = refl;
@@ -102,22 +103,22 @@ turn_begins {names} {script} {s} {old} {new} node kept rest is holds keeps fabri
 -- nothing is kept
 pub turn_takes : {names : List (List ℕ)} {script : List Numbered} {s : IoState} {old new : Course}
     (node : ℕ) (rest : List IoTask) → s.tasks ≡ Turn node ∷ rest
-    → Holds names script s.events s.trace s.stations old
+    → CourseHolds names script s.events s.trace s.stations old
     → None ≡ kept_of_node old.stations.items node → new.fabric ≡ old.fabric
     → new.switches ≡ old.switches → new.stations.items ≡ with_kept old.stations.items node None
-    → Sent names script s node (Take node ∷ rest) new
+    → TaskSent names script s node (Fetch node ∷ rest) new
 turn_takes node rest is holds keeps fabric switches stations =
     turn_begins node None rest is holds keeps fabric switches stations
 
 -- a reply is kept, and is sent if it can be
 pub turn_replies : {names : List (List ℕ)} {script : List Numbered} {s : IoState}
     {old mid new : Course} (node : ℕ) (line : Line) (more : Bool) (rest : List IoTask)
-    → s.tasks ≡ Turn node ∷ rest → Holds names script s.events s.trace s.stations old
+    → s.tasks ≡ Turn node ∷ rest → CourseHolds names script s.events s.trace s.stations old
     → Some line ≡ kept_of_node old.stations.items node → mid.fabric ≡ old.fabric
     → mid.switches ≡ old.switches → mid.stations.items ≡ with_kept old.stations.items node None
-    → ((t : IoState) → Holds names script t.events t.trace t.stations mid
-    → t.tasks ≡ Reply node line ∷ rest → Sent names script t node (tasks_on node more rest) new)
-    → Sent names script s node (tasks_on node more rest) new
+    → ((t : IoState) → CourseHolds names script t.events t.trace t.stations mid
+    → t.tasks ≡ Reply node line ∷ rest → TaskSent names script t node (tasks_on node more rest) new)
+    → TaskSent names script s node (tasks_on node more rest) new
 turn_replies node line more rest is holds keeps fabric switches stations replies =
     let begins = turn_begins node (Some line) rest is holds keeps fabric switches stations in
     let sent = replies begins.state begins.holds begins.left in
@@ -162,8 +163,8 @@ holds_kept {names} {old} node line new way named kept fabric switches stations =
 -- a packet may be sent by whatever set-up lines the same nodes are endpoints
 pub can_same : {names : List (List ℕ)} {script script2 events events2 : List Numbered}
     {trace trace2 : List TraceLine} {stations stations2 : List Station} {course : Course}
-    (line : Line) → Holds names script events trace stations course
-    → Holds names script2 events2 trace2 stations2 course
+    (line : Line) → CourseHolds names script events trace stations course
+    → CourseHolds names script2 events2 trace2 stations2 course
     → CanSend names (start script).network line → CanSend names (start script2).network line
 can_same {names} {script} {script2} (Send node prio ftype dest hex) one other can = (
   tt,

@@ -12,7 +12,7 @@ use Rattle.fabric_trace.proofs.Boards.{seen_board}
 use Rattle.io_rounds.specs.declared.course.Course.{Course}
 use Rattle.io_rounds.specs.Tasks.{IoTask, Settle, Turn, endpoints_from}
 use Rattle.io_rounds.specs.Going.{IoState, endpoints_of}
-use Rattle.io_rounds.specs.Course.{Holds, Acted, IoAt, IoArrived, turn_of}
+use Rattle.io_rounds.specs.Course.{CourseHolds, EventActed, IoAt, IoArrived, node_turn}
 use Rattle.io_rounds.specs.Turns.{Underway, MayTurn}
 use Rattle.io_rounds.proofs.TakeLaws.{settles}
 use Rattle.io_rounds.proofs.BeginLaws.{at_itself, state_of, endpoint_is}
@@ -23,7 +23,7 @@ turns_from script i = map Turn (endpoints_from i (drop i (start script).network.
 
 turns_step : (n : ℕ) (devices : List Device) (i : ℕ) → i < length devices
     → map Turn (endpoints_from n (drop i devices))
-    ≡ turn_of (get_or (map is_switch devices) i false) n
+    ≡ node_turn (get_or (map is_switch devices) i false) n
     ++ map Turn (endpoints_from (suc n) (drop (suc i) devices))
 turns_step n [] i within = absurd (omega (arith, within))
 turns_step n (d ∷ devices) zero within = by_kind (is_switch d)
@@ -31,7 +31,7 @@ turns_step n (d ∷ devices) zero within = by_kind (is_switch d)
     by_kind : (kind : Bool)
         → map Turn (if kind then endpoints_from (suc n) devices
         else n ∷ endpoints_from (suc n) devices)
-        ≡ turn_of kind n ++ map Turn (endpoints_from (suc n) devices)
+        ≡ node_turn kind n ++ map Turn (endpoints_from (suc n) devices)
     by_kind true = refl
     by_kind false = refl
 turns_step n (d ∷ devices) (suc i) within = turns_step n devices i (omega (arith, within))
@@ -52,7 +52,7 @@ pub turn_next : {K : Type 0} {written : K → Option (List ℕ)} {faults : K →
     → (arrived : IoArrived written faults begun out names script first
     (turns_from script i ++ rest) course)
     → arrived.state.tasks
-    ≡ turn_of (get_or course.switches.items i false) i ++ (turns_from script (suc i) ++ rest)
+    ≡ node_turn (get_or course.switches.items i false) i ++ (turns_from script (suc i) ++ rest)
 turn_next {K} {written} {faults} {begun} {out} {names} {script} i course rest within arrived =
     let devices = (start script).network.registers in
     let same = arrived.at.holds.switches in
@@ -60,16 +60,17 @@ turn_next {K} {written} {faults} {begun} {out} {names} {script} i course rest wi
     let sizes = ap length same in
     let inside : i < length devices = omega (arith, within, sizes, len) in
     arrived.left ∙ ap (λ l. l ++ rest) (turns_step i devices i inside)
-    ∙ append_assoc (turn_of (get_or (map is_switch devices) i false) i) (turns_from script (suc i))
+    ∙ append_assoc (node_turn (get_or (map is_switch devices) i false) i)
+    (turns_from script (suc i))
     rest
-    ∙ ap (λ l. turn_of (get_or l i false) i ++ (turns_from script (suc i) ++ rest)) (sym same)
+    ∙ ap (λ l. node_turn (get_or l i false) i ++ (turns_from script (suc i) ++ rest)) (sym same)
 
 module _ {K : Type 0} {written : K → Option (List ℕ)} {faults : K → ℕ} {names : List (List ℕ)}
     {old : Outbox K} {first_course : Course} where
   pub round_begins : (what : Happened) (course : Course)
       → ((script : List Numbered) (s : IoState)
-      → Holds names script s.events s.trace s.stations first_course
-      → Acted names script s.events s.trace s.stations (Run 1) what course)
+      → CourseHolds names script s.events s.trace s.stations first_course
+      → EventActed names script s.events s.trace s.stations (Run 1) what course)
       → InRound written faults names old first_course 0 old course
   round_begins what course acts script begun first s rest at is =
       settles (map Turn (endpoints_of script) ++ rest) what at is (acts script s at.holds)
@@ -80,7 +81,7 @@ module _ {K : Type 0} {written : K → Option (List ℕ)} {faults : K → ℕ} {
       → InRound written faults names old first_course i out course
       → ((script : List Numbered) (begun : Outbox K) (first s : IoState) (rest : List IoTask)
       → IoAt written faults begun out names script first s course
-      → s.tasks ≡ turn_of (get_or course.switches.items i false) i ++ rest
+      → s.tasks ≡ node_turn (get_or course.switches.items i false) i ++ rest
       → IoArrived written faults begun new names script first rest next)
       → InRound written faults names old first_course (i + 1) new next
   round_turn i out new course next within in_round turn script begun first s rest at begins =

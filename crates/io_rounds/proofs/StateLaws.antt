@@ -17,20 +17,20 @@ use Rattle.io_script.specs.IoLines.{io_line_text}
 use Rattle.io_rounds.specs.declared.course.Course.{Course}
 use Rattle.io_rounds.specs.declared.stations.Station.{Station}
 use Rattle.io_rounds.specs.Stations.{new_station, memory_of, stations_after, kept_of_node, with_kept, stations_met}
-use Rattle.io_rounds.specs.Tasks.{IoTask, event_of, Carry, Finish, stations_by}
-use Rattle.io_rounds.specs.Going.{IoState, left_to_do, with_event, telling, begun_line, behind_event, endpoints_of, IoGoes, Begins, Acts, Ends, IoComes, Here, Goes}
-use Rattle.io_rounds.specs.Course.{KeepsFit, CanSend, Holds, Acted, IoAt, IoArrived, IoStopped}
-use Rattle.io_rounds.specs.Turns.{Sent}
+use Rattle.io_rounds.specs.Tasks.{IoTask, task_event, Carry, Finish, stations_by}
+use Rattle.io_rounds.specs.Going.{IoState, left_to_do, with_event, telling, begun_line, behind_event, endpoints_of, IoGoes, IoBegins, IoActs, IoEnds, IoComes, Here, Further}
+use Rattle.io_rounds.specs.Course.{KeepsFit, CanSend, CourseHolds, EventActed, IoAt, IoArrived, IoStopped}
+use Rattle.io_rounds.specs.Turns.{TaskSent}
 
 -- ---- what is kept
 
 -- what holds where other things are kept of the nodes
 pub holds_with : {names : List (List ℕ)} {script events : List Numbered} {trace : List TraceLine}
     {stations : List Station} {old : Course} (more : List Station) (new : Course)
-    → Holds names script events trace stations old → new.fabric ≡ old.fabric
+    → CourseHolds names script events trace stations old → new.fabric ≡ old.fabric
     → new.stations.items ≡ more → new.switches ≡ old.switches → length more ≡ length stations
     → All (KeepsFit names (start script).network) more
-    → Holds names script events trace more new
+    → CourseHolds names script events trace more new
 holds_with {names} {script} {events} {trace} more new h fabric stations switches count
     kept = record {
       passes = h.passes;
@@ -88,7 +88,7 @@ kept_fits names net stations node line within all is =
 pub comes_on : {names : List (List ℕ)} {script : List Numbered} {s t u : IoState}
     → IoComes names script s t → IoComes names script t u → IoComes names script s u
 comes_on {names} {script} {s} first (Here is) = subst (λ x. IoComes names script s x) (sym is) first
-comes_on first (Goes before more goes) = Goes before (comes_on first more) goes
+comes_on first (Further before more goes) = Further before (comes_on first more) goes
 
 module _ {K : Type 0} {written : K → Option (List ℕ)} {faults : K → ℕ} {begun : Outbox K}
     {names : List (List ℕ)} {script : List Numbered} {first : IoState} where
@@ -96,10 +96,10 @@ module _ {K : Type 0} {written : K → Option (List ℕ)} {faults : K → ℕ} {
   pub at_then : {old new : Outbox K} {s : IoState} {course : Course} (t : IoState) (more : List ℕ)
       (next : Course) → IoAt written faults begun old names script first s course
       → IoGoes names script s t → Writes written faults old new more
-      → t.output ≡ s.output ++ more → Holds names script t.events t.trace t.stations next
+      → t.output ≡ s.output ++ more → CourseHolds names script t.events t.trace t.stations next
       → IoAt written faults begun new names script first t next
   at_then {old} {new} {s} t more next at goes told is holds = record {
-    came = Goes s at.came goes;
+    came = Further s at.came goes;
     told = subst (Writes written faults begun new) (sym is)
         (Writes-then s.output more at.told told);
     holds = holds;
@@ -108,10 +108,10 @@ module _ {K : Type 0} {written : K → Option (List ℕ)} {faults : K → ℕ} {
   -- one in which nothing was told
   pub at_silent : {out : Outbox K} {s : IoState} {course : Course} (t : IoState) (next : Course)
       → IoAt written faults begun out names script first s course → IoGoes names script s t
-      → t.output ≡ s.output → Holds names script t.events t.trace t.stations next
+      → t.output ≡ s.output → CourseHolds names script t.events t.trace t.stations next
       → IoAt written faults begun out names script first t next
   at_silent {out} {s} t next at goes is holds = record {
-    came = Goes s at.came goes;
+    came = Further s at.came goes;
     told = subst (Writes written faults begun out) (sym is) at.told;
     holds = holds;
   }
@@ -119,7 +119,7 @@ module _ {K : Type 0} {written : K → Option (List ℕ)} {faults : K → ℕ} {
   -- some, in which nothing was told
   pub at_sent : {out : Outbox K} {s : IoState} {course next : Course} {node : ℕ}
       {tasks : List IoTask} → IoAt written faults begun out names script first s course
-      → (sent : Sent names script s node tasks next)
+      → (sent : TaskSent names script s node tasks next)
       → IoAt written faults begun out names script first sent.state next
   at_sent {out} at sent = record {
     came = comes_on at.came sent.comes;
@@ -137,12 +137,12 @@ module _ {K : Type 0} {written : K → Option (List ℕ)} {faults : K → ℕ} {
       (rest : List IoTask) (next : Course)
       → IoAt written faults begun old names script first s course → s.tasks ≡ Carry line ∷ rest
       → Writes written faults old new (codes "> " ++ (io_line_text names line ++ codes "\n"))
-      → Holds names script s.events s.trace (stations_by line s.stations) next
+      → CourseHolds names script s.events s.trace (stations_by line s.stations) next
       → IoAt written faults begun new names script first
       (begun_line names (endpoints_of script) line (left_to_do s rest)) next
   begins_line {old} {new} {s} line rest next at is told holds =
       at_then (begun_line names (endpoints_of script) line (left_to_do s rest))
-      (codes "> " ++ (io_line_text names line ++ codes "\n")) next at (Begins line rest is refl)
+      (codes "> " ++ (io_line_text names line ++ codes "\n")) next at (IoBegins line rest is refl)
       told
       refl holds
 
@@ -154,7 +154,7 @@ module _ {K : Type 0} {written : K → Option (List ℕ)} {faults : K → ℕ} {
   finishes {old} {new} {s} {course} at is told = record {
     state = telling (left_to_do s []) (codes "end");
     at = at_then (telling (left_to_do s []) (codes "end")) (codes "end" ++ codes "\n") course at
-        (Ends [] is refl) told refl at.holds;
+        (IoEnds [] is refl) told refl at.holds;
     left = refl;
   }
 
@@ -163,12 +163,12 @@ module _ {K : Type 0} {written : K → Option (List ℕ)} {faults : K → ℕ} {
 -- the state behind the event of a task that had this answer
 pub goes_by : {names : List (List ℕ)} {script : List Numbered} {s : IoState} {course : Course}
     (task : IoTask) (rest : List IoTask) (line : Line) (what : Happened)
-    → s.tasks ≡ task ∷ rest → event_of task ≡ Some line
-    → (acted : Acted names script s.events s.trace s.stations line what course)
+    → s.tasks ≡ task ∷ rest → task_event task ≡ Some line
+    → (acted : EventActed names script s.events s.trace s.stations line what course)
     → IoGoes names script s
     (behind_event names task what (with_event (left_to_do s rest) line acted.block))
 goes_by {names} {script} {s} task rest line what is event acted =
-    Acts task rest line acted.block is event acted.is acted.holds.stands.sent
+    IoActs task rest line acted.block is event acted.is acted.holds.stands.sent
     (ap (λ w. behind_event names task w (with_event (left_to_do s rest) line acted.block))
     acted.answered)
 
@@ -195,7 +195,7 @@ always_else (Err e) p = p
 -- a node that has a name has something kept
 pub within_stations : {names : List (List ℕ)} {script events : List Numbered}
     {trace : List TraceLine} {stations : List Station} {course : Course} (node : ℕ)
-    → Holds names script events trace stations course → node < length names
+    → CourseHolds names script events trace stations course → node < length names
     → node < length course.stations.items
 within_stations node h named =
     let same = ap length h.same_stations in

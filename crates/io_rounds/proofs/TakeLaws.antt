@@ -22,10 +22,10 @@ use Rattle.io_rounds.specs.declared.course.Course.{Course}
 use Rattle.io_rounds.specs.declared.stations.Station.{Station}
 use Rattle.io_rounds.specs.Stations.{new_station, counted_on, met_at_node, answer_at_node, stations_met}
 use Rattle.io_rounds.specs.RoundLines.{asked_text}
-use Rattle.io_rounds.specs.Tasks.{IoTask, reply_line, Ask, Settle, Reply, Take, task_behind}
-use Rattle.io_rounds.specs.Going.{IoState, left_to_do, with_event, doing, telling, behind_ask, behind_take, served_at, IoGoes, Goes}
-use Rattle.io_rounds.specs.Course.{KeepsFit, Holds, Acted, IoAt, IoArrived, held_behind, tasks_on}
-use Rattle.io_rounds.specs.Turns.{MayTurn, Sent, HasTaken, Taken}
+use Rattle.io_rounds.specs.Tasks.{IoTask, reply_line, Ask, Settle, Reply, Fetch, task_behind}
+use Rattle.io_rounds.specs.Going.{IoState, left_to_do, with_event, doing, telling, behind_ask, behind_take, served_at, IoGoes, Further}
+use Rattle.io_rounds.specs.Course.{KeepsFit, CourseHolds, EventActed, IoAt, IoArrived, held_behind, tasks_on}
+use Rattle.io_rounds.specs.Turns.{MayTurn, TaskSent, HasTaken, CollectsOn}
 use Rattle.io_rounds.proofs.BeginLaws.{underway}
 use Rattle.io_rounds.proofs.EventLaws.{goes_on, took_fewer, held_is}
 use Rattle.io_rounds.proofs.StateLaws.{met_keeps, at_sent, at_silent, at_then, goes_by, holds_with, met_length}
@@ -63,17 +63,17 @@ module _ {K : Type 0} {written : K → Option (List ℕ)} {faults : K → ℕ} {
   -- nothing was held, or a response of the registers has no room
   pub takes_none : {out : Outbox K} {s : IoState} {old new : Course} (node : ℕ)
       (rest : List IoTask) (what : Happened)
-      → IoAt written faults begun out names script first s old → s.tasks ≡ Take node ∷ rest
-      → Acted names script s.events s.trace s.stations (Collect node) what new
+      → IoAt written faults begun out names script first s old → s.tasks ≡ Fetch node ∷ rest
+      → EventActed names script s.events s.trace s.stations (Collect node) what new
       → goes_on what ≡ false
-      → Taken written faults begun out names script first node false rest
+      → CollectsOn written faults begun out names script first node false rest
       (held_behind script s.trace node) new
   takes_none {out} {s} {old} {new} node rest what at is acted none =
       let u = with_event (left_to_do s rest) (Collect node) acted.block in
       record {
         state = u;
         at = at_silent u new at (subst (IoGoes names script s) (took_nothing names node what u none)
-            (goes_by (Take node) rest (Collect node) what is refl acted)) refl acted.holds;
+            (goes_by (Fetch node) rest (Collect node) what is refl acted)) refl acted.holds;
         left = refl;
         fewer = λ more. absurd cc;
       }
@@ -81,17 +81,17 @@ module _ {K : Type 0} {written : K → Option (List ℕ)} {faults : K → ℕ} {
   -- the registers answered
   pub takes_answered : {out : Outbox K} {s : IoState} {old new : Course} (node : ℕ)
       (rest : List IoTask)
-      → IoAt written faults begun out names script first s old → s.tasks ≡ Take node ∷ rest
-      → Acted names script s.events s.trace s.stations (Collect node) Answers.Answered new
-      → Taken written faults begun out names script first node true rest
+      → IoAt written faults begun out names script first s old → s.tasks ≡ Fetch node ∷ rest
+      → EventActed names script s.events s.trace s.stations (Collect node) Answers.Answered new
+      → CollectsOn written faults begun out names script first node true rest
       (held_behind script s.trace node) new
   unfolding goes_on
   takes_answered {out} {s} {old} {new} node rest at is acted =
-      let t = doing (with_event (left_to_do s rest) (Collect node) acted.block) (Take node) in
+      let t = doing (with_event (left_to_do s rest) (Collect node) acted.block) (Fetch node) in
       record {
         state = t;
         at = at_silent t new at
-            (goes_by (Take node) rest (Collect node) Answers.Answered is refl acted) refl
+            (goes_by (Fetch node) rest (Collect node) Answers.Answered is refl acted) refl
             acted.holds;
         left = refl;
         fewer = λ more. took_fewer names script s.events s.trace s.stations node Answers.Answered
@@ -117,8 +117,8 @@ module _ {K : Type 0} {written : K → Option (List ℕ)} {faults : K → ℕ} {
       let t = served_at names node packet
       (with_event (left_to_do s rest) (Collect node) acted.block) in
       record {
-        came = Goes s taken.at.came
-            (goes_by (Take node) rest (Collect node) (Answers.Left packet) taken.next refl acted);
+        came = Further s taken.at.came
+            (goes_by (Fetch node) rest (Collect node) (Answers.Left packet) taken.next refl acted);
         told = Writes-then s.output
             (met_text (name_of names node) (met_at_node s.stations node packet)
             ++ codes "\n") taken.at.told
@@ -141,7 +141,7 @@ module _ {K : Type 0} {written : K → Option (List ℕ)} {faults : K → ℕ} {
       → IoAt written faults begun new names script first
       (served_at names node packet
       (with_event (left_to_do s rest) (Collect node) taken.acted.block)) next
-      → Taken written faults begun new names script first node true rest
+      → CollectsOn written faults begun new names script first node true rest
       (held_behind script s.trace node) next
   unfolding goes_on
   serves_on {new} {s} {mid} {next} node packet rest taken none at = record {
@@ -162,9 +162,10 @@ module _ {K : Type 0} {written : K → Option (List ℕ)} {faults : K → ℕ} {
       → IoAt written faults begun new names script first
       (served_at names node packet
       (with_event (left_to_do s rest) (Collect node) taken.acted.block)) next
-      → ((t : IoState) → Holds names script t.events t.trace t.stations next
-      → t.tasks ≡ Reply node line ∷ rest → Sent names script t node (tasks_on node more rest) end)
-      → Taken written faults begun new names script first node more rest
+      → ((t : IoState) → CourseHolds names script t.events t.trace t.stations next
+      → t.tasks ≡ Reply node line ∷ rest
+      → TaskSent names script t node (tasks_on node more rest) end)
+      → CollectsOn written faults begun new names script first node more rest
       (held_behind script s.trace node) end
   unfolding goes_on
   serves_replied {new} {s} {mid} {next} {end} node packet rest io line more taken some is at
@@ -192,7 +193,7 @@ module _ {K : Type 0} {written : K → Option (List ℕ)} {faults : K → ℕ} {
       (tid : Option ℕ) (line : Line) (rest : List IoTask) (next : Course)
       → IoAt written faults begun old names script first s before
       → s.tasks ≡ Ask node tid line ∷ rest → node < length names
-      → Acted names script s.events s.trace s.stations line Answers.Took mid
+      → EventActed names script s.events s.trace s.stations line Answers.Took mid
       → Writes written faults old new (asked_text (name_of names node) tid ++ codes "\n")
       → next.fabric ≡ mid.fabric → next.switches ≡ mid.switches
       → next.stations.items ≡ counted_on mid.stations.items node tid
@@ -219,7 +220,7 @@ module _ {K : Type 0} {written : K → Option (List ℕ)} {faults : K → ℕ} {
       (tid : Option ℕ) (line : Line) (rest : List IoTask) (what : Happened)
       → IoAt written faults begun old names script first s before
       → s.tasks ≡ Ask node tid line ∷ rest → what ≢ Answers.Took
-      → Acted names script s.events s.trace s.stations line what next
+      → EventActed names script s.events s.trace s.stations line what next
       → Writes written faults old new (codes "full" ++ codes "\n")
       → IoArrived written faults begun new names script first rest next
   asks_full {old} {new} {s} {before} {next} node tid line rest what at is other acted told =
@@ -237,7 +238,8 @@ module _ {K : Type 0} {written : K → Option (List ℕ)} {faults : K → ℕ} {
   -- the links settle and the switches step
   pub settles : {out : Outbox K} {s : IoState} {old new : Course} (rest : List IoTask)
       (what : Happened) → IoAt written faults begun out names script first s old
-      → s.tasks ≡ Settle ∷ rest → Acted names script s.events s.trace s.stations (Run 1) what new
+      → s.tasks ≡ Settle ∷ rest
+      → EventActed names script s.events s.trace s.stations (Run 1) what new
       → IoArrived written faults begun out names script first rest new
   settles {out} {s} {old} {new} rest what at is acted =
       let u = with_event (left_to_do s rest) (Run 1) acted.block in
@@ -261,8 +263,8 @@ goes_not _ left answered = refl
 pub turns_on : {names : List (List ℕ)} {old : Course} (node : ℕ) (line : Line) (what : Happened)
     (new : Course) (may : MayTurn names old node)
     → ((script events : List Numbered) (trace : List TraceLine) (stations : List Station)
-    → Holds names script events trace stations old
-    → Acted names script events trace stations line what new) → MayTurn names new node
+    → CourseHolds names script events trace stations old
+    → EventActed names script events trace stations line what new) → MayTurn names new node
 turns_on node line what new may acts =
     let way = may.way in
     record {
@@ -275,8 +277,8 @@ module _ {K : Type 0} {written : K → Option (List ℕ)} {faults : K → ℕ} {
     {names : List (List ℕ)} {script : List Numbered} {first : IoState} {node : ℕ} {more : Bool}
     {rest : List IoTask} {before : ℕ} {course : Course} where
   pub taken_on : more ≡ true
-      → Taken written faults begun out names script first node more rest before course
-      → IoArrived written faults begun out names script first (Take node ∷ rest) course
+      → CollectsOn written faults begun out names script first node more rest before course
+      → IoArrived written faults begun out names script first (Fetch node ∷ rest) course
   taken_on on taken = record {
     state = taken.state;
     at = taken.at;
@@ -284,7 +286,7 @@ module _ {K : Type 0} {written : K → Option (List ℕ)} {faults : K → ℕ} {
   }
 
   pub taken_over : more ≡ false
-      → Taken written faults begun out names script first node more rest before course
+      → CollectsOn written faults begun out names script first node more rest before course
       → IoArrived written faults begun out names script first rest course
   taken_over over taken = record {
     state = taken.state;
@@ -298,7 +300,7 @@ pub taken_smaller : {K : Type 0} {written : K → Option (List ℕ)} {faults : K
     {node : ℕ} {more : Bool} {tasks rest : List IoTask} {old new : Course}
     → IsEndpoint (start script).network node → more ≡ true
     → (arrived : IoArrived written faults begun out names script first tasks old)
-    → Taken written faults begun end names script first node more rest
+    → CollectsOn written faults begun end names script first node more rest
     (held_behind script arrived.state.trace node) new
     → held_at new.fabric node < held_at old.fabric node
 taken_smaller {K} {written} {faults} {begun} {out} {end} {names} {script} {first} {node} {more}

@@ -3,7 +3,7 @@ use Rattle.std.specs.Prelude.{◌≡◌, ℕ, true, false, Bool, List, [], ◌�
 use Rattle.rio_chars.specs.Written.{Writes}
 use Rattle.rio_chars.specs.declared.outbox.Outbox.{Outbox}
 use Rattle.fabric_script.specs.Lines.{is_event}
-use Rattle.fabric_script.specs.Scripts.{Passes}
+use Rattle.fabric_script.specs.Scripts.{ScriptPasses}
 use Rattle.fabric_script.specs.declared.lines.Line.{Line}
 use Rattle.fabric_script.specs.declared.lines.Line.TheVariants.{Endpoint, Switch, Send, Run, Collect}
 use Rattle.fabric_script.specs.declared.lines.Numbered.{Numbered}
@@ -20,7 +20,7 @@ use Rattle.fabric_ports.specs.declared.answers.Happened.{Happened}
 use Rattle.io_rounds.specs.declared.course.Course.{Course}
 use Rattle.io_rounds.specs.declared.stations.Station.{Station}
 use Rattle.io_rounds.specs.Calm.{LinksAreCalm}
-use Rattle.io_rounds.specs.Tasks.{IoTask, Turn, Take}
+use Rattle.io_rounds.specs.Tasks.{IoTask, Turn, Fetch}
 use Rattle.io_rounds.specs.Going.{IoState, IoComes}
 
 -- a packet is sent or collected, or the links settle and the switches step
@@ -31,13 +31,13 @@ IsIoEvent (Run n) = Unit {0}
 IsIoEvent _ = ⊥
 
 -- a packet is sent
-abbrev pub IsSending : Line → Type 0
-IsSending (Send node prio ftype dest hex) = Unit {0}
-IsSending _ = ⊥
+abbrev pub SendsPacket : Line → Type 0
+SendsPacket (Send node prio ftype dest hex) = Unit {0}
+SendsPacket _ = ⊥
 
 -- a packet that may be sent
 abbrev pub CanSend : List (List ℕ) → Network → Line → Type 0
-CanSend names net line = IsSending line × MayHappen names net line
+CanSend names net line = SendsPacket line × MayHappen names net line
 
 -- a reply that is kept may be sent
 abbrev pub KeepsFit : List (List ℕ) → Network → Station → Type 0
@@ -45,9 +45,10 @@ KeepsFit names net station = IfSome station.kept (CanSend names net)
 
 -- The fabric stands for the trace of these events behind the set-up lines of a script, and for each
 -- node so much is kept.
-pub record Holds (names : List (List ℕ)) (script events : List Numbered) (trace : List TraceLine)
+pub record CourseHolds (names : List (List ℕ)) (script events : List Numbered)
+    (trace : List TraceLine)
     (stations : List Station) (course : Course) : Type 0 where
-  pub passes : Passes names script
+  pub passes : ScriptPasses names script
   pub sets_up : All (λ line. is_event line.line ≡ false) script
   pub are_events : All (λ line. is_event line.line ≡ true) events
   pub stands : Stands (start script) trace course.fabric
@@ -66,17 +67,18 @@ pub record MayAct (names : List (List ℕ)) (course : Course) (line : Line) : Ty
   pub events : List Numbered
   pub trace : List TraceLine
   pub stations : List Station
-  pub holds : Holds names script events trace stations course
+  pub holds : CourseHolds names script events trace stations course
   pub kind : IsIoEvent line
   pub happens : MayHappen names (start script).network line
 
 -- the event was carried out, with this answer
-pub record Acted (names : List (List ℕ)) (script events : List Numbered) (trace : List TraceLine)
+pub record EventActed (names : List (List ℕ)) (script events : List Numbered)
+    (trace : List TraceLine)
     (stations : List Station) (line : Line) (what : Happened) (course : Course) : Type 0 where
   pub block : List TraceLine
   pub is : IsBlock (seen (start script) trace) line block
   pub answered : what ≡ happened line block
-  pub holds : Holds names script (events ++ record { number = 0; line = line } ∷ [])
+  pub holds : CourseHolds names script (events ++ record { number = 0; line = line } ∷ [])
       (trace ++ Begun line ∷ block) stations course
 
 -- ---- many
@@ -87,7 +89,7 @@ pub record IoAt {K : Type 0} (written : K → Option (List ℕ)) (faults : K →
   where
     pub came : IoComes names script first s
     pub told : Writes written faults begun out s.output
-    pub holds : Holds names script s.events s.trace s.stations course
+    pub holds : CourseHolds names script s.events s.trace s.stations course
 
 -- So was one in which these tasks are left.
 pub record IoArrived {K : Type 0} (written : K → Option (List ℕ)) (faults : K → ℕ)
@@ -111,13 +113,13 @@ held_behind script trace node = held (seen (start script) trace).network (port_o
 
 -- The node collects on, or its turn is over.
 abbrev pub tasks_on : ℕ → Bool → List IoTask → List IoTask
-tasks_on node true rest = Take node ∷ rest
+tasks_on node true rest = Fetch node ∷ rest
 tasks_on node false rest = rest
 
 -- the turn of a node, if it is no switch
-abbrev pub turn_of : Bool → ℕ → List IoTask
-turn_of true node = []
-turn_of false node = Turn node ∷ []
+abbrev pub node_turn : Bool → ℕ → List IoTask
+node_turn true node = []
+node_turn false node = Turn node ∷ []
 
 -- whether each node is a switch that a line makes
 abbrev pub kinds_of : Line → List Bool

@@ -3,7 +3,7 @@ use Rattle.std.specs.Prelude.{◌≡◌, ℕ, ◌<◌, false, List, [], ◌∷�
 use Rattle.std.specs.Io.KnownBytes.{Appends}
 use Rattle.rio_chars.specs.Fronts.{AppendsFront}
 use Rattle.fabric_script.specs.Lines.{is_event}
-use Rattle.fabric_script.specs.Scripts.{Passes}
+use Rattle.fabric_script.specs.Scripts.{ScriptPasses}
 use Rattle.fabric_script.specs.declared.lines.Numbered.{Numbered}
 use Rattle.fabric_model.specs.Laws.Freeing.{IsFront}
 use Rattle.fabric_model.specs.Network.{Network, IsEndpoint}
@@ -55,7 +55,7 @@ AsksWithin count line = AsksNoAnswer line
 -- The script passes and has no events, and each line behind it may be carried out.
 pub record IsIoFit (names : List (List ℕ)) (script : List Numbered) (io : List NumberedIo) : Type 0
   where
-    pub passes : Passes names script
+    pub passes : ScriptPasses names script
     pub sets_up : All (λ line. is_event line.line ≡ false) script
     pub may : All (λ line. MayCarry names (start script).network line.io) io
 

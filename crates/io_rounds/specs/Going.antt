@@ -17,7 +17,7 @@ use Rattle.io_script.specs.IoLines.{io_line_text}
 use Rattle.io_rounds.specs.declared.stations.Station.{Station}
 use Rattle.io_rounds.specs.RoundLines.{asked_text}
 use Rattle.io_rounds.specs.Stations.{kept_of_node, with_kept, counted_on, met_at_node, answer_at_node, stations_met}
-use Rattle.io_rounds.specs.Tasks.{IoTask, Carry, Ask, Turn, Reply, Take, Finish, endpoints_from, tasks_of, stations_by, event_of, task_behind}
+use Rattle.io_rounds.specs.Tasks.{IoTask, Carry, Ask, Turn, Reply, Fetch, Finish, endpoints_from, tasks_of, stations_by, task_event, task_behind}
 
 -- The events so far, as lines of a script, and the trace of them; what is written; what is kept of
 -- the endpoints; and what has to be done, in order.
@@ -58,7 +58,7 @@ begun_line names endpoints line s = record s {
 
 -- An endpoint first sends the reply that it keeps, if it keeps one, and then collects.
 abbrev pub first_of_turn : ℕ → Option Line → IoTask
-first_of_turn node None = Take node
+first_of_turn node None = Fetch node
 first_of_turn node (Some line) = Reply node line
 
 abbrev pub turned_to : ℕ → Option Line → IoState → IoState
@@ -77,7 +77,7 @@ behind_ask names node tid _ s = telling s (codes "full")
 
 -- A reply without room is kept, and the turn is over.
 abbrev pub behind_reply : ℕ → Line → Happened → IoState → IoState
-behind_reply node line Answers.Took s = doing s (Take node)
+behind_reply node line Answers.Took s = doing s (Fetch node)
 behind_reply node line _ s = record s { stations = with_kept s.stations node (Some line) }
 
 -- A packet left at an endpoint: the line says what became of it, and then the reply is sent, if
@@ -92,13 +92,13 @@ served_at names node packet s = telling (record s {
 -- registers answer has no line.
 abbrev pub behind_take : List (List ℕ) → ℕ → Happened → IoState → IoState
 behind_take names node (Answers.Left packet) s = served_at names node packet s
-behind_take names node Answers.Answered s = doing s (Take node)
+behind_take names node Answers.Answered s = doing s (Fetch node)
 behind_take names node _ s = s
 
 abbrev pub behind_event : List (List ℕ) → IoTask → Happened → IoState → IoState
 behind_event names (Ask node tid line) what s = behind_ask names node tid what s
 behind_event names (Reply node line) what s = behind_reply node line what s
-behind_event names (Take node) what s = behind_take names node what s
+behind_event names (Fetch node) what s = behind_take names node what s
 behind_event names _ what s = s
 
 -- ---- the rules
@@ -110,25 +110,25 @@ endpoints_of script = endpoints_from 0 (start script).network.registers
 -- One task is done. An event has a block that follows the trace, and every event of a link that was
 -- acted on in it was sent.
 pub data IoGoes (names : List (List ℕ)) (script : List Numbered) (s t : IoState) : Type 0 where
-  Begins : (line : IoLine) (rest : List IoTask) → s.tasks ≡ Carry line ∷ rest
+  IoBegins : (line : IoLine) (rest : List IoTask) → s.tasks ≡ Carry line ∷ rest
       → t ≡ begun_line names (endpoints_of script) line (left_to_do s rest)
       → IoGoes names script s t
-  Turns : (node : ℕ) (rest : List IoTask) → s.tasks ≡ Turn node ∷ rest
+  IoTurns : (node : ℕ) (rest : List IoTask) → s.tasks ≡ Turn node ∷ rest
       → t ≡ turned_to node (kept_of_node s.stations node) (left_to_do s rest)
       → IoGoes names script s t
-  Acts : (task : IoTask) (rest : List IoTask) (line : Line) (block : List TraceLine)
-      → s.tasks ≡ task ∷ rest → event_of task ≡ Some line
+  IoActs : (task : IoTask) (rest : List IoTask) (line : Line) (block : List TraceLine)
+      → s.tasks ≡ task ∷ rest → task_event task ≡ Some line
       → IsBlock (seen (start script) s.trace) line block
       → (seen (start script) (s.trace ++ Begun line ∷ block)).unfaithful ≡ None
       → t ≡ behind_event names task (happened line block)
       (with_event (left_to_do s rest) line block)
       → IoGoes names script s t
-  Ends : (rest : List IoTask) → s.tasks ≡ Finish ∷ rest
+  IoEnds : (rest : List IoTask) → s.tasks ≡ Finish ∷ rest
       → t ≡ telling (left_to_do s rest) (codes "end") → IoGoes names script s t
 
 -- from one state to another, by so many tasks
 pub data IoComes (names : List (List ℕ)) (script : List Numbered) (first : IoState) :
     IoState → Type 0 where
   Here : {s : IoState} → s ≡ first → IoComes names script first s
-  Goes : {s : IoState} (before : IoState) → IoComes names script first before
+  Further : {s : IoState} (before : IoState) → IoComes names script first before
       → IoGoes names script before s → IoComes names script first s

@@ -7,7 +7,7 @@ use Rattle.fabric_script.specs.declared.lines.Line.TheVariants.{Send, Run, Colle
 use Rattle.io_packets.specs.declared.io.Io.{Io}
 use Rattle.io_packets.specs.declared.io.Io.TheVariants as Ios
 use Rattle.io_packets.specs.Layout.{source_in}
-use Rattle.io_packets.specs.Writing.{type_of, behind_ids}
+use Rattle.io_packets.specs.Writing.{type_of, io_behind_ids}
 use Rattle.io_script.specs.declared.lines.IoLine.{IoLine}
 use Rattle.io_script.specs.declared.lines.IoLine.TheVariants.{Memory, NRead, NWrite, NWriteR, SWrite, Round}
 use Rattle.io_rounds.specs.declared.stations.Station.{Station}
@@ -22,14 +22,14 @@ pub data IoTask : Type 0 where
   Settle : IoTask
   Turn : ℕ → IoTask
   Reply : ℕ → Line → IoTask
-  Take : ℕ → IoTask
+  Fetch : ℕ → IoTask
   Finish : IoTask
 
 -- ---- what is sent
 
 -- the event that sends a read, a write or a response from a node to a device
 abbrev pub sends_io : ℕ → ℕ → ℕ → Io → Line
-sends_io node prio dest io = Send node prio (type_of io) dest (behind_ids io)
+sends_io node prio dest io = Send node prio (type_of io) dest (io_behind_ids io)
 
 -- a request goes at priority 1
 abbrev pub asks_for : ℕ → ℕ → Option ℕ → Io → IoTask
@@ -72,17 +72,17 @@ stations_by _ stations = stations
 -- ---- events
 
 -- the event that a task is, if it is one
-abbrev pub event_of : IoTask → Option Line
-event_of (Ask node tid line) = Some line
-event_of Settle = Some (Run 1)
-event_of (Reply node line) = Some line
-event_of (Take node) = Some (Collect node)
-event_of (Carry line) = None
-event_of (Turn node) = None
-event_of Finish = None
+abbrev pub task_event : IoTask → Option Line
+task_event (Ask node tid line) = Some line
+task_event Settle = Some (Run 1)
+task_event (Reply node line) = Some line
+task_event (Fetch node) = Some (Collect node)
+task_event (Carry line) = None
+task_event (Turn node) = None
+task_event Finish = None
 
 -- what follows a packet that was served: the reply is sent, if there is one, and then the node
 -- collects on
 abbrev pub task_behind : ℕ → List ℕ → Option Io → IoTask
-task_behind node packet None = Take node
+task_behind node packet None = Fetch node
 task_behind node packet (Some io) = Reply node (reply_line node packet io)

@@ -12,9 +12,9 @@ use Rattle.std.specs.Prelude.{Option}
 use Rattle.io_script.specs.declared.lines.IoLine.{IoLine}
 use Rattle.io_rounds.specs.declared.course.Course.{Course}
 use Rattle.io_rounds.specs.declared.stations.Station.{Station}
-use Rattle.io_rounds.specs.Tasks.{IoTask, Take}
+use Rattle.io_rounds.specs.Tasks.{IoTask, Fetch}
 use Rattle.io_rounds.specs.Going.{IoState, IoComes}
-use Rattle.io_rounds.specs.Course.{Holds, CanSend, Acted, IoAt, held_behind, tasks_on}
+use Rattle.io_rounds.specs.Course.{CourseHolds, CanSend, EventActed, IoAt, held_behind, tasks_on}
 use Rattle.io_rounds.specs.Drives.{MayCarry}
 
 -- so much holds, for some script and trace
@@ -23,7 +23,7 @@ pub record Underway (names : List (List ℕ)) (course : Course) : Type 0 where
   pub events : List Numbered
   pub trace : List TraceLine
   pub stations : List Station
-  pub holds : Holds names script events trace stations course
+  pub holds : CourseHolds names script events trace stations course
 
 -- and this node is an endpoint
 pub record MayTurn (names : List (List ℕ)) (course : Course) (node : ℕ) : Type 0 where
@@ -43,13 +43,13 @@ pub record MayBegin (names : List (List ℕ)) (course : Course) (line : IoLine) 
 
 -- Some tasks were done in which nothing was written, and these are left. The node holds no more
 -- than before.
-pub record Sent (names : List (List ℕ)) (script : List Numbered) (s : IoState) (node : ℕ)
+pub record TaskSent (names : List (List ℕ)) (script : List Numbered) (s : IoState) (node : ℕ)
     (tasks : List IoTask) (course : Course) : Type 0 where
   pub state : IoState
   pub comes : IoComes names script s state
   pub left : state.tasks ≡ tasks
   pub output : state.output ≡ s.output
-  pub holds : Holds names script state.events state.trace state.stations course
+  pub holds : CourseHolds names script state.events state.trace state.stations course
   pub held : held_behind script state.trace node ≤ held_behind script s.trace node
 
 -- A node that was to collect did, with this answer, from a state that was reached.
@@ -58,11 +58,11 @@ pub record HasTaken {K : Type 0} (written : K → Option (List ℕ)) (faults : K
     (node : ℕ) (rest : List IoTask) (what : Happened) (course : Course) : Type 0 where
   pub before : Course
   pub at : IoAt written faults begun out names script first s before
-  pub next : s.tasks ≡ Take node ∷ rest
-  pub acted : Acted names script s.events s.trace s.stations (Collect node) what course
+  pub next : s.tasks ≡ Fetch node ∷ rest
+  pub acted : EventActed names script s.events s.trace s.stations (Collect node) what course
 
 -- The node collects on, and holds fewer packets than so many; or its turn is over.
-pub record Taken {K : Type 0} (written : K → Option (List ℕ)) (faults : K → ℕ)
+pub record CollectsOn {K : Type 0} (written : K → Option (List ℕ)) (faults : K → ℕ)
     (begun out : Outbox K) (names : List (List ℕ)) (script : List Numbered) (first : IoState)
     (node : ℕ) (more : Bool) (rest : List IoTask) (before : ℕ) (course : Course) : Type 0 where
   pub state : IoState

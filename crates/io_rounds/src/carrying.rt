@@ -4,7 +4,7 @@ ghost use Rattle.rio_chars.specs.Faults.{Rose};
 ghost use Rattle.fabric_script.specs.declared.lines.Numbered.{Numbered as NumberedLine};
 ghost use Rattle.io_rounds.specs.Tasks.{IoTask, Carry, Ask};
 ghost use Rattle.io_rounds.specs.Going.{IoState};
-ghost use Rattle.io_rounds.specs.Course.{Holds, IoAt, IoArrived, IoStopped};
+ghost use Rattle.io_rounds.specs.Course.{CourseHolds, IoAt, IoArrived, IoStopped};
 ghost use Rattle.io_rounds.specs.Drives.{IsIoFit, DrivenWhole, DrivenFront, first_state};
 ghost use Rattle.io_rounds.specs.Turns.{MayBegin, MaySend};
 
@@ -75,7 +75,7 @@ fn write_output<K: Sink>(
 ) -> Result<(), IoEnd>
     requires fit { IsIoFit script.now.script.names.items script.now.script.lines.items
         script.now.lines.items }
-    requires begins { Holds script.now.script.names.items script.now.script.lines.items [] []
+    requires begins { CourseHolds script.now.script.names.items script.now.script.lines.items [] []
         (first_state script.now.script.names.items script.now.lines.items).stations course.old }
     requires fine { output.old.failed ≡ false }
     requires empty { output.old.buffer.now ≡ [] }
@@ -111,7 +111,7 @@ fn tell_output<K: Sink>(
 ) -> Result<(), IoEnd>
     requires fit { IsIoFit script.now.script.names.items script.now.script.lines.items
         script.now.lines.items }
-    requires begins { Holds script.now.script.names.items script.now.script.lines.items [] []
+    requires begins { CourseHolds script.now.script.names.items script.now.script.lines.items [] []
         (first_state script.now.script.names.items script.now.lines.items).stations course.old }
     requires fine { output.old.failed ≡ false }
     ensures done { OnOk result (IoArrived K.written K.faults output.old output.new

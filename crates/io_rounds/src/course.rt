@@ -2,13 +2,13 @@
 ghost use Rattle.std.specs.Prelude.{◌≡◌, ◌⊎◌, ◌++◌, false, [], List, All, length, map, replicate, IfOk};
 ghost use Rattle.maint_registers.specs.Devices.{is_switch};
 ghost use Rattle.fabric_script.specs.Lines.{is_event};
-ghost use Rattle.fabric_script.specs.Scripts.{Passes};
+ghost use Rattle.fabric_script.specs.Scripts.{ScriptPasses};
 ghost use Rattle.fabric_script.specs.declared.lines.Numbered.{Numbered as NumberedLine};
 ghost use Rattle.fabric_trace.specs.Lines.{TraceLine};
 ghost use Rattle.fabric_trace.specs.Runs.{start};
 ghost use Rattle.io_rounds.specs.declared.stations.Station.{Station as StationModel};
 ghost use Rattle.io_rounds.specs.Stations.{new_station};
-ghost use Rattle.io_rounds.specs.Course.{Holds, MayAct, Acted, kinds_of};
+ghost use Rattle.io_rounds.specs.Course.{CourseHolds, MayAct, EventActed, kinds_of};
 
 use crate::stations::{Station, new_stations};
 use fabric_ports::{EventEnd, Fabric, Happened};
@@ -33,9 +33,10 @@ impl<'a> Course<'a> {
         script: &Script,
         trace: Outbox<'a, PlainSink>,
     ) -> Result<Course<'a>, NoMemory>
-        requires passes { Passes script.now.names.items script.now.lines.items }
+        requires passes { ScriptPasses script.now.names.items script.now.lines.items }
         requires sets_up { All (λ line. is_event line.line ≡ false) script.now.lines.items }
-        ensures { IfOk result (λ course. Holds script.now.names.items script.now.lines.items [] []
+        ensures { IfOk result
+            (λ course. CourseHolds script.now.names.items script.now.lines.items [] []
             (replicate (length script.now.names.items) new_station) course) }
     {
         let fabric = Fabric::new(alloc, script)?;
@@ -59,8 +60,9 @@ impl<'a> Course<'a> {
     ) -> Result<Happened, NoMemory>
         requires { MayAct names.now self.old line.now }
         ensures { IfOk result (λ what. (script events : List NumberedLine) (trace : List TraceLine)
-            (stations : List StationModel) → Holds names.now script events trace stations self.old
-            → Acted names.now script events trace stations line.now what self.new) }
+            (stations : List StationModel)
+            → CourseHolds names.now script events trace stations self.old
+            → EventActed names.now script events trace stations line.now what self.new) }
     {
         match self.fabric.event(alloc, names, line, &mut self.trace) {
             Ok(what) => Ok(what),

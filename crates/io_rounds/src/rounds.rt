@@ -2,10 +2,10 @@
 ghost use Rattle.std.specs.Prelude.{◌≡◌, ◌<◌, false, ◌∷◌, ◌++◌, List, length, map, slice_index_or, IfOk, OnOk, OnErr};
 ghost use Rattle.fabric_script.specs.declared.lines.Numbered.{Numbered as NumberedLine};
 ghost use Rattle.fabric_ports.specs.declared.answers.Happened.TheVariants as Answers;
-ghost use Rattle.io_rounds.specs.Tasks.{IoTask, Settle, Turn, Reply, Take};
+ghost use Rattle.io_rounds.specs.Tasks.{IoTask, Settle, Turn, Reply, Fetch};
 ghost use Rattle.io_rounds.specs.Going.{IoState, endpoints_of};
-ghost use Rattle.io_rounds.specs.Course.{Holds, IoAt, IoArrived, IoStopped, held_behind, tasks_on, turn_of};
-ghost use Rattle.io_rounds.specs.Turns.{Underway, MayTurn, MaySend, Sent, HasTaken, Taken};
+ghost use Rattle.io_rounds.specs.Course.{CourseHolds, IoAt, IoArrived, IoStopped, held_behind, tasks_on, node_turn};
+ghost use Rattle.io_rounds.specs.Turns.{Underway, MayTurn, MaySend, TaskSent, HasTaken, CollectsOn};
 
 use crate::course::Course;
 use crate::requests::reply_of;
@@ -58,12 +58,12 @@ impl Course<'_> {
         ensures done { OnOk result ((script : List NumberedLine) (begun : Outbox K)
             (first s : IoState) (rest : List IoTask) → IoAt K.written K.faults begun output.old
             names.now script first s self.old
-            → s.tasks ≡ turn_of (slice_index_or self.old.switches.items node false) node ++ rest
+            → s.tasks ≡ node_turn (slice_index_or self.old.switches.items node false) node ++ rest
             → IoArrived K.written K.faults begun output.new names.now script first rest self.new) }
         ensures ended { OnErr result ((script : List NumberedLine) (begun : Outbox K)
             (first s : IoState) (rest : List IoTask) → IoAt K.written K.faults begun output.old
             names.now script first s self.old
-            → s.tasks ≡ turn_of (slice_index_or self.old.switches.items node false) node ++ rest
+            → s.tasks ≡ node_turn (slice_index_or self.old.switches.items node false) node ++ rest
             → IoStopped K.written K.faults begun output.new names.now script first) }
     {
         if self.switches[node] {
@@ -101,9 +101,9 @@ impl Course<'_> {
     fn resend(&mut self, alloc: Global, names: &[Name], node: u8) -> Result<bool, NoMemory>
         requires { MayTurn names.now self.old node }
         ensures { IfOk result (λ more. (script : List NumberedLine) (s : IoState)
-            (rest : List IoTask) → Holds names.now script s.events s.trace s.stations self.old
+            (rest : List IoTask) → CourseHolds names.now script s.events s.trace s.stations self.old
             → s.tasks ≡ Turn node ∷ rest
-            → Sent names.now script s node (tasks_on node more rest) self.new) }
+            → TaskSent names.now script s node (tasks_on node more rest) self.new) }
     {
         match take_kept(&mut self.stations, node) {
             Some(line) => self.reply(alloc, names, node, line),
@@ -122,9 +122,9 @@ impl Course<'_> {
         requires may { MaySend names.now self.old line }
         requires named { node < length names.now }
         ensures { IfOk result (λ more. (script : List NumberedLine) (s : IoState)
-            (rest : List IoTask) → Holds names.now script s.events s.trace s.stations self.old
+            (rest : List IoTask) → CourseHolds names.now script s.events s.trace s.stations self.old
             → s.tasks ≡ Reply node line ∷ rest
-            → Sent names.now script s node (tasks_on node more rest) self.new) }
+            → TaskSent names.now script s node (tasks_on node more rest) self.new) }
     {
         match self.act(alloc, names, &line)? {
             Happened::Took => Ok(true),
@@ -146,11 +146,11 @@ impl Course<'_> {
         requires { MayTurn names.now self.old node }
         ensures done { OnOk result ((script : List NumberedLine) (begun : Outbox K)
             (first s : IoState) (rest : List IoTask) → IoAt K.written K.faults begun output.old
-            names.now script first s self.old → s.tasks ≡ Take node ∷ rest
+            names.now script first s self.old → s.tasks ≡ Fetch node ∷ rest
             → IoArrived K.written K.faults begun output.new names.now script first rest self.new) }
         ensures ended { OnErr result ((script : List NumberedLine) (begun : Outbox K)
             (first s : IoState) (rest : List IoTask) → IoAt K.written K.faults begun output.old
-            names.now script first s self.old → s.tasks ≡ Take node ∷ rest
+            names.now script first s self.old → s.tasks ≡ Fetch node ∷ rest
             → IoStopped K.written K.faults begun output.new names.now script first) }
     {
         loop {
@@ -171,12 +171,12 @@ impl Course<'_> {
         requires { MayTurn names.now self.old node }
         ensures done { IfOk result (λ more. (script : List NumberedLine) (begun : Outbox K)
             (first s : IoState) (rest : List IoTask) → IoAt K.written K.faults begun output.old
-            names.now script first s self.old → s.tasks ≡ Take node ∷ rest
-            → Taken K.written K.faults begun output.new names.now script first node more rest
+            names.now script first s self.old → s.tasks ≡ Fetch node ∷ rest
+            → CollectsOn K.written K.faults begun output.new names.now script first node more rest
             (held_behind script s.trace node) self.new) }
         ensures ended { OnErr result ((script : List NumberedLine) (begun : Outbox K)
             (first s : IoState) (rest : List IoTask) → IoAt K.written K.faults begun output.old
-            names.now script first s self.old → s.tasks ≡ Take node ∷ rest
+            names.now script first s self.old → s.tasks ≡ Fetch node ∷ rest
             → IoStopped K.written K.faults begun output.new names.now script first) }
     {
         match self.act(alloc, names, &Line::Collect { node })? {
@@ -200,7 +200,7 @@ impl Course<'_> {
         ensures done { IfOk result (λ more. (script : List NumberedLine) (begun : Outbox K)
             (first s : IoState) (rest : List IoTask) → HasTaken K.written K.faults begun output.old
             names.now script first s node rest (Answers.Left packet.now) self.old
-            → Taken K.written K.faults begun output.new names.now script first node more rest
+            → CollectsOn K.written K.faults begun output.new names.now script first node more rest
             (held_behind script s.trace node) self.new) }
         ensures ended { OnErr result ((script : List NumberedLine) (begun : Outbox K)
             (first s : IoState) (rest : List IoTask) → HasTaken K.written K.faults begun output.old

@@ -5,7 +5,7 @@ use Rattle.std.specs.List.{join_with_byte}
 use Rattle.std.proofs.lemmas.List.Splits.{join_with_byte-slice_split}
 use Rattle.fabric_script.specs.Known.{IsOrderly, Known}
 use Rattle.fabric_script.specs.Lines.{words_of}
-use Rattle.fabric_script.specs.Texts.{AtNode, Bytes, Counted, InDigits, Value, value_text}
+use Rattle.fabric_script.specs.Texts.{NodeValue, Bytes, Counted, InDigits, Value, value_text}
 use Rattle.io_script.specs.declared.forms.IoForm.{IoForm}
 use Rattle.io_script.specs.declared.forms.IoForm.TheVariants as F
 use Rattle.io_script.specs.declared.lines.IoLine.{IoLine}
@@ -61,7 +61,7 @@ one_form text form other rest words has =
 
 -- the number that a value says, and the bytes
 number_said : Option Value → ℕ
-number_said (Some (AtNode n)) = n
+number_said (Some (NodeValue n)) = n
 number_said (Some (Counted n)) = n
 number_said (Some (InDigits count n)) = n
 number_said _ = 0

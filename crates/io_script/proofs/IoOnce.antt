@@ -11,7 +11,7 @@ use Rattle.io_script.specs.declared.lines.IoLine.{IoLine}
 use Rattle.io_script.specs.declared.lines.IoScript.{IoScript}
 use Rattle.io_script.specs.declared.lines.NumberedIo.{NumberedIo}
 use Rattle.io_script.specs.IoLines.{io_form_of}
-use Rattle.io_script.specs.IoReading.{Earlier, earlier_with, no_lines}
+use Rattle.io_script.specs.IoReading.{Earlier, earlier_with, nothing_earlier}
 use Rattle.io_script.specs.IoScripts.{AreHitFrom, Behind, first_behind, InSetUp, IsIoRefused, IsIoScript, KeptIoThen, KeptIsHit, SpellIoFrom}
 use Rattle.io_script.proofs.IoLineLaws.{least_io_once, same_io_line, spelled_no_io_hit}
 
@@ -110,12 +110,13 @@ module _ (bytes : List ℕ) where
       let same = input_once bytes set_up set_up' one.known other.known one.texts other.texts
       one.input other.input in
       let spelled = for_other bytes
-      (λ l k t. SpellIoFrom (first_behind bytes) k no_lines t lines') set_up set_up' one.known
+      (λ l k t. SpellIoFrom (first_behind bytes) k nothing_earlier t lines') set_up set_up'
+      one.known
       other.known one.texts other.texts one.input other.input other.spelled in (
         sym one.named ∙ ap {A = Known} (λ k. k.names) same.1 ∙ other.named,
         same.0,
         same_io_lines one.known (accepted_orderly bytes set_up one.known one.input.accepted)
-            (first_behind bytes) no_lines one.texts lines lines' one.spelled spelled,
+            (first_behind bytes) nothing_earlier one.texts lines lines' one.spelled spelled,
       )
 
   pub io_script_not_refused : (names : List (List ℕ)) (set_up : List Numbered)
@@ -126,8 +127,9 @@ module _ (bytes : List ℕ) where
   io_script_not_refused names set_up lines line reason one (Behind {set_up = set_up'}
       {known = known} {texts = texts} input hit) =
       io_hit_not_spelled one.known (accepted_orderly bytes set_up one.known one.input.accepted)
-      (first_behind bytes) no_lines one.texts line reason lines
-      (for_other bytes (λ l k t. AreHitFrom (first_behind bytes) k no_lines t line reason) set_up
+      (first_behind bytes) nothing_earlier one.texts line reason lines
+      (for_other bytes (λ l k t. AreHitFrom (first_behind bytes) k nothing_earlier t line reason)
+      set_up
       set_up' one.known known one.texts texts one.input input hit)
       one.spelled
 
@@ -141,9 +143,11 @@ module _ (bytes : List ℕ) where
       absurd (not_input bytes line' reason' _ _ _ other input)
   io_refused_once line reason line' reason' (Behind {set_up = s} {known = k} {texts = t} one hit)
       (Behind {set_up = s'} {known = k'} {texts = t'} other hit') =
-      io_hit_once k (accepted_orderly bytes s k one.accepted) (first_behind bytes) no_lines t line
+      io_hit_once k (accepted_orderly bytes s k one.accepted) (first_behind bytes) nothing_earlier
+      t line
       reason line' reason' hit
-      (for_other bytes (λ l k t. AreHitFrom (first_behind bytes) k no_lines t line' reason') s s' k
+      (for_other bytes (λ l k t. AreHitFrom (first_behind bytes) k nothing_earlier t line' reason')
+      s s' k
       k' t t' one other hit')
 
   -- ---- what an answer means the other way round

@@ -8,17 +8,17 @@ use Rattle.fabric_script.proofs.LineLaws.{IsSmall, same_value}
 use Rattle.fabric_script.proofs.Outcomes.{number_in_range}
 use Rattle.io_script.specs.declared.reasons.IoReason.{IoReason}
 use Rattle.io_script.specs.declared.reasons.IoReason.TheVariants.{OfScript, Misaligned, LateMemory}
-use Rattle.io_script.specs.IoForms.{IoField, AnEndpoint, Device, MemorySize, ReadSize, Address, Data, StreamData}
+use Rattle.io_script.specs.IoForms.{IoField, AnEndpoint, DeviceNumber, MemorySize, ReadSize, Address, Data, StreamData}
 use Rattle.io_script.specs.IoReasons.{io_reason_number}
-use Rattle.io_script.specs.IoTaking.{Done, More, TakesAllIo, TakesIo, with_io_reason}
-use Rattle.io_script.specs.IoWords.{FitIoAll, FitsIo, HitsIoOne, HitsIoWord, is_right, IsMisspelled, IsWrong, spelling_of}
+use Rattle.io_script.specs.IoTaking.{NoMoreIo, MoreIo, TakesAllIo, TakesIo, with_io_reason}
+use Rattle.io_script.specs.IoWords.{FitIoAll, FitsIo, HitsIoOne, HitsIoWord, is_right, IsMisspelledIo, IsWrong, spelling_of}
 
 -- ---- one word
 
 -- numbers have their own texts
 pub small_spelling : (field : IoField) → IsSmall (spelling_of field)
 small_spelling AnEndpoint = tt
-small_spelling Device = omega arith
+small_spelling DeviceNumber = omega arith
 small_spelling MemorySize = omega arith
 small_spelling ReadSize = omega arith
 small_spelling Address = tt
@@ -36,7 +36,7 @@ same_io_value known field v w orderly f g e =
 no_io_hit : (known : Known) (field : IoField) (value : Value) (word : List ℕ) (r : IoReason)
     → IsOrderly known → FitsIo known field value → word ≡ value_text known.names value
     → HitsIoWord known r field word → ⊥
-no_io_hit known field value word r orderly fits e (IsMisspelled h) =
+no_io_hit known field value word r orderly fits e (IsMisspelledIo h) =
     no_hit known (spelling_of field) value word _ orderly fits.0 e h
 no_io_hit known field value word r orderly fits e (IsWrong other fits' e' wrong is) =
     let same = same_value known (spelling_of field) value other orderly (small_spelling field)
@@ -47,11 +47,11 @@ no_io_hit known field value word r orderly fits e (IsWrong other fits' e' wrong 
 -- and any other word is hit by one reason
 same_io_reason : (known : Known) (field : IoField) (word : List ℕ) (r q : IoReason)
     → IsOrderly known → HitsIoWord known r field word → HitsIoWord known q field word → r ≡ q
-same_io_reason known field word r q orderly (IsMisspelled h) (IsMisspelled k) =
+same_io_reason known field word r q orderly (IsMisspelledIo h) (IsMisspelledIo k) =
     ap (λ x. OfScript x) (same_reason known (spelling_of field) word _ _ orderly h k)
-same_io_reason known field word r q orderly (IsMisspelled h) (IsWrong v fits e wrong is) =
+same_io_reason known field word r q orderly (IsMisspelledIo h) (IsWrong v fits e wrong is) =
     absurd (no_hit known (spelling_of field) v word _ orderly fits e h)
-same_io_reason known field word r q orderly (IsWrong v fits e wrong is) (IsMisspelled h) =
+same_io_reason known field word r q orderly (IsWrong v fits e wrong is) (IsMisspelledIo h) =
     absurd (no_hit known (spelling_of field) v word _ orderly fits e h)
 same_io_reason known field word r q orderly (IsWrong v fits e wrong is)
     (IsWrong w fits' e' wrong' is') =
@@ -160,14 +160,14 @@ pub io_outcome : (known : Known) (fields : List IoField) (values : List Value)
     (words : List (List ℕ)) (hit last : Option IoReason) → IsOrderly known
     → TakesAllIo known fields values words hit last
     → IoOutcome known fields values words hit last
-io_outcome known [] [] [] hit last orderly Done = record {
+io_outcome known [] [] [] hit last orderly NoMoreIo = record {
   falls = omega arith;
   least = λ reason h. absurd h;
   from = inl refl;
   fits = λ none. (none, tt, refl);
 }
 io_outcome known (field ∷ fields) (value ∷ values) (word ∷ words) hit last orderly
-    (More {next = next} takes more) =
+    (MoreIo {next = next} takes more) =
     io_step known field fields value values word words hit next last orderly takes
     (io_outcome known fields values words next last orderly more)
 io_outcome known [] [] (word ∷ words) hit last orderly takes = elim takes [ ]

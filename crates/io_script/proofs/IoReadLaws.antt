@@ -12,11 +12,11 @@ use Rattle.io_script.specs.declared.forms.IoForm.TheVariants as F
 use Rattle.io_script.specs.declared.lines.IoLine.{IoLine}
 use Rattle.io_script.specs.declared.reasons.IoReason.{IoReason}
 use Rattle.io_script.specs.declared.reasons.IoReason.TheVariants.{OfScript, LateMemory}
-use Rattle.io_script.specs.IoForms.{Address, AnEndpoint, Device, io_fields_of, io_keyword_of, IoField}
-use Rattle.io_script.specs.IoLines.{io_form_of, io_values_of, place_of}
+use Rattle.io_script.specs.IoForms.{Address, AnEndpoint, DeviceNumber, io_fields_of, io_keyword_of, IoField}
+use Rattle.io_script.specs.IoLines.{io_form_of, io_values_of, io_place}
 use Rattle.io_script.specs.IoReading.{AnIoWord, CostsTooMuch, Earlier, gives_memory, HasIoForm, HitsIo, io_cost_of, IsLate, LeastIoHit, NoIoForm, ReadsIo, SpellsIo}
 use Rattle.io_script.specs.IoReasons.{io_reason_number}
-use Rattle.io_script.specs.IoTaking.{asks_to_write, data_field, Done, is_streaming, IsFabric, More, read_end, ReadsBehind, standing_hit, TakesAllIo}
+use Rattle.io_script.specs.IoTaking.{asks_to_write, data_field, NoMoreIo, is_streaming, IsFabric, MoreIo, read_end, ReadsBehind, standing_hit, TakesAllIo}
 use Rattle.io_script.specs.IoWords.{FitIoAll, HitsIoOne}
 use Rattle.io_script.proofs.IoLineLaws.{one_form}
 use Rattle.io_script.proofs.IoOutcome.{io_number_in_range, io_outcome, io_rank, IoOutcome}
@@ -62,9 +62,9 @@ memory_form F.Round e = absurd cc
 length-taken : (known : Known) (fields : List IoField) (values : List Value)
     (words : List (List ℕ)) (hit last : Option IoReason)
     → TakesAllIo known fields values words hit last → length words ≡ length fields
-length-taken known [] [] [] hit last Done = refl
+length-taken known [] [] [] hit last NoMoreIo = refl
 length-taken known (field ∷ fields) (value ∷ values) (word ∷ words) hit last
-    (More {next = next} takes more) =
+    (MoreIo {next = next} takes more) =
     ap suc (length-taken known fields values words next last more)
 length-taken known [] [] (word ∷ words) hit last takes = elim takes [ ]
 length-taken known [] (value ∷ values) words hit last takes = elim takes [ ]
@@ -194,10 +194,10 @@ module _ (known : Known) (earlier : Earlier) (text : List ℕ) (form : IoForm)
 
 pub written_words : (known : Known) (form : IoForm) (line : IoLine) (words found : List (List ℕ))
     (hit last : Option IoReason) (node dest addr : ℕ) (load : List ℕ)
-    → asks_to_write form ≡ true → io_values_of line ≡ place_of node dest addr (Bytes load)
+    → asks_to_write form ≡ true → io_values_of line ≡ io_place node dest addr (Bytes load)
     → words ≡ found
-    → TakesAllIo known (AnEndpoint ∷ Device ∷ Address ∷ data_field (is_streaming form) ∷ [])
-    (place_of node dest addr (Bytes load)) found hit last
+    → TakesAllIo known (AnEndpoint ∷ DeviceNumber ∷ Address ∷ data_field (is_streaming form) ∷ [])
+    (io_place node dest addr (Bytes load)) found hit last
     → TakesAllIo known (io_fields_of form) (io_values_of line) words hit last
 written_words known form line words found hit last node dest addr load writes values same taken =
     subst (λ fields. TakesAllIo known fields (io_values_of line) words hit last)
@@ -205,7 +205,8 @@ written_words known form line words found hit last node dest addr load writes va
     (rw (values, same) taken)
   where
     fields_of_write : (form : IoForm) → asks_to_write form ≡ true
-        → AnEndpoint ∷ Device ∷ Address ∷ data_field (is_streaming form) ∷ [] ≡ io_fields_of form
+        → AnEndpoint ∷ DeviceNumber ∷ Address ∷ data_field (is_streaming form) ∷ []
+        ≡ io_fields_of form
     fields_of_write F.NWrite e = refl
     fields_of_write F.NWriteR e = refl
     fields_of_write F.SWrite e = refl

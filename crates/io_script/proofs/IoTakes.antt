@@ -3,7 +3,7 @@ use Rattle.std.proofs.Common.{◌≡◌, ◌≢◌, ℕ, zero, suc, ◌<◌, Boo
 use Rattle.fabric_script.specs.declared.known.Node.{Node}
 use Rattle.fabric_script.specs.declared.reasons.Reason.TheVariants.{BadHex, BadLength}
 use Rattle.fabric_script.specs.Hits.{HexIsBad}
-use Rattle.fabric_script.specs.Known.{is_switch, Known}
+use Rattle.fabric_script.specs.Known.{is_known_switch, Known}
 use Rattle.fabric_script.specs.Names.{name_of}
 use Rattle.fabric_script.specs.Texts.{Bytes, hex_text, Value, value_text}
 use Rattle.io_packets.specs.Forms.{is_size, is_stream_size}
@@ -11,7 +11,7 @@ use Rattle.io_script.specs.declared.reasons.IoReason.{IoReason}
 use Rattle.io_script.specs.declared.reasons.IoReason.TheVariants.{OfScript}
 use Rattle.io_script.specs.IoForms.{IoField}
 use Rattle.io_script.specs.IoTaking.{data_field, io_noted_by, io_ok_of, switches_among, TakesIo}
-use Rattle.io_script.specs.IoWords.{FitsIo, HitsIoWord, IsMisspelled, IsWrong}
+use Rattle.io_script.specs.IoWords.{FitsIo, HitsIoWord, IsMisspelledIo, IsWrong}
 
 -- a reader that answers what its word says, or a stand-in, takes the word
 pub takes_io : {T : Type 0} (known : Known) (field : IoField) (value : T → Value) (stand_in : T)
@@ -33,7 +33,7 @@ takes_io known field value stand_in word hit hit_after (Err reason) answer resul
 -- ---- nodes
 
 switch_in : (nodes : List Node) (n : ℕ)
-    → slice_index_or (switches_among nodes) n false ≡ is_switch nodes n
+    → slice_index_or (switches_among nodes) n false ≡ is_known_switch nodes n
 switch_in [] n = refl
 switch_in (node ∷ nodes) zero = refl
 switch_in (node ∷ nodes) (suc n) = switch_in nodes n
@@ -41,7 +41,7 @@ switch_in (node ∷ nodes) (suc n) = switch_in nodes n
 -- whether a node is a switch is what was kept
 pub switch_at : {b : Bool} (known : Known) (switches : List Bool) (n : ℕ)
     → switches ≡ switches_among known.nodes → slice_index_or switches n false ≡ b
-    → is_switch known.nodes n ≡ b
+    → is_known_switch known.nodes n ≡ b
 switch_at known switches n same is =
     sym (switch_in known.nodes n) ∙ ap (λ s. slice_index_or s n false) (sym same) ∙ is
 
@@ -59,8 +59,8 @@ named_at known names n word same found = (
 pub data_misspelled : (known : Known) (stream : Bool) (word : List ℕ)
     → ((bytes : List ℕ) → All (λ byte. byte < 256) bytes → word ≢ hex_text bytes)
     → HitsIoWord known (OfScript BadHex) (data_field stream) word
-data_misspelled known true word none = IsMisspelled (HexIsBad none)
-data_misspelled known false word none = IsMisspelled (HexIsBad none)
+data_misspelled known true word none = IsMisspelledIo (HexIsBad none)
+data_misspelled known false word none = IsMisspelledIo (HexIsBad none)
 
 -- whether a write may have so many bytes
 abbrev pub fits_by : Bool → ℕ → Bool

@@ -7,7 +7,7 @@ use Rattle.io_script.specs.declared.lines.IoLine.{IoLine}
 use Rattle.io_script.specs.declared.lines.NumberedIo.{NumberedIo}
 use Rattle.io_script.specs.declared.reasons.IoReason.{IoReason}
 use Rattle.io_script.specs.IoLines.{io_form_of}
-use Rattle.io_script.specs.IoReading.{Earlier, earlier_with, LeastIoHit, no_lines, SpellsIo}
+use Rattle.io_script.specs.IoReading.{Earlier, earlier_with, LeastIoHit, nothing_earlier, SpellsIo}
 use Rattle.io_script.specs.IoReasons.{io_reason_number}
 use Rattle.io_script.specs.IoScripts.{AreHitFrom, SpellIoFrom}
 
@@ -16,12 +16,12 @@ use Rattle.io_script.specs.IoScripts.{AreHitFrom, SpellIoFrom}
 pub record IsThrough (known : Known) (first : ℕ) (texts : List (List ℕ)) (lines : List NumberedIo)
     (number : ℕ) (earlier : Earlier) (left : List (List ℕ)) : Type 0 where
   pub spells : (rest : List NumberedIo) → SpellIoFrom number known earlier left rest
-      → SpellIoFrom first known no_lines texts (lines ++ rest)
+      → SpellIoFrom first known nothing_earlier texts (lines ++ rest)
   pub hits : (line reason : ℕ) → AreHitFrom number known earlier left line reason
-      → AreHitFrom first known no_lines texts line reason
+      → AreHitFrom first known nothing_earlier texts line reason
 
 pub begin_through : (known : Known) (first : ℕ) (texts : List (List ℕ))
-    → IsThrough known first texts [] first no_lines texts
+    → IsThrough known first texts [] first nothing_earlier texts
 begin_through known first texts =
     record { spells = λ rest h. h; hits = λ line reason h. h }
 
@@ -42,7 +42,7 @@ module _ (known : Known) (first : ℕ) (all : List (List ℕ)) (lines : List Num
       (earlier_with (length known.links) earlier (io_form_of io)) texts
   keep_through io kept says = record {
     spells = λ rest h.
-        subst (SpellIoFrom first known no_lines all)
+        subst (SpellIoFrom first known nothing_earlier all)
         (sym (append_assoc lines (record { line = number; io = io } ∷ []) rest))
         (is.spells (record { line = number; io = io } ∷ rest)
         (rw kept (io, rest, refl, says, h)));
@@ -63,13 +63,13 @@ module _ (known : Known) (first : ℕ) (all : List (List ℕ)) (lines : List Num
   -- a text is hit
   pub hit_through : (reason : IoReason) → is_skipped text ≡ false
       → LeastIoHit known earlier text reason
-      → AreHitFrom first known no_lines all number (io_reason_number reason)
+      → AreHitFrom first known nothing_earlier all number (io_reason_number reason)
   hit_through reason kept least =
       is.hits number (io_reason_number reason) (rw kept (inl (refl, (reason, least, refl))))
 
 -- nothing is left
 pub end_through : (known : Known) (first : ℕ) (all : List (List ℕ)) (lines : List NumberedIo)
     (number : ℕ) (earlier : Earlier) → IsThrough known first all lines number earlier []
-    → SpellIoFrom first known no_lines all lines
+    → SpellIoFrom first known nothing_earlier all lines
 end_through known first all lines number earlier is =
-    subst (SpellIoFrom first known no_lines all) (append-nil lines) (is.spells [] refl)
+    subst (SpellIoFrom first known nothing_earlier all) (append-nil lines) (is.spells [] refl)

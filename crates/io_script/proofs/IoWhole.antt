@@ -7,7 +7,7 @@ use Rattle.fabric_script.specs.SetUps.{for_event}
 use Rattle.script_input.specs.Inputs.{Hit, IsAccepted, IsInput, IsRefusedInput, NotParted, set_up_bytes, set_up_texts, texts_behind, texts_of}
 use Rattle.script_input.proofs.InputLaws.{accepted_by, all_set_up}
 use Rattle.io_script.specs.declared.lines.NumberedIo.{NumberedIo}
-use Rattle.io_script.specs.IoReading.{no_lines}
+use Rattle.io_script.specs.IoReading.{nothing_earlier}
 use Rattle.io_script.specs.IoScripts.{AreHitFrom, Behind, InSetUp, IsIoRefused, IsIoScript, SpellIoFrom}
 
 -- the set-up lines are refused
@@ -34,22 +34,24 @@ module _ (bytes set_up : List ℕ) (names : List (List ℕ)) (lines : List Numbe
 
     -- the lines behind it spell these
     pub whole_script : (io : List NumberedIo)
-        → SpellIoFrom (count + 2) (for_event script.0) no_lines texts io
+        → SpellIoFrom (count + 2) (for_event script.0) nothing_earlier texts io
         → IsIoScript bytes names lines io
     whole_script io spelled = record {
       known = for_event script.0;
       texts = texts;
       input = input;
       named = script.1;
-      spelled = subst (λ n. SpellIoFrom (n + 2) (for_event script.0) no_lines texts io) counted
+      spelled =
+          subst (λ n. SpellIoFrom (n + 2) (for_event script.0) nothing_earlier texts io) counted
           spelled;
     }
 
     -- one of them is hit
     pub line_refused : (line reason : ℕ)
-        → AreHitFrom (count + 2) (for_event script.0) no_lines texts line reason
+        → AreHitFrom (count + 2) (for_event script.0) nothing_earlier texts line reason
         → IsIoRefused bytes line reason
     line_refused line reason hit =
         Behind input
-        (subst (λ n. AreHitFrom (n + 2) (for_event script.0) no_lines texts line reason) counted
+        (subst (λ n. AreHitFrom (n + 2) (for_event script.0) nothing_earlier texts line reason)
+        counted
         hit)

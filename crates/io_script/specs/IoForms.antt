@@ -11,7 +11,7 @@ use Rattle.io_script.specs.declared.forms.IoForm.TheVariants.{Memory, NRead, NWr
 -- read asks for, an address, the data of a write, and those of a streaming write.
 pub data IoField : Type 0 where
   AnEndpoint : IoField
-  Device : IoField
+  DeviceNumber : IoField
   MemorySize : IoField
   ReadSize : IoField
   Address : IoField
@@ -28,8 +28,8 @@ io_keyword_of Round = codes "round"
 
 abbrev pub io_fields_of : IoForm → List IoField
 io_fields_of Memory = AnEndpoint ∷ MemorySize ∷ []
-io_fields_of NRead = AnEndpoint ∷ Device ∷ Address ∷ ReadSize ∷ []
-io_fields_of NWrite = AnEndpoint ∷ Device ∷ Address ∷ Data ∷ []
-io_fields_of NWriteR = AnEndpoint ∷ Device ∷ Address ∷ Data ∷ []
-io_fields_of SWrite = AnEndpoint ∷ Device ∷ Address ∷ StreamData ∷ []
+io_fields_of NRead = AnEndpoint ∷ DeviceNumber ∷ Address ∷ ReadSize ∷ []
+io_fields_of NWrite = AnEndpoint ∷ DeviceNumber ∷ Address ∷ Data ∷ []
+io_fields_of NWriteR = AnEndpoint ∷ DeviceNumber ∷ Address ∷ Data ∷ []
+io_fields_of SWrite = AnEndpoint ∷ DeviceNumber ∷ Address ∷ StreamData ∷ []
 io_fields_of Round = []

@@ -1,7 +1,7 @@
 -- What a line is: its form, and what its words say.
 use Rattle.std.specs.Prelude.{ℕ, ◌<◌, List, [], ◌∷◌, length, map}
 use Rattle.std.specs.List.{join_with_byte}
-use Rattle.fabric_script.specs.Texts.{Value, AtNode, Counted, Bytes, InDigits, value_text}
+use Rattle.fabric_script.specs.Texts.{Value, NodeValue, Counted, Bytes, InDigits, value_text}
 use Rattle.io_script.specs.declared.forms.IoForm.{IoForm}
 use Rattle.io_script.specs.declared.forms.IoForm.TheVariants as F
 use Rattle.io_script.specs.declared.lines.IoLine.{IoLine}
@@ -17,16 +17,16 @@ io_form_of (SWrite node dest addr load) = F.SWrite
 io_form_of Round = F.Round
 
 -- who asks which device, at which address
-abbrev pub place_of : ℕ → ℕ → ℕ → Value → List Value
-place_of node dest addr last = AtNode node ∷ Counted dest ∷ InDigits 8 addr ∷ last ∷ []
+abbrev pub io_place : ℕ → ℕ → ℕ → Value → List Value
+io_place node dest addr last = NodeValue node ∷ Counted dest ∷ InDigits 8 addr ∷ last ∷ []
 
 -- what the words of a line say
 abbrev pub io_values_of : IoLine → List Value
-io_values_of (Memory node bytes) = AtNode node ∷ Counted bytes ∷ []
-io_values_of (NRead node dest addr size) = place_of node dest addr (Counted size)
-io_values_of (NWrite node dest addr load) = place_of node dest addr (Bytes load)
-io_values_of (NWriteR node dest addr load) = place_of node dest addr (Bytes load)
-io_values_of (SWrite node dest addr load) = place_of node dest addr (Bytes load)
+io_values_of (Memory node bytes) = NodeValue node ∷ Counted bytes ∷ []
+io_values_of (NRead node dest addr size) = io_place node dest addr (Counted size)
+io_values_of (NWrite node dest addr load) = io_place node dest addr (Bytes load)
+io_values_of (NWriteR node dest addr load) = io_place node dest addr (Bytes load)
+io_values_of (SWrite node dest addr load) = io_place node dest addr (Bytes load)
 io_values_of Round = []
 
 -- the words of a line, where the nodes have these names

@@ -19,8 +19,8 @@ pub record Earlier : Type 0 where
   pub begun : Bool
 
 -- before the first line
-abbrev pub no_lines : Earlier
-no_lines = record { cost = 0; begun = false }
+abbrev pub nothing_earlier : Earlier
+nothing_earlier = record { cost = 0; begun = false }
 
 -- what a line costs in a fabric of so many links: a round 20 for each, and at least 20; any other 1
 abbrev pub io_cost_of : ℕ → IoForm → ℕ

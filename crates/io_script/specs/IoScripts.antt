@@ -8,7 +8,7 @@ use Rattle.io_script.specs.declared.lines.IoLine.{IoLine}
 use Rattle.io_script.specs.declared.lines.NumberedIo.{NumberedIo}
 use Rattle.io_script.specs.declared.reasons.IoReason.{IoReason}
 use Rattle.io_script.specs.IoLines.{io_form_of}
-use Rattle.io_script.specs.IoReading.{Earlier, earlier_with, LeastIoHit, no_lines, SpellsIo}
+use Rattle.io_script.specs.IoReading.{Earlier, earlier_with, LeastIoHit, nothing_earlier, SpellsIo}
 use Rattle.io_script.specs.IoReasons.{io_reason_number}
 
 -- A text that is kept spells the first of these lines, and those behind it spell the others.
@@ -56,7 +56,7 @@ pub record IsIoScript (bytes : List ℕ) (names : List (List ℕ)) (set_up : Lis
   pub texts : List (List ℕ)
   pub input : IsInput bytes set_up known texts
   pub named : known.names ≡ names
-  pub spelled : SpellIoFrom (first_behind bytes) known no_lines texts lines
+  pub spelled : SpellIoFrom (first_behind bytes) known nothing_earlier texts lines
 
 -- The bytes are refused at this line, with the number of this reason: the set-up lines are, or
 -- there is no line `---`; or else a text behind it is the first that a reason hits.
@@ -64,5 +64,5 @@ pub data IsIoRefused (bytes : List ℕ) (line reason : ℕ) : Type 0 where
   InSetUp : IsRefusedInput bytes line reason → IsIoRefused bytes line reason
   Behind : {set_up : List Numbered} {known : Known} {texts : List (List ℕ)}
       → IsInput bytes set_up known texts
-      → AreHitFrom (first_behind bytes) known no_lines texts line reason
+      → AreHitFrom (first_behind bytes) known nothing_earlier texts line reason
       → IsIoRefused bytes line reason

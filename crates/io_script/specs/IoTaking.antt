@@ -61,8 +61,8 @@ TakesIo known field value word hit hit_after =
 -- words are taken, one after another, as values of these kinds
 pub data TakesAllIo (known : Known) : List IoField → List Value → List (List ℕ) → Option IoReason
     → Option IoReason → Type 0 where
-  Done : {hit : Option IoReason} → TakesAllIo known [] [] [] hit hit
-  More : {field : IoField} {fields : List IoField} {value : Value} {values : List Value}
+  NoMoreIo : {hit : Option IoReason} → TakesAllIo known [] [] [] hit hit
+  MoreIo : {field : IoField} {fields : List IoField} {value : Value} {values : List Value}
       {word : List ℕ} {words : List (List ℕ)} {hit next last : Option IoReason}
       → TakesIo known field value word hit next → TakesAllIo known fields values words next last
       → TakesAllIo known (field ∷ fields) (value ∷ values) (word ∷ words) hit last

@@ -3,18 +3,18 @@ use Rattle.std.specs.Prelude.{◌≡◌, ℕ, ◌%◌, Bool, true, false, ◌==�
 use Rattle.fabric_script.specs.declared.reasons.Reason.{Reason}
 use Rattle.fabric_script.specs.declared.reasons.Reason.TheVariants.{BadNumber, BadLength, WrongKind}
 use Rattle.fabric_script.specs.Forms.{Field, Node, Number, Hex, Digits}
-use Rattle.fabric_script.specs.Hits.{Fits, Hits}
-use Rattle.fabric_script.specs.Known.{Known, is_switch}
-use Rattle.fabric_script.specs.Texts.{Value, AtNode, Counted, Bytes, InDigits, value_text}
+use Rattle.fabric_script.specs.Hits.{FitsField, Hits}
+use Rattle.fabric_script.specs.Known.{Known, is_known_switch}
+use Rattle.fabric_script.specs.Texts.{Value, NodeValue, Counted, Bytes, InDigits, value_text}
 use Rattle.io_packets.specs.Forms.{is_size, is_stream_size}
 use Rattle.io_script.specs.declared.reasons.IoReason.{IoReason}
 use Rattle.io_script.specs.declared.reasons.IoReason.TheVariants.{OfScript, Misaligned}
-use Rattle.io_script.specs.IoForms.{IoField, AnEndpoint, Device, MemorySize, ReadSize, Address, Data, StreamData}
+use Rattle.io_script.specs.IoForms.{IoField, AnEndpoint, DeviceNumber, MemorySize, ReadSize, Address, Data, StreamData}
 
 -- how a word is spelled, by the kinds of words of all scripts
 abbrev pub spelling_of : IoField → Field
 spelling_of AnEndpoint = Node
-spelling_of Device = Number 0 255
+spelling_of DeviceNumber = Number 0 255
 spelling_of MemorySize = Number 8 65536
 spelling_of ReadSize = Number 8 64
 spelling_of Address = Digits 8
@@ -24,8 +24,8 @@ spelling_of StreamData = Hex
 -- What a word that is spelled so has to be besides: a node is no switch; a memory has whole
 -- double-words, and an address begins one; the sizes are those of this project's profile.
 abbrev pub is_right : Known → IoField → Value → Bool
-is_right known AnEndpoint (AtNode n) = not (is_switch known.nodes n)
-is_right known Device (Counted n) = true
+is_right known AnEndpoint (NodeValue n) = not (is_known_switch known.nodes n)
+is_right known DeviceNumber (Counted n) = true
 is_right known MemorySize (Counted n) = n % 8 == 0
 is_right known ReadSize (Counted n) = is_size n
 is_right known Address (InDigits shown n) = n % 8 == 0
@@ -45,14 +45,14 @@ wrong_reason _ = OfScript BadNumber
 -- what a kind of word may say
 abbrev pub FitsIo : Known → IoField → Value → Type 0
 FitsIo known field value =
-    Fits known (spelling_of field) value × (is_right known field value ≡ true)
+    FitsField known (spelling_of field) value × (is_right known field value ≡ true)
 
 -- A reason hits a word of a kind: the word is misspelled, or what it says is not right.
 pub data HitsIoWord (known : Known) : IoReason → IoField → List ℕ → Type 0 where
-  IsMisspelled : {reason : Reason} {field : IoField} {word : List ℕ}
+  IsMisspelledIo : {reason : Reason} {field : IoField} {word : List ℕ}
       → Hits known reason (spelling_of field) word → HitsIoWord known (OfScript reason) field word
   IsWrong : {reason : IoReason} {field : IoField} {word : List ℕ} (value : Value)
-      → Fits known (spelling_of field) value → word ≡ value_text known.names value
+      → FitsField known (spelling_of field) value → word ≡ value_text known.names value
       → is_right known field value ≡ false → reason ≡ wrong_reason field
       → HitsIoWord known reason field word
 

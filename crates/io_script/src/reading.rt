@@ -6,8 +6,8 @@ ghost use Rattle.fabric_script.specs.Words.{words_left};
 ghost use Rattle.io_script.specs.declared.forms.IoForm.TheVariants as F;
 ghost use Rattle.io_script.specs.declared.reasons.IoReason.TheVariants.{OfScript};
 ghost use Rattle.fabric_script.specs.declared.reasons.Reason.TheVariants.{UnknownLine};
-ghost use Rattle.io_script.specs.IoLines.{io_form_of, io_values_of, place_of};
-ghost use Rattle.io_script.specs.IoReading.{earlier_with, io_cost_of, no_lines, ReadsIo};
+ghost use Rattle.io_script.specs.IoLines.{io_form_of, io_values_of, io_place};
+ghost use Rattle.io_script.specs.IoReading.{earlier_with, io_cost_of, nothing_earlier, ReadsIo};
 ghost use Rattle.io_script.specs.IoTaking.{asks_to_write, is_streaming, read_end, standing_hit, IsFabric, ReadsBehind};
 
 use crate::forms::{IoForm, form_named};
@@ -51,7 +51,7 @@ impl Model for Earlier {
 impl Earlier {
     /// Before the first line.
     pub(crate) fn new() -> Earlier
-        ensures { result ≡ no_lines }
+        ensures { result ≡ nothing_earlier }
     {
         Earlier {
             cost: 0,
@@ -210,7 +210,7 @@ fn is_streaming(form: IoForm) -> bool
 fn write_of(form: IoForm, node: u8, dest: u8, addr: u32, load: Load) -> IoLine
     requires { asks_to_write form ≡ true }
     ensures form { io_form_of result ≡ form }
-    ensures values { io_values_of result ≡ place_of node dest addr (Bytes load) }
+    ensures values { io_values_of result ≡ io_place node dest addr (Bytes load) }
 {
     match form {
         IoForm::NWrite => IoLine::NWrite {

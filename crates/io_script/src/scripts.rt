@@ -3,12 +3,12 @@ ghost use Rattle.std.specs.Prelude.{◌≡◌, ◌+◌, ◌≤◌, ◌⊎◌, �
 ghost use Rattle.fabric_script.specs.declared.lines.Numbered.{Numbered as NumberedLine};
 ghost use Rattle.fabric_script.specs.declared.scripts.ScriptEnd.TheVariants.{NoMemory};
 ghost use Rattle.fabric_script.specs.Known.{Known};
-ghost use Rattle.fabric_script.specs.Scripts.{is_skipped, Passes};
+ghost use Rattle.fabric_script.specs.Scripts.{is_skipped, ScriptPasses};
 ghost use Rattle.fabric_script.specs.SetUps.{NoEvents};
 ghost use Rattle.script_input.specs.Inputs.{texts_of};
 ghost use Rattle.io_script.specs.declared.lines.NumberedIo.{NumberedIo as ANumberedIo};
 ghost use Rattle.io_script.specs.IoLines.{IsNamed};
-ghost use Rattle.io_script.specs.IoReading.{no_lines};
+ghost use Rattle.io_script.specs.IoReading.{nothing_earlier};
 ghost use Rattle.io_script.specs.IoScripts.{AreHitFrom, IsIoRefused, IsIoScript, SpellIoFrom};
 ghost use Rattle.io_script.specs.IoTaking.{links_among, switches_of, IsFabric};
 
@@ -29,7 +29,7 @@ pub fn parse_io(alloc: Global, bytes: &[u8]) -> Result<IoScript, ScriptEnd>
     // What is answered is spelled so, and what is refused is refused so.
     ensures script { IfOk result (λ io. IsIoScript bytes.now io.script.names.items
         io.script.lines.items io.lines.items) }
-    ensures passes { IfOk result (λ io. Passes io.script.names.items io.script.lines.items) }
+    ensures passes { IfOk result (λ io. ScriptPasses io.script.names.items io.script.lines.items) }
     ensures no_events { IfOk result (λ io. NoEvents io.script.lines.items) }
     ensures named { IfOk result (λ io.
         All (λ line. IsNamed io.script.names.items line.io) io.lines.items) }
@@ -69,11 +69,11 @@ fn read_io_lines(
     ensures lines { IfOk result (λ lines. (known : Known)
         → IsFabric known script.now.names.items (switches_of script.now.lines.items)
         (links_among script.now.lines.items)
-        → SpellIoFrom first known no_lines (texts_of bytes.now) lines.items) }
+        → SpellIoFrom first known nothing_earlier (texts_of bytes.now) lines.items) }
     ensures refused { (refusal : _) → IsErrOf result (ScriptEnd.Refused refusal)
         → (known : Known) → IsFabric known script.now.names.items
         (switches_of script.now.lines.items) (links_among script.now.lines.items)
-        → AreHitFrom first known no_lines (texts_of bytes.now) refusal.line refusal.reason }
+        → AreHitFrom first known nothing_earlier (texts_of bytes.now) refusal.line refusal.reason }
 {
     let switches = switches_of(alloc, script.lines.as_slice())?;
     let fabric = Fabric {
@@ -96,11 +96,11 @@ fn read_behind(
     requires few { first + length bytes.now ≤ 16777218 }
     ensures lines { IfOk result (λ lines. (known : Known)
         → IsFabric known fabric.entry.names.now fabric.entry.switches.now fabric.entry.links
-        → SpellIoFrom first known no_lines (texts_of bytes.now) lines.items) }
+        → SpellIoFrom first known nothing_earlier (texts_of bytes.now) lines.items) }
     ensures refused { (refusal : _) → IsErrOf result (ScriptEnd.Refused refusal)
         → (known : Known)
         → IsFabric known fabric.entry.names.now fabric.entry.switches.now fabric.entry.links
-        → AreHitFrom first known no_lines (texts_of bytes.now) refusal.line refusal.reason }
+        → AreHitFrom first known nothing_earlier (texts_of bytes.now) refusal.line refusal.reason }
 {
     let mut lines = Vec::new(alloc);
     let mut earlier = Earlier::new();

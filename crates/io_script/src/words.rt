@@ -6,9 +6,9 @@ ghost use Rattle.std.specs.Prelude.{◌≡◌, ◌≢◌, ℕ, ◌^◌, ◌<◌,
 ghost use Rattle.std.specs.Fmt.{decimal};
 ghost use Rattle.fabric_script.specs.Known.{Known};
 ghost use Rattle.fabric_script.specs.Names.{name_of};
-ghost use Rattle.fabric_script.specs.Texts.{AtNode, Counted, Bytes, InDigits, digits_text, hex_text, value_text};
+ghost use Rattle.fabric_script.specs.Texts.{NodeValue, Counted, Bytes, InDigits, digits_text, hex_text, value_text};
 ghost use Rattle.io_packets.specs.Forms.{is_size, is_stream_size};
-ghost use Rattle.io_script.specs.IoForms.{AnEndpoint, Device, MemorySize, ReadSize, Address};
+ghost use Rattle.io_script.specs.IoForms.{AnEndpoint, DeviceNumber, MemorySize, ReadSize, Address};
 ghost use Rattle.io_script.specs.IoTaking.{data_field, io_noted_by, io_ok_of, with_io_reason, IsFabric, TakesIo};
 ghost use Rattle.io_script.specs.IoWords.{FitsIo, HitsIoWord};
 
@@ -32,14 +32,15 @@ pub(crate) fn take_endpoint(fabric: Fabric<'_>, word: &[u8], hit: &mut Option<Io
     requires { length fabric.names.now ≤ 64 }
     ensures { (known : Known)
         → IsFabric known fabric.entry.names.now fabric.entry.switches.now fabric.entry.links
-        → TakesIo known AnEndpoint (AtNode result) word.now hit.old hit.new }
+        → TakesIo known AnEndpoint (NodeValue result) word.now hit.old hit.new }
 {
     note(hit, read_endpoint(fabric, word)).unwrap_or(0)
 }
 
 /// Takes the ID of a device.
 pub(crate) fn take_device(word: &[u8], hit: &mut Option<IoReason>) -> u8
-    ensures { (known : Known) → TakesIo known Device (Counted result) word.now hit.old hit.new }
+    ensures { (known : Known)
+        → TakesIo known DeviceNumber (Counted result) word.now hit.old hit.new }
 {
     note(hit, read_device(word)).unwrap_or(0)
 }
@@ -109,7 +110,8 @@ fn read_endpoint(fabric: Fabric<'_>, word: &[u8]) -> Result<u8, IoReason>
     ensures { (known : Known)
         → IsFabric known fabric.entry.names.now fabric.entry.switches.now fabric.entry.links
         → MatchResult result
-        (λ n. FitsIo known AnEndpoint (AtNode n) × (word.now ≡ value_text known.names (AtNode n)))
+        (λ n. FitsIo known AnEndpoint (NodeValue n)
+        × (word.now ≡ value_text known.names (NodeValue n)))
         (λ reason. HitsIoWord known reason AnEndpoint word.now) }
 {
     if read_name(word).is_none() {
@@ -145,8 +147,9 @@ fn is_switch(switches: &[bool], node: usize) -> bool
 /// The ID of a device that a word says, or the reason that hits it.
 fn read_device(word: &[u8]) -> Result<u8, IoReason>
     ensures { (known : Known) → MatchResult result
-        (λ n. FitsIo known Device (Counted n) × (word.now ≡ value_text known.names (Counted n)))
-        (λ reason. HitsIoWord known reason Device word.now) }
+        (λ n. FitsIo known DeviceNumber (Counted n)
+        × (word.now ≡ value_text known.names (Counted n)))
+        (λ reason. HitsIoWord known reason DeviceNumber word.now) }
 {
     match read_within(word, 0, 255) {
         Some(id) => Ok(id as u8),

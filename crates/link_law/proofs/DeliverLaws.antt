@@ -4,16 +4,16 @@ use Rattle.std.proofs.lemmas.Bool.{le-leb}
 use Rattle.rio_chars.specs.declared.chars.Char.{Char}
 use Rattle.link_port.specs.Prelude.{Event, PortState}
 use Rattle.link_machine.specs.Prelude.{other_side, Stopped, Note, Side, A, B, has_none, has_chars, delivery_from, delivered_from, delivery_notes, Wires, LinkState, link, from_end}
-use Rattle.link_wires.specs.Deliveries.{Delivered, Through, Undetected as Unsent}
+use Rattle.link_wires.specs.Deliveries.{Delivered, Through, Unsent}
 use Rattle.link_wires.specs.declared.edits.Edited.{Edited}
 use Rattle.link_wires.specs.declared.edits.Edited.TheVariants.{Short}
-use Rattle.link_law.specs.Answers.{taken_by, delivery_answer, UnlessGivenUp, OnGivenUp}
+use Rattle.link_law.specs.Answers.{delivery_taken, delivery_answer, UnlessGivenUp, OnGivenUp}
 use Rattle.link_machine.specs.States.{wire_at}
 use Rattle.link_law.specs.declared.answers.LinkEnd.{LinkEnd}
 use Rattle.link_law.specs.declared.answers.LinkEnd.TheVariants.{Undetected, Failed, NoMemory}
-use Rattle.link_rest.specs.Acts.{Act, Deliver, Reached, At, Found, reached_by, after, act_notes, acts_notes}
+use Rattle.link_rest.specs.Acts.{Act, Deliver, Reached, At, FoundAt, reached_by, after_act, act_notes, acts_notes}
 use Rattle.link_rest.specs.Schedules.{Is}
-use Rattle.link_rest.specs.Settling.{Part, Empties, first_has_chars, of_end, all_chars}
+use Rattle.link_rest.specs.Settling.{SchedulePart, Empties, first_has_chars, of_end, all_chars}
 use Rattle.link_rest.proofs.Lines.{goes_one}
 use Rattle.link_law.specs.Does.{Comes, Stops, Ends}
 use Rattle.link_law.proofs.DoesLaws.{IsWatch, comes_where, ends_where, comes_none, stops_at_once}
@@ -23,11 +23,11 @@ unfolding acts_notes
 one_note s act = append-nil (act_notes act s)
 
 -- the part that is one act
-abbrev pub Only : Act → Part
+abbrev pub Only : Act → SchedulePart
 Only act = Is (λ reached. act ∷ [])
 
 pub one_comes : {W : Type 0} {grew : W → List Note → W → Type 0}
-    → (act : Act) (before : LinkState) (old new : W) (to : Reached) → after act before ≡ to
+    → (act : Act) (before : LinkState) (old new : W) (to : Reached) → after_act act before ≡ to
     → grew old (act_notes act before) new
     → Comes grew (Only act) before old to new
 one_comes {W} {grew} act before old new to is grown = record {
@@ -49,16 +49,17 @@ one_stops {W} {grew} {cut} act before old new stopped = record {
 }
 
 -- by what became of the delivery
-pub through_is : (to : Side) (next : LinkState) (d : Delivered) (x : Edited) → Ok x ≡ taken_by to d
+pub through_is : (to : Side) (next : LinkState) (d : Delivered) (x : Edited)
+    → Ok x ≡ delivery_taken to d
     → reached_by to next d ≡ At next
 through_is to next (Through flow) x is = refl
 through_is to next (Unsent told e) x is = absurd cc
 
 pub found_is : (to side : Side) (next : LinkState) (d : Delivered) (e : Event)
-    → Err (Undetected side e) ≡ taken_by to d → reached_by to next d ≡ Found side e
+    → Err (Undetected side e) ≡ delivery_taken to d → reached_by to next d ≡ FoundAt side e
 found_is to side next (Through flow) e is = absurd cc
 found_is to side next (Unsent told x) e is =
-    let same : side ≡ to = cc in let event : e ≡ x = cc in λ i. Found (sym same i) (sym event i)
+    let same : side ≡ to = cc in let event : e ≡ x = cc in λ i. FoundAt (sym same i) (sym event i)
 
 -- a delivery of characters that are there
 full : (from : Side) (count : ℕ) (s : LinkState) → count ≡ length (from_end from s).wire_a.chars
@@ -74,8 +75,8 @@ pub delivery_comes : {W : Type 0} (grew : W → List Note → W → Type 0) (fro
 delivery_comes grew from count before next old new x all answer there noted =
     let has = full from count before all in
     let d = delivery_from from count before in
-    let is : Ok x ≡ taken_by (other_side from) d =
-    answer ∙ ap (λ (b : Bool). if b then taken_by (other_side from) d else Ok Short) has in
+    let is : Ok x ≡ delivery_taken (other_side from) d =
+    answer ∙ ap (λ (b : Bool). if b then delivery_taken (other_side from) d else Ok Short) has in
     one_comes (Deliver from count) before old new (At next)
     (ap (λ (b : Bool). if b then reached_by (other_side from) (delivered_from from count before) d
     else At before) has
@@ -94,9 +95,9 @@ pub delivery_ends : {W : Type 0} (grew : W → List Note → W → Type 0) (cut 
 delivery_ends grew cut from count before old new (Undetected side e) all answer noted stopped =
     let has = full from count before all in
     let d = delivery_from from count before in
-    let is : Err (Undetected side e) ≡ taken_by (other_side from) d =
-    answer ∙ ap (λ (b : Bool). if b then taken_by (other_side from) d else Ok Short) has in
-    one_comes (Deliver from count) before old new (Found side e)
+    let is : Err (Undetected side e) ≡ delivery_taken (other_side from) d =
+    answer ∙ ap (λ (b : Bool). if b then delivery_taken (other_side from) d else Ok Short) has in
+    one_comes (Deliver from count) before old new (FoundAt side e)
     (ap (λ (b : Bool). if b then reached_by (other_side from) (delivered_from from count before) d
     else At before) has
     ∙ found_is (other_side from) side (delivered_from from count before) d e is)
@@ -165,7 +166,7 @@ some_end : {W : Type 0} (grew : W → List Note → W → Type 0) (cut : W → N
     → Ends grew cut (Only (Deliver from count)) before old end new
     → Ends grew cut (Is (all_chars from)) before old end new
 some_end grew cut from count before old new (Undetected side e) same h =
-    some_chars from count before old new (Found side e) same h
+    some_chars from count before old new (FoundAt side e) same h
 some_end grew cut from count before old new Failed same h =
     some_stop from count before old new same h
 some_end grew cut from count before old new NoMemory same h =

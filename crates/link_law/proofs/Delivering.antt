@@ -4,8 +4,8 @@ use Rattle.rio_chars.specs.declared.chars.Char.{Char}
 use Rattle.link_model.specs.declared.event.Event.{Event}
 use Rattle.link_machine.specs.Prelude.{Move, Got, other_side, Side, first_takes, has_chars, delivery_from, delivered_from, delivery_notes, told_notes, move_note, sent_notes, LinkState, at_end, from_end}
 use Rattle.link_wires.specs.Deliveries.{told_of}
-use Rattle.link_law.specs.Carried.{AreCarried}
-use Rattle.link_law.specs.Answers.{end_of}
+use Rattle.link_law.specs.Carried.{AreOfDelivery}
+use Rattle.link_law.specs.Answers.{delivery_end}
 
 pub link_is : (from : Side) (count : ℕ) (s : LinkState) → has_chars from count s ≡ true
     → at_end (other_side from) (first_takes count) s ≡ delivered_from from count s
@@ -16,7 +16,8 @@ link_is from count s has =
 pub notes_are : (from to : Side) (count : ℕ) (s : LinkState) (got : List Char) (moves : List Move)
     (told answers : List Char) (found : Option Event) → to ≡ other_side from
     → has_chars from count s ≡ true
-    → AreCarried (delivery_from from count s) (take count (from_end from s).wire_a.chars) got moves
+    → AreOfDelivery (delivery_from from count s) (take count (from_end from s).wire_a.chars) got
+    moves
     answers found
     → told ≡ answers
     → Got to got ∷ (map (move_note to) moves ++ sent_notes to told) ≡ delivery_notes from count s
@@ -30,6 +31,6 @@ notes_are from to count s got moves told answers found other has carried same =
 
 -- what holds if all events were sent
 pub on_done : {P : Type 0} (to : Side) (found : Option Event) → (found ≡ None → P)
-    → OnOk (end_of to found) P
+    → OnOk (delivery_end to found) P
 on_done to None h = h refl
 on_done to (Some e) h = tt

@@ -6,12 +6,12 @@ use Rattle.link_machine.specs.Prelude.{Note, Side, A, B, LinkState, Stopped}
 use Rattle.link_law.specs.declared.answers.LinkEnd.{LinkEnd}
 use Rattle.link_law.specs.declared.answers.LinkEnd.TheVariants.{Undetected, Failed, NoMemory}
 use Rattle.link_rest.specs.Schedules.{NextOf, WhereOf}
-use Rattle.link_rest.specs.Acts.{Act, Reached, At, Found, after, act_notes, goes, acts_notes}
-use Rattle.link_rest.specs.Settling.{Part, Empties, of_end, first_has_chars, all_chars}
+use Rattle.link_rest.specs.Acts.{Act, Reached, At, FoundAt, after_act, act_notes, goes, acts_notes}
+use Rattle.link_rest.specs.Settling.{SchedulePart, Empties, of_end, first_has_chars, all_chars}
 use Rattle.link_rest.proofs.Drains.{goes-append, goes_none}
-use Rattle.link_law.specs.Does.{Comes, Stops, Ends, Did}
+use Rattle.link_law.specs.Does.{Comes, Stops, Ends, CallDid}
 
-notes_found : (side : Side) (e : Event) (ys : List Act) → acts_notes (Found side e) ys ≡ []
+notes_found : (side : Side) (e : Event) (ys : List Act) → acts_notes (FoundAt side e) ys ≡ []
 unfolding acts_notes
 notes_found side e [] = refl
 notes_found side e (y ∷ ys) = refl
@@ -21,10 +21,11 @@ pub notes-append : (xs ys : List Act) (r : Reached)
 unfolding acts_notes goes
 notes-append [] ys r = refl
 notes-append (x ∷ xs) ys (At s) =
-    ap (λ (notes : List Note). act_notes x s ++ notes) (notes-append xs ys (after x s))
+    ap (λ (notes : List Note). act_notes x s ++ notes) (notes-append xs ys (after_act x s))
     ∙ sym
-    (append_assoc (act_notes x s) (acts_notes (after x s) xs) (acts_notes (goes (after x s) xs) ys))
-notes-append (x ∷ xs) ys (Found side e) = sym (notes_found side e ys)
+    (append_assoc (act_notes x s) (acts_notes (after_act x s) xs)
+    (acts_notes (goes (after_act x s) xs) ys))
+notes-append (x ∷ xs) ys (FoundAt side e) = sym (notes_found side e ys)
 
 -- what a watch promises
 pub record IsWatch {W : Type 0} (grew : W → List Note → W → Type 0)
@@ -37,7 +38,8 @@ pub record IsWatch {W : Type 0} (grew : W → List Note → W → Type 0)
 -- ---- one part and then another
 
 pub comes_next : {W : Type 0} {grew : W → List Note → W → Type 0} {cut : W → Note → W → Type 0}
-    → IsWatch grew cut → (P Q : Part) (before mid : LinkState) (old w new : W) (to : Reached)
+    → IsWatch grew cut
+    → (P Q : SchedulePart) (before mid : LinkState) (old w new : W) (to : Reached)
     → Comes grew P before old (At mid) w → Comes grew Q mid w to new
     → Comes grew (NextOf goes P Q) before old to new
 comes_next {W} {grew} watch P Q before mid old w new to first next =
@@ -66,7 +68,7 @@ comes_next {W} {grew} watch P Q before mid old w new to first next =
     }
 
 stops_next : {W : Type 0} {grew : W → List Note → W → Type 0} {cut : W → Note → W → Type 0}
-    → IsWatch grew cut → (P Q : Part) (before mid : LinkState) (old w new : W)
+    → IsWatch grew cut → (P Q : SchedulePart) (before mid : LinkState) (old w new : W)
     → Comes grew P before old (At mid) w → Stops grew cut Q mid w new
     → Stops grew cut (NextOf goes P Q) before old new
 stops_next {W} {grew} {cut} watch P Q before mid old w new first next =
@@ -91,11 +93,12 @@ stops_next {W} {grew} {cut} watch P Q before mid old w new first next =
     }
 
 pub ends_next : {W : Type 0} (grew : W → List Note → W → Type 0) (cut : W → Note → W → Type 0)
-    → IsWatch grew cut → (P Q : Part) (before mid : LinkState) (old w new : W) (end : LinkEnd)
+    → IsWatch grew cut
+    → (P Q : SchedulePart) (before mid : LinkState) (old w new : W) (end : LinkEnd)
     → Comes grew P before old (At mid) w → Ends grew cut Q mid w end new
     → Ends grew cut (NextOf goes P Q) before old end new
 ends_next grew cut watch P Q before mid old w new (Undetected side e) first does =
-    comes_next watch P Q before mid old w new (Found side e) first does
+    comes_next watch P Q before mid old w new (FoundAt side e) first does
 ends_next grew cut watch P Q before mid old w new Failed first does =
     stops_next watch P Q before mid old w new first does
 ends_next grew cut watch P Q before mid old w new NoMemory first does =
@@ -105,13 +108,14 @@ ends_next grew cut watch P Q before mid old w new NoMemory first does =
 
 -- what may follow a part can always be done, where a sound link is asked for; and nothing of it is
 -- done after an event that was not sent
-pub record Follows (P Q : Part) (before : LinkState) : Type 0 where
-  pub found : (side : Side) (e : Event) → Q (Found side e) []
+pub record Follows (P Q : SchedulePart) (before : LinkState) : Type 0 where
+  pub found : (side : Side) (e : Event) → Q (FoundAt side e) []
   pub can : (acts : List Act) → P (At before) acts
       → (all : List Act) × Q (goes (At before) acts) all
 
 stops_early : {W : Type 0} {grew : W → List Note → W → Type 0} {cut : W → Note → W → Type 0}
-    → IsWatch grew cut → (P Q : Part) (before : LinkState) (old new : W) → Follows P Q before
+    → IsWatch grew cut → (P Q : SchedulePart) (before : LinkState) (old new : W)
+    → Follows P Q before
     → Stops grew cut P before old new → Stops grew cut (NextOf goes P Q) before old new
 stops_early {W} {grew} {cut} watch P Q before old new follows first =
     let more = follows.can first.acts first.part in
@@ -127,9 +131,10 @@ stops_early {W} {grew} {cut} watch P Q before old new follows first =
     }
 
 comes_early : {W : Type 0} {grew : W → List Note → W → Type 0}
-    → (P Q : Part) (before : LinkState) (old new : W) (side : Side) (e : Event) → Follows P Q before
-    → Comes grew P before old (Found side e) new
-    → Comes grew (NextOf goes P Q) before old (Found side e) new
+    → (P Q : SchedulePart) (before : LinkState) (old new : W) (side : Side) (e : Event)
+    → Follows P Q before
+    → Comes grew P before old (FoundAt side e) new
+    → Comes grew (NextOf goes P Q) before old (FoundAt side e) new
 comes_early {W} {grew} P Q before old new side e follows first =
     let there = first.reached in
     let same : first.acts ++ [] ≡ first.acts = append-nil first.acts in
@@ -149,7 +154,7 @@ comes_early {W} {grew} P Q before old new side e follows first =
     }
 
 pub ends_early : {W : Type 0} (grew : W → List Note → W → Type 0) (cut : W → Note → W → Type 0)
-    → IsWatch grew cut → (P Q : Part) (before : LinkState) (old new : W) (end : LinkEnd)
+    → IsWatch grew cut → (P Q : SchedulePart) (before : LinkState) (old new : W) (end : LinkEnd)
     → Follows P Q before
     → Ends grew cut P before old end new → Ends grew cut (NextOf goes P Q) before old end new
 ends_early grew cut watch P Q before old new (Undetected side e) follows first =
@@ -162,7 +167,7 @@ ends_early grew cut watch P Q before old new NoMemory follows first =
 -- ---- a part where a test holds
 
 pub comes_where : {W : Type 0} {grew : W → List Note → W → Type 0}
-    → (test : Reached → Bool) (P : Part) (before : LinkState) (old new : W) (to : Reached)
+    → (test : Reached → Bool) (P : SchedulePart) (before : LinkState) (old new : W) (to : Reached)
     → test (At before) ≡ true
     → Comes grew P before old to new → Comes grew (WhereOf test P) before old to new
 comes_where test P before old new to is h = record {
@@ -173,7 +178,7 @@ comes_where test P before old new to is h = record {
 }
 
 pub stops_where : {W : Type 0} {grew : W → List Note → W → Type 0} {cut : W → Note → W → Type 0}
-    → (test : Reached → Bool) (P : Part) (before : LinkState) (old new : W)
+    → (test : Reached → Bool) (P : SchedulePart) (before : LinkState) (old new : W)
     → test (At before) ≡ true
     → Stops grew cut P before old new → Stops grew cut (WhereOf test P) before old new
 stops_where test P before old new is h = record {
@@ -183,17 +188,17 @@ stops_where test P before old new is h = record {
 }
 
 pub ends_where : {W : Type 0} (grew : W → List Note → W → Type 0) (cut : W → Note → W → Type 0)
-    (test : Reached → Bool) (P : Part) (before : LinkState) (old new : W) (end : LinkEnd)
+    (test : Reached → Bool) (P : SchedulePart) (before : LinkState) (old new : W) (end : LinkEnd)
     → test (At before) ≡ true
     → Ends grew cut P before old end new → Ends grew cut (WhereOf test P) before old end new
 ends_where grew cut test P before old new (Undetected side e) is h =
-    comes_where test P before old new (Found side e) is h
+    comes_where test P before old new (FoundAt side e) is h
 ends_where grew cut test P before old new Failed is h = stops_where test P before old new is h
 ends_where grew cut test P before old new NoMemory is h = stops_where test P before old new is h
 
 -- where it does not, nothing is done
 pub comes_none : {W : Type 0} (grew : W → List Note → W → Type 0) (cut : W → Note → W → Type 0)
-    → IsWatch grew cut → (test : Reached → Bool) (P : Part) (before : LinkState) (old : W)
+    → IsWatch grew cut → (test : Reached → Bool) (P : SchedulePart) (before : LinkState) (old : W)
     → test (At before) ≡ false
     → Comes grew (WhereOf test P) before old (At before) old
 unfolding acts_notes
@@ -209,20 +214,21 @@ comes_none grew cut watch test P before old is =
 -- ---- by what a call answers
 
 pub did_next : {W : Type 0} {grew : W → List Note → W → Type 0} {cut : W → Note → W → Type 0}
-    → IsWatch grew cut → {P : Part} (Q : Part) {before mid : LinkState} {old w : W} (new : W)
+    → IsWatch grew cut
+    → {P : SchedulePart} (Q : SchedulePart) {before mid : LinkState} {old w : W} (new : W)
     (result : Result (Unit {0}) LinkEnd) (next : LinkState) → Comes grew P before old (At mid) w
-    → Did grew cut Q mid w result next new
-    → Did grew cut (NextOf goes P Q) before old result next new
+    → CallDid grew cut Q mid w result next new
+    → CallDid grew cut (NextOf goes P Q) before old result next new
 did_next watch {P} Q {before} {mid} {old} {w} new (Ok done) next first does =
     comes_next watch P Q before mid old w new (At next) first does
 did_next {W} {grew} {cut} watch {P} Q {before} {mid} {old} {w} new (Err end) next first does =
     ends_next grew cut watch P Q before mid old w new end first does
 
 pub did_where : {W : Type 0} (grew : W → List Note → W → Type 0) (cut : W → Note → W → Type 0)
-    (test : Reached → Bool) (P : Part) (before : LinkState) (old new : W)
+    (test : Reached → Bool) (P : SchedulePart) (before : LinkState) (old new : W)
     (result : Result (Unit {0}) LinkEnd) (next : LinkState) → test (At before) ≡ true
-    → Did grew cut P before old result next new
-    → Did grew cut (WhereOf test P) before old result next new
+    → CallDid grew cut P before old result next new
+    → CallDid grew cut (WhereOf test P) before old result next new
 did_where grew cut test P before old new (Ok done) next is h =
     comes_where test P before old new (At next) is h
 did_where grew cut test P before old new (Err end) next is h =
@@ -230,17 +236,17 @@ did_where grew cut test P before old new (Err end) next is h =
 
 -- a call that is given up with what a call in it answered
 pub did_end : {W : Type 0} (grew : W → List Note → W → Type 0) (cut : W → Note → W → Type 0)
-    (P : Part) (before : LinkState) (old new : W) (end : LinkEnd)
+    (P : SchedulePart) (before : LinkState) (old new : W) (end : LinkEnd)
     (result : Result (Unit {0}) LinkEnd) (next : LinkState) → result ≡ Err end
-    → Ends grew cut P before old end new → Did grew cut P before old result next new
+    → Ends grew cut P before old end new → CallDid grew cut P before old result next new
 did_end grew cut P before old new end result next same ends =
-    subst (λ r. Did grew cut P before old r next new) (sym same) ends
+    subst (λ r. CallDid grew cut P before old r next new) (sym same) ends
 
 pub did_early : {W : Type 0} {grew : W → List Note → W → Type 0} {cut : W → Note → W → Type 0}
-    → IsWatch grew cut → {P Q : Part} {before : LinkState} (old new : W) (end : LinkEnd)
+    → IsWatch grew cut → {P Q : SchedulePart} {before : LinkState} (old new : W) (end : LinkEnd)
     (result : Result (Unit {0}) LinkEnd) (next : LinkState) → Follows P Q before
     → result ≡ Err end → Ends grew cut P before old end new
-    → Did grew cut (NextOf goes P Q) before old result next new
+    → CallDid grew cut (NextOf goes P Q) before old result next new
 did_early {W} {grew} {cut} watch {P} {Q} {before} old new end result next follows same ends =
     did_end grew cut (NextOf goes P Q) before old new end result next same
     (ends_early grew cut watch P Q before old new end follows ends)
@@ -249,7 +255,7 @@ did_early {W} {grew} {cut} watch {P} {Q} {before} old new end result next follow
 
 -- nothing is taken in yet
 pub stops_at_once : {W : Type 0} (grew : W → List Note → W → Type 0) (cut : W → Note → W → Type 0)
-    → IsWatch grew cut → (P : Part) (before : LinkState) (old : W) (acts : List Act)
+    → IsWatch grew cut → (P : SchedulePart) (before : LinkState) (old : W) (acts : List Act)
     → P (At before) acts → Stops grew cut P before old old
 stops_at_once grew cut watch P before old acts part = record {
   acts = acts;
@@ -260,7 +266,7 @@ stops_at_once grew cut watch P before old acts part = record {
 
 -- ---- deliveries of what stands on a wire
 
-empties_found : (from side : Side) (e : Event) → Empties from (Found side e) []
+empties_found : (from side : Side) (e : Event) → Empties from (FoundAt side e) []
 empties_found from side e = refl
 
 empties_can : (from : Side) (r : Reached) → (all : List Act) × Empties from r all

@@ -6,9 +6,9 @@ use Rattle.link_watch.specs.declared.watch.NoteEnd.TheVariants as Stop
 use Rattle.link_law.specs.declared.answers.LinkEnd.{LinkEnd}
 use Rattle.link_law.specs.declared.answers.LinkEnd.TheVariants.{Undetected, Failed, NoMemory}
 use Rattle.link_rest.specs.Schedules.{NextOf}
-use Rattle.link_rest.specs.Schedules.LoopOf.{Rests, GoesOn}
-use Rattle.link_rest.specs.Acts.{Act, Pump, Tell, Fire, Reached, At, Found, goes, acts_notes, OnState}
-use Rattle.link_rest.specs.Settling.{Part, Empties, Drains, TakesTurn, TimesOut, Requests, may_fire, of_end, is_busy}
+use Rattle.link_rest.specs.Schedules.LoopOf.{LoopRests, LoopGoesOn}
+use Rattle.link_rest.specs.Acts.{Act, Pump, Tell, Fire, Reached, At, FoundAt, goes, acts_notes, OnState}
+use Rattle.link_rest.specs.Settling.{SchedulePart, Empties, Drains, TakesTurn, TimesOut, Requests, may_fire, of_end, is_busy}
 use Rattle.link_rest.proofs.Drains.{goes-append, goes_none, rounds, round_goes, rested_is_idle, three_rounds}
 use Rattle.link_rest.proofs.DrainCounts.{drain_exists}
 use Rattle.link_rest.proofs.Ends.{acts_keep, found_none, turn_can, requests_can}
@@ -19,7 +19,7 @@ use Rattle.link_law.proofs.DeliverLaws.{Only, one_comes, one_stops}
 -- ---- one part is another
 
 pub comes_map : {W : Type 0} {grew : W → List Note → W → Type 0}
-    → (P Q : Part) (before : LinkState) (old new : W) (to : Reached)
+    → (P Q : SchedulePart) (before : LinkState) (old new : W) (to : Reached)
     → ((all : List Act) → P (At before) all → Q (At before) all)
     → Comes grew P before old to new → Comes grew Q before old to new
 comes_map P Q before old new to so h = record {
@@ -30,7 +30,7 @@ comes_map P Q before old new to so h = record {
 }
 
 stops_map : {W : Type 0} {grew : W → List Note → W → Type 0} {cut : W → Note → W → Type 0}
-    → (P Q : Part) (before : LinkState) (old new : W)
+    → (P Q : SchedulePart) (before : LinkState) (old new : W)
     → ((all : List Act) → P (At before) all → Q (At before) all)
     → Stops grew cut P before old new → Stops grew cut Q before old new
 stops_map P Q before old new so h = record {
@@ -40,22 +40,22 @@ stops_map P Q before old new so h = record {
 }
 
 pub ends_map : {W : Type 0} (grew : W → List Note → W → Type 0) (cut : W → Note → W → Type 0)
-    (P Q : Part) (before : LinkState) (old new : W) (end : LinkEnd)
+    (P Q : SchedulePart) (before : LinkState) (old new : W) (end : LinkEnd)
     → ((all : List Act) → P (At before) all → Q (At before) all)
     → Ends grew cut P before old end new → Ends grew cut Q before old end new
 ends_map grew cut P Q before old new (Undetected side e) so h =
-    comes_map P Q before old new (Found side e) so h
+    comes_map P Q before old new (FoundAt side e) so h
 ends_map grew cut P Q before old new Failed so h = stops_map P Q before old new so h
 ends_map grew cut P Q before old new NoMemory so h = stops_map P Q before old new so h
 
 -- ---- a loop, of which some rounds are done
 
 -- whatever goes on from here is a way from the beginning
-abbrev pub Open : Part → Part
+abbrev pub Open : SchedulePart → SchedulePart
 Open P r acts = (rest : List Act) → P (goes r acts) rest → P r (acts ++ rest)
 
 pub open_none : {W : Type 0} {grew : W → List Note → W → Type 0} {cut : W → Note → W → Type 0}
-    → IsWatch grew cut → (P : Part) (before : LinkState) (old : W)
+    → IsWatch grew cut → (P : SchedulePart) (before : LinkState) (old : W)
     → Comes grew (Open P) before old (At before) old
 unfolding acts_notes
 open_none watch P before old = record {
@@ -65,12 +65,12 @@ open_none watch P before old = record {
   grown = watch.none old;
 }
 
-close : (P : Part) (r : Reached) (all : List Act) → NextOf goes (Open P) P r all → P r all
+close : (P : SchedulePart) (r : Reached) (all : List Act) → NextOf goes (Open P) P r all → P r all
 close P r all (first, rest, split, open_part, p) =
     subst (λ (acts : List Act). P r acts) (sym split) (open_part rest p)
 
 pub open_comes : {W : Type 0} {grew : W → List Note → W → Type 0} {cut : W → Note → W → Type 0}
-    → IsWatch grew cut → (P : Part) (before now : LinkState) (old w new : W) (to : Reached)
+    → IsWatch grew cut → (P : SchedulePart) (before now : LinkState) (old w new : W) (to : Reached)
     → Comes grew (Open P) before old (At now) w → Comes grew P now w to new
     → Comes grew P before old to new
 open_comes watch P before now old w new to way h =
@@ -78,7 +78,7 @@ open_comes watch P before now old w new to way h =
     (comes_next watch (Open P) P before now old w new to way h)
 
 pub open_ends : {W : Type 0} (grew : W → List Note → W → Type 0) (cut : W → Note → W → Type 0)
-    → IsWatch grew cut → (P : Part) (before now : LinkState) (old w new : W) (end : LinkEnd)
+    → IsWatch grew cut → (P : SchedulePart) (before now : LinkState) (old w new : W) (end : LinkEnd)
     → Comes grew (Open P) before old (At now) w → Ends grew cut P now w end new
     → Ends grew cut P before old end new
 open_ends grew cut watch P before now old w new end way h =
@@ -87,7 +87,7 @@ open_ends grew cut watch P before now old w new end way h =
 
 -- one round more
 pub open_on : {W : Type 0} {grew : W → List Note → W → Type 0} {cut : W → Note → W → Type 0}
-    → IsWatch grew cut → (P Round : Part) (before now mid : LinkState) (old w new : W)
+    → IsWatch grew cut → (P Round : SchedulePart) (before now mid : LinkState) (old w new : W)
     → ((first rest : List Act) → goes (At now) first ≡ At mid → Round (At now) first
     → P (goes (At now) first) rest → P (At now) (first ++ rest))
     → Comes grew (Open P) before old (At now) w → Comes grew Round now w (At mid) new
@@ -115,24 +115,25 @@ open_on {W} {grew} watch P Round before now mid old w new goes_on way round_done
 -- ---- a link that is sound stays so
 
 pub sound_then : {W : Type 0} {grew : W → List Note → W → Type 0}
-    → (P : Part) (before next : LinkState) (old new : W) → IsSoundLink before
+    → (P : SchedulePart) (before next : LinkState) (old new : W) → IsSoundLink before
     → Comes grew P before old (At next) new → IsSoundLink next
 sound_then P before next old new l h =
     subst (λ (r : Reached). OnState IsSoundLink r) h.reached (acts_keep h.acts (At before) l)
 
 -- ---- a drain
 
-abbrev pub RoundPart : Part
+abbrev pub RoundPart : SchedulePart
 RoundPart = NextOf goes (Empties A) (Empties B)
 
-found_drained : (side : Side) (e : Event) → Drains (Found side e) []
-found_drained side e = Rests refl refl
+found_drained : (side : Side) (e : Event) → Drains (FoundAt side e) []
+found_drained side e = LoopRests refl refl
 
 drain_can : (r : Reached) → OnState IsSoundLink r → (all : List Act) × Drains r all
 drain_can (At s) l = drain_exists s l
-drain_can (Found side e) l = ([], found_drained side e)
+drain_can (FoundAt side e) l = ([], found_drained side e)
 
-pub drain_follows : (P : Part) (before : LinkState) → IsSoundLink before → Follows P Drains before
+pub drain_follows : (P : SchedulePart) (before : LinkState) → IsSoundLink before
+    → Follows P Drains before
 drain_follows P before l = record {
   found = found_drained;
   can = λ acts part. drain_can (goes (At before) acts) (acts_keep acts (At before) l);
@@ -140,7 +141,7 @@ drain_follows P before l = record {
 
 drain_on : (now : LinkState) → is_busy (At now) ≡ true → (first rest : List Act)
     → RoundPart (At now) first → Drains (goes (At now) first) rest → Drains (At now) (first ++ rest)
-drain_on now busy first rest part more = GoesOn first rest busy part refl refl more
+drain_on now busy first rest part more = LoopGoesOn first rest busy part refl refl more
 
 pub drain_open : {W : Type 0} {grew : W → List Note → W → Type 0} {cut : W → Note → W → Type 0}
     → IsWatch grew cut → (before now mid : LinkState) (old w new : W) → is_busy (At now) ≡ true
@@ -171,7 +172,7 @@ unfolding acts_notes
 drain_over watch before now old w idle way =
     open_comes watch Drains before now old w w (At now) way (record {
       acts = [];
-      part = Rests idle refl;
+      part = LoopRests idle refl;
       reached = goes_none (At now);
       grown = watch.none w;
     })
@@ -272,17 +273,17 @@ tell_ends grew cut side before old new Stop.NoMemory stopped =
 
 -- ---- what follows in the schedule
 
-turn_found : (near side : Side) (e : Event) → TakesTurn near (Found side e) []
+turn_found : (near side : Side) (e : Event) → TakesTurn near (FoundAt side e) []
 turn_found near side e = ([], [], refl, refl, found_none side e)
 
-pub turn_follows : (near : Side) (P : Part) (before : LinkState) → IsSoundLink before
+pub turn_follows : (near : Side) (P : SchedulePart) (before : LinkState) → IsSoundLink before
     → Follows P (TakesTurn near) before
 turn_follows near P before l = record {
   found = turn_found near;
   can = λ acts part. turn_can near (goes (At before) acts) (acts_keep acts (At before) l);
 }
 
-pub requests_follow : (near : Side) (P : Part) (before : LinkState) → IsSoundLink before
+pub requests_follow : (near : Side) (P : SchedulePart) (before : LinkState) → IsSoundLink before
     → Follows P (Requests near) before
 requests_follow near P before l = record {
   found = λ side e. refl;

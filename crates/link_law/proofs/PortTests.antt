@@ -68,6 +68,6 @@ ok_kind InKinds.RetryStopped = false
 ok_kind InKinds.ErrorStopped = false
 
 pub ok_by_kind : (i : in_half.Input) → is_ok i ≡ ok_kind (in_kind_of i)
-ok_by_kind (in_half.Input.Ok e) = refl
-ok_by_kind (in_half.Input.RetryStopped e) = refl
-ok_by_kind (in_half.Input.ErrorStopped e) = refl
+ok_by_kind (in_half.InputOk e) = refl
+ok_by_kind (in_half.InputRetryStopped e) = refl
+ok_by_kind (in_half.InputErrorStopped e) = refl

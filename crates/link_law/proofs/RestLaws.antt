@@ -7,12 +7,12 @@ use Rattle.link_model.specs.Output as out
 use Rattle.link_model.specs.Prelude.{window}
 use Rattle.link_model.specs.Outstanding.{Outstanding}
 use Rattle.link_port.specs.Prelude.{PortState, burst_of, standing, waiting_in, turn_sends, is_ready}
-use Rattle.link_port.specs.Turns.{turn_of}
+use Rattle.link_port.specs.Turns.{port_turn}
 use Rattle.link_machine.specs.Prelude.{Side, A, B, LinkState, from_end, turned_round, pumped, pump_notes, sent_notes, has_none, is_silent}
 use Rattle.link_rest.specs.Acts.{Act, At, goes}
 use Rattle.link_rest.specs.Schedules.{NextOf}
-use Rattle.link_rest.specs.Schedules.LoopOf.{Rests}
-use Rattle.link_rest.specs.Settling.{Part, is_retry_stopped, has_failed, is_done, is_some, waits, rests_to, first_rests, is_busy, Drains, Restarts, Requests, Recovers, Tells, SendsAll, Settles}
+use Rattle.link_rest.specs.Schedules.LoopOf.{LoopRests}
+use Rattle.link_rest.specs.Settling.{SchedulePart, is_retry_stopped, has_failed, is_done, is_some, waits, rests_to, first_rests, is_busy, Drains, Restarts, Requests, Recovers, Tells, SendsAll, Settles}
 use Rattle.link_rest.proofs.Drains.{goes_none}
 use Rattle.link_rest.proofs.Settled.{FromSending, FromTelling, FromRecovering}
 use Rattle.link_law.specs.Resting.{rest_both, none_waits, none_tells, are_idle, has_no_work}
@@ -68,7 +68,7 @@ done_sends tells (out.Output.ErrorStopped asked w) first done none = absurd cc
 done_sends tells out.Output.Failed first done none = absurd cc
 
 port_turns : (port far : PortState) → rests_to port far ≡ true → waits port ≡ false
-    → (turn_of port).sends ≡ out.unstarted port.tells
+    → (port_turn port).sends ≡ out.unstarted port.tells
 port_turns port far rests none =
     done_sends port.tells port.output (highest (waiting_in port))
     (and_parts (is_done port.output) _ rests).0 none
@@ -118,7 +118,7 @@ module _ (s : LinkState) (idle : IsIdle s) where
       ∙ ap (λ b. not true || not b) wires_empty.1
 
   drains : Drains (At s) []
-  drains = Rests not_busy refl
+  drains = LoopRests not_busy refl
 
   done_is_ok : (o : out.Output) → is_done o ≡ true → is_retry_stopped o ≡ false
   done_is_ok (out.Output.Ok w) done = refl
@@ -148,7 +148,7 @@ module _ (s : LinkState) (idle : IsIdle s) where
   requests side = skipped (not (first_rests (from_end side s))) _ (ap not (end_rests side))
 
   -- a part and another, neither of which does anything
-  none_then : (P Q : Part) → P (At s) [] → Q (At s) [] → NextOf goes P Q (At s) []
+  none_then : (P Q : SchedulePart) → P (At s) [] → Q (At s) [] → NextOf goes P Q (At s) []
   none_then P Q first second =
       ([], [], refl, first, subst (λ r. Q r []) (sym (goes_none (At s))) second)
 
@@ -161,7 +161,7 @@ module _ (s : LinkState) (idle : IsIdle s) where
   tells_none side = skipped (from_end side s).a.tells _ (end_quiet side)
 
   sends_all : (side : Side) → SendsAll side (At s) []
-  sends_all side = held (first_rests (from_end side s)) _ (Rests (end_none side) refl)
+  sends_all side = held (first_rests (from_end side s)) _ (LoopRests (end_none side) refl)
 
   pub idle_settles : Settles (At s) []
   idle_settles =

@@ -7,9 +7,9 @@ use Rattle.link_port.specs.Prelude.{is_ready}
 use Rattle.link_machine.specs.Prelude.{Note, Side, LinkState, from_end, IsSoundLink}
 use Rattle.link_law.specs.declared.answers.LinkEnd.{LinkEnd}
 use Rattle.link_rest.specs.Schedules.{NextOf}
-use Rattle.link_rest.specs.Schedules.LoopOf.{Rests, GoesOn, Leaves}
-use Rattle.link_rest.specs.Acts.{Act, Reached, At, Found, goes, acts_notes, OnState}
-use Rattle.link_rest.specs.Settling.{Part, is_some, is_retry_stopped, first_rests, of_end, TakesTurn, SendsAll}
+use Rattle.link_rest.specs.Schedules.LoopOf.{LoopRests, LoopGoesOn, LoopLeaves}
+use Rattle.link_rest.specs.Acts.{Act, Reached, At, FoundAt, goes, acts_notes, OnState}
+use Rattle.link_rest.specs.Settling.{SchedulePart, is_some, is_retry_stopped, first_rests, of_end, TakesTurn, SendsAll}
 use Rattle.link_rest.specs.Rest.{IsQuiet}
 use Rattle.link_rest.proofs.Drains.{goes_none}
 use Rattle.link_rest.proofs.Rounds.{quiet_at}
@@ -17,7 +17,7 @@ use Rattle.link_rest.proofs.Recovery.{rests_test}
 use Rattle.link_rest.proofs.SendingRounds.{Quiet, AfterRound, round_goes}
 use Rattle.link_rest.proofs.Sending.{Sending}
 use Rattle.link_rest.proofs.Ends.{left_at, fewer_after, sound_of, turn_can, sending_can}
-use Rattle.link_law.specs.Does.{Comes, Ends, Did}
+use Rattle.link_law.specs.Does.{Comes, Ends, CallDid}
 use Rattle.link_law.proofs.DoesLaws.{IsWatch, Follows, comes_where, did_where, comes_next, ends_next, ends_early}
 use Rattle.link_law.proofs.DrainLaws.{comes_map, ends_map, Open, open_none, open_comes, open_ends, open_on}
 
@@ -25,11 +25,11 @@ use Rattle.link_law.proofs.DrainLaws.{comes_map, ends_map, Open, open_none, open
 abbrev pub Leaving : Side → Reached → Bool
 Leaving near = of_end near (λ link. is_retry_stopped link.a.output)
 
-abbrev pub After : Side → Part
+abbrev pub After : Side → SchedulePart
 After near r acts = MatchBool (Leaving near r) (TakesTurn near r acts) (Sending near r acts)
 
-after_found : (near side : Side) (e : Event) → After near (Found side e) []
-after_found near side e = Rests refl refl
+after_found : (near side : Side) (e : Event) → After near (FoundAt side e) []
+after_found near side e = LoopRests refl refl
 
 after_by : (near : Side) (r : Reached) (b : Bool)
     → ((b ≡ true) → (all : List Act) × TakesTurn near r all)
@@ -63,9 +63,9 @@ joined : (near : Side) (s : LinkState) (all first rest : List Act)
     → MatchBool b (TakesTurn near (goes (At s) first) rest)
     (Sending near (goes (At s) first) rest) → Sending near (At s) all
 joined near s all first rest busy turn split true is last =
-    Leaves first rest busy turn split is last
+    LoopLeaves first rest busy turn split is last
 joined near s all first rest busy turn split false is more =
-    GoesOn first rest busy turn split is more
+    LoopGoesOn first rest busy turn split is more
 
 pub loop_of : (near : Side) (s : LinkState) → of_end near (λ link. is_ready link.a) (At s) ≡ true
     → (all : List Act) → NextOf goes (TakesTurn near) (After near) (At s) all
@@ -109,7 +109,7 @@ sent_on watch near before now mid old w new busy on s h =
     fewer_after near now (left_at near now) (At mid) (s.quiet, omega arith) round on in (
       record {
         way = open_on watch (Sending near) (TakesTurn near) before now mid old w new
-            (λ first rest there turn more. GoesOn first rest busy turn refl
+            (λ first rest there turn more. LoopGoesOn first rest busy turn refl
             (ap (Leaving near) there ∙ on) more) s.way h;
         quiet = fewer.0;
       },
@@ -124,7 +124,7 @@ unfolding acts_notes
 sent_over watch near before now old w none s =
     open_comes watch (Sending near) before now old w w (At now) s.way (record {
       acts = [];
-      part = Rests none refl;
+      part = LoopRests none refl;
       reached = goes_none (At now);
       grown = watch.none w;
     })
@@ -168,8 +168,8 @@ pub last_did : {W : Type 0} (grew : W → List Note → W → Type 0) (cut : W �
     (result : Result (Unit {0}) LinkEnd) (next : LinkState)
     → of_end near (λ link. is_ready link.a) (At now) ≡ true → Leaving near (At mid) ≡ true
     → Sent grew near before old now w → Comes grew (TakesTurn near) now w (At mid) v
-    → Did grew cut (TakesTurn near) mid v result next new
-    → Did grew cut (Sending near) before old result next new
+    → CallDid grew cut (TakesTurn near) mid v result next new
+    → CallDid grew cut (Sending near) before old result next new
 last_did grew cut watch near before now mid old w v new (Ok done) next busy last s first again =
     last_comes watch near before now mid next old w v new busy last s first again
 last_did grew cut watch near before now mid old w v new (Err end) next busy last s first again =
@@ -205,8 +205,9 @@ all_comes near before next old new quiet h =
 
 pub all_did : {W : Type 0} (grew : W → List Note → W → Type 0) (cut : W → Note → W → Type 0)
     (near : Side) (before : LinkState) (old new : W) (result : Result (Unit {0}) LinkEnd)
-    (next : LinkState) → Quiet near before → Did grew cut (Sending near) before old result next new
-    → Did grew cut (SendsAll near) before old result next new
+    (next : LinkState) → Quiet near before
+    → CallDid grew cut (Sending near) before old result next new
+    → CallDid grew cut (SendsAll near) before old result next new
 all_did grew cut near before old new result next quiet h =
     did_where grew cut (of_end near first_rests) (Sending near) before old new result next
     (rests_test (from_end near before) quiet.out) h

@@ -3,8 +3,8 @@ use Rattle.std.proofs.Common.{List, [], Result, Ok, Err, OnOk, IfErr, refl, sym,
 use Rattle.link_model.specs.declared.event.Event.{Event}
 use Rattle.link_machine.specs.Prelude.{Note, Side, A, B, LinkState, IsSoundLink}
 use Rattle.link_rest.specs.Schedules.{NextOf}
-use Rattle.link_rest.specs.Acts.{Reached, At, Found, goes, OnState}
-use Rattle.link_rest.specs.Settling.{Part, Drains, Recovers, Tells, SendsAll, Settles}
+use Rattle.link_rest.specs.Acts.{Reached, At, FoundAt, goes, OnState}
+use Rattle.link_rest.specs.Settling.{SchedulePart, Drains, Recovers, Tells, SendsAll, Settles}
 use Rattle.link_rest.specs.Rest.{IsQuiet, IsSettled}
 use Rattle.link_rest.proofs.Drains.{goes_none}
 use Rattle.link_rest.proofs.Settled.{Drained, FirstRests, BothRest, FirstTold, BothTold, FirstDone, FromSending, FromTelling, FromRecovering, go_on, drains_lead, first_recovers, second_recovers, first_tells, second_tells, first_sends, settling_rests}
@@ -12,20 +12,20 @@ use Rattle.link_rest.proofs.SendingRounds.{Quiet}
 use Rattle.link_rest.proofs.Rounds.{quiet_at}
 use Rattle.link_rest.proofs.Ends.{Can, next_can, recovers_can, tells_can, sends_can, telling_can, sound_by, first_quiet, second_quiet}
 use Rattle.link_law.specs.declared.answers.LinkEnd.{LinkEnd}
-use Rattle.link_law.specs.Does.{Comes, Ends, Did}
+use Rattle.link_law.specs.Does.{Comes, Ends, CallDid}
 use Rattle.link_law.proofs.DoesLaws.{Follows}
 
 -- what is left of settling, from each part on; the others are those of `Settled`
-abbrev pub SecondTells : Part
+abbrev pub SecondTells : SchedulePart
 SecondTells = NextOf goes (Tells B) FromSending
 
-abbrev pub SecondRecovers : Part
+abbrev pub SecondRecovers : SchedulePart
 SecondRecovers = NextOf goes (Recovers B) FromTelling
 
 -- ---- what a part that was done leads to
 
 leads_to : {W : Type 0} {grew : W → List Note → W → Type 0}
-    → (Q : LinkState → Type 0) (P : Part) (before next : LinkState) (old new : W)
+    → (Q : LinkState → Type 0) (P : SchedulePart) (before next : LinkState) (old new : W)
     (h : Comes grew P before old (At next) new)
     → OnState Q (goes (At before) h.acts) → Q next
 leads_to Q P before next old new h is = subst (λ (r : Reached). OnState Q r) h.reached is
@@ -91,45 +91,46 @@ settled_at before next old new l h =
 
 pub did_comes : {W : Type 0} (grew : W → List Note → W → Type 0) (cut : W → Note → W → Type 0)
     (before : LinkState) (old new : W) (result : Result (Unit {0}) LinkEnd) (next : LinkState)
-    → Did grew cut Settles before old result next new
+    → CallDid grew cut Settles before old result next new
     → OnOk result (Comes grew Settles before old (At next) new)
 did_comes grew cut before old new (Ok done) next h = h
 did_comes grew cut before old new (Err end) next h = tt
 
 pub did_settles : {W : Type 0} (grew : W → List Note → W → Type 0) (cut : W → Note → W → Type 0)
     (before : LinkState) (old new : W) (result : Result (Unit {0}) LinkEnd) (next : LinkState)
-    → IsSoundLink before → Did grew cut Settles before old result next new
+    → IsSoundLink before → CallDid grew cut Settles before old result next new
     → OnOk result (IsSoundLink next × IsSettled next)
 did_settles grew cut before old new (Ok done) next l h = settled_at before next old new l h
 did_settles grew cut before old new (Err end) next l h = tt
 
 pub did_ends : {W : Type 0} (grew : W → List Note → W → Type 0) (cut : W → Note → W → Type 0)
     (before : LinkState) (old new : W) (result : Result (Unit {0}) LinkEnd) (next : LinkState)
-    → Did grew cut Settles before old result next new
+    → CallDid grew cut Settles before old result next new
     → IfErr result (λ end. Ends grew cut Settles before old end new)
 did_ends grew cut before old new (Ok done) next h = tt
 did_ends grew cut before old new (Err end) next h = h
 
 -- ---- what may follow
 
-next_found : (P Q : Part) (side : Side) (e : Event) → P (Found side e) [] → Q (Found side e) []
-    → NextOf goes P Q (Found side e) []
+next_found : (P Q : SchedulePart) (side : Side) (e : Event) → P (FoundAt side e) []
+    → Q (FoundAt side e) []
+    → NextOf goes P Q (FoundAt side e) []
 next_found P Q side e p q =
-    ([], [], refl, p, subst (λ (r : Reached). Q r []) (sym (goes_none (Found side e))) q)
+    ([], [], refl, p, subst (λ (r : Reached). Q r []) (sym (goes_none (FoundAt side e))) q)
 
-sends_found : (side : Side) (e : Event) → FromSending (Found side e) []
+sends_found : (side : Side) (e : Event) → FromSending (FoundAt side e) []
 sends_found side e = next_found (SendsAll A) (SendsAll B) side e refl refl
 
-second_tells_found : (side : Side) (e : Event) → SecondTells (Found side e) []
+second_tells_found : (side : Side) (e : Event) → SecondTells (FoundAt side e) []
 second_tells_found side e = next_found (Tells B) FromSending side e refl (sends_found side e)
 
-tells_found : (side : Side) (e : Event) → FromTelling (Found side e) []
+tells_found : (side : Side) (e : Event) → FromTelling (FoundAt side e) []
 tells_found side e = next_found (Tells A) SecondTells side e refl (second_tells_found side e)
 
-second_found : (side : Side) (e : Event) → SecondRecovers (Found side e) []
+second_found : (side : Side) (e : Event) → SecondRecovers (FoundAt side e) []
 second_found side e = next_found (Recovers B) FromTelling side e refl (tells_found side e)
 
-first_found : (side : Side) (e : Event) → FromRecovering (Found side e) []
+first_found : (side : Side) (e : Event) → FromRecovering (FoundAt side e) []
 first_found side e = next_found (Recovers A) SecondRecovers side e refl (second_found side e)
 
 send_can : (r : Reached) → OnState FirstDone r → Can (SendsAll B) r

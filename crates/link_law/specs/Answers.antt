@@ -2,7 +2,7 @@
 use Rattle.std.specs.Prelude.{Bool, true, false, ℕ, Option, Some, None, Result, Ok, Err, if◌then◌else◌}
 use Rattle.link_model.specs.declared.event.Event.{Event}
 use Rattle.link_machine.specs.Prelude.{other_side, Side, has_chars, delivery_from, LinkState}
-use Rattle.link_wires.specs.Deliveries.{Delivered, Through, Undetected as Unsent}
+use Rattle.link_wires.specs.Deliveries.{Delivered, Through, Unsent}
 use Rattle.link_wires.specs.declared.edits.Edited.{Edited}
 use Rattle.link_wires.specs.declared.edits.Edited.TheVariants.{Done, Short}
 use Rattle.link_law.specs.declared.answers.Fired.{Fired}
@@ -16,15 +16,15 @@ fired true = Fires.Done
 fired false = Fires.Early
 
 -- of a delivery to the port at this end
-abbrev pub taken_by : Side → Delivered → Result Edited LinkEnd
-taken_by to (Through flow) = Ok Done
-taken_by to (Unsent told e) = Err (Undetected to e)
+abbrev pub delivery_taken : Side → Delivered → Result Edited LinkEnd
+delivery_taken to (Through flow) = Ok Done
+delivery_taken to (Unsent told e) = Err (Undetected to e)
 
 -- of a delivery from this end, unless memory or the watch ended it
 abbrev pub delivery_answer : Side → ℕ → LinkState → Result Edited LinkEnd
 delivery_answer from count s =
     if has_chars from count s
-    then taken_by (other_side from) (delivery_from from count s)
+    then delivery_taken (other_side from) (delivery_from from count s)
     else Ok Short
 
 -- memory or the watch ended a call, or a fact holds
@@ -42,6 +42,6 @@ OnGivenUp (Err Failed) P = P
 OnGivenUp (Err NoMemory) P = P
 
 -- of a delivery whose notes were taken in, by the event that was not sent
-abbrev pub end_of : Side → Option Event → Result Edited LinkEnd
-end_of to None = Ok Done
-end_of to (Some e) = Err (Undetected to e)
+abbrev pub delivery_end : Side → Option Event → Result Edited LinkEnd
+delivery_end to None = Ok Done
+delivery_end to (Some e) = Err (Undetected to e)

@@ -7,7 +7,7 @@ use Rattle.link_wires.specs.declared.moves.Move.{Move}
 
 -- The characters that a port got of those that were to be taken, its moves, the characters of its
 -- answers, and the event that was not sent are those of a delivery.
-pub record AreCarried (d : Delivered) (chars got : List Char) (moves : List Move)
+pub record AreOfDelivery (d : Delivered) (chars got : List Char) (moves : List Move)
     (answers : List Char) (found : Option Event) : Type 0 where
   pub got_is : got ≡ take (told_of d).count chars
   pub moves_are : moves ≡ (told_of d).moves

@@ -2,8 +2,8 @@
 ghost use Rattle.std.specs.Prelude.{◌≡◌, ◌≤◌, ◌++◌, ◌∷◌, [], map, OnOk, OnErr, IsErrOf};
 ghost use Rattle.rio_chars.specs.Faults.{Rose};
 ghost use Rattle.link_machine.specs.Prelude.{Stopped, Got, sent_notes, move_note, delivered_from, delivery_notes, queues_of, Walks, IsSoundLink, link};
-ghost use Rattle.link_machine.specs.Queues.{steps_of};
-ghost use Rattle.link_law.specs.Answers.{delivery_answer, end_of, UnlessGivenUp, OnGivenUp};
+ghost use Rattle.link_machine.specs.Queues.{note_steps};
+ghost use Rattle.link_law.specs.Answers.{delivery_answer, delivery_end, UnlessGivenUp, OnGivenUp};
 
 use crate::answers::LinkEnd;
 use crate::link::{Link, note_sent};
@@ -37,7 +37,7 @@ impl Link {
             → IsSoundLink (link self.new a.new b.new)) }
         ensures steps { OnOk result (IsSoundLink (link self.old a.old b.old)
             → Walks (queues_of (link self.old a.old b.old))
-            (steps_of (delivery_notes from count (link self.old a.old b.old)))
+            (note_steps (delivery_notes from count (link self.old a.old b.old)))
             (queues_of (link self.new a.new b.new))) }
         ensures noted { UnlessGivenUp result (W.grew watch.old
             (delivery_notes from count (link self.old a.old b.old)) watch.new) }
@@ -64,7 +64,7 @@ impl Link {
 
 /// The answer, by the event that was not sent.
 fn ended(to: Side, unsent: Option<Unsent>) -> Result<Edited, LinkEnd>
-    ensures { result ≡ end_of to unsent }
+    ensures { result ≡ delivery_end to unsent }
 {
     match unsent {
         Some(event) => Err(LinkEnd::Undetected(to, event)),

@@ -5,7 +5,7 @@ ghost use Rattle.link_machine.specs.Prelude.{A, B, IsSoundLink, link};
 ghost use Rattle.link_rest.specs.Acts.{At, goes};
 ghost use Rattle.link_rest.specs.Schedules.{NextOf};
 ghost use Rattle.link_rest.specs.Settling.{Empties, Drains, TakesTurn, is_busy};
-ghost use Rattle.link_law.specs.Does.{Did, Counted};
+ghost use Rattle.link_law.specs.Does.{CallDid, FailuresCounted};
 
 use crate::answers::LinkEnd;
 use crate::link::Link;
@@ -23,9 +23,9 @@ impl Link {
         b: &mut Port,
         watch: &mut W,
     ) -> Result<(), LinkEnd>
-        ensures does { Did W.grew W.cut (Empties from) (link self.old a.old b.old) watch.old
+        ensures does { CallDid W.grew W.cut (Empties from) (link self.old a.old b.old) watch.old
             result (link self.new a.new b.new) watch.new }
-        ensures counts { Counted result (W.faults watch.old) (W.faults watch.new) }
+        ensures counts { FailuresCounted result (W.faults watch.old) (W.faults watch.new) }
     {
         let length = self.length(from);
         if length == 0 {
@@ -46,9 +46,9 @@ impl Link {
         b: &mut Port,
         watch: &mut W,
     ) -> Result<(), LinkEnd>
-        ensures does { Did W.grew W.cut (NextOf goes (Empties A) (Empties B))
+        ensures does { CallDid W.grew W.cut (NextOf goes (Empties A) (Empties B))
             (link self.old a.old b.old) watch.old result (link self.new a.new b.new) watch.new }
-        ensures counts { Counted result (W.faults watch.old) (W.faults watch.new) }
+        ensures counts { FailuresCounted result (W.faults watch.old) (W.faults watch.new) }
     {
         self.empty(alloc, Side::A, a, b, watch)?;
         self.empty(alloc, Side::B, a, b, watch)
@@ -70,9 +70,9 @@ impl Link {
         watch: &mut W,
     ) -> Result<(), LinkEnd>
         requires { IsSoundLink (link self.old a.old b.old) }
-        ensures does { Did W.grew W.cut Drains (link self.old a.old b.old) watch.old
+        ensures does { CallDid W.grew W.cut Drains (link self.old a.old b.old) watch.old
             result (link self.new a.new b.new) watch.new }
-        ensures counts { Counted result (W.faults watch.old) (W.faults watch.new) }
+        ensures counts { FailuresCounted result (W.faults watch.old) (W.faults watch.new) }
     {
         for _ in 0..3u8 {
             if self.is_idle() {
@@ -93,9 +93,9 @@ impl Link {
         watch: &mut W,
     ) -> Result<(), LinkEnd>
         requires { IsSoundLink (link self.old a.old b.old) }
-        ensures does { Did W.grew W.cut (TakesTurn side) (link self.old a.old b.old) watch.old
+        ensures does { CallDid W.grew W.cut (TakesTurn side) (link self.old a.old b.old) watch.old
             result (link self.new a.new b.new) watch.new }
-        ensures counts { Counted result (W.faults watch.old) (W.faults watch.new) }
+        ensures counts { FailuresCounted result (W.faults watch.old) (W.faults watch.new) }
     {
         self.pump(alloc, side, 1, a, b, watch)?;
         self.drain(alloc, a, b, watch)

@@ -3,7 +3,7 @@ ghost use Rattle.std.specs.Prelude.{◌≡◌, ◌≤◌, ℕ, length, IfOk, OnO
 ghost use Rattle.rio_chars.specs.Faults.{Rose};
 ghost use Rattle.link_port.specs.Ports.{PortState};
 ghost use Rattle.link_machine.specs.Prelude.{Stopped, sent_notes, pumped, pump_notes, is_silent, timed_out_at, time_out_notes, IsSoundLink, link};
-ghost use Rattle.link_wires.specs.Wires.{fits, answered};
+ghost use Rattle.link_wires.specs.Wires.{fits, edit_answered};
 ghost use Rattle.link_law.specs.Answers.{fired};
 ghost use Rattle.link_law.specs.Resting.{has_no_work};
 ghost use Rattle.link_machine.specs.Calls.{edited_from};
@@ -102,7 +102,7 @@ impl Link {
     /// of an insertion lies past the end. Then, and where memory is not given, nothing changes.
     pub fn edit(&mut self, _alloc: Global, from: Side, edit: &Edit) -> Result<Edited, NoMemory>
         ensures short { IfOk result (λ answer. answer
-            ≡ answered (fits edit.now (wire_at from self.old).chars)) }
+            ≡ edit_answered (fits edit.now (wire_at from self.old).chars)) }
         ensures changed { OnOk result ((a b : PortState)
             → link self.new a b ≡ edited_from from edit.now (link self.old a b)) }
         ensures unchanged { OnErr result (self.new ≡ self.old) }

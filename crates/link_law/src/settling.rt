@@ -6,7 +6,7 @@ ghost use Rattle.link_rest.specs.Acts.{At, goes};
 ghost use Rattle.link_rest.specs.Rest.{IsQuiet, IsSettled};
 ghost use Rattle.link_rest.specs.Schedules.{NextOf};
 ghost use Rattle.link_rest.specs.Settling.{Restarts, TimesOut, Requests, Recovers, Tells, SendsAll, Settles};
-ghost use Rattle.link_law.specs.Does.{Comes, Ends, Did, Counted};
+ghost use Rattle.link_law.specs.Does.{Comes, Ends, CallDid, FailuresCounted};
 
 use crate::answers::LinkEnd;
 use crate::link::Link;
@@ -58,9 +58,9 @@ impl Link {
         watch: &mut W,
     ) -> Result<(), LinkEnd>
         requires { IsSoundLink (link self.old a.old b.old) }
-        ensures does { Did W.grew W.cut (Restarts side) (link self.old a.old b.old) watch.old
+        ensures does { CallDid W.grew W.cut (Restarts side) (link self.old a.old b.old) watch.old
             result (link self.new a.new b.new) watch.new }
-        ensures counts { Counted result (W.faults watch.old) (W.faults watch.new) }
+        ensures counts { FailuresCounted result (W.faults watch.old) (W.faults watch.new) }
     {
         if !stands_back(near(side, a, b)) {
             return Ok(());
@@ -77,9 +77,9 @@ impl Link {
         b: &mut Port,
         watch: &mut W,
     ) -> Result<(), LinkEnd>
-        ensures does { Did W.grew W.cut (TimesOut side) (link self.old a.old b.old) watch.old
+        ensures does { CallDid W.grew W.cut (TimesOut side) (link self.old a.old b.old) watch.old
             result (link self.new a.new b.new) watch.new }
-        ensures counts { Counted result (W.faults watch.old) (W.faults watch.new) }
+        ensures counts { FailuresCounted result (W.faults watch.old) (W.faults watch.new) }
     {
         if !fires(near(side, a, b)) {
             return Ok(());
@@ -98,9 +98,9 @@ impl Link {
         watch: &mut W,
     ) -> Result<(), LinkEnd>
         requires { IsSoundLink (link self.old a.old b.old) }
-        ensures does { Did W.grew W.cut (Requests side) (link self.old a.old b.old) watch.old
+        ensures does { CallDid W.grew W.cut (Requests side) (link self.old a.old b.old) watch.old
             result (link self.new a.new b.new) watch.new }
-        ensures counts { Counted result (W.faults watch.old) (W.faults watch.new) }
+        ensures counts { FailuresCounted result (W.faults watch.old) (W.faults watch.new) }
     {
         if is_quiet(near(side, a, b), far(side, a, b)) {
             return Ok(());
@@ -119,9 +119,9 @@ impl Link {
         watch: &mut W,
     ) -> Result<(), LinkEnd>
         requires { IsSoundLink (link self.old a.old b.old) }
-        ensures does { Did W.grew W.cut (Recovers side) (link self.old a.old b.old) watch.old
+        ensures does { CallDid W.grew W.cut (Recovers side) (link self.old a.old b.old) watch.old
             result (link self.new a.new b.new) watch.new }
-        ensures counts { Counted result (W.faults watch.old) (W.faults watch.new) }
+        ensures counts { FailuresCounted result (W.faults watch.old) (W.faults watch.new) }
     {
         if failed(near(side, a, b)) {
             return Ok(());
@@ -140,10 +140,10 @@ impl Link {
         watch: &mut W,
     ) -> Result<(), LinkEnd>
         requires { IsSoundLink (link self.old a.old b.old) × IsQuiet (link self.old a.old b.old) }
-        ensures does { Did W.grew W.cut (NextOf goes (Tells A) (NextOf goes (Tells B)
+        ensures does { CallDid W.grew W.cut (NextOf goes (Tells A) (NextOf goes (Tells B)
             (NextOf goes (SendsAll A) (SendsAll B)))) (link self.old a.old b.old) watch.old
             result (link self.new a.new b.new) watch.new }
-        ensures counts { Counted result (W.faults watch.old) (W.faults watch.new) }
+        ensures counts { FailuresCounted result (W.faults watch.old) (W.faults watch.new) }
     {
         self.tell_if_due(alloc, Side::A, a, b, watch)?;
         self.tell_if_due(alloc, Side::B, a, b, watch)?;
@@ -162,9 +162,9 @@ impl Link {
         watch: &mut W,
     ) -> Result<(), LinkEnd>
         requires { IsSoundLink (link self.old a.old b.old) × IsQuiet (link self.old a.old b.old) }
-        ensures does { Did W.grew W.cut (SendsAll side) (link self.old a.old b.old) watch.old
+        ensures does { CallDid W.grew W.cut (SendsAll side) (link self.old a.old b.old) watch.old
             result (link self.new a.new b.new) watch.new }
-        ensures counts { Counted result (W.faults watch.old) (W.faults watch.new) }
+        ensures counts { FailuresCounted result (W.faults watch.old) (W.faults watch.new) }
     {
         while is_ready(near(side, a, b)) {
             self.take_turn(alloc, side, a, b, watch)?;

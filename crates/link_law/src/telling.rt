@@ -1,7 +1,7 @@
 //! Sides that tell their free buffers.
 ghost use Rattle.link_machine.specs.Prelude.{IsSoundLink, link};
 ghost use Rattle.link_rest.specs.Settling.{Tells};
-ghost use Rattle.link_law.specs.Does.{Did, Counted, TellsOnce};
+ghost use Rattle.link_law.specs.Does.{CallDid, FailuresCounted, TellsOnce};
 
 use crate::answers::LinkEnd;
 use crate::link::{Link, note_sent};
@@ -20,9 +20,9 @@ impl Link {
         b: &Port,
         watch: &mut W,
     ) -> Result<(), LinkEnd>
-        ensures does { Did W.grew W.cut (TellsOnce side) (link self.old a.now b.now) watch.old
+        ensures does { CallDid W.grew W.cut (TellsOnce side) (link self.old a.now b.now) watch.old
             result (link self.new a.now b.now) watch.new }
-        ensures counts { Counted result (W.faults watch.old) (W.faults watch.new) }
+        ensures counts { FailuresCounted result (W.faults watch.old) (W.faults watch.new) }
     {
         self.wires.tell(side, a, b, &mut self.sent)?;
         note_sent(watch, alloc, side, self.sent.as_slice())?;
@@ -39,9 +39,9 @@ impl Link {
         watch: &mut W,
     ) -> Result<(), LinkEnd>
         requires { IsSoundLink (link self.old a.old b.old) }
-        ensures does { Did W.grew W.cut (Tells side) (link self.old a.old b.old) watch.old
+        ensures does { CallDid W.grew W.cut (Tells side) (link self.old a.old b.old) watch.old
             result (link self.new a.new b.new) watch.new }
-        ensures counts { Counted result (W.faults watch.old) (W.faults watch.new) }
+        ensures counts { FailuresCounted result (W.faults watch.old) (W.faults watch.new) }
     {
         if !near(side, a, b).tells() {
             return Ok(());

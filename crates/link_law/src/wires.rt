@@ -6,7 +6,7 @@ ghost use Rattle.link_machine.specs.Prelude.{other_side, has_none, has_chars, pu
 ghost use Rattle.link_machine.specs.States.{empty_wires};
 ghost use Rattle.link_wires.specs.Wires.{with_sent, bursts, answers as answered_by};
 ghost use Rattle.link_wires.specs.Deliveries.{delivered, told_of, IsLeft};
-ghost use Rattle.link_law.specs.Carried.{AreCarried};
+ghost use Rattle.link_law.specs.Carried.{AreOfDelivery};
 
 use crate::port_states::{has_no_turn, near};
 use link_port::Port;
@@ -117,7 +117,7 @@ impl WirePair {
         answers: &mut Vec<Char>,
     ) -> Result<Option<Unsent>, NoMemory>
         requires { has_chars from count (link self.old a.old b.old) ≡ true }
-        ensures told { IfOk result (λ unsent. AreCarried
+        ensures told { IfOk result (λ unsent. AreOfDelivery
             (delivery_from from count (link self.old a.old b.old))
             (take count (from_end from (link self.old a.old b.old)).wire_a.chars)
             came.new.got.items came.new.moves.items answers.new.items unsent) }
@@ -161,7 +161,7 @@ fn carry(
     answers: &mut Vec<Char>,
 ) -> Result<Option<Unsent>, NoMemory>
     requires { count ≤ length wire.old.chars }
-    ensures told { IfOk result (λ unsent. AreCarried
+    ensures told { IfOk result (λ unsent. AreOfDelivery
         (delivered port.old wire.old.kept (take count wire.old.chars)) (take count wire.old.chars)
         came.new.got.items came.new.moves.items answers.new.items unsent) }
     ensures left { OnOk result (IsLeft (delivered port.old wire.old.kept

@@ -16,8 +16,8 @@ use Rattle.link_model.specs.declared.reading_kinds.Kind.TheVariants.{Byte, Opens
 use Rattle.link_model.specs.declared.reading_kinds.Pending.{Pending}
 use Rattle.link_model.specs.declared.reading_kinds.Pending.TheVariants.{Nothing, Opened, One, Two}
 use Rattle.link_model.specs.Events.{packet_or_cause, packet_event}
-use Rattle.link_model.specs.Places.{Place, added, taken, finished, step_by, step, run}
-use Rattle.link_model.specs.Reading.{Text, Plain, Skipped, Within, ended, ends_packet, told, placed}
+use Rattle.link_model.specs.Places.{Place, byte_added, symbol_taken, finished, step_by, step, run}
+use Rattle.link_model.specs.Reading.{Text, Plain, Skipped, Within, packet_ended, ends_packet, told, placed}
 use Rattle.link_model.specs.ReadingKinds.{kind}
 use Rattle.link_sound.proofs.Ranged.{HasAck}
 
@@ -37,21 +37,21 @@ unfolding packet_event
 packet_has bytes =
     found_has (carried bytes) (if nat_lt (length bytes) 8 then General else BadPacket)
 
-ended_has : (t : Text) → All HasAck (ended t)
+ended_has : (t : Text) → All HasAck (packet_ended t)
 ended_has Plain = All-nil HasAck
 ended_has Skipped = All-nil HasAck
 ended_has (Within bytes) = one (packet_event bytes) (packet_has bytes)
 
-front_has : (ends : Bool) (t : Text) → All HasAck (if ends then ended t else [])
+front_has : (ends : Bool) (t : Text) → All HasAck (if ends then packet_ended t else [])
 front_has true t = ended_has t
 front_has false t = All-nil HasAck
 
 told_has : (t : Text) (s : Fields) → s.p0 < 32 → All HasAck (told t s)
 told_has t s below =
-    All-append HasAck (if ends_packet s.s1 then ended t else []) (Ctl s ∷ [])
+    All-append HasAck (if ends_packet s.s1 then packet_ended t else []) (Ctl s ∷ [])
     (front_has (ends_packet s.s1) t) (one (Ctl s) below)
 
-taken_has : (t : Text) (s : Fields) (b : Bool) → s.p0 < 32 → All HasAck (taken t s b).gives
+taken_has : (t : Text) (s : Fields) (b : Bool) → s.p0 < 32 → All HasAck (symbol_taken t s b).gives
 taken_has t s true below = told_has t s below
 taken_has t s false below = one _ tt
 
@@ -66,7 +66,7 @@ finished_has : (t : Text) (d : Delimiter) (x y z : ℕ)
 unfolding spelled
 finished_has t d x y z = spelling_has t d x y z (is_spelling x y z)
 
-added_has : (bytes : List ℕ) (i : ℕ) (b : Bool) → All HasAck (added bytes i b).gives
+added_has : (bytes : List ℕ) (i : ℕ) (b : Bool) → All HasAck (byte_added bytes i b).gives
 added_has bytes i true = All-nil HasAck
 added_has bytes i false = one _ tt
 

@@ -15,17 +15,17 @@ use Rattle.link_watch.specs.Sides.{other_side}
 use Rattle.link_watch.specs.declared.note.Note.{Note}
 use Rattle.link_watch.specs.declared.side.Side.{Side}
 use Rattle.link_watch.specs.declared.side.Side.TheVariants.{A, B}
-use Rattle.link_wires.specs.Prelude.{Told, Delivered, Through, Undetected, told_of, undetected, answers}
+use Rattle.link_wires.specs.Prelude.{Told, Delivered, Through, Unsent, told_of, undetected, answers}
 use Rattle.link_wires.specs.declared.edits.Edit.{Edit}
 use Rattle.link_wires.specs.declared.moves.Move.{Move}
 use Rattle.link_wires.specs.declared.moves.Move.TheVariants.{Held, Freed}
 use Rattle.link_machine.specs.States.{LinkState, link, empty_wires, turned_round, at_end, from_end}
 use Rattle.link_machine.specs.Calls.{sent_notes, first_turns, pumped, first_tells, told_from, delivery, after_delivery, first_takes, has_chars, delivery_from, delivered_from, move_note, told_notes, delivery_notes, first_edited, edited_from, is_silent, first_fires, timed_out_at}
 use Rattle.link_machine.specs.Layer.{IsServed, with_port}
-use Rattle.link_machine.specs.Queues.{Queues, queues_of, queues_between, queues_round, Step, steps_at, Walks, steps_of}
-use Rattle.link_machine.specs.Queues.Walks.{Ends}
+use Rattle.link_machine.specs.Queues.{Queues, queues_of, queues_between, queues_round, PortStep, steps_at, Walks, note_steps}
+use Rattle.link_machine.specs.Queues.Walks.{WalkEnds}
 use Rattle.link_machine.specs.Runs.{IsRun}
-use Rattle.link_machine.specs.Runs.IsRun.{Rests, Pumps, Tells, Delivers, Edits, TimesOut, Serves}
+use Rattle.link_machine.specs.Runs.IsRun.{RunRests, RunPumps, RunTells, RunDelivers, RunEdits, RunTimesOut, RunServes}
 use Rattle.link_machine.specs.Sound.{IsSoundLink}
 use Rattle.link_machine.proofs.Flowing.{AreFlowing, delivered_flowing}
 use Rattle.link_machine.proofs.Telling.{AreTelling, delivered_telling}
@@ -124,7 +124,7 @@ takes_keep count s l =
       told_b = t.told_b;
       told_a = t.told_a;
     }
-    by_delivery (Undetected told e) f t = l
+    by_delivery (Unsent told e) f t = l
 
 pub delivery_keeps : (from : Side) (count : ℕ) (s : LinkState) → IsSoundLink s
     → IsSoundLink (delivered_from from count s)
@@ -135,26 +135,26 @@ delivery_keeps from count s l =
       | false ↦ l
     ]
 
-sent_steps : (side : Side) (chars : List Char) → steps_of (sent_notes side chars) ≡ []
+sent_steps : (side : Side) (chars : List Char) → note_steps (sent_notes side chars) ≡ []
 sent_steps side [] = refl
 sent_steps side (c ∷ chars) = refl
 
 move_steps : (side : Side) (moves : List Move) (notes : List Note)
-    → steps_of (map (move_note side) moves ++ notes) ≡ steps_at side moves ++ steps_of notes
+    → note_steps (map (move_note side) moves ++ notes) ≡ steps_at side moves ++ note_steps notes
 move_steps side [] notes = refl
 move_steps side (Held packet ∷ moves) notes =
-    ap (λ (steps : List Step). record { side = side; move = Held packet } ∷ steps)
+    ap (λ (steps : List PortStep). record { side = side; move = Held packet } ∷ steps)
     (move_steps side moves notes)
 move_steps side (Freed packet ∷ moves) notes =
-    ap (λ (steps : List Step). record { side = side; move = Freed packet } ∷ steps)
+    ap (λ (steps : List PortStep). record { side = side; move = Freed packet } ∷ steps)
     (move_steps side moves notes)
 
 told_steps : (to : Side) (chars : List Char) (told : Told)
-    → steps_of (told_notes to chars told) ≡ steps_at to told.moves
+    → note_steps (told_notes to chars told) ≡ steps_at to told.moves
 told_steps to chars told =
     let sent = (answers told.replies).chars in
     move_steps to told.moves (sent_notes to sent)
-    ∙ ap (λ (steps : List Step). steps_at to told.moves ++ steps) (sent_steps to sent)
+    ∙ ap (λ (steps : List PortStep). steps_at to told.moves ++ steps) (sent_steps to sent)
     ∙ append-nil (steps_at to told.moves)
 
 -- the first port's moves are steps, where all events were sent
@@ -162,13 +162,13 @@ first_steps : (count : ℕ) (s : LinkState) (d : Delivered) → undetected d ≡
     → AreFlowing s.b s.wire_a.kept (queues_of s) d
     → FirstWalks (queues_of s) (told_of d).moves (queues_of (after_delivery count d s))
 first_steps count s (Through flow) none f = f.walks
-first_steps count s (Undetected told e) none f = absurd cc
+first_steps count s (Unsent told e) none f = absurd cc
 
 -- and up to an event that was not
 some_steps : (s : LinkState) (d : Delivered) → AreFlowing s.b s.wire_a.kept (queues_of s) d
     → (end : Queues) × FirstWalks (queues_of s) (told_of d).moves end
 some_steps s (Through flow) f = (queues_between flow.port s.b, f.walks)
-some_steps s (Undetected told e) f = f
+some_steps s (Unsent told e) f = f
 
 end_walks :
     (to : Side) (count : ℕ) (s : LinkState) → undetected (delivery count (from_end to s)) ≡ None
@@ -195,37 +195,37 @@ some_walks B count s l =
 pub delivery_walks :
     (from : Side) (count : ℕ) (s : LinkState) → undetected (delivery_from from count s) ≡ None
     → IsSoundLink s
-    → Walks (queues_of s) (steps_of (delivery_notes from count s))
+    → Walks (queues_of s) (note_steps (delivery_notes from count s))
     (queues_of (delivered_from from count s))
 delivery_walks from count s none l =
     elim (has_chars from count s) as (λ b.
-    Walks (queues_of s) (steps_of (if b
+    Walks (queues_of s) (note_steps (if b
     then told_notes (other_side from) (take count (from_end from s).wire_a.chars)
     (told_of (delivery_from from count s)) else []))
     (queues_of (if b then at_end (other_side from) (first_takes count) s else s))) [
-      | true ↦ subst (λ (steps : List Step). Walks (queues_of s) steps
+      | true ↦ subst (λ (steps : List PortStep). Walks (queues_of s) steps
           (queues_of (at_end (other_side from) (first_takes count) s)))
           (sym (told_steps (other_side from) (take count (from_end from s).wire_a.chars)
           (told_of (delivery_from from count s))))
           (end_walks (other_side from) count s none l)
-      | false ↦ Ends
+      | false ↦ WalkEnds
     ]
 
 pub delivery_steps : (from : Side) (count : ℕ) (s : LinkState) → IsSoundLink s
-    → (end : Queues) × Walks (queues_of s) (steps_of (delivery_notes from count s)) end
+    → (end : Queues) × Walks (queues_of s) (note_steps (delivery_notes from count s)) end
 delivery_steps from count s l =
     elim (has_chars from count s) as (λ b.
-    (end : Queues) × Walks (queues_of s) (steps_of (if b
+    (end : Queues) × Walks (queues_of s) (note_steps (if b
     then told_notes (other_side from) (take count (from_end from s).wire_a.chars)
     (told_of (delivery_from from count s)) else [])) end) [
       | true ↦
           let some = some_walks (other_side from) count s l in (
             some.0,
-            subst (λ (steps : List Step). Walks (queues_of s) steps some.0)
+            subst (λ (steps : List PortStep). Walks (queues_of s) steps some.0)
                 (sym (told_steps (other_side from) (take count (from_end from s).wire_a.chars)
                 (told_of (delivery_from from count s)))) some.1,
           )
-      | false ↦ (queues_of s, Ends)
+      | false ↦ (queues_of s, WalkEnds)
     ]
 
 -- ---- edits, time-outs and the layer above
@@ -322,11 +322,12 @@ none_failed s l = (
 
 pub run_keeps : {s end : LinkState} {notes : List Note} → IsRun s notes end → IsSoundLink s
     → IsSoundLink end
-run_keeps Rests l = l
-run_keeps (Pumps {s = s} from turns run) l = run_keeps run (pump_keeps from turns s l)
-run_keeps (Tells {s = s} from run) l = run_keeps run (told_keeps from s l)
-run_keeps (Delivers {s = s} from count sent run) l = run_keeps run (delivery_keeps from count s l)
-run_keeps (Edits {s = s} from edit run) l = run_keeps run (edited_keeps from edit s l)
-run_keeps (TimesOut {s = s} side run) l = run_keeps run (fired_keeps side s l)
-run_keeps (Serves {s = s} side next is served run) l =
+run_keeps RunRests l = l
+run_keeps (RunPumps {s = s} from turns run) l = run_keeps run (pump_keeps from turns s l)
+run_keeps (RunTells {s = s} from run) l = run_keeps run (told_keeps from s l)
+run_keeps (RunDelivers {s = s} from count sent run) l =
+    run_keeps run (delivery_keeps from count s l)
+run_keeps (RunEdits {s = s} from edit run) l = run_keeps run (edited_keeps from edit s l)
+run_keeps (RunTimesOut {s = s} side run) l = run_keeps run (fired_keeps side s l)
+run_keeps (RunServes {s = s} side next is served run) l =
     run_keeps run (layer_keeps side next s is served l)

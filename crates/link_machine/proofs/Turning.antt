@@ -15,23 +15,23 @@ use Rattle.link_sound.proofs.Told as telling
 use Rattle.link_sound.proofs.Freed.{turn_stays, time_out_stays}
 use Rattle.link_sound.proofs.Steps.{turn_keeps}
 use Rattle.link_sound.proofs.PortBounds.{turn_port}
-use Rattle.link_wires.specs.Wires.{WireState, turned, bursts, fits, edited, after_edit}
+use Rattle.link_wires.specs.Wires.{WireState, port_turned, bursts, fits, edited, after_edit}
 use Rattle.link_wires.specs.declared.edits.Edit.{Edit}
 use Rattle.link_machine.specs.Layer.{IsServed}
 use Rattle.link_machine.specs.Queues.{queues_between}
 
-pub turned_port : (n : ℕ) (a : PortState) → IsPort a → IsPort (turned n a)
-unfolding turned
+pub turned_port : (n : ℕ) (a : PortState) → IsPort a → IsPort (port_turned n a)
+unfolding port_turned
 turned_port zero a is = is
 turned_port (suc n) a is = turned_port n (turns_to a) (turn_port a is)
 
 pub turned_keeps : (n : ℕ) (a b : PortState) (kept_a kept_b : List Event) → IsPort a
-    → IsSound a b kept_a kept_b → IsSound (turned n a) b (kept_a ++ (bursts n a).sent) kept_b
-unfolding turned bursts
+    → IsSound a b kept_a kept_b → IsSound (port_turned n a) b (kept_a ++ (bursts n a).sent) kept_b
+unfolding port_turned bursts
 turned_keeps zero a b kept_a kept_b is s =
     subst (λ (l : List Event). IsSound a b l kept_b) (sym (append-nil kept_a)) s
 turned_keeps (suc n) a b kept_a kept_b is s =
-    subst (λ (l : List Event). IsSound (turned n (turns_to a)) b l kept_b)
+    subst (λ (l : List Event). IsSound (port_turned n (turns_to a)) b l kept_b)
     (append_assoc kept_a (turn_sends a).sent (bursts n (turns_to a)).sent)
     (turned_keeps n (turns_to a) b (kept_a ++ (turn_sends a).sent) kept_b (turn_port a is)
     (turn_keeps a b kept_a kept_b is.covered s))
@@ -40,8 +40,8 @@ turned_keeps (suc n) a b kept_a kept_b is s =
 pub turned_told :
     (n : ℕ) (a b : PortState) (kept_a kept_b : List Event) → IsPort a
     → IsTold b a kept_a → IsTold a b kept_b
-    → IsTold b (turned n a) (kept_a ++ (bursts n a).sent) × IsTold (turned n a) b kept_b
-unfolding turned bursts
+    → IsTold b (port_turned n a) (kept_a ++ (bursts n a).sent) × IsTold (port_turned n a) b kept_b
+unfolding port_turned bursts
 turned_told zero a b kept_a kept_b is ahead back =
     (subst (λ (l : List Event). IsTold b a l) (sym (append-nil kept_a)) ahead, back)
 turned_told (suc n) a b kept_a kept_b is ahead back =
@@ -49,14 +49,14 @@ turned_told (suc n) a b kept_a kept_b is ahead back =
     let rest =
     turned_told n (turns_to a) b (kept_a ++ (turn_sends a).sent) kept_b (turn_port a is) first.0
     first.1 in (
-      subst (λ (l : List Event). IsTold b (turned n (turns_to a)) l)
+      subst (λ (l : List Event). IsTold b (port_turned n (turns_to a)) l)
           (append_assoc kept_a (turn_sends a).sent (bursts n (turns_to a)).sent) rest.0,
       rest.1,
     )
 
 pub turned_stays : (n : ℕ) (a b : PortState) (kept_a kept_b : List Event) → IsPort a
-    → IsSound a b kept_a kept_b → queues_between (turned n a) b ≡ queues_between a b
-unfolding turned
+    → IsSound a b kept_a kept_b → queues_between (port_turned n a) b ≡ queues_between a b
+unfolding port_turned
 turned_stays zero a b kept_a kept_b is s = refl
 turned_stays (suc n) a b kept_a kept_b is s =
     let stays =

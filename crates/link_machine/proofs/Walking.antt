@@ -7,7 +7,7 @@ use Rattle.link_watch.specs.declared.side.Side.TheVariants.{A, B}
 use Rattle.link_wires.specs.declared.moves.Move.{Move}
 use Rattle.link_wires.specs.declared.moves.Move.TheVariants.{Held, Freed}
 use Rattle.link_machine.specs.Queues.{Queues, queues_between, queues_round, NeedsFirst, first_moved, steps_at, Walks}
-use Rattle.link_machine.specs.Queues.Walks.{Ends, Goes}
+use Rattle.link_machine.specs.Queues.Walks.{WalkEnds, WalkGoes}
 
 -- steps of the first port, one after another
 pub data FirstWalks : Queues → List Move → Queues → Type 0 where
@@ -27,10 +27,10 @@ queues_from B q = queues_round q
 
 pub walks_at : {q end : Queues} {moves : List Move} (side : Side) → FirstWalks q moves end
     → Walks (queues_from side q) (steps_at side moves) (queues_from side end)
-walks_at A Stays = Ends
-walks_at B Stays = Ends
-walks_at A (Moves move needs walk) = Goes A move needs (walks_at A walk)
-walks_at B (Moves move needs walk) = Goes B move needs (walks_at B walk)
+walks_at A Stays = WalkEnds
+walks_at B Stays = WalkEnds
+walks_at A (Moves move needs walk) = WalkGoes A move needs (walks_at A walk)
+walks_at B (Moves move needs walk) = WalkGoes B move needs (walks_at B walk)
 
 -- packets that are freed, one after another
 freed_walk :

@@ -65,7 +65,7 @@ first_moved (Held packet) q = record q {
 first_moved (Freed packet) q = record q { lent_a = drop 1 q.lent_a }
 
 -- a step of the port at this end
-pub record Step : Type 0 where
+pub record PortStep : Type 0 where
   pub side : Side
   pub move : Move
 
@@ -78,21 +78,24 @@ moved_at A move q = first_moved move q
 moved_at B move q = queues_round (first_moved move (queues_round q))
 
 -- the steps of the port at one end
-abbrev pub steps_at : Side → List Move → List Step
+abbrev pub steps_at : Side → List Move → List PortStep
 steps_at side moves = map (λ move. record { side = side; move = move }) moves
 
 -- steps, one after another, lead from the first queues to the last
-pub data Walks : Queues → List Step → Queues → Type 0 where
-  Ends : {q : Queues} → Walks q [] q
-  Goes : {q end : Queues} {steps : List Step} (side : Side) (move : Move) → NeedsAt side move q
+pub data Walks : Queues → List PortStep → Queues → Type 0 where
+  WalkEnds : {q : Queues} → Walks q [] q
+  WalkGoes : {q end : Queues} {steps : List PortStep} (side : Side) (move : Move)
+      → NeedsAt side move q
       → Walks (moved_at side move q) steps end
       → Walks q (record { side = side; move = move } ∷ steps) end
 
 -- the steps that notes name, in order
-abbrev pub steps_of : List Note → List Step
-steps_of [] = []
-steps_of (Sent side chars ∷ notes) = steps_of notes
-steps_of (Got side chars ∷ notes) = steps_of notes
-steps_of (Hold side packet ∷ notes) = record { side = side; move = Held packet } ∷ steps_of notes
-steps_of (Free side packet ∷ notes) = record { side = side; move = Freed packet } ∷ steps_of notes
-steps_of (Fire side ∷ notes) = steps_of notes
+abbrev pub note_steps : List Note → List PortStep
+note_steps [] = []
+note_steps (Sent side chars ∷ notes) = note_steps notes
+note_steps (Got side chars ∷ notes) = note_steps notes
+note_steps (Hold side packet ∷ notes) =
+    record { side = side; move = Held packet } ∷ note_steps notes
+note_steps (Free side packet ∷ notes) =
+    record { side = side; move = Freed packet } ∷ note_steps notes
+note_steps (Fire side ∷ notes) = note_steps notes

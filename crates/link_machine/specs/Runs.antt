@@ -12,19 +12,19 @@ use Rattle.link_machine.specs.Layer.{IsServed, with_port}
 -- From a link on, with the notes of the calls in order. Nothing follows a delivery with an event
 -- that was not sent.
 pub data IsRun : LinkState → List Note → LinkState → Type 0 where
-  Rests : {s : LinkState} → IsRun s [] s
-  Pumps : {s end : LinkState} {notes : List Note} (from : Side) (turns : ℕ)
+  RunRests : {s : LinkState} → IsRun s [] s
+  RunPumps : {s end : LinkState} {notes : List Note} (from : Side) (turns : ℕ)
       → IsRun (pumped from turns s) notes end → IsRun s (pump_notes from turns s ++ notes) end
-  Tells : {s end : LinkState} {notes : List Note} (from : Side)
+  RunTells : {s end : LinkState} {notes : List Note} (from : Side)
       → IsRun (told_from from s) notes end → IsRun s (tell_notes from s ++ notes) end
-  Delivers : {s end : LinkState} {notes : List Note} (from : Side) (count : ℕ)
+  RunDelivers : {s end : LinkState} {notes : List Note} (from : Side) (count : ℕ)
       → undetected (delivery_from from count s) ≡ None
       → IsRun (delivered_from from count s) notes end
       → IsRun s (delivery_notes from count s ++ notes) end
-  Edits : {s end : LinkState} {notes : List Note} (from : Side) (edit : Edit)
+  RunEdits : {s end : LinkState} {notes : List Note} (from : Side) (edit : Edit)
       → IsRun (edited_from from edit s) notes end → IsRun s notes end
-  TimesOut : {s end : LinkState} {notes : List Note} (side : Side)
+  RunTimesOut : {s end : LinkState} {notes : List Note} (side : Side)
       → IsRun (timed_out_at side s) notes end → IsRun s (time_out_notes side s ++ notes) end
-  Serves : {s end : LinkState} {notes : List Note} (side : Side) (next : PortState) → IsPort next
+  RunServes : {s end : LinkState} {notes : List Note} (side : Side) (next : PortState) → IsPort next
       → IsServed (from_end side s).a next
       → IsRun (with_port side next s) notes end → IsRun s notes end

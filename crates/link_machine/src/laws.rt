@@ -11,7 +11,7 @@ ghost use Rattle.link_wires.specs.declared.edits.Edit.{Edit};
 ghost use Rattle.link_machine.specs.Calls.{pumped, told_from, delivery_from, delivered_from, delivery_notes, edited_from, timed_out_at};
 ghost use Rattle.link_machine.specs.Layer.{IsServed, with_port};
 ghost use Rattle.link_machine.specs.OnTheWay.{reached_within};
-ghost use Rattle.link_machine.specs.Queues.{Queues, queues_of, Walks, steps_of};
+ghost use Rattle.link_machine.specs.Queues.{Queues, queues_of, Walks, note_steps};
 ghost use Rattle.link_machine.specs.Runs.{IsRun};
 ghost use Rattle.link_machine.specs.Sound.{IsSoundLink};
 ghost use Rattle.link_machine.specs.States.{LinkState, link, empty_wires, from_end};
@@ -67,10 +67,10 @@ pub fn puts_and_takes_serve()
 pub fn deliveries_hold_and_free_in_order()
     ensures all { (from : Side) (count : ℕ) (s : LinkState)
         → undetected (delivery_from from count s) ≡ None → IsSoundLink s
-        → Walks (queues_of s) (steps_of (delivery_notes from count s))
+        → Walks (queues_of s) (note_steps (delivery_notes from count s))
         (queues_of (delivered_from from count s)) }
     ensures some { (from : Side) (count : ℕ) (s : LinkState) → IsSoundLink s
-        → (end : Queues) × Walks (queues_of s) (steps_of (delivery_notes from count s)) end }
+        → (end : Queues) × Walks (queues_of s) (note_steps (delivery_notes from count s)) end }
 {}
 
 /// Turns, statuses, edits and time-outs move no packet: what is to be sent again has waited all the

@@ -10,7 +10,7 @@ use Rattle.link_model.specs.declared.reading_kinds.Kind.{Kind}
 use Rattle.link_model.specs.declared.reading_kinds.Kind.TheVariants.{Byte, Opens, Idle, Stray}
 use Rattle.link_model.specs.declared.reading_kinds.Pending.{Pending}
 use Rattle.link_model.specs.declared.reading_kinds.Pending.TheVariants.{Nothing, Opened, One, Two}
-use Rattle.link_model.specs.Places.{Place, start, opened, added, taken, finished, step_by, step, place_after, IsBounded}
+use Rattle.link_model.specs.Places.{Place, place_start, opened, byte_added, symbol_taken, finished, step_by, step, place_after, IsBounded}
 use Rattle.link_model.specs.Reading.{Text, Plain, Skipped, Within, text_after}
 use Rattle.link_model.specs.ReadingKinds.{kind}
 
@@ -18,7 +18,7 @@ one_longer : (bytes : List ℕ) (i : ℕ) → length bytes < 276 → length (byt
 one_longer bytes i h = grind (arith, length-append)
 
 added_bounded : (bytes : List ℕ) (i : ℕ) (b : Bool) → nat_lt (length bytes) 276 ≡ b
-    → IsBounded (added bytes i b).place.text
+    → IsBounded (byte_added bytes i b).place.text
 added_bounded bytes i true e = one_longer bytes i ((Decides-ltb (length bytes) 276).0 e)
 added_bounded bytes i false e = tt
 
@@ -36,7 +36,7 @@ after_bounded t s1 h = by_tests (s1 == 0) (nat_le s1 4)
     by_tests false false = h
 
 taken_bounded : (t : Text) (s : Fields) (b : Bool) → IsBounded t
-    → IsBounded (taken t s b).place.text
+    → IsBounded (symbol_taken t s b).place.text
 taken_bounded t s true h = after_bounded t s.s1 h
 taken_bounded t s false h = tt
 
@@ -81,5 +81,5 @@ unfolding place_after
 after_all from [] h = h
 after_all from (c ∷ cs) h = after_all (step from c).place cs (step_bounded from c h)
 
-pub all_bounded : (chars : List Char) → IsBounded (place_after start chars).text
-all_bounded chars = after_all start chars tt
+pub all_bounded : (chars : List Char) → IsBounded (place_after place_start chars).text
+all_bounded chars = after_all place_start chars tt

@@ -14,8 +14,8 @@ use Rattle.link_model.specs.declared.reading_kinds.Kind.{Kind}
 use Rattle.link_model.specs.declared.reading_kinds.Kind.TheVariants.{Byte, Opens, Idle, Stray}
 use Rattle.link_model.specs.declared.reading_kinds.Pending.{Pending}
 use Rattle.link_model.specs.declared.reading_kinds.Pending.TheVariants.{Nothing, Opened, One, Two}
-use Rattle.link_model.specs.Places.{Place, start, added, taken, finished, step_by, step, run, place_after, at_rest, AreGiven}
-use Rattle.link_model.specs.Reading.{Text, Plain, Skipped, Within, ended, ends_packet, told, placed, Reads, IsReading, IsCut}
+use Rattle.link_model.specs.Places.{Place, place_start, byte_added, symbol_taken, finished, step_by, step, run, place_after, at_rest, AreGiven}
+use Rattle.link_model.specs.Reading.{Text, Plain, Skipped, Within, packet_ended, ends_packet, told, placed, Reads, IsReading, IsCut}
 use Rattle.link_model.specs.ReadingKinds.{kind}
 use Rattle.link_model.proofs.ReadingOne.{one}
 use Rattle.link_model.proofs.ReadingSteps.{below, not_below}
@@ -117,19 +117,20 @@ run-front from at n xs ys e =
     ∙ append-nil (run from at xs)
 
 -- what the steps tell is a reading
-pub reading_exists : (chars : List Char) → IsReading chars (run start 0 chars)
+pub reading_exists : (chars : List Char) → IsReading chars (run place_start 0 chars)
 reading_exists chars = (_, found Plain none_yet tt 0 chars)
 
 pub reading_only : (chars : List Char) (events : List (ℕ × Event)) → IsReading chars events
-    → events ≡ run start 0 chars
+    → events ≡ run place_start 0 chars
 reading_only chars events h = ap (λ (r : List (ℕ × Event) × Bool). r.0) (one h.1)
 
-pub reading_cut : (chars : List Char) → IsCut chars ↔ (at_rest (place_after start chars) ≡ false)
+pub reading_cut : (chars : List Char) → IsCut chars
+    ↔ (at_rest (place_after place_start chars) ≡ false)
 reading_cut chars = (
   λ cut. sym (ap (λ (r : List (ℕ × Event) × Bool). r.1) (one cut.1)),
   λ e. (
-    run start 0 chars,
-    subst (λ (rest : Bool). Reads Plain 0 chars (run start 0 chars) rest) e
+    run place_start 0 chars,
+    subst (λ (rest : Bool). Reads Plain 0 chars (run place_start 0 chars) rest) e
         (found Plain none_yet tt 0 chars),
   ),
 )
@@ -139,24 +140,24 @@ pub reading_front : (xs ys : List Char) (events : List (ℕ × Event)) → IsRea
 reading_front xs ys events h =
     subst (λ (es : List (ℕ × Event)). IsReading xs es)
     (sym (ap (filter (is_before (length xs))) (reading_only (xs ++ ys) events h)
-    ∙ run-front start 0 (length xs) xs ys (omega arith)))
+    ∙ run-front place_start 0 (length xs) xs ys (omega arith)))
     (reading_exists xs)
 
 told_given : (t : Text) (s : Fields) → AreGiven (told t s)
 told_given t s =
     (elim (ends_packet s.s1) as
-    (λ b. ends_packet s.s1 ≡ b → AreGiven ((if b then ended t else []) ++ Ctl s ∷ [])) [
+    (λ b. ends_packet s.s1 ≡ b → AreGiven ((if b then packet_ended t else []) ++ Ctl s ∷ [])) [
       | true ↦ λ e. by_text t
           ((Decides-or (s.s1 == 0) (s.s1 == 2) (Decides-eqb s.s1 0) (Decides-eqb s.s1 2)).0 e)
       | false ↦ λ e. tt
     ]) refl
   where
-    by_text : (t : Text) → (s.s1 ≡ 0) ⊎ (s.s1 ≡ 2) → AreGiven (ended t ++ Ctl s ∷ [])
+    by_text : (t : Text) → (s.s1 ≡ 0) ⊎ (s.s1 ≡ 2) → AreGiven (packet_ended t ++ Ctl s ∷ [])
     by_text Plain either = tt
     by_text Skipped either = tt
     by_text (Within bytes) either = (bytes, s, refl, refl, either)
 
-taken_given : (t : Text) (s : Fields) (b : Bool) → AreGiven (taken t s b).gives
+taken_given : (t : Text) (s : Fields) (b : Bool) → AreGiven (symbol_taken t s b).gives
 taken_given t s true = told_given t s
 taken_given t s false = tt
 
@@ -164,7 +165,7 @@ finished_given : (t : Text) (d : Delimiter) (o : Option Fields) → AreGiven (fi
 finished_given t d None = tt
 finished_given t d (Some s) = taken_given t s (allowed d s)
 
-added_given : (bytes : List ℕ) (i : ℕ) (b : Bool) → AreGiven (added bytes i b).gives
+added_given : (bytes : List ℕ) (i : ℕ) (b : Bool) → AreGiven (byte_added bytes i b).gives
 added_given bytes i true = tt
 added_given bytes i false = tt
 

@@ -11,7 +11,7 @@ use Rattle.link_model.specs.declared.event.Event.{Event}
 use Rattle.link_model.specs.declared.reading_kinds.Kind.TheVariants.{Byte, Opens, Idle, Stray}
 use Rattle.link_model.specs.declared.reading_kinds.Pending.{Pending}
 use Rattle.link_model.specs.declared.reading_kinds.Pending.TheVariants.{Nothing, Opened, One, Two}
-use Rattle.link_model.specs.Places.{place, added, taken, finished, run, place_after}
+use Rattle.link_model.specs.Places.{place, byte_added, symbol_taken, finished, run, place_after}
 use Rattle.link_model.specs.Reading.{Text, Plain, Skipped, Within, IsOpen, text_after, IsWhole, no_byte, one_byte, two_bytes, Reads, plain_ends, idle_passes, data_outside, stray_outside, skipped_ends, data_skipped, stray_skipped, idle_ends_skipping, delimiter_ends_skipping, packet_is_cut, data_is_added, data_is_too_long, idle_in_packet, stray_in_packet, symbol_is_read, spells_none, not_allowed, cut_by_delimiter, cut_by_idle, cut_by_stray, cut_by_the_end}
 use Rattle.link_model.specs.ReadingKinds.{kind}
 use Rattle.link_model.proofs.ReadingSteps.{reading, follow, stepped}
@@ -111,11 +111,11 @@ found (Within bytes) none_yet a at (c ∷ cs) =
           (elim (nat_lt (length bytes) 276) as
           (λ b. nat_lt (length bytes) 276 ≡ b → Reads (Within bytes) at (c ∷ cs) all.0 all.1) [
             | true ↦ λ e. told_by (stepped (place (Within bytes) Nothing) at c cs (Byte i) h
-                ∙ ap (λ (b : Bool). follow (added bytes i b) at cs) e)
+                ∙ ap (λ (b : Bool). follow (byte_added bytes i b) at cs) e)
                 (data_is_added h (few (length bytes) e)
                 (found (Within (bytes ++ i ∷ [])) none_yet tt (suc at) cs))
             | false ↦ λ e. told_by (stepped (place (Within bytes) Nothing) at c cs (Byte i) h
-                ∙ ap (λ (b : Bool). follow (added bytes i b) at cs) e)
+                ∙ ap (λ (b : Bool). follow (byte_added bytes i b) at cs) e)
                 (data_is_too_long h (many (length bytes) e) (found Skipped none_yet tt (suc at) cs))
           ]) refl
       | Opens d ↦ λ h. told_by (stepped (place (Within bytes) Nothing) at c cs (Opens d) h)
@@ -178,10 +178,12 @@ found t (with_two {c = c0} {x = c1} {y = c2} {d} {i} {j} h0 h1 h2) a at (c ∷ c
                 let there = here ∙ ap (λ (o : Option Fields). follow (finished t d o) n cs) o in
                 (elim (allowed d s) as
                 (λ b. allowed d s ≡ b → Reads t at (c0 ∷ c1 ∷ c2 ∷ c ∷ cs) all.0 all.1) [
-                  | true ↦ λ b. told_by (there ∙ ap (λ (b : Bool). follow (taken t s b) n cs) b)
+                  | true ↦ λ b. told_by (there
+                      ∙ ap (λ (b : Bool). follow (symbol_taken t s b) n cs) b)
                       (symbol_is_read s a w (spelled_some i j k s o) b
                       (found (text_after t s.s1) none_yet tt (suc n) cs))
-                  | false ↦ λ b. told_by (there ∙ ap (λ (b : Bool). follow (taken t s b) n cs) b)
+                  | false ↦ λ b. told_by (there
+                      ∙ ap (λ (b : Bool). follow (symbol_taken t s b) n cs) b)
                       (not_allowed s a w (spelled_some i j k s o) b
                       (found Skipped none_yet tt (suc n) cs))
                 ]) refl

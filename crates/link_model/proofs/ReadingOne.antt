@@ -2,7 +2,7 @@
 use Rattle.std.proofs.Common.{◌≡◌, ℕ, suc, ◌+◌, Bool, false, Option, Some, None, List, [], ◌∷◌, ◌++◌, length, refl, sym, ap, ◌∙◌, arith}
 use Rattle.rio_chars.specs.declared.chars.Char.{Char}
 use Rattle.rio_symbols.specs.Fields.{Fields}
-use Rattle.rio_symbols.specs.Spelling.{Spells, spelled}
+use Rattle.rio_symbols.specs.Spelling.{SpellsSymbol, spelled}
 use Rattle.rio_symbols.proofs.SpellingLaws.{spelled_some, spelled_back}
 use Rattle.rio_packets.specs.declared.cause.Cause.TheVariants.{BadSymbol, BadChar, General}
 use Rattle.link_model.specs.declared.event.Event.{Event}
@@ -11,7 +11,7 @@ use Rattle.link_model.specs.declared.reading_kinds.Kind.{Kind}
 use Rattle.link_model.specs.declared.reading_kinds.Kind.TheVariants.{Byte, Opens, Idle, Stray}
 use Rattle.link_model.specs.declared.reading_kinds.Pending.{Pending}
 use Rattle.link_model.specs.declared.reading_kinds.Pending.TheVariants.{Nothing, Opened, One, Two}
-use Rattle.link_model.specs.Places.{Place, Step, place, added, taken, finished, broken, step_by, run, place_after}
+use Rattle.link_model.specs.Places.{Place, ReaderStep, place, byte_added, symbol_taken, finished, broken, step_by, run, place_after}
 use Rattle.link_model.specs.Reading.{Text, Plain, Skipped, Within, IsOpen, told, placed, IsUnfinished, no_byte, one_byte, two_bytes, Reads, plain_ends, idle_passes, data_outside, stray_outside, skipped_ends, data_skipped, stray_skipped, idle_ends_skipping, delimiter_ends_skipping, packet_is_cut, data_is_added, data_is_too_long, idle_in_packet, stray_in_packet, symbol_is_read, spells_none, not_allowed, cut_by_delimiter, cut_by_idle, cut_by_stray, cut_by_the_end}
 use Rattle.link_model.specs.ReadingKinds.{kind}
 use Rattle.link_model.proofs.ReadingSteps.{reading, prepend, follow, stepped, begins, whole, below, not_below}
@@ -116,10 +116,10 @@ broke : (t : Text) {front : List Char} (at n : ℕ) (c : Char) (cs : List Char) 
 broke t at n c cs k may u e h never =
     let b = begun u in
     b.reads t at n (c ∷ cs) may e ∙ stepped (place t b.pending) n c cs k h
-    ∙ ap (λ (s : Step). follow s n cs) (breaks t b.pending b.some k never)
+    ∙ ap (λ (s : ReaderStep). follow s n cs) (breaks t b.pending b.some k never)
 
 spells_nothing : (i j k : ℕ) (o : Option Fields) → spelled i j k ≡ o
-    → ((s : Fields) → Spells s (i ∷ j ∷ k ∷ []) → ⊥) → spelled i j k ≡ None
+    → ((s : Fields) → SpellsSymbol s (i ∷ j ∷ k ∷ []) → ⊥) → spelled i j k ≡ None
 spells_nothing i j k None e never = e
 spells_nothing i j k (Some s) e never = absurd (never s (spelled_some i j k s e))
 
@@ -151,11 +151,11 @@ one packet_is_cut = refl
 one (data_is_added {at} {i} {bytes} {c} {cs} h few r) =
     one r
     ∙ sym (stepped (place (Within bytes) Nothing) at c cs (Byte i) h
-    ∙ ap (λ (b : Bool). follow (added bytes i b) at cs) (below (length bytes) 276 few))
+    ∙ ap (λ (b : Bool). follow (byte_added bytes i b) at cs) (below (length bytes) 276 few))
 one (data_is_too_long {at} {i} {bytes} {c} {cs} h many r) =
     ap (prepend ((at, Bad General) ∷ [])) (one r)
     ∙ sym (stepped (place (Within bytes) Nothing) at c cs (Byte i) h
-    ∙ ap (λ (b : Bool). follow (added bytes i b) at cs) (not_below (length bytes) 276 many))
+    ∙ ap (λ (b : Bool). follow (byte_added bytes i b) at cs) (not_below (length bytes) 276 many))
 one (idle_in_packet {at} {bytes} {c} {cs} h r) =
     ap (prepend ((at, Bad BadChar) ∷ [])) (one r)
     ∙ sym (stepped (place (Within bytes) Nothing) at c cs Idle h)
@@ -167,7 +167,7 @@ one (symbol_is_read {t} {at} {i} {j} {k} {d} {cs = cs} s may w spells al r) =
     ∙ sym (whole t at cs may w
     ∙ ap (λ (o : Option Fields). follow (finished t d o) (suc (suc (suc at))) cs)
     (spelled_back i j k s spells)
-    ∙ ap (λ (b : Bool). follow (taken t s b) (suc (suc (suc at))) cs) al)
+    ∙ ap (λ (b : Bool). follow (symbol_taken t s b) (suc (suc (suc at))) cs) al)
 one (spells_none {t} {at} {i} {j} {k} {d} {cs = cs} may w never r) =
     ap (prepend ((suc (suc (suc at)), Bad BadSymbol) ∷ [])) (one r)
     ∙ sym (whole t at cs may w
@@ -178,7 +178,7 @@ one (not_allowed {t} {at} {i} {j} {k} {d} {cs = cs} s may w spells al r) =
     ∙ sym (whole t at cs may w
     ∙ ap (λ (o : Option Fields). follow (finished t d o) (suc (suc (suc at))) cs)
     (spelled_back i j k s spells)
-    ∙ ap (λ (b : Bool). follow (taken t s b) (suc (suc (suc at))) cs) al)
+    ∙ ap (λ (b : Bool). follow (symbol_taken t s b) (suc (suc (suc at))) cs) al)
 one (cut_by_delimiter {t} {at} {n} {d} {cs} front c may u e all h r) =
     ap (prepend ((n, Bad BadChar) ∷ [])) (one r ∙ stepped (place Plain Nothing) n c cs (Opens d) h)
     ∙ sym (ap (reading (place t Nothing) at) all ∙ broke t at n c cs (Opens d) may u e h tt)

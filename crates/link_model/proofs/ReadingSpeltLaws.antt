@@ -20,8 +20,8 @@ use Rattle.link_model.specs.declared.reading_kinds.Kind.TheVariants.{Byte, Opens
 use Rattle.link_model.specs.declared.reading_kinds.Pending.{Pending}
 use Rattle.link_model.specs.declared.reading_kinds.Pending.TheVariants.{Nothing, Opened, One, Two}
 use Rattle.link_model.specs.Events.{packet_event, packet_or_cause}
-use Rattle.link_model.specs.Places.{Place, Step, place, opened, broken_off, begins_in, added, taken, finished, start, step_by, step, run, place_after}
-use Rattle.link_model.specs.Reading.{Text, Plain, Skipped, Within, IsOpen, IsWhole, text_after, ends_packet, ended, told, placed}
+use Rattle.link_model.specs.Places.{Place, ReaderStep, place, opened, broken_off, begins_in, byte_added, symbol_taken, finished, place_start, step_by, step, run, place_after}
+use Rattle.link_model.specs.Reading.{Text, Plain, Skipped, Within, IsOpen, IsWhole, text_after, ends_packet, packet_ended, told, placed}
 use Rattle.link_model.specs.ReadingKinds.{kind}
 use Rattle.link_model.specs.ReadingSpelt.{delimiter_char, data_chars, symbol_chars_of, bytes_with_ack, packet_chars_of}
 use Rattle.link_model.proofs.ReadingSteps.{course, follow_to, course_step, course_whole, below}
@@ -41,7 +41,7 @@ own_is_allowed s range = grind arith
 -- A symbol, where one may begin.
 pub symbol_course : (t : Text) (at : ℕ) (s : Fields) (cs : List Char) → IsOpen t → InRange s
     → course (place t Nothing) at (symbol_chars_of s ++ cs)
-    ≡ follow_to (taken t s true) (suc (suc (suc at))) cs
+    ≡ follow_to (symbol_taken t s true) (suc (suc (suc at))) cs
 unfolding symbol_chars_of symbol_bytes
 symbol_course t at s cs may range =
     let d = delimiter_of s in
@@ -56,7 +56,8 @@ symbol_course t at s cs may range =
     course_whole t at cs may w
     ∙ ap (λ (o : Option Fields). follow_to (finished t d o) (suc (suc (suc at))) cs)
     (spelled_own s range)
-    ∙ ap (λ (b : Bool). follow_to (taken t s b) (suc (suc (suc at))) cs) (own_is_allowed s range)
+    ∙ ap (λ (b : Bool). follow_to (symbol_taken t s b) (suc (suc (suc at))) cs)
+    (own_is_allowed s range)
 
 -- data characters within a packet
 data_course : (bytes xs : List ℕ) (at n : ℕ) (cs : List Char) → length bytes + length xs ≤ 276
@@ -70,7 +71,7 @@ data_course bytes [] at n cs h e =
 data_course bytes (x ∷ xs) at n cs h e =
     course_step (place (Within bytes) Nothing) at (Data x) (data_chars xs ++ cs) (Byte x)
     (kind-data x)
-    ∙ ap (λ (b : Bool). follow_to (added bytes x b) at (data_chars xs ++ cs))
+    ∙ ap (λ (b : Bool). follow_to (byte_added bytes x b) at (data_chars xs ++ cs))
     (below (length bytes) 276 (omega arith))
     ∙ data_course (bytes ++ x ∷ []) xs (suc at) n cs (longer bytes x xs h) (omega arith)
     ∙ ap (λ (all : List ℕ). course (place (Within all) Nothing) n cs)
@@ -108,7 +109,8 @@ before es r = (es ++ r.0, r.1)
 -- what a symbol of this stype1 tells within a packet, and the characters behind it
 abbrev ends_as : List ℕ → Fields → ℕ → ℕ → List Char → List (ℕ × Event) × Place
 ends_as bytes last m k cs = (
-  placed (suc (suc (suc m))) ((if ends_packet k then ended (Within bytes) else []) ++ Ctl last ∷ [])
+  placed (suc (suc (suc m))) ((if ends_packet k then packet_ended (Within bytes) else [])
+      ++ Ctl last ∷ [])
       ++ run (place (text_after (Within bytes) k) Nothing) (suc (suc (suc (suc m)))) cs,
   place_after (place (text_after (Within bytes) k) Nothing) cs,
 )
@@ -121,8 +123,8 @@ pub packet_course : (t : Text) (at n : ℕ) (first : Fields) (ack : ℕ) (packet
     → course (place t Nothing) at (packet_chars_of first ack packet last ++ cs)
     ≡ (
       placed (suc (suc (suc at))) (told t first) ++ (n, Pkt ack packet) ∷ (n, Ctl last)
-          ∷ run start (suc n) cs,
-      place_after start cs,
+          ∷ run place_start (suc n) cs,
+      place_after place_start cs,
     )
 unfolding packet_chars_of
 packet_course t at n first ack packet last cs may in_first starts few passes in_last ends e =
@@ -147,12 +149,13 @@ packet_course t at n first ack packet last cs may in_first starts few passes in_
     ∙ ap (λ (k : ℕ). ends_as bytes last m k cs) ends
     ∙ ap (λ (ev : Event). (
       placed (suc (suc (suc m))) (ev ∷ Ctl last ∷ [])
-          ++ run start (suc (suc (suc (suc m)))) cs,
-      place_after start cs,
+          ++ run place_start (suc (suc (suc (suc m)))) cs,
+      place_after place_start cs,
     ))
     (event-bytes_with_ack packet ack few passes)
     ∙ ap
-    (λ (k : ℕ). ((k, Pkt ack packet) ∷ (k, Ctl last) ∷ run start (suc k) cs, place_after start cs))
+    (λ (k : ℕ).
+    ((k, Pkt ack packet) ∷ (k, Ctl last) ∷ run place_start (suc k) cs, place_after place_start cs))
     (sym there))
 
 pub run-symbol : (t : Text) (at : ℕ) (s : Fields) → IsOpen t → InRange s
@@ -189,7 +192,7 @@ run-packet t at n first ack packet last may in_first starts few passes in_last e
 pub place_after-packet : (t : Text) (first : Fields) (ack : ℕ) (packet : List ℕ) (last : Fields)
     → IsOpen t
     → InRange first → first.s1 ≡ 0 → ack < 32 → Passes packet → InRange last → last.s1 ≡ 2
-    → place_after (place t Nothing) (packet_chars_of first ack packet last) ≡ start
+    → place_after (place t Nothing) (packet_chars_of first ack packet last) ≡ place_start
 unfolding place_after
 place_after-packet t first ack packet last may in_first starts few passes in_last ends =
     ap (place_after (place t Nothing)) (sym (append-nil (packet_chars_of first ack packet last)))
@@ -234,10 +237,11 @@ run-delimited : (t : Text) (p : Pending) (at : ℕ) (d : Delimiter) (cs : List C
     ≡ placed at (broken_off p) ++ run (place (begins_in t p) Nothing) at (delimiter_char d ∷ cs)
 unfolding run
 run-delimited t p at d cs =
-    ap (λ (s : Step). placed at s.gives ++ run s.place (suc at) cs) (delimiter-step t p d)
+    ap (λ (s : ReaderStep). placed at s.gives ++ run s.place (suc at) cs) (delimiter-step t p d)
     ∙ ap (λ (u : Text). placed at (broken_off p) ++ run (place u (Opened d)) (suc at) cs)
     (sym (begins_opened t p))
-    ∙ ap (λ (s : Step). placed at (broken_off p) ++ (placed at s.gives ++ run s.place (suc at) cs))
+    ∙ ap (λ (s : ReaderStep). placed at (broken_off p)
+    ++ (placed at s.gives ++ run s.place (suc at) cs))
     (sym (delimiter-step (begins_in t p) Nothing d))
 
 place_after-delimited : (t : Text) (p : Pending) (d : Delimiter) (cs : List Char)
@@ -245,9 +249,10 @@ place_after-delimited : (t : Text) (p : Pending) (d : Delimiter) (cs : List Char
     ≡ place_after (place (begins_in t p) Nothing) (delimiter_char d ∷ cs)
 unfolding place_after
 place_after-delimited t p d cs =
-    ap (λ (s : Step). place_after s.place cs) (delimiter-step t p d)
+    ap (λ (s : ReaderStep). place_after s.place cs) (delimiter-step t p d)
     ∙ ap (λ (u : Text). place_after (place u (Opened d)) cs) (sym (begins_opened t p))
-    ∙ ap (λ (s : Step). place_after s.place cs) (sym (delimiter-step (begins_in t p) Nothing d))
+    ∙ ap (λ (s : ReaderStep). place_after s.place cs)
+    (sym (delimiter-step (begins_in t p) Nothing d))
 
 pub run-symbol_anywhere : (t : Text) (p : Pending) (at : ℕ) (s : Fields) → InRange s
     → run (place t p) at (symbol_chars_of s)
@@ -284,7 +289,7 @@ run-packet_anywhere t p at n first ack packet last in_first starts few passes in
 pub place_after-packet_anywhere : (t : Text) (p : Pending) (first : Fields) (ack : ℕ)
     (packet : List ℕ) (last : Fields)
     → InRange first → first.s1 ≡ 0 → ack < 32 → Passes packet → InRange last → last.s1 ≡ 2
-    → place_after (place t p) (packet_chars_of first ack packet last) ≡ start
+    → place_after (place t p) (packet_chars_of first ack packet last) ≡ place_start
 unfolding packet_chars_of symbol_chars_of
 place_after-packet_anywhere t p first ack packet last in_first starts few passes in_last ends =
     place_after-delimited t p (delimiter_of first)

@@ -8,7 +8,7 @@ use Rattle.link_model.specs.declared.event.Event.{Event}
 use Rattle.link_model.specs.declared.reading_kinds.Kind.{Kind}
 use Rattle.link_model.specs.declared.reading_kinds.Kind.TheVariants.{Byte, Opens}
 use Rattle.link_model.specs.declared.reading_kinds.Pending.TheVariants.{Nothing, Opened, One, Two}
-use Rattle.link_model.specs.Places.{Place, Step, place, opened, finished, step_by, run, place_after, at_rest}
+use Rattle.link_model.specs.Places.{Place, ReaderStep, place, opened, finished, step_by, run, place_after, at_rest}
 use Rattle.link_model.specs.Reading.{Text, Plain, Skipped, Within, IsOpen, IsWhole, placed}
 use Rattle.link_model.specs.ReadingKinds.{kind}
 
@@ -17,7 +17,7 @@ abbrev pub course : Place → ℕ → List Char → List (ℕ × Event) × Place
 course from at cs = (run from at cs, place_after from cs)
 
 -- the events of a step at a place, and those of the characters behind it
-abbrev pub follow_to : Step → ℕ → List Char → List (ℕ × Event) × Place
+abbrev pub follow_to : ReaderStep → ℕ → List Char → List (ℕ × Event) × Place
 follow_to s at cs = (placed at s.gives ++ run s.place (suc at) cs, place_after s.place cs)
 
 -- the step of a character whose kind is known
@@ -63,7 +63,7 @@ reading from at cs = resting (course from at cs)
 abbrev pub prepend : List (ℕ × Event) → List (ℕ × Event) × Bool → List (ℕ × Event) × Bool
 prepend es after = (es ++ after.0, after.1)
 
-abbrev pub follow : Step → ℕ → List Char → List (ℕ × Event) × Bool
+abbrev pub follow : ReaderStep → ℕ → List Char → List (ℕ × Event) × Bool
 follow s at cs = prepend (placed at s.gives) (reading s.place (suc at) cs)
 
 pub stepped : (from : Place) (at : ℕ) (c : Char) (cs : List Char) (k : Kind) → kind c ≡ k

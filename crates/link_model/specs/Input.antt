@@ -9,9 +9,9 @@ use Rattle.link_model.specs.Symbols.{packet_accepted, packet_retry, packet_not_a
 
 -- a state, with the next expected ackID
 pub data Input : Type 0 where
-  Ok : ℕ → Input
-  RetryStopped : ℕ → Input
-  ErrorStopped : ℕ → Input
+  InputOk : ℕ → Input
+  InputRetryStopped : ℕ → Input
+  InputErrorStopped : ℕ → Input
 
 -- what comes to a receiver; a packet that is expected, with the buffer status after it
 pub data Arrival : Type 0 where
@@ -52,40 +52,47 @@ abbrev pub silent : Input → Received
 silent state = record { state = state; reply = None; held = false }
 
 -- the packet of the expected ackID is accepted
-abbrev pub accepted : ℕ → ℕ → Received
-accepted expected buffers =
+abbrev pub input_accepted : ℕ → ℕ → Received
+input_accepted expected buffers =
     record {
-      state = Ok ((expected + 1) % 32);
+      state = InputOk ((expected + 1) % 32);
       reply = Some (packet_accepted expected buffers);
       held
           = true;
     }
 
 -- an error: the far port has to ask which packet is expected
-abbrev pub error : ℕ → ℕ → Received
-error expected cause = replied (ErrorStopped expected) (packet_not_accepted expected cause)
+abbrev pub input_error : ℕ → ℕ → Received
+input_error expected cause =
+    replied (InputErrorStopped expected) (packet_not_accepted expected cause)
 
 -- what an arrival does: one clause for each entry of the table
 abbrev pub receives : Arrival → Input → Received
-receives (ExpectedWithRoom buffers) (Ok expected) = accepted expected buffers
-receives (ExpectedWithRoom buffers) (RetryStopped expected) = silent (RetryStopped expected)
-receives (ExpectedWithRoom buffers) (ErrorStopped expected) = silent (ErrorStopped expected)
-receives (ExpectedWithoutRoom buffers) (Ok expected) =
-    replied (RetryStopped expected) (packet_retry expected buffers)
-receives (ExpectedWithoutRoom buffers) (RetryStopped expected) = silent (RetryStopped expected)
-receives (ExpectedWithoutRoom buffers) (ErrorStopped expected) = silent (ErrorStopped expected)
-receives UnexpectedAck (Ok expected) = error expected 1
-receives UnexpectedAck (RetryStopped expected) = silent (RetryStopped expected)
-receives UnexpectedAck (ErrorStopped expected) = silent (ErrorStopped expected)
-receives (Damaged cause) (Ok expected) = error expected cause
-receives (Damaged cause) (RetryStopped expected) = error expected cause
-receives (Damaged cause) (ErrorStopped expected) = silent (ErrorStopped expected)
-receives RestartFromRetry (Ok expected) = error expected 31
-receives RestartFromRetry (RetryStopped expected) = silent (Ok expected)
-receives RestartFromRetry (ErrorStopped expected) = silent (ErrorStopped expected)
-receives LinkRequest (Ok expected) = replied (Ok expected) (link_response expected 16)
-receives LinkRequest (RetryStopped expected) = replied (Ok expected) (link_response expected 4)
-receives LinkRequest (ErrorStopped expected) = replied (Ok expected) (link_response expected 5)
-receives OtherStype1 (Ok expected) = silent (Ok expected)
-receives OtherStype1 (RetryStopped expected) = silent (RetryStopped expected)
-receives OtherStype1 (ErrorStopped expected) = silent (ErrorStopped expected)
+receives (ExpectedWithRoom buffers) (InputOk expected) = input_accepted expected buffers
+receives (ExpectedWithRoom buffers) (InputRetryStopped expected) =
+    silent (InputRetryStopped expected)
+receives (ExpectedWithRoom buffers) (InputErrorStopped expected) =
+    silent (InputErrorStopped expected)
+receives (ExpectedWithoutRoom buffers) (InputOk expected) =
+    replied (InputRetryStopped expected) (packet_retry expected buffers)
+receives (ExpectedWithoutRoom buffers) (InputRetryStopped expected) =
+    silent (InputRetryStopped expected)
+receives (ExpectedWithoutRoom buffers) (InputErrorStopped expected) =
+    silent (InputErrorStopped expected)
+receives UnexpectedAck (InputOk expected) = input_error expected 1
+receives UnexpectedAck (InputRetryStopped expected) = silent (InputRetryStopped expected)
+receives UnexpectedAck (InputErrorStopped expected) = silent (InputErrorStopped expected)
+receives (Damaged cause) (InputOk expected) = input_error expected cause
+receives (Damaged cause) (InputRetryStopped expected) = input_error expected cause
+receives (Damaged cause) (InputErrorStopped expected) = silent (InputErrorStopped expected)
+receives RestartFromRetry (InputOk expected) = input_error expected 31
+receives RestartFromRetry (InputRetryStopped expected) = silent (InputOk expected)
+receives RestartFromRetry (InputErrorStopped expected) = silent (InputErrorStopped expected)
+receives LinkRequest (InputOk expected) = replied (InputOk expected) (link_response expected 16)
+receives LinkRequest (InputRetryStopped expected) =
+    replied (InputOk expected) (link_response expected 4)
+receives LinkRequest (InputErrorStopped expected) =
+    replied (InputOk expected) (link_response expected 5)
+receives OtherStype1 (InputOk expected) = silent (InputOk expected)
+receives OtherStype1 (InputRetryStopped expected) = silent (InputRetryStopped expected)
+receives OtherStype1 (InputErrorStopped expected) = silent (InputErrorStopped expected)

@@ -28,18 +28,18 @@ abbrev pub place : Text → Pending → Place
 place text pending = record { text = text; pending = pending }
 
 -- nothing is in progress and nothing is skipped
-abbrev pub start : Place
-start = place Plain Nothing
+abbrev pub place_start : Place
+place_start = place Plain Nothing
 
 -- what a character does: where the reader stands after it, and the events that it completes
-pub record Step : Type 0 where
+pub record ReaderStep : Type 0 where
   pub place : Place
   pub gives : List Event
 
-abbrev pub goes : Text → Pending → Step
-goes text pending = record { place = place text pending; gives = [] }
+abbrev pub place_goes : Text → Pending → ReaderStep
+place_goes text pending = record { place = place text pending; gives = [] }
 
-abbrev pub fails : Text → Pending → Cause → Step
+abbrev pub fails : Text → Pending → Cause → ReaderStep
 fails text pending cause = record { place = place text pending; gives = Bad cause ∷ [] }
 
 -- the text in which a symbol begins: a delimiter ends skipping
@@ -49,9 +49,9 @@ opened Skipped = Plain
 opened (Within bytes) = Within bytes
 
 -- a byte in a packet, by whether there is room for it
-abbrev pub added : List ℕ → ℕ → Bool → Step
-added bytes byte true = goes (Within (bytes ++ byte ∷ [])) Nothing
-added bytes byte false = fails Skipped Nothing General
+abbrev pub byte_added : List ℕ → ℕ → Bool → ReaderStep
+byte_added bytes byte true = place_goes (Within (bytes ++ byte ∷ [])) Nothing
+byte_added bytes byte false = fails Skipped Nothing General
 
 -- the event of a symbol in progress that a delimiter breaks off
 abbrev pub broken_off : Pending → List Event
@@ -69,48 +69,48 @@ begins_in text (One d x) = Plain
 begins_in text (Two d x y) = Plain
 
 -- a character while no symbol is in progress
-abbrev pub outside : Text → Kind → Step
-outside text (Opens d) = goes (opened text) (Opened d)
-outside Plain Idle = goes Plain Nothing
-outside Skipped Idle = goes Plain Nothing
+abbrev pub outside : Text → Kind → ReaderStep
+outside text (Opens d) = place_goes (opened text) (Opened d)
+outside Plain Idle = place_goes Plain Nothing
+outside Skipped Idle = place_goes Plain Nothing
 outside (Within bytes) Idle = fails Plain Nothing BadChar
 outside Plain (Byte byte) = fails Skipped Nothing BadChar
-outside Skipped (Byte byte) = goes Skipped Nothing
-outside (Within bytes) (Byte byte) = added bytes byte (nat_lt (length bytes) 276)
+outside Skipped (Byte byte) = place_goes Skipped Nothing
+outside (Within bytes) (Byte byte) = byte_added bytes byte (nat_lt (length bytes) 276)
 outside Plain Stray = fails Skipped Nothing BadChar
-outside Skipped Stray = goes Skipped Nothing
+outside Skipped Stray = place_goes Skipped Nothing
 outside (Within bytes) Stray = fails Skipped Nothing BadChar
 
 -- a character, no data, while a symbol is in progress
-abbrev pub broken : Kind → Step
+abbrev pub broken : Kind → ReaderStep
 broken (Opens d) = fails Plain (Opened d) BadChar
 broken Idle = fails Plain Nothing BadChar
 broken Stray = fails Skipped Nothing BadChar
 broken (Byte byte) = fails Skipped Nothing BadChar
 
 -- a symbol that was spelled, where its delimiter allows it and where it does not
-abbrev pub taken : Text → Fields → Bool → Step
-taken text symbol true =
+abbrev pub symbol_taken : Text → Fields → Bool → ReaderStep
+symbol_taken text symbol true =
     record { place = place (text_after text symbol.s1) Nothing; gives = told text symbol }
-taken text symbol false = fails Skipped Nothing General
+symbol_taken text symbol false = fails Skipped Nothing General
 
 -- the third byte of a symbol, by what the three spell
-abbrev pub finished : Text → Delimiter → Option Fields → Step
-finished text d (Some symbol) = taken text symbol (allowed d symbol)
+abbrev pub finished : Text → Delimiter → Option Fields → ReaderStep
+finished text d (Some symbol) = symbol_taken text symbol (allowed d symbol)
 finished text d None = fails Skipped Nothing BadSymbol
 
 -- a character of this kind
-abbrev pub step_by : Text → Pending → Kind → Step
+abbrev pub step_by : Text → Pending → Kind → ReaderStep
 step_by text Nothing k = outside text k
-step_by text (Opened d) (Byte x) = goes text (One d x)
+step_by text (Opened d) (Byte x) = place_goes text (One d x)
 step_by text (Opened d) k = broken k
-step_by text (One d x) (Byte y) = goes text (Two d x y)
+step_by text (One d x) (Byte y) = place_goes text (Two d x y)
 step_by text (One d x) k = broken k
 step_by text (Two d x y) (Byte z) = finished text d (spelled x y z)
 step_by text (Two d x y) k = broken k
 
 -- one character
-abbrev pub step : Place → Char → Step
+abbrev pub step : Place → Char → ReaderStep
 step from c = step_by from.text from.pending (kind c)
 
 -- the events of characters, of which the first stands at this place, each at the place of the

@@ -4,7 +4,7 @@ use Rattle.std.specs.Prelude.{ℕ}
 use Rattle.link_model.specs.declared.symbols.PortStatus.{PortStatus}
 use Rattle.link_model.specs.declared.symbols.PortStatus.TheVariants as Status
 
-abbrev pub status_of : PortStatus → ℕ
-status_of Status.RetryStopped = 4
-status_of Status.ErrorStopped = 5
-status_of Status.Ok = 16
+abbrev pub port_status_number : PortStatus → ℕ
+port_status_number Status.RetryStopped = 4
+port_status_number Status.ErrorStopped = 5
+port_status_number Status.Ok = 16

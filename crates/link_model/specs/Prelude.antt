@@ -19,7 +19,7 @@ pub use Rattle.rio_packets.specs.declared.cause.Cause.TheVariants.{BadSymbol, Ba
 pub use Rattle.rio_packets.specs.CauseNumbers.{number_of}
 pub use Rattle.link_model.specs.Said.{said}
 unfoldable pub use Rattle.link_model.specs.Fronts.{telling_front}
-pub use Rattle.link_model.specs.Places.{Place, start, at_rest, place, step, IsBounded}
+pub use Rattle.link_model.specs.Places.{Place, place_start, at_rest, place, step, IsBounded}
 unfoldable pub use Rattle.link_model.specs.Places.{run, place_after}
 pub use Rattle.link_model.specs.Reading.{Plain, Within, Skipped, Text, placed}
 pub use Rattle.link_model.specs.ReadingSpelt.{data_chars}

@@ -7,7 +7,7 @@ use Rattle.rio_symbols.specs.declared.characters.Delimiter.{Delimiter}
 use Rattle.rio_symbols.specs.declared.stype1.TheConstants.{START_OF_PACKET, END_OF_PACKET, LINK_REQUEST}
 use Rattle.rio_symbols.specs.Delimiters.{allowed}
 use Rattle.rio_symbols.specs.Fields.{Fields}
-use Rattle.rio_symbols.specs.Spelling.{Spells}
+use Rattle.rio_symbols.specs.Spelling.{SpellsSymbol}
 use Rattle.rio_packets.specs.declared.cause.Cause.TheVariants.{BadSymbol, BadChar, General}
 use Rattle.link_model.specs.declared.event.Event.{Event}
 use Rattle.link_model.specs.declared.event.Event.TheVariants.{Ctl, Bad}
@@ -36,10 +36,10 @@ text_after text s1 =
     if s1 == START_OF_PACKET then Within [] else (if nat_le s1 LINK_REQUEST then Plain else text)
 
 -- the event of a packet that ends here
-abbrev pub ended : Text → List Event
-ended Plain = []
-ended Skipped = []
-ended (Within bytes) = packet_event bytes ∷ []
+abbrev pub packet_ended : Text → List Event
+packet_ended Plain = []
+packet_ended Skipped = []
+packet_ended (Within bytes) = packet_event bytes ∷ []
 
 -- whether a symbol ends a packet that is to be delivered: start-of-packet and end-of-packet do
 abbrev pub ends_packet : ℕ → Bool
@@ -47,7 +47,7 @@ ends_packet s1 = (s1 == START_OF_PACKET) || (s1 == END_OF_PACKET)
 
 -- The events of a symbol: that of the packet that it ends, and its own.
 abbrev pub told : Text → Fields → List Event
-told text symbol = (if ends_packet symbol.s1 then ended text else []) ++ Ctl symbol ∷ []
+told text symbol = (if ends_packet symbol.s1 then packet_ended text else []) ++ Ctl symbol ∷ []
 
 -- events at one place
 abbrev pub placed : ℕ → List Event → List (ℕ × Event)
@@ -122,19 +122,19 @@ pub data Reads : Text → ℕ → List Char → List (ℕ × Event) → Bool →
   symbol_is_read
       : {t : Text} {at i j k : ℕ} {d : Delimiter} {c x y z : Char} {cs : List Char} {es : List
       (ℕ × Event)} {rest : Bool}
-      (s : Fields) → IsOpen t → IsWhole d c x y z i j k → Spells s (i ∷ j ∷ k ∷ [])
+      (s : Fields) → IsOpen t → IsWhole d c x y z i j k → SpellsSymbol s (i ∷ j ∷ k ∷ [])
       → IsTrue (allowed d s)
       → Reads (text_after t s.s1) (suc (suc (suc (suc at)))) cs es rest
       → Reads t at (c ∷ x ∷ y ∷ z ∷ cs) (placed (suc (suc (suc at))) (told t s) ++ es) rest
   -- a broken symbol
   spells_none : {t : Text} {at i j k : ℕ} {d : Delimiter} {c x y z : Char} {cs : List Char} {es :
       List (ℕ × Event)} {rest : Bool}
-      → IsOpen t → IsWhole d c x y z i j k → ((s : Fields) → Spells s (i ∷ j ∷ k ∷ []) → ⊥)
+      → IsOpen t → IsWhole d c x y z i j k → ((s : Fields) → SpellsSymbol s (i ∷ j ∷ k ∷ []) → ⊥)
       → Reads Skipped (suc (suc (suc (suc at)))) cs es rest
       → Reads t at (c ∷ x ∷ y ∷ z ∷ cs) ((suc (suc (suc at)), Bad BadSymbol) ∷ es) rest
   not_allowed : {t : Text} {at i j k : ℕ} {d : Delimiter} {c x y z : Char} {cs : List Char} {es :
       List (ℕ × Event)} {rest : Bool}
-      (s : Fields) → IsOpen t → IsWhole d c x y z i j k → Spells s (i ∷ j ∷ k ∷ [])
+      (s : Fields) → IsOpen t → IsWhole d c x y z i j k → SpellsSymbol s (i ∷ j ∷ k ∷ [])
       → allowed d s ≡ false
       → Reads Skipped (suc (suc (suc (suc at)))) cs es rest
       → Reads t at (c ∷ x ∷ y ∷ z ∷ cs) ((suc (suc (suc at)), Bad General) ∷ es) rest

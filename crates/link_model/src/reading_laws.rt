@@ -10,17 +10,18 @@ ghost use Rattle.link_model.specs.declared.reading_kinds.Pending.{Pending};
 ghost use Rattle.rio_packets.specs.declared.cause.Cause.TheVariants.{BadPacket, General};
 ghost use Rattle.link_model.specs.Events.{same_event, packet_event, checked_event};
 ghost use Rattle.link_model.specs.Reading.{Text, IsOpen, text_after, told, placed, IsReading, IsCut};
-ghost use Rattle.link_model.specs.Places.{Place, place, start, broken_off, begins_in, step, run, place_after, at_rest, AreGiven, IsBounded};
+ghost use Rattle.link_model.specs.Places.{Place, place, place_start, broken_off, begins_in, step, run, place_after, at_rest, AreGiven, IsBounded};
 ghost use Rattle.link_model.specs.Fronts.{telling_front};
 ghost use Rattle.link_model.specs.ReadingSpelt.{symbol_chars_of, bytes_with_ack, packet_chars_of};
 
 /// Every list of characters has exactly one reading, and it is what the steps of one character
 /// tell. The list is cut exactly where the steps leave a symbol or a packet in progress.
 pub fn one_reading()
-    ensures exists { (chars : List Char) → IsReading chars (run start 0 chars) }
+    ensures exists { (chars : List Char) → IsReading chars (run place_start 0 chars) }
     ensures one { (chars : List Char) (events : List (ℕ × Event)) → IsReading chars events
-        → events ≡ run start 0 chars }
-    ensures cut { (chars : List Char) → IsCut chars ↔ (at_rest (place_after start chars) ≡ false) }
+        → events ≡ run place_start 0 chars }
+    ensures cut { (chars : List Char) → IsCut chars
+        ↔ (at_rest (place_after place_start chars) ≡ false) }
 {}
 
 /// Characters may be read in pieces: the events of two pieces are those of the first and, from
@@ -48,7 +49,7 @@ pub fn one_character_tells_at_most_two()
 pub fn packet_in_progress_is_bounded()
     ensures step { (from : Place) (c : Char) → IsBounded from.text
         → IsBounded (step from c).place.text }
-    ensures all { (chars : List Char) → IsBounded (place_after start chars).text }
+    ensures all { (chars : List Char) → IsBounded (place_after place_start chars).text }
 {}
 
 /// Where a symbol may begin, what is sent for a symbol is read as it, and what is sent for a packet
@@ -71,7 +72,8 @@ pub fn spelling_is_read()
         (last : Fields) → IsOpen text
         → InRange first → first.s1 ≡ START_OF_PACKET → ack < 32 → Passes packet → InRange last
         → last.s1 ≡ 2
-        → place_after (place text Pending.Nothing) (packet_chars_of first ack packet last) ≡ start }
+        → place_after (place text Pending.Nothing) (packet_chars_of first ack packet last)
+        ≡ place_start }
 {}
 
 /// From any place, also where a symbol or a packet is in progress or data is skipped, what is sent
@@ -95,7 +97,7 @@ pub fn spelling_is_read_from_any_place()
     ensures after_packet { (text : Text) (pending : Pending) (first : Fields) (ack : ℕ)
         (packet : List ℕ) (last : Fields) → InRange first → first.s1 ≡ START_OF_PACKET → ack < 32
         → Passes packet → InRange last → last.s1 ≡ END_OF_PACKET
-        → place_after (place text pending) (packet_chars_of first ack packet last) ≡ start }
+        → place_after (place text pending) (packet_chars_of first ack packet last) ≡ place_start }
 {}
 
 /// Two events are the same exactly where the test of events says so; and the event of a packet's

@@ -3,7 +3,7 @@
 ghost use Rattle.std.specs.Prelude.{◌≡◌, ◌<◌};
 ghost use Rattle.rio_packets.specs.CauseNumbers.{number_of};
 ghost use Rattle.link_model.specs.Symbols as symbols;
-ghost use Rattle.link_model.specs.PortStatuses.{status_of};
+ghost use Rattle.link_model.specs.PortStatuses.{port_status_number};
 
 use rio_packets::{Cause, cause_number};
 use rio_symbols::{Symbol, cmd, stype0, stype1};
@@ -54,7 +54,7 @@ pub fn packet_not_accepted(expected: u8, cause: Cause) -> Symbol
 /// it.
 pub fn link_response(expected: u8, status: PortStatus) -> Symbol
     requires { expected < 32 }
-    ensures { result ≡ symbols.link_response expected (status_of status) }
+    ensures { result ≡ symbols.link_response expected (port_status_number status) }
 {
     let port_status = match status {
         PortStatus::RetryStopped => 4,

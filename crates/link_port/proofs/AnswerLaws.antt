@@ -9,8 +9,9 @@ use Rattle.link_model.specs.declared.event.Event.TheVariants.{Ctl, Pkt, Bad}
 use Rattle.link_model.specs.declared.reading_kinds.Pending.{Pending}
 use Rattle.link_model.specs.declared.reading_kinds.Pending.TheVariants.{Nothing}
 use Rattle.link_model.specs.Places.{broken_off, begins_in}
-use Rattle.link_model.specs.Reading.{text_after, told, ends_packet, ended}
+use Rattle.link_model.specs.Reading.{text_after, told, ends_packet, packet_ended}
 use Rattle.link_model.specs.Symbols.{answer}
+use Rattle.link_model.specs.Input.{InputOk, InputRetryStopped, InputErrorStopped}
 use Rattle.link_model.proofs.ReadingSpeltLaws.{run-symbol_anywhere, place_after-symbol_anywhere}
 use Rattle.link_port.specs.Ports.{PortState}
 use Rattle.link_port.specs.States.{expected_of}
@@ -63,36 +64,36 @@ answers_by s0 p0 p1 stype0 first second = record {
 
 received_answers : (what : Arrival) (input : Input) → IsSmall what → expected_of input < 32
     → IsReply (receives what input).reply
-received_answers (Arrival.ExpectedWithRoom buffers) (Input.Ok e) small below =
+received_answers (Arrival.ExpectedWithRoom buffers) (InputOk e) small below =
     answers_by 0 e buffers (omega arith) below small
-received_answers (Arrival.ExpectedWithRoom buffers) (Input.RetryStopped e) small below = tt
-received_answers (Arrival.ExpectedWithRoom buffers) (Input.ErrorStopped e) small below = tt
-received_answers (Arrival.ExpectedWithoutRoom buffers) (Input.Ok e) small below =
+received_answers (Arrival.ExpectedWithRoom buffers) (InputRetryStopped e) small below = tt
+received_answers (Arrival.ExpectedWithRoom buffers) (InputErrorStopped e) small below = tt
+received_answers (Arrival.ExpectedWithoutRoom buffers) (InputOk e) small below =
     answers_by 1 e buffers (omega arith) below small
-received_answers (Arrival.ExpectedWithoutRoom buffers) (Input.RetryStopped e) small below = tt
-received_answers (Arrival.ExpectedWithoutRoom buffers) (Input.ErrorStopped e) small below = tt
-received_answers Arrival.UnexpectedAck (Input.Ok e) small below =
+received_answers (Arrival.ExpectedWithoutRoom buffers) (InputRetryStopped e) small below = tt
+received_answers (Arrival.ExpectedWithoutRoom buffers) (InputErrorStopped e) small below = tt
+received_answers Arrival.UnexpectedAck (InputOk e) small below =
     answers_by 2 e 1 (omega arith) below (omega arith)
-received_answers Arrival.UnexpectedAck (Input.RetryStopped e) small below = tt
-received_answers Arrival.UnexpectedAck (Input.ErrorStopped e) small below = tt
-received_answers (Arrival.Damaged cause) (Input.Ok e) small below =
+received_answers Arrival.UnexpectedAck (InputRetryStopped e) small below = tt
+received_answers Arrival.UnexpectedAck (InputErrorStopped e) small below = tt
+received_answers (Arrival.Damaged cause) (InputOk e) small below =
     answers_by 2 e cause (omega arith) below small
-received_answers (Arrival.Damaged cause) (Input.RetryStopped e) small below =
+received_answers (Arrival.Damaged cause) (InputRetryStopped e) small below =
     answers_by 2 e cause (omega arith) below small
-received_answers (Arrival.Damaged cause) (Input.ErrorStopped e) small below = tt
-received_answers Arrival.RestartFromRetry (Input.Ok e) small below =
+received_answers (Arrival.Damaged cause) (InputErrorStopped e) small below = tt
+received_answers Arrival.RestartFromRetry (InputOk e) small below =
     answers_by 2 e 31 (omega arith) below (omega arith)
-received_answers Arrival.RestartFromRetry (Input.RetryStopped e) small below = tt
-received_answers Arrival.RestartFromRetry (Input.ErrorStopped e) small below = tt
-received_answers Arrival.LinkRequest (Input.Ok e) small below =
+received_answers Arrival.RestartFromRetry (InputRetryStopped e) small below = tt
+received_answers Arrival.RestartFromRetry (InputErrorStopped e) small below = tt
+received_answers Arrival.LinkRequest (InputOk e) small below =
     answers_by 6 e 16 (omega arith) below (omega arith)
-received_answers Arrival.LinkRequest (Input.RetryStopped e) small below =
+received_answers Arrival.LinkRequest (InputRetryStopped e) small below =
     answers_by 6 e 4 (omega arith) below (omega arith)
-received_answers Arrival.LinkRequest (Input.ErrorStopped e) small below =
+received_answers Arrival.LinkRequest (InputErrorStopped e) small below =
     answers_by 6 e 5 (omega arith) below (omega arith)
-received_answers Arrival.OtherStype1 (Input.Ok e) small below = tt
-received_answers Arrival.OtherStype1 (Input.RetryStopped e) small below = tt
-received_answers Arrival.OtherStype1 (Input.ErrorStopped e) small below = tt
+received_answers Arrival.OtherStype1 (InputOk e) small below = tt
+received_answers Arrival.OtherStype1 (InputRetryStopped e) small below = tt
+received_answers Arrival.OtherStype1 (InputErrorStopped e) small below = tt
 
 -- whatever comes, the reply is an answer
 pub reply_answers : (p : PortState) (e : Event) → expected_of p.input < 32
@@ -110,7 +111,8 @@ reply_answers p (Bad cause) below few =
 
 -- the symbols with which a port answers tell themselves alone, and leave the text as it was
 pub answer_tells : (t : Text) (s : Fields) → IsAnswer s → told t s ≡ Ctl s ∷ []
-answer_tells t s is = ap (λ (n : ℕ). (if ends_packet n then ended t else []) ++ Ctl s ∷ []) is.nop
+answer_tells t s is =
+    ap (λ (n : ℕ). (if ends_packet n then packet_ended t else []) ++ Ctl s ∷ []) is.nop
 
 pub answer_stays : (t : Text) (s : Fields) → IsAnswer s → text_after t s.s1 ≡ t
 answer_stays t s is = ap (text_after t) is.nop

@@ -4,15 +4,16 @@ use Rattle.link_model.specs.Prelude.{Char, Fields, Input, receives, symbol_arriv
 use Rattle.link_model.specs.declared.event.Event.{Event}
 use Rattle.link_model.specs.Input.Arrival.{OtherStype1}
 use Rattle.link_model.specs.Places.{AreGiven}
+use Rattle.link_model.specs.Input.{InputOk, InputRetryStopped, InputErrorStopped}
 use Rattle.link_model.proofs.PlacesLaws.{given}
 use Rattle.link_port.specs.Ports.{PortState}
 use Rattle.link_port.specs.Steps.{acts, read, after_reading}
 use Rattle.link_port.specs.Acts.{replies}
 
 other_has_none : (input : Input) → (receives OtherStype1 input).reply ≡ None
-other_has_none (Input.Ok expected) = refl
-other_has_none (Input.RetryStopped expected) = refl
-other_has_none (Input.ErrorStopped expected) = refl
+other_has_none (InputOk expected) = refl
+other_has_none (InputRetryStopped expected) = refl
+other_has_none (InputErrorStopped expected) = refl
 
 pub start_or_end_has_none : (input : Input) (s1 cmd : ℕ) → (s1 ≡ 0) ⊎ (s1 ≡ 2)
     → (receives (symbol_arrival s1 cmd) input).reply ≡ None

@@ -23,9 +23,9 @@ held_of (Pkt ack packet) held = if held then Some packet else None
 held_of (Bad cause) held = None
 
 -- that of the first event, if there is one
-abbrev pub held_by : Option Event → Bool → Option (List ℕ)
-held_by None held = None
-held_by (Some event) held = held_of event held
+abbrev pub held_by_event : Option Event → Bool → Option (List ℕ)
+held_by_event None held = None
+held_by_event (Some event) held = held_of event held
 
 -- whether there is a first event, and it is a symbol, or a packet that is taken or has no room
 abbrev pub is_first_acted : PortState → Option Event → Bool

@@ -42,7 +42,7 @@ sending_burst (sending.Packet start ack prio place end) queued =
     burst_between start ack (slice_get (list_at queued prio) place) end
 
 -- a packet that is sent has an ackID and a priority in range, and stands between its two symbols
-pub record IsBetween (start : Fields) (ack prio : ℕ) (end : Fields) : Type 0 where
+pub record IsFramed (start : Fields) (ack prio : ℕ) (end : Fields) : Type 0 where
   pub below : ack < 32
   pub few : prio < 4
   pub starts : start.s1 ≡ START_OF_PACKET
@@ -52,7 +52,7 @@ pub record IsBetween (start : Fields) (ack prio : ℕ) (end : Fields) : Type 0 w
 abbrev pub IsSending : Sending → Type 0
 IsSending sending.Nothing = Unit {0}
 IsSending (sending.Symbol symbol) = Unit {0}
-IsSending (sending.Packet start ack prio place end) = IsBetween start ack prio end
+IsSending (sending.Packet start ack prio place end) = IsFramed start ack prio end
 
 -- what is sent, from a port that stands so
 abbrev pub sending_of : Sends → Standing → Sending

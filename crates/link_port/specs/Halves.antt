@@ -19,9 +19,9 @@ output_of (Sender.Failed _) = out.Output.Failed
 
 -- the state of the input half in its table
 abbrev pub input_of : Input → in_half.Input
-input_of (Receiver.Ok expected) = in_half.Input.Ok expected
-input_of (Receiver.RetryStopped expected) = in_half.Input.RetryStopped expected
-input_of (Receiver.ErrorStopped expected) = in_half.Input.ErrorStopped expected
+input_of (Receiver.Ok expected) = in_half.InputOk expected
+input_of (Receiver.RetryStopped expected) = in_half.InputRetryStopped expected
+input_of (Receiver.ErrorStopped expected) = in_half.InputErrorStopped expected
 
 -- the name of a state of the output half
 abbrev pub out_kind_of : out.Output → OutKind
@@ -32,6 +32,6 @@ out_kind_of out.Output.Failed = OutKinds.Failed
 
 -- the name of a state of the input half
 abbrev pub in_kind_of : in_half.Input → InKind
-in_kind_of (in_half.Input.Ok expected) = InKinds.Ok
-in_kind_of (in_half.Input.RetryStopped expected) = InKinds.RetryStopped
-in_kind_of (in_half.Input.ErrorStopped expected) = InKinds.ErrorStopped
+in_kind_of (in_half.InputOk expected) = InKinds.Ok
+in_kind_of (in_half.InputRetryStopped expected) = InKinds.RetryStopped
+in_kind_of (in_half.InputErrorStopped expected) = InKinds.ErrorStopped

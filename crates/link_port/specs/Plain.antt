@@ -4,7 +4,7 @@ use Rattle.rio_packets.specs.Fields.{prio_of}
 use Rattle.link_buffers.specs.Prelude.{Buffered, list_at, popped, room_for, stored, highest}
 
 -- what contracts see of a port with no protocol: the packets to be sent, and those that came in
-pub record Plain : Type 0 where
+pub record PlainStores : Type 0 where
   pub queued : List (List (List ℕ))
   pub received : Buffered
 
@@ -15,13 +15,13 @@ first_with_room queued received (Some prio) =
     if room_for received prio then slice_get (list_at queued prio) 0 else None
 
 -- the packet that passes: the first one of the highest priority that has one, where it has room
-abbrev pub passing : Plain → Plain → Option (List ℕ)
+abbrev pub passing : PlainStores → PlainStores → Option (List ℕ)
 passing from to = first_with_room from.queued to.received (highest from.queued)
 
 -- it leaves the one
-abbrev pub without : Plain → List ℕ → Plain
+abbrev pub without : PlainStores → List ℕ → PlainStores
 without from packet = record from { queued = popped from.queued (prio_of packet) }
 
 -- it comes to the other
-abbrev pub with : Plain → List ℕ → Plain
+abbrev pub with : PlainStores → List ℕ → PlainStores
 with to packet = record to { received = stored true to.received packet }

@@ -1,7 +1,8 @@
 -- A port.
 use Rattle.std.specs.Prelude.{◌≡◌, ℕ, ◌<◌, Bool, List, None}
 use Rattle.link_buffers.specs.Prelude.{Buffered, no_packets, IsInStore, IsOutStore, Covers}
-use Rattle.link_model.specs.Prelude.{Place, start, IsBounded, from_ack, Output, Input}
+use Rattle.link_model.specs.Prelude.{Place, place_start, IsBounded, from_ack, Output, Input}
+use Rattle.link_model.specs.Input.{InputOk}
 use Rattle.link_port.specs.States.{prios_of, IsOutput, expected_of}
 
 -- what contracts see of a port: the place of its framer, its two halves, the packets to be sent,
@@ -17,9 +18,9 @@ pub record PortState : Type 0 where
 -- a port without a packet, which begins with ackID 0 both ways and was told nothing
 abbrev pub new_port : Bool → ℕ → PortState
 new_port tells buffers = record {
-  place = start;
+  place = place_start;
   output = Output.Ok (from_ack 0 None);
-  input = Input.Ok 0;
+  input = InputOk 0;
   queued = no_packets;
   received = record { lists = no_packets; buffers = buffers };
   tells = tells;

@@ -28,12 +28,12 @@ IsOutput out.Output.Failed = Unit {0}
 
 -- the next expected ackID
 abbrev pub expected_of : in_half.Input → ℕ
-expected_of (in_half.Input.Ok expected) = expected
-expected_of (in_half.Input.RetryStopped expected) = expected
-expected_of (in_half.Input.ErrorStopped expected) = expected
+expected_of (in_half.InputOk expected) = expected
+expected_of (in_half.InputRetryStopped expected) = expected
+expected_of (in_half.InputErrorStopped expected) = expected
 
 -- whether packets are taken, and this ackID is the expected one
 abbrev pub expects : in_half.Input → ℕ → Bool
-expects (in_half.Input.Ok expected) ack = ack == expected
-expects (in_half.Input.RetryStopped expected) ack = false
-expects (in_half.Input.ErrorStopped expected) ack = false
+expects (in_half.InputOk expected) ack = ack == expected
+expects (in_half.InputRetryStopped expected) ack = false
+expects (in_half.InputErrorStopped expected) ack = false

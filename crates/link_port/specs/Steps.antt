@@ -12,18 +12,18 @@ use Rattle.link_port.specs.States.{prios_of, expected_of, expects}
 use Rattle.link_port.specs.Ports.{PortState}
 
 -- what a symbol does in the output half, by its buffer status, and then by its stype0 and its ackID
-abbrev pub heard : PortState → Fields → Heard
-heard port symbol = hears (stype0 symbol.s0) (hears_report symbol port.output) symbol.p0
+abbrev pub symbol_heard : PortState → Fields → Heard
+symbol_heard port symbol = hears (stype0 symbol.s0) (hears_report symbol port.output) symbol.p0
 
 -- the priorities of the packets that it acknowledges
 abbrev pub acknowledged : PortState → Fields → List ℕ
-acknowledged port symbol = take (heard port symbol).freed (prios_of port.output)
+acknowledged port symbol = take (symbol_heard port symbol).freed (prios_of port.output)
 
 -- the output half has heard a symbol
 abbrev pub after_hearing : PortState → Fields → PortState
 after_hearing port symbol =
     record port {
-      output = (heard port symbol).state;
+      output = (symbol_heard port symbol).state;
       queued = lists_without (acknowledged port symbol) port.queued;
     }
 

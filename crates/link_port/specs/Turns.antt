@@ -1,6 +1,6 @@
 -- What a turn of a port and a time-out do, by the step tables.
 use Rattle.std.specs.Prelude.{◌≡◌, ℕ, Bool, List, [], ◌∷◌, Option, Some, None, slice_get, if◌then◌else◌}
-use Rattle.link_model.specs.Prelude.{Char, Fields, Sends, turns, times_out, symbol_chars_of, packet_chars_of, start, place_after, said, status, start_of_packet, end_of_packet, restart_from_retry, link_request}
+use Rattle.link_model.specs.Prelude.{Char, Fields, Sends, turns, times_out, symbol_chars_of, packet_chars_of, place_start, place_after, said, status, start_of_packet, end_of_packet, restart_from_retry, link_request}
 use Rattle.link_buffers.specs.Prelude.{list_at, lists_without, highest}
 use Rattle.link_model.specs.declared.event.Event.{Event}
 use Rattle.link_model.specs.declared.event.Event.TheVariants.{Ctl, Pkt}
@@ -55,20 +55,20 @@ burst_of Sends.Status at waiting = symbol_burst (status at.expected at.buffers)
 burst_of Sends.Nothing at waiting = no_burst
 
 -- what the table says of a turn
-abbrev pub turn_of : PortState → Turned
-turn_of port = turns port.tells port.output (highest (waiting_in port))
+abbrev pub port_turn : PortState → Turned
+port_turn port = turns port.tells port.output (highest (waiting_in port))
 
 -- whether a turn starts a packet
 abbrev pub is_ready : PortState → Bool
-is_ready port = starts (turn_of port).sends
+is_ready port = starts (port_turn port).sends
 
 -- the port after a turn
 abbrev pub turns_to : PortState → PortState
-turns_to port = record port { output = (turn_of port).state }
+turns_to port = record port { output = (port_turn port).state }
 
 -- what a turn sends
 abbrev pub turn_sends : PortState → Burst
-turn_sends port = burst_of (turn_of port).sends (standing port) (waiting_in port)
+turn_sends port = burst_of (port_turn port).sends (standing port) (waiting_in port)
 
 -- what a port sends that tells its free buffers once more
 abbrev pub tell_sends : PortState → Burst
@@ -79,8 +79,8 @@ tell_sends port =
 -- Read by themselves from the start, the characters of a burst say the events that it sends, and
 -- nothing is in progress after them.
 pub record IsRead (burst : Burst) : Type 0 where
-  pub says : said start burst.chars ≡ burst.sent
-  pub rests : place_after start burst.chars ≡ start
+  pub says : said place_start burst.chars ≡ burst.sent
+  pub rests : place_after place_start burst.chars ≡ place_start
 
 -- the port after a time-out
 abbrev pub timed_out : PortState → PortState

@@ -2,7 +2,7 @@
 ghost use Rattle.std.specs.Prelude.{◌≡◌, ◌++◌, [], false, IfSome, is_some};
 ghost use Rattle.rio_framer.specs.Giving.{listed, IsPaired};
 ghost use Rattle.link_port.specs.Steps.{acts, acts_all, acts_symbol, acts_packet, acts_bad, is_acted, first_acted, after_hearing, acknowledged, obeyed};
-ghost use Rattle.link_port.specs.Acts.{acts_first, acts_second, held_of, held_by, is_first_acted};
+ghost use Rattle.link_port.specs.Acts.{acts_first, acts_second, held_of, held_by_event, is_first_acted};
 ghost use Rattle.link_port.specs.Ports.{IsPort};
 ghost use Rattle.link_port.specs.States.{expects};
 ghost use Rattle.link_model.specs.declared.event.Event.TheVariants.{Pkt};
@@ -127,7 +127,7 @@ impl Port {
     fn act_first(&mut self, first: &Option<Event>, freed: &mut ArrayVec<Packet, 31>) -> Done
         requires empty { freed.old.items ≡ [] }
         ensures state { self.new ≡ (acts_first self.old first.now).port }
-        ensures held { held_by first.now result.held ≡ (acts_first self.old first.now).held }
+        ensures held { held_by_event first.now result.held ≡ (acts_first self.old first.now).held }
         ensures reply { result.reply ≡ (acts_first self.old first.now).reply }
         ensures freed { freed.new.items ≡ (acts_first self.old first.now).freed }
     {
@@ -226,7 +226,7 @@ impl Port {
 
 /// A copy of the packet of the first event, where it was accepted.
 fn held_packet(first: &Option<Event>, held: bool) -> Option<Packet>
-    ensures { result ≡ held_by first.now held }
+    ensures { result ≡ held_by_event first.now held }
 {
     match first {
         Some(Event::Pkt(_, packet)) if held => Some(packet.copy()),

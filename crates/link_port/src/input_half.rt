@@ -177,7 +177,7 @@ fn dropped(input: Input) -> Arrived
 /// The receiver has stopped, and tells it by a symbol.
 fn stopped(after: (InErrorStopped, Symbol)) -> (Input, Option<Symbol>)
     ensures { received (input_of result.0) result.1 false
-        ≡ replied (in_half.Input.ErrorStopped after.0) after.1 }
+        ≡ replied (in_half.InputErrorStopped after.0) after.1 }
 {
     (Input::ErrorStopped(after.0), Some(after.1))
 }

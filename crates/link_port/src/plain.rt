@@ -20,9 +20,9 @@ pub struct PlainPort {
 
 impl Model for PlainPort {
     ghost use Rattle.link_buffers.specs.Queues.{IsInStore, IsOutStore};
-    ghost use Rattle.link_port.specs.Plain.{Plain};
+    ghost use Rattle.link_port.specs.Plain.{PlainStores};
 
-    ghost Value = { Plain };
+    ghost Value = { PlainStores };
 
     ghost view = { λ port. record { queued = port.queued; received = port.received } };
 

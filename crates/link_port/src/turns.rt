@@ -1,6 +1,6 @@
 //! The turns of a port.
 ghost use Rattle.std.specs.Prelude.{◌≡◌, ◌<◌, slice_get, option_copied};
-ghost use Rattle.link_model.specs.Prelude.{start, place_after, said};
+ghost use Rattle.link_model.specs.Prelude.{place_start, place_after, said};
 ghost use Rattle.link_buffers.specs.Queues.{list_at};
 ghost use Rattle.link_port.specs.Bursts.{sending_burst, IsSending, IsStanding};
 ghost use Rattle.link_port.specs.Ports.{IsPort};
@@ -42,8 +42,8 @@ impl Port {
         ensures state { self.new ≡ turns_to self.old }
         ensures chars { result.chars.items ≡ (turn_sends self.old).chars }
         ensures sent { result.sent.items ≡ (turn_sends self.old).sent }
-        ensures read { said start result.chars.items ≡ result.sent.items }
-        ensures rests { place_after start result.chars.items ≡ start }
+        ensures read { said place_start result.chars.items ≡ result.sent.items }
+        ensures rests { place_after place_start result.chars.items ≡ place_start }
         ensures port { IsPort self.new }
     {
         self.bounds();
@@ -69,8 +69,8 @@ impl Port {
     pub fn tell(&self) -> Burst
         ensures chars { result.chars.items ≡ (tell_sends self.now).chars }
         ensures sent { result.sent.items ≡ (tell_sends self.now).sent }
-        ensures read { said start result.chars.items ≡ result.sent.items }
-        ensures rests { place_after start result.chars.items ≡ start }
+        ensures read { said place_start result.chars.items ≡ result.sent.items }
+        ensures rests { place_after place_start result.chars.items ≡ place_start }
         ensures port { IsPort self.now }
     {
         self.bounds();

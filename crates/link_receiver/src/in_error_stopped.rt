@@ -1,7 +1,6 @@
 //! `InErrorStopped`: an error was met, and packets are dropped.
 ghost use Rattle.std.specs.Prelude.{◌≡◌, ◌<◌};
-ghost use Rattle.link_model.specs.Input.{receives, replied};
-ghost use Rattle.link_model.specs.Input.{Input};
+ghost use Rattle.link_model.specs.Input.{receives, replied, InputOk, InputErrorStopped};
 ghost use Rattle.link_model.specs.Input.Arrival.{LinkRequest};
 
 use crate::in_ok::InOk;
@@ -37,8 +36,8 @@ impl InErrorStopped {
 
     /// A link-request input-status.
     pub fn request(self) -> (InOk, Symbol)
-        ensures { replied (Input.Ok result.0) result.1
-            ≡ receives LinkRequest (Input.ErrorStopped self) }
+        ensures { replied (InputOk result.0) result.1
+            ≡ receives LinkRequest (InputErrorStopped self) }
     {
         let InErrorStopped { expected } = self;
         (

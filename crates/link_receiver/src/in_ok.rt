@@ -1,8 +1,8 @@
 //! `InOk`: packets are taken.
 ghost use Rattle.std.specs.Prelude.{◌≡◌, ◌<◌, ◌==◌};
-ghost use Rattle.link_model.specs.Prelude.{number_of, Received, receives, Input, Damaged};
+ghost use Rattle.link_model.specs.Prelude.{number_of, Received, receives, Damaged};
 ghost use Rattle.link_buffers.specs.Queues.{stored};
-ghost use Rattle.link_model.specs.Input.{replied};
+ghost use Rattle.link_model.specs.Input.{replied, InputOk, InputErrorStopped};
 ghost use Rattle.link_model.specs.Input.Arrival.{RestartFromRetry, LinkRequest};
 ghost use Rattle.link_receiver.specs.Answers.{after_packet};
 ghost use Rattle.link_receiver.specs.Status.{comes_to};
@@ -72,9 +72,9 @@ impl InOk {
     /// that are free then, if the port `tells` it.
     pub fn packet(self, ack: u8, packet: &Packet, store: &mut InStore, tells: bool) -> AfterPacket
         ensures entry { after_packet result
-            ≡ receives (comes_to tells store.old self ack packet.now) (Input.Ok self) }
+            ≡ receives (comes_to tells store.old self ack packet.now) (InputOk self) }
         ensures store { store.new
-            ≡ stored (receives (comes_to tells store.old self ack packet.now) (Input.Ok self)).held
+            ≡ stored (receives (comes_to tells store.old self ack packet.now) (InputOk self)).held
             store.old packet.now }
     {
         let known = self.expects(ack);
@@ -96,8 +96,8 @@ impl InOk {
 
     /// What came is no packet or symbol.
     pub fn bad(self, cause: Cause) -> (InErrorStopped, Symbol)
-        ensures { replied (Input.ErrorStopped result.0) result.1
-            ≡ receives (Damaged (number_of cause)) (Input.Ok self) }
+        ensures { replied (InputErrorStopped result.0) result.1
+            ≡ receives (Damaged (number_of cause)) (InputOk self) }
     {
         let InOk { expected } = self;
         (
@@ -108,15 +108,15 @@ impl InOk {
 
     /// A restart-from-retry, which is an error here, of cause 31.
     pub fn restart(self) -> (InErrorStopped, Symbol)
-        ensures { replied (Input.ErrorStopped result.0) result.1
-            ≡ receives RestartFromRetry (Input.Ok self) }
+        ensures { replied (InputErrorStopped result.0) result.1
+            ≡ receives RestartFromRetry (InputOk self) }
     {
         self.bad(Cause::General)
     }
 
     /// A link-request input-status.
     pub fn request(self) -> (InOk, Symbol)
-        ensures { replied (Input.Ok result.0) result.1 ≡ receives LinkRequest (Input.Ok self) }
+        ensures { replied (InputOk result.0) result.1 ≡ receives LinkRequest (InputOk self) }
     {
         let symbol = link_response(self.expected, PortStatus::Ok);
         (self, symbol)

@@ -1,7 +1,7 @@
 //! `InRetryStopped`: a packet was asked for again, and packets are dropped.
 ghost use Rattle.std.specs.Prelude.{◌≡◌, ◌<◌};
-ghost use Rattle.link_model.specs.Prelude.{number_of, receives, Input, Damaged};
-ghost use Rattle.link_model.specs.Input.{replied, silent};
+ghost use Rattle.link_model.specs.Prelude.{number_of, receives, Damaged};
+ghost use Rattle.link_model.specs.Input.{replied, silent, InputOk, InputRetryStopped, InputErrorStopped};
 ghost use Rattle.link_model.specs.Input.Arrival.{RestartFromRetry, LinkRequest};
 
 use crate::in_error_stopped::InErrorStopped;
@@ -39,7 +39,7 @@ impl InRetryStopped {
 
     /// A restart-from-retry: packets are taken again.
     pub fn restart(self) -> InOk
-        ensures { silent (Input.Ok result) ≡ receives RestartFromRetry (Input.RetryStopped self) }
+        ensures { silent (InputOk result) ≡ receives RestartFromRetry (InputRetryStopped self) }
     {
         InOk {
             expected: self.expected,
@@ -48,8 +48,8 @@ impl InRetryStopped {
 
     /// A link-request input-status.
     pub fn request(self) -> (InOk, Symbol)
-        ensures { replied (Input.Ok result.0) result.1
-            ≡ receives LinkRequest (Input.RetryStopped self) }
+        ensures { replied (InputOk result.0) result.1
+            ≡ receives LinkRequest (InputRetryStopped self) }
     {
         let InRetryStopped { expected } = self;
         (
@@ -60,8 +60,8 @@ impl InRetryStopped {
 
     /// What came is no packet or symbol.
     pub fn bad(self, cause: Cause) -> (InErrorStopped, Symbol)
-        ensures { replied (Input.ErrorStopped result.0) result.1
-            ≡ receives (Damaged (number_of cause)) (Input.RetryStopped self) }
+        ensures { replied (InputErrorStopped result.0) result.1
+            ≡ receives (Damaged (number_of cause)) (InputRetryStopped self) }
     {
         let InRetryStopped { expected } = self;
         (

@@ -6,6 +6,7 @@ use Rattle.link_port.specs.Prelude.{Event, Ctl, Pkt, Bad, Pending, Nothing, Open
 use Rattle.link_model.specs.Input as in_half
 use Rattle.link_model.specs.Places.{broken_off, begins_in, opened}
 use Rattle.link_model.specs.Reading.{text_after, told}
+use Rattle.link_model.specs.Input.{InputOk, InputRetryStopped, InputErrorStopped}
 use Rattle.link_port.specs.Answers.{IsAnswer, IsReply}
 use Rattle.link_port.proofs.AnswerLaws.{reply_answers, answer_tells, answer_stays}
 use Rattle.link_sound.proofs.PortBounds.{expected_below}
@@ -113,9 +114,9 @@ first_breaks t k s ss are =
 -- ---- what answers do
 
 pub silent : (input : Input) → receives Arrival.OtherStype1 input ≡ in_half.silent input
-silent (Input.Ok e) = refl
-silent (Input.RetryStopped e) = refl
-silent (Input.ErrorStopped e) = refl
+silent (InputOk e) = refl
+silent (InputRetryStopped e) = refl
+silent (InputErrorStopped e) = refl
 
 answer_is_silent : (p : PortState) (s : Fields) → IsAnswer s
     → receives (symbol_arrival s.s1 s.cmd) p.input ≡ in_half.silent p.input

@@ -1,17 +1,17 @@
 -- What a port sends, read by a receiver at rest, is what was sent, also if the receiver skips data.
 use Rattle.std.proofs.Common.{◌≡◌, ℕ, zero, suc, Bool, true, false, if◌then◌else◌, List, [], ◌∷◌, ◌++◌, map, Option, Some, None, slice_get, refl, ap, ◌∙◌}
 use Rattle.rio_symbols.specs.Delimiters.{delimiter_of}
-use Rattle.link_model.specs.Places.{Step, rests_by}
-use Rattle.link_model.specs.Prelude.{Char, Fields, Delimiter, Sc, Pd, Place, place, start, step, at_rest, placed, run, place_after, said, Text, Plain, Skipped, Within, Sends, symbol_bytes, data_chars, symbol_chars_of, packet_chars_of, status, start_of_packet, end_of_packet}
+use Rattle.link_model.specs.Places.{ReaderStep, rests_by}
+use Rattle.link_model.specs.Prelude.{Char, Fields, Delimiter, Sc, Pd, Place, place, place_start, step, at_rest, placed, run, place_after, said, Text, Plain, Skipped, Within, Sends, symbol_bytes, data_chars, symbol_chars_of, packet_chars_of, status, start_of_packet, end_of_packet}
 use Rattle.link_model.specs.ReadingKinds.{kind}
 use Rattle.link_model.specs.ReadingSpelt.{delimiter_char, bytes_with_ack}
 use Rattle.link_model.proofs.PlacesLaws.{place_after-append}
 use Rattle.link_buffers.specs.Queues.{list_at}
 use Rattle.link_port.specs.Prelude.{Event, Pending, Nothing, Opened, One, Two, PortState, IsPort, standing, symbol_burst, tell_sends}
-use Rattle.link_port.specs.Turns.{Burst, IsRead, no_burst, packet_burst, burst_of, turn_of, turn_sends, turns_to, waiting_in}
+use Rattle.link_port.specs.Turns.{Burst, IsRead, no_burst, packet_burst, burst_of, port_turn, turn_sends, turns_to, waiting_in}
 use Rattle.link_port.proofs.SentReads.{none_read, standing_range, status_read, turn_read}
 use Rattle.link_sound.proofs.PortBounds.{turn_port}
-use Rattle.link_wires.specs.Wires.{both_bursts, turned, bursts, answers}
+use Rattle.link_wires.specs.Wires.{both_bursts, port_turned, bursts, answers}
 use Rattle.link_rest.specs.Led.{AreAnswers, chars_of, controls}
 use Rattle.link_rest.proofs.AnswerLaws.{answers_read}
 use Rattle.link_rest.proofs.SaidLaws.{said-append}
@@ -21,11 +21,11 @@ use Rattle.link_rest.proofs.SaidLaws.{said-append}
 both_read : (first next : Burst) → IsRead first → IsRead next → IsRead (both_bursts first next)
 both_read first next one two = record {
   says =
-      said-append start first.chars next.chars
+      said-append place_start first.chars next.chars
       ∙ (λ i. one.says i ++ said (one.rests i) next.chars)
       ∙ ap (λ (l : List Event). first.sent ++ l) two.says;
   rests =
-      place_after-append start first.chars next.chars
+      place_after-append place_start first.chars next.chars
       ∙ ap (λ (p : Place). place_after p next.chars) one.rests
       ∙ two.rests;
 }
@@ -60,8 +60,8 @@ answers_are_read replies are =
 
 -- turns change the output half alone
 pub turned_is : (n : ℕ) (port : PortState)
-    → turned n port ≡ record port { output = (turned n port).output }
-unfolding turned
+    → port_turned n port ≡ record port { output = (port_turned n port).output }
+unfolding port_turned
 turned_is zero port = refl
 turned_is (suc n) port = turned_is n (turns_to port)
 
@@ -100,7 +100,7 @@ burst_delimited Sends.Status port waiting = symbol_delimited _
 burst_delimited Sends.Nothing port waiting = IsEmpty
 
 turn_delimited : (port : PortState) → IsDelimited (turn_sends port).chars
-turn_delimited port = burst_delimited (turn_of port).sends port (waiting_in port)
+turn_delimited port = burst_delimited (port_turn port).sends port (waiting_in port)
 
 pub tell_delimited : (port : PortState) → IsDelimited (tell_sends port).chars
 tell_delimited port = by port.tells
@@ -128,15 +128,17 @@ abbrev skipping : Place
 skipping = place Skipped Nothing
 
 -- a delimiter ends skipping
-delimiter_step : (d : Delimiter) → step skipping (delimiter_char d) ≡ step start (delimiter_char d)
+delimiter_step : (d : Delimiter)
+    → step skipping (delimiter_char d) ≡ step place_start (delimiter_char d)
 unfolding kind
 delimiter_step Sc = refl
 delimiter_step Pd = refl
 
 -- Data that is skipped changes nothing of what is said behind it.
 record IsSameFrom (from : Place) (chars : List Char) : Type 0 where
-  pub says : said from chars ≡ said start chars
-  pub rests : at_rest (place_after start chars) ≡ true → at_rest (place_after from chars) ≡ true
+  pub says : said from chars ≡ said place_start chars
+  pub rests : at_rest (place_after place_start chars) ≡ true
+      → at_rest (place_after from chars) ≡ true
 
 skipping_same : {chars : List Char} → IsDelimited chars → IsSameFrom skipping chars
 unfolding run place_after
@@ -145,9 +147,10 @@ skipping_same (BeginsWith d chars) =
     let same = delimiter_step d in
     record {
       says =
-          ap (λ (s : Step). map (λ (e : ℕ × Event). e.1) (placed 0 s.gives ++ run s.place 1 chars))
+          ap (λ (s : ReaderStep).
+          map (λ (e : ℕ × Event). e.1) (placed 0 s.gives ++ run s.place 1 chars))
           same;
-      rests = λ rests. ap (λ (s : Step). at_rest (place_after s.place chars)) same ∙ rests;
+      rests = λ rests. ap (λ (s : ReaderStep). at_rest (place_after s.place chars)) same ∙ rests;
     }
 
 -- Read from this place, a burst says the events that it sends, and nothing is in progress then.

@@ -10,16 +10,16 @@ use Rattle.link_port.specs.Ports.{new_port}
 use Rattle.link_port.specs.Turns.{Burst, IsRead, timed_out}
 use Rattle.link_wires.specs.Deliveries.{Flow, Delivered, Through, begun, done, met, comes, goes_on, come, ended, delivered}
 use Rattle.link_wires.specs.Kept.{behind, IsSubsequence}
-use Rattle.link_wires.specs.Wires.{WireState, with_sent, turned, bursts, answers, silenced}
+use Rattle.link_wires.specs.Wires.{WireState, with_sent, port_turned, bursts, answers, silenced}
 use Rattle.link_wires.proofs.Subsequences.{sub_none, sub_drop, sub-append, sub_behind}
 use Rattle.link_wires.proofs.Throughs.{through_place}
 use Rattle.link_machine.specs.Calls.{first_turns, pumped, first_tells, told_from, delivery, after_delivery, first_takes, has_chars, has_none, is_silent, first_fires, timed_out_at}
 use Rattle.link_machine.specs.Layer.{IsServed, with_port}
 use Rattle.link_machine.specs.Prelude.{Side, A, B, IsSoundLink, LinkState, turned_round, at_end, from_end}
 use Rattle.link_machine.specs.States.{link, empty_wires}
-use Rattle.link_rest.specs.Acts.{Act, Pump, Tell, Deliver, Fire, Reached, At, OnState, reached_by, after, goes}
+use Rattle.link_rest.specs.Acts.{Act, Pump, Tell, Deliver, Fire, Reached, At, OnState, reached_by, after_act, goes}
 use Rattle.link_rest.specs.Calm.{IsCalmWay, IsCalm, IsStillCalm}
-use Rattle.link_rest.specs.Led.{AreAnswers, answered}
+use Rattle.link_rest.specs.Led.{AreAnswers, port_answers}
 use Rattle.link_rest.specs.Rest.{IsQuiet}
 use Rattle.link_rest.proofs.AnswerLaws.{port_narrow, replies_answer}
 use Rattle.link_rest.proofs.Bursting.{IsDelimited, turned_is, turns_read, turns_delimited, tell_read, tell_delimited, answers_are_read, answers_delimited, read_at_rest}
@@ -144,7 +144,7 @@ turns_calm n s is calm = record {
   to_b =
       calm_sent s.b s.wire_a (bursts n s.a) (turns_read n s.a is) (turns_delimited n s.a) calm.to_b;
   to_a =
-      calm_at s.a (turned n s.a) s.wire_b (ap (λ (p : PortState). p.place) (turned_is n s.a))
+      calm_at s.a (port_turned n s.a) s.wire_b (ap (λ (p : PortState). p.place) (turned_is n s.a))
       calm.to_a;
 }
 
@@ -165,7 +165,7 @@ record TakesCalm (n : ℕ) (s : LinkState) : Type 0 where
 flow_answers :
     (port : PortState) (kept : List Event) (chars : List Char) (flow : Flow) → IsPort port
     → delivered port kept chars ≡ Through flow → AreAnswers flow.told.replies
-unfolding answered
+unfolding port_answers
 flow_answers port kept chars flow is through =
     let fed = subst (OnFlow (IsFed port chars)) through (by_tables port kept chars) in
     subst AreAnswers (sym fed.1)
@@ -238,7 +238,7 @@ pub record GoesCalm (r : Reached) : Type 0 where
   pub calm : IsCalm m
 
 deliver_calm : (from : Side) (n : ℕ) (s : LinkState) → IsSoundLink s → IsCalm s
-    → GoesCalm (after (Deliver from n) s)
+    → GoesCalm (after_act (Deliver from n) s)
 deliver_calm A n s sound calm = by_chars (has_chars A n s)
   where
     t : LinkState
@@ -271,7 +271,7 @@ deliver_calm B n s sound calm = by_chars (has_chars B n s)
     }
     by_chars false = record { m = s; there = refl; calm = calm }
 
-act_calm : (act : Act) (s : LinkState) → IsSoundLink s → IsCalm s → GoesCalm (after act s)
+act_calm : (act : Act) (s : LinkState) → IsSoundLink s → IsCalm s → GoesCalm (after_act act s)
 act_calm (Pump A n) s sound calm =
     record { m = pumped A n s; there = refl; calm = turns_calm n s sound.port_a calm }
 act_calm (Pump B n) s sound calm = record {

@@ -2,9 +2,9 @@
 use Rattle.std.proofs.Common.{◌≡◌, ℕ, ◌+◌, ◌≤◌, ◌++◌, Bool, true, false, MatchBool, List, [], ◌∷◌, refl, ap, ◌∙◌, arith, if◌then◌else◌}
 use Rattle.link_machine.specs.Prelude.{Side, A, B}
 use Rattle.link_rest.specs.Schedules.{NextOf, WhereOf, Is, LoopOf}
-use Rattle.link_rest.specs.Schedules.LoopOf.{Rests, GoesOn, Leaves}
-use Rattle.link_rest.specs.Acts.{Act, Pump, Tell, Fire, Reached, At, Found, goes}
-use Rattle.link_rest.specs.Settling.{Part, all_chars, Empties, Drains, TakesTurn, Restarts, TimesOut, Requests, Recovers, Tells, SendsAll, Settles}
+use Rattle.link_rest.specs.Schedules.LoopOf.{LoopRests, LoopGoesOn, LoopLeaves}
+use Rattle.link_rest.specs.Acts.{Act, Pump, Tell, Fire, Reached, At, FoundAt, goes}
+use Rattle.link_rest.specs.Settling.{SchedulePart, all_chars, Empties, Drains, TakesTurn, Restarts, TimesOut, Requests, Recovers, Tells, SendsAll, Settles}
 use Rattle.link_rest.specs.Counts.{same_side, fires}
 
 fires-append : (side : Side) (xs ys : List Act)
@@ -14,14 +14,14 @@ fires-append side [] ys = omega arith
 fires-append side (x ∷ xs) ys = let rest = fires-append side xs ys in omega arith
 
 -- a part fires at most so many time-outs of a side
-abbrev AtMost : ℕ → Side → Part → Type 0
+abbrev AtMost : ℕ → Side → SchedulePart → Type 0
 AtMost n side P = (r : Reached) (all : List Act) → P r all → fires side all ≤ n
 
 none_at_most : (side : Side) (all : List Act) → all ≡ [] → (n : ℕ) → fires side all ≤ n
 unfolding fires
 none_at_most side all is n = let none = ap (fires side) is in omega arith
 
-next_at_most : (side : Side) (m n : ℕ) (First Then : Part) → AtMost m side First
+next_at_most : (side : Side) (m n : ℕ) (First Then : SchedulePart) → AtMost m side First
     → AtMost n side Then → AtMost (m + n) side (NextOf goes First Then)
 next_at_most side m n First Then some more r all (first, rest, split, does, then_does) =
     let whole = ap (fires side) split ∙ fires-append side first rest in
@@ -29,7 +29,7 @@ next_at_most side m n First Then some more r all (first, rest, split, does, then
     let behind = more (goes r first) rest then_does in
     omega arith
 
-where_at_most : (side : Side) (n : ℕ) (test : Reached → Bool) (P : Part) → AtMost n side P
+where_at_most : (side : Side) (n : ℕ) (test : Reached → Bool) (P : SchedulePart) → AtMost n side P
     → AtMost n side (WhereOf test P)
 where_at_most side n test P some r all does = by (test r) does
   where
@@ -37,18 +37,19 @@ where_at_most side n test P some r all does = by (test r) does
     by true h = some r all h
     by false h = none_at_most side all h n
 
-loop_at_most : (side : Side) (test leaves : Reached → Bool) (P Last : Part) → AtMost 0 side P
+loop_at_most : (side : Side) (test leaves : Reached → Bool) (P Last : SchedulePart)
+    → AtMost 0 side P
     → AtMost 0 side Last → AtMost 0 side (LoopOf goes test P leaves Last)
-loop_at_most side test leaves P Last some last r all (Rests idle none) =
+loop_at_most side test leaves P Last some last r all (LoopRests idle none) =
     none_at_most side all none 0
 loop_at_most side test leaves P Last some last r all
-    (GoesOn first rest busy part split stays more) =
+    (LoopGoesOn first rest busy part split stays more) =
     let whole = ap (fires side) split ∙ fires-append side first rest in
     let front = some r first part in
     let behind = loop_at_most side test leaves P Last some last (goes r first) rest more in
     omega arith
 loop_at_most side test leaves P Last some last r all
-    (Leaves first rest busy part split stays ends) =
+    (LoopLeaves first rest busy part split stays ends) =
     let whole = ap (fires side) split ∙ fires-append side first rest in
     let front = some r first part in
     let behind = last (goes r first) rest ends in
@@ -57,7 +58,7 @@ loop_at_most side test leaves P Last some last r all
 delivers_none : (side from : Side) (r : Reached) → fires side (all_chars from r) ≡ 0
 unfolding fires
 delivers_none side from (At s) = refl
-delivers_none side from (Found at e) = refl
+delivers_none side from (FoundAt at e) = refl
 
 empties_none : (side from : Side) → AtMost 0 side (Empties from)
 empties_none side from =
@@ -115,7 +116,7 @@ sends_none side near =
     (turn_none side near) (turn_none side near))
 
 -- what comes after recovery
-abbrev Later : Part
+abbrev Later : SchedulePart
 Later = NextOf goes (Tells A) (NextOf goes (Tells B) (NextOf goes (SendsAll A) (SendsAll B)))
 
 later_none : (side : Side) → AtMost (0 + (0 + (0 + 0))) side Later

@@ -3,8 +3,8 @@ use Rattle.std.proofs.Common.{◌≡◌, inl, inr, ℕ, zero, suc, ◌+◌, ◌-
 use Rattle.std.proofs.lemmas.Bool.{or_parts, cases_lt}
 use Rattle.link_machine.specs.Prelude.{Side, A, B, LinkState, IsSoundLink}
 use Rattle.link_rest.specs.Schedules.{NextOf}
-use Rattle.link_rest.specs.Schedules.LoopOf.{Rests, GoesOn, Leaves}
-use Rattle.link_rest.specs.Acts.{Act, Reached, At, Found, goes}
+use Rattle.link_rest.specs.Schedules.LoopOf.{LoopRests, LoopGoesOn, LoopLeaves}
+use Rattle.link_rest.specs.Acts.{Act, Reached, At, FoundAt, goes}
 use Rattle.link_rest.specs.Settling.{first_has_chars, of_end, all_chars, Empties, is_busy, Drains}
 use Rattle.link_rest.proofs.Lines.{emptied}
 use Rattle.link_rest.proofs.Drains.{round, rounds, idle_stays, idle_round, first_goes, round_goes, five, rested_is_idle, three_rounds}
@@ -35,15 +35,15 @@ round_acts r first (front, behind, split, does, then_does) =
 drain_acts : {r : Reached} {all : List Act} → Drains r all
     → (n : ℕ) × (all ≡ deliveries n r) × (is_busy (rounds n r) ≡ false)
 unfolding deliveries rounds
-drain_acts {r} {all} (Rests idle none) = (0, none, idle)
-drain_acts {r} {all} (GoesOn first rest busy part split stays more) =
+drain_acts {r} {all} (LoopRests idle none) = (0, none, idle)
+drain_acts {r} {all} (LoopGoesOn first rest busy part split stays more) =
     let later = drain_acts more in
     let one = round_goes r first part in (
       suc later.0,
       split ∙ (λ i. round_acts r first part i ++ (later.1 ∙ ap (deliveries later.0) one) i),
       ap (λ (next : Reached). is_busy (rounds later.0 next)) (sym one) ∙ later.2,
     )
-drain_acts (Leaves first rest busy part split stays last) = absurd cc
+drain_acts (LoopLeaves first rest busy part split stays last) = absurd cc
 
 -- where both wires are empty there are none
 idle_none : (n : ℕ) (r : Reached) → is_busy r ≡ false → deliveries n r ≡ []
@@ -93,7 +93,7 @@ one_at_most from r = by (of_end from first_has_chars r) r
   where
     by : (b : Bool) (r : Reached) → length (if b then all_chars from r else []) ≤ 1
     by true (At s) = omega arith
-    by true (Found side e) = omega arith
+    by true (FoundAt side e) = omega arith
     by false r = omega arith
 
 last_none : (r : Reached) → is_busy r ≡ false → length (part_acts B r) ≡ 0
@@ -149,15 +149,15 @@ drains_busy n r more busy idle =
     let later = more (round r) idle in
     let rest : Drains (goes r (front ++ behind)) later.0 =
     subst (λ (x : Reached). Drains x later.0) (sym one) later.1 in
-    ((front ++ behind) ++ later.0, GoesOn (front ++ behind) later.0 busy part refl refl rest)
+    ((front ++ behind) ++ later.0, LoopGoesOn (front ++ behind) later.0 busy part refl refl rest)
 
 drains_in : (n : ℕ) (r : Reached) → is_busy (rounds n r) ≡ false → (all : List Act) × Drains r all
 unfolding rounds
-drains_in zero r idle = ([], Rests idle refl)
+drains_in zero r idle = ([], LoopRests idle refl)
 drains_in (suc n) r idle =
     elim (is_busy r) as (λ b. is_busy r ≡ b → (all : List Act) × Drains r all) [
       | true ↦ λ (busy : is_busy r ≡ true). drains_busy n r (drains_in n) busy idle
-      | false ↦ λ (none : is_busy r ≡ false). ([], Rests none refl)
+      | false ↦ λ (none : is_busy r ≡ false). ([], LoopRests none refl)
     ] refl
 
 -- From a sound link there is a drain.

@@ -4,10 +4,10 @@ use Rattle.std.proofs.lemmas.Bool.{or_parts, cases_lt}
 use Rattle.link_model.specs.Prelude.{Char, Fields, place, said}
 use Rattle.link_port.specs.Prelude.{Event, Pending, Nothing, PortState}
 use Rattle.link_machine.specs.Prelude.{Side, A, B, LinkState, turned_round, has_none, IsSoundLink}
-use Rattle.link_rest.specs.Led.{fed, answered, chars_of, AreAnswers}
+use Rattle.link_rest.specs.Led.{port_fed, port_answers, chars_of, AreAnswers}
 use Rattle.link_rest.specs.Schedules.{NextOf}
-use Rattle.link_rest.specs.Schedules.LoopOf.{Rests, GoesOn, Leaves}
-use Rattle.link_rest.specs.Acts.{Act, Reached, At, Found, after, goes, OnState}
+use Rattle.link_rest.specs.Schedules.LoopOf.{LoopRests, LoopGoesOn, LoopLeaves}
+use Rattle.link_rest.specs.Acts.{Act, Reached, At, FoundAt, after_act, goes, OnState}
 use Rattle.link_rest.specs.Settling.{first_has_chars, of_end, all_chars, Empties, is_busy, Drains}
 use Rattle.link_rest.proofs.AnswerLaws.{IsNarrow, port_narrow, replies_answer}
 use Rattle.link_rest.proofs.Signals.{unbroken_leaves, third_is_silent}
@@ -20,7 +20,7 @@ unfolding goes
 goes_none r = refl
 
 pub goes_found : (side : Side) (e : Event) (acts : List Act)
-    → goes (Found side e) acts ≡ Found side e
+    → goes (FoundAt side e) acts ≡ FoundAt side e
 unfolding goes
 goes_found side e [] = refl
 goes_found side e (act ∷ acts) = refl
@@ -28,8 +28,8 @@ goes_found side e (act ∷ acts) = refl
 pub goes-append : (xs ys : List Act) (r : Reached) → goes r (xs ++ ys) ≡ goes (goes r xs) ys
 unfolding goes
 goes-append [] ys r = refl
-goes-append (x ∷ xs) ys (At s) = goes-append xs ys (after x s)
-goes-append (x ∷ xs) ys (Found side e) = sym (goes_found side e ys)
+goes-append (x ∷ xs) ys (At s) = goes-append xs ys (after_act x s)
+goes-append (x ∷ xs) ys (FoundAt side e) = sym (goes_found side e ys)
 
 -- a part where a test holds
 pub where_goes : (r : Reached) (b : Bool) (all things : List Act)
@@ -42,13 +42,13 @@ where_goes r false all things is = ap (goes r) is ∙ goes_none r
 pub on_state : {P Q : LinkState → Type 0} → (r : Reached) → ((s : LinkState) → P s → Q s)
     → OnState P r → OnState Q r
 on_state (At s) so h = so s h
-on_state (Found side e) so h = tt
+on_state (FoundAt side e) so h = tt
 
 pub then_emptied : {P : LinkState → Type 0} → (Q : LinkState → Type 0) (from : Side) (r : Reached)
     → ((s : LinkState) → P s → OnState Q (emptied from (At s))) → OnState P r
     → OnState Q (emptied from r)
 then_emptied Q from (At s) so h = so s h
-then_emptied Q from (Found side e) so h = tt
+then_emptied Q from (FoundAt side e) so h = tt
 
 -- ---- rounds
 
@@ -117,10 +117,10 @@ round_goes r first (front, behind, split, does, then_does) =
 pub drain_rounds : {r : Reached} {all : List Act} → Drains r all
     → (n : ℕ) × (goes r all ≡ rounds n r) × (is_busy (goes r all) ≡ false)
 unfolding rounds
-drain_rounds {r} {all} (Rests idle none) =
+drain_rounds {r} {all} (LoopRests idle none) =
     let here = ap (goes r) none ∙ goes_none r in
     (0, here, ap is_busy here ∙ idle)
-drain_rounds {r} {all} (GoesOn first rest busy part split stays more) =
+drain_rounds {r} {all} (LoopGoesOn first rest busy part split stays more) =
     let later = drain_rounds more in
     let whole : goes r all ≡ goes (goes r first) rest =
     ap (goes r) split ∙ goes-append first rest r in (
@@ -131,7 +131,7 @@ drain_rounds {r} {all} (GoesOn first rest busy part split stays more) =
       ap is_busy whole
           ∙ later.2,
     )
-drain_rounds (Leaves first rest busy part split stays last) = absurd cc
+drain_rounds (LoopLeaves first rest busy part split stays last) = absurd cc
 
 -- ---- five deliveries empty both wires, whatever stood on them
 
@@ -149,15 +149,16 @@ empty_is_idle s none =
     ap (λ (b : Bool). b || not (has_none s.wire_b.chars)) (empty_has s.wire_a.chars none.0)
     ∙ empty_has s.wire_b.chars none.1
 
-pub answers_are : (p : PortState) (chars : List Char) → IsNarrow p → AreAnswers (answered p chars)
-unfolding answered
+pub answers_are : (p : PortState) (chars : List Char) → IsNarrow p
+    → AreAnswers (port_answers p chars)
+unfolding port_answers
 answers_are p chars narrow = replies_answer p (said p.place chars) narrow
 
 -- what a port answers has no answer where no symbol is in progress
 pub answers_are_silent : (p q : PortState) (chars : List Char) → IsNarrow p
-    → q.place.pending ≡ Nothing → answered q (chars_of (answered p chars)) ≡ []
+    → q.place.pending ≡ Nothing → port_answers q (chars_of (port_answers p chars)) ≡ []
 answers_are_silent p q chars narrow none =
-    (unbroken_leaves q q.place.text (answered p chars)
+    (unbroken_leaves q q.place.text (port_answers p chars)
     (ap (λ (k : Pending). place q.place.text k) none) (answers_are p chars narrow)).0.silent
 
 -- after the answers to what came: answers alone, on their way to the second port
@@ -174,9 +175,9 @@ record ThirdSent (s : LinkState) : Type 0 where
   before : PortState
   second : List Fields
   are : AreAnswers second
-  b : s.b ≡ fed before (chars_of second)
+  b : s.b ≡ port_fed before (chars_of second)
   wire_a : s.wire_a.chars ≡ []
-  wire_b : s.wire_b.chars ≡ chars_of (answered before (chars_of second))
+  wire_b : s.wire_b.chars ≡ chars_of (port_answers before (chars_of second))
 
 -- after the answers to those
 record FourthSent (s : LinkState) : Type 0 where
@@ -187,17 +188,18 @@ record FourthSent (s : LinkState) : Type 0 where
   fourth : List Fields
   are : AreAnswers second
   are_too : AreAnswers fourth
-  is : fourth ≡ answered first (chars_of (answered before (chars_of second)))
-  b : s.b ≡ fed before (chars_of second)
+  is : fourth ≡ port_answers first (chars_of (port_answers before (chars_of second)))
+  b : s.b ≡ port_fed before (chars_of second)
   wire_a : s.wire_a.chars ≡ chars_of fourth
   wire_b : s.wire_b.chars ≡ []
 
 to_second : (s m : LinkState) → IsSoundLink s → s.wire_a.chars ≡ [] → Takes s m → SecondSent m
 to_second s m l none t = record {
   sound = t.sound;
-  second = answered s.a s.wire_b.chars;
+  second = port_answers s.a s.wire_b.chars;
   are = answers_are s.a s.wire_b.chars (port_narrow s.a l.port_a);
-  wire_a = t.wire_a ∙ ap (λ (cs : List Char). cs ++ chars_of (answered s.a s.wire_b.chars)) none;
+  wire_a =
+      t.wire_a ∙ ap (λ (cs : List Char). cs ++ chars_of (port_answers s.a s.wire_b.chars)) none;
   wire_b = t.wire_b;
 }
 
@@ -207,12 +209,12 @@ to_third s m h t = record {
   before = s.b;
   second = h.second;
   are = h.are;
-  b = t.a ∙ ap (fed s.b) h.wire_a;
+  b = t.a ∙ ap (port_fed s.b) h.wire_a;
   wire_a = t.wire_b;
   wire_b =
       t.wire_a
-      ∙ ap (λ (cs : List Char). cs ++ chars_of (answered s.b s.wire_a.chars)) h.wire_b
-      ∙ ap (λ (cs : List Char). chars_of (answered s.b cs)) h.wire_a;
+      ∙ ap (λ (cs : List Char). cs ++ chars_of (port_answers s.b s.wire_a.chars)) h.wire_b
+      ∙ ap (λ (cs : List Char). chars_of (port_answers s.b cs)) h.wire_a;
 }
 
 to_fourth : (s m : LinkState) → ThirdSent s → Takes s m → FourthSent m
@@ -221,26 +223,26 @@ to_fourth s m h t = record {
   before = h.before;
   first = s.a;
   second = h.second;
-  fourth = answered s.a (chars_of (answered h.before (chars_of h.second)));
+  fourth = port_answers s.a (chars_of (port_answers h.before (chars_of h.second)));
   are = h.are;
   are_too =
-      answers_are s.a (chars_of (answered h.before (chars_of h.second)))
+      answers_are s.a (chars_of (port_answers h.before (chars_of h.second)))
       (port_narrow s.a h.sound.port_a);
   is = refl;
   b = t.b ∙ h.b;
   wire_a =
       t.wire_a
-      ∙ ap (λ (cs : List Char). cs ++ chars_of (answered s.a s.wire_b.chars)) h.wire_a
-      ∙ ap (λ (cs : List Char). chars_of (answered s.a cs)) h.wire_b;
+      ∙ ap (λ (cs : List Char). cs ++ chars_of (port_answers s.a s.wire_b.chars)) h.wire_a
+      ∙ ap (λ (cs : List Char). chars_of (port_answers s.a cs)) h.wire_b;
   wire_b = t.wire_b;
 }
 
 to_fifth : (s m : LinkState) → FourthSent s → Takes (turned_round s) (turned_round m) → Rested m
 unfolding chars_of
 to_fifth s m h t =
-    let silent : answered s.b s.wire_a.chars ≡ [] =
-    ap (answered s.b) h.wire_a
-    ∙ ap (λ (q : PortState). answered q (chars_of h.fourth)) h.b
+    let silent : port_answers s.b s.wire_a.chars ≡ [] =
+    ap (port_answers s.b) h.wire_a
+    ∙ ap (λ (q : PortState). port_answers q (chars_of h.fourth)) h.b
     ∙ third_is_silent h.before h.first h.second h.fourth h.are h.are_too h.is in (
       round_sound (turned_round m) t.sound,
       (
@@ -270,7 +272,7 @@ five s l =
 
 pub rested_is_idle : (r : Reached) → OnState Rested r → is_busy r ≡ false
 rested_is_idle (At s) h = empty_is_idle s h.1
-rested_is_idle (Found side e) h = refl
+rested_is_idle (FoundAt side e) h = refl
 
 pub three_rounds : (s : LinkState) → IsSoundLink s → OnState Rested (rounds 3 (At s))
 unfolding rounds

@@ -4,12 +4,12 @@ use Rattle.link_buffers.specs.Queues.{packet_count}
 use Rattle.link_model.specs.declared.event.Event.{Event}
 use Rattle.link_port.specs.Prelude.{is_ready}
 use Rattle.link_machine.specs.Prelude.{other_side, Side, A, B, LinkState, from_end, pumped, told_from, has_chars, delivery_from, delivered_from, IsSoundLink}
-use Rattle.link_wires.specs.Deliveries.{Delivered, Through, Undetected}
+use Rattle.link_wires.specs.Deliveries.{Delivered, Through, Unsent}
 use Rattle.link_machine.proofs.Machine.{pump_keeps, told_keeps, delivery_keeps, fired_keeps}
 use Rattle.link_rest.specs.Schedules.{NextOf, WhereOf, Is}
-use Rattle.link_rest.specs.Schedules.LoopOf.{Rests, GoesOn, Leaves}
-use Rattle.link_rest.specs.Acts.{Act, Pump, Tell, Deliver, Fire, Reached, At, Found, reached_by, after, goes, OnState}
-use Rattle.link_rest.specs.Settling.{Part, is_retry_stopped, has_failed, may_fire, first_rests, of_end, Drains, TakesTurn, Restarts, TimesOut, Requests, Recovers, Tells, SendsAll, Settles}
+use Rattle.link_rest.specs.Schedules.LoopOf.{LoopRests, LoopGoesOn, LoopLeaves}
+use Rattle.link_rest.specs.Acts.{Act, Pump, Tell, Deliver, Fire, Reached, At, FoundAt, reached_by, after_act, goes, OnState}
+use Rattle.link_rest.specs.Settling.{SchedulePart, is_retry_stopped, has_failed, may_fire, first_rests, of_end, Drains, TakesTurn, Restarts, TimesOut, Requests, Recovers, Tells, SendsAll, Settles}
 use Rattle.link_rest.specs.Rest.{IsRound}
 use Rattle.link_rest.proofs.Lines.{goes_one}
 use Rattle.link_rest.proofs.DrainCounts.{drain_exists}
@@ -23,7 +23,7 @@ use Rattle.link_rest.proofs.Settled.{Drained, FirstRests, BothRest, FirstTold, B
 reached_keeps : (to : Side) (next : LinkState) (d : Delivered) → IsSoundLink next
     → OnState IsSoundLink (reached_by to next d)
 reached_keeps to next (Through flow) l = l
-reached_keeps to next (Undetected told e) l = tt
+reached_keeps to next (Unsent told e) l = tt
 
 delivers_keep : (from : Side) (count : ℕ) (s : LinkState) (b : Bool) → IsSoundLink s
     → OnState IsSoundLink (if b
@@ -34,7 +34,7 @@ delivers_keep from count s true l =
     (delivery_keeps from count s l)
 delivers_keep from count s false l = l
 
-act_keeps : (act : Act) (s : LinkState) → IsSoundLink s → OnState IsSoundLink (after act s)
+act_keeps : (act : Act) (s : LinkState) → IsSoundLink s → OnState IsSoundLink (after_act act s)
 act_keeps (Pump from turns) s l = pump_keeps from turns s l
 act_keeps (Tell from) s l = told_keeps from s l
 act_keeps (Deliver from count) s l = delivers_keep from count s (has_chars from count s) l
@@ -44,16 +44,16 @@ pub acts_keep : (acts : List Act) (r : Reached) → OnState IsSoundLink r
     → OnState IsSoundLink (goes r acts)
 unfolding goes
 acts_keep [] r l = l
-acts_keep (act ∷ acts) (At s) l = acts_keep acts (after act s) (act_keeps act s l)
-acts_keep (act ∷ acts) (Found side e) l = tt
+acts_keep (act ∷ acts) (At s) l = acts_keep acts (after_act act s) (act_keeps act s l)
+acts_keep (act ∷ acts) (FoundAt side e) l = tt
 
 -- ---- parts
 
 -- there is a way to do a part
-abbrev pub Can : Part → Reached → Type 0
+abbrev pub Can : SchedulePart → Reached → Type 0
 Can P r = (all : List Act) × P r all
 
-pub where_can : (test : Reached → Bool) (P : Part) (r : Reached) → (test r ≡ true → Can P r)
+pub where_can : (test : Reached → Bool) (P : SchedulePart) (r : Reached) → (test r ≡ true → Can P r)
     → Can (WhereOf test P) r
 where_can test P r can = by (test r) refl
   where
@@ -61,13 +61,14 @@ where_can test P r can = by (test r) refl
     by true is = can is
     by false is = ([], refl)
 
-pub next_can : (First Then : Part) (r : Reached) (first : Can First r) → Can Then (goes r first.0)
+pub next_can : (First Then : SchedulePart) (r : Reached) (first : Can First r)
+    → Can Then (goes r first.0)
     → Can (NextOf goes First Then) r
 next_can First Then r first more = (first.0 ++ more.0, (first.0, more.0, refl, first.1, more.1))
 
-pub found_none : (side : Side) (e : Event) → Drains (goes (Found side e) []) []
+pub found_none : (side : Side) (e : Event) → Drains (goes (FoundAt side e) []) []
 unfolding goes
-found_none side e = Rests refl refl
+found_none side e = LoopRests refl refl
 
 pub turn_can : (near : Side) (r : Reached) → OnState IsSoundLink r → Can (TakesTurn near) r
 turn_can near (At s) l =
@@ -82,7 +83,7 @@ turn_can near (At s) l =
         subst (λ (r : Reached). Drains r d.0) (sym (goes_one s (Pump near 1))) d.1,
       ),
     )
-turn_can near (Found side e) l = ([], ([], [], refl, refl, found_none side e))
+turn_can near (FoundAt side e) l = ([], ([], [], refl, refl, found_none side e))
 
 pub restarts_can : (near : Side) (r : Reached) → OnState IsSoundLink r → Can (Restarts near) r
 restarts_can near r l =
@@ -114,7 +115,7 @@ tells_can near (At s) l =
     let d = drain_exists (told_from near s) (told_keeps near s l) in
     next_can (Is (λ reached. Tell near ∷ [])) Drains (At s) (Tell near ∷ [], refl)
     (d.0, subst (λ (r : Reached). Drains r d.0) (sym (goes_one s (Tell near))) d.1))
-tells_can near (Found side e) l = ([], refl)
+tells_can near (FoundAt side e) l = ([], refl)
 
 -- ---- the loop, which has fewer packets to send after each round that goes on
 
@@ -136,12 +137,12 @@ pub fewer_after : (near : Side) (s : LinkState) (n : ℕ) (r : Reached) → Fewe
 fewer_after near s n (At m) h round more =
     let on = goes_on near s (At m) h.0 round more in
     (on.0.quiet, fewer_by near s m n (after_round near s m h.0.sound round) more h.1)
-fewer_after near s n (Found side e) h round more = tt
+fewer_after near s n (FoundAt side e) h round more = tt
 
 pub sound_of : (near : Side) (s : LinkState) (r : Reached) → OnState (AfterRound near s) r
     → OnState IsSoundLink r
 sound_of near s (At m) h = h.sound
-sound_of near s (Found side e) h = tt
+sound_of near s (FoundAt side e) h = tt
 
 sending_busy : (near : Side) (n : ℕ) (s : LinkState)
     → ((r : Reached) → OnState (Fewer near n) r → Can (Sending near) r) → Fewer near (suc n) s
@@ -155,15 +156,15 @@ sending_busy near n s more h busy =
     (λ b. of_end near (λ link. is_retry_stopped link.a.output) r ≡ b → Can (Sending near) (At s)) [
       | true ↦ λ (last : of_end near (λ link. is_retry_stopped link.a.output) r ≡ true).
           let again = turn_can near r (sound_of near s r round) in
-          (first.0 ++ again.0, Leaves first.0 again.0 busy first.1 refl last again.1)
+          (first.0 ++ again.0, LoopLeaves first.0 again.0 busy first.1 refl last again.1)
       | false ↦ λ (on : of_end near (λ link. is_retry_stopped link.a.output) r ≡ false).
           let later = more r (fewer_after near s n r h round on) in
-          (first.0 ++ later.0, GoesOn first.0 later.0 busy first.1 refl on later.1)
+          (first.0 ++ later.0, LoopGoesOn first.0 later.0 busy first.1 refl on later.1)
     ] refl
 
 pub sending_can : (near : Side) (n : ℕ) (r : Reached) → OnState (Fewer near n) r
     → Can (Sending near) r
-sending_can near n (Found side e) h = ([], Rests refl refl)
+sending_can near n (FoundAt side e) h = ([], LoopRests refl refl)
 sending_can near zero (At s) h = absurd (let less = h.1 in omega arith)
 sending_can near (suc n) (At s) h =
     elim (of_end near (λ link. is_ready link.a) (At s)) as
@@ -171,29 +172,29 @@ sending_can near (suc n) (At s) h =
       | true ↦ λ (busy : of_end near (λ link. is_ready link.a) (At s) ≡ true). sending_busy near n s
           (sending_can near n) h busy
       | false ↦ λ (none : of_end near (λ link. is_ready link.a) (At s) ≡ false).
-          ([], Rests none refl)
+          ([], LoopRests none refl)
     ] refl
 
 pub sends_can : (near : Side) (r : Reached) → OnState (Quiet near) r → Can (SendsAll near) r
 sends_can near (At s) quiet =
     where_can (of_end near first_rests) (Sending near) (At s)
     (λ is. sending_can near (suc (left_at near s)) (At s) (quiet, omega arith))
-sends_can near (Found side e) quiet = ([], refl)
+sends_can near (FoundAt side e) quiet = ([], refl)
 
 -- ---- the whole
 
 pub sound_by : {P : LinkState → Type 0} → ((s : LinkState) → P s → IsSoundLink s) → (r : Reached)
     → OnState P r → OnState IsSoundLink r
 sound_by sound (At s) h = sound s h
-sound_by sound (Found side e) h = tt
+sound_by sound (FoundAt side e) h = tt
 
 pub first_quiet : (r : Reached) → OnState BothTold r → OnState (Quiet A) r
 first_quiet (At s) h = h.quiet
-first_quiet (Found side e) h = tt
+first_quiet (FoundAt side e) h = tt
 
 pub second_quiet : (r : Reached) → OnState FirstDone r → OnState (Quiet B) r
 second_quiet (At s) h = turned_quiet s h.0.quiet
-second_quiet (Found side e) h = tt
+second_quiet (FoundAt side e) h = tt
 
 -- from where both sides have recovered
 pub telling_can : (r : Reached) → OnState BothRest r → Can FromTelling r

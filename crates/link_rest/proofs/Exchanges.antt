@@ -3,8 +3,8 @@ use Rattle.std.proofs.Common.{◌≡◌, ◌++◌, Bool, false, List, [], refl, 
 use Rattle.rio_chars.specs.declared.chars.Char.{Char}
 use Rattle.link_port.specs.Ports.{PortState}
 use Rattle.link_machine.specs.Prelude.{other_side, Side, A, B, LinkState, turned_round, from_end, IsSoundLink}
-use Rattle.link_rest.specs.Led.{fed, answered, chars_of}
-use Rattle.link_rest.specs.Acts.{Act, Reached, At, Found, goes, OnState}
+use Rattle.link_rest.specs.Led.{port_fed, port_answers, chars_of}
+use Rattle.link_rest.specs.Acts.{Act, Reached, At, FoundAt, goes, OnState}
 use Rattle.link_rest.specs.Settling.{all_chars, is_busy, Drains}
 use Rattle.link_rest.proofs.Lines.{Takes, emptied, emptied_takes, round_sound}
 use Rattle.link_rest.proofs.Drains.{on_state, then_emptied, rounds, idle_stays, AreEmpty, empty_has, empty_is_idle, drain_is}
@@ -19,35 +19,39 @@ three near r = emptied near (emptied (other_side near) (emptied near r))
 -- answers, and what is answered to that: the ports after it.
 pub record Exchanged (p q : PortState) (chars : List Char) (m : LinkState) : Type 0 where
   pub sound : IsSoundLink m
-  pub a : m.a ≡ fed p (chars_of (answered q chars))
-  pub b : m.b ≡ fed (fed q chars) (chars_of (answered p (chars_of (answered q chars))))
+  pub a : m.a ≡ port_fed p (chars_of (port_answers q chars))
+  pub b : m.b
+      ≡ port_fed (port_fed q chars) (chars_of (port_answers p (chars_of (port_answers q chars))))
   pub wire_a : m.wire_a.chars ≡ []
   pub wire_b : m.wire_b.chars
-      ≡ chars_of (answered (fed q chars) (chars_of (answered p (chars_of (answered q chars)))))
+      ≡ chars_of
+      (port_answers (port_fed q chars)
+      (chars_of (port_answers p (chars_of (port_answers q chars)))))
 
 three_takes : (s one two m : LinkState) → s.wire_b.chars ≡ []
     → Takes (turned_round s) (turned_round one) → Takes one two
     → Takes (turned_round two) (turned_round m) → Exchanged s.a s.b s.wire_a.chars m
 three_takes s one two m none first second third =
-    let first_answers : one.wire_b.chars ≡ chars_of (answered s.b s.wire_a.chars) =
-    first.wire_a ∙ ap (λ (cs : List Char). cs ++ chars_of (answered s.b s.wire_a.chars)) none in
-    let near : two.a ≡ fed s.a (chars_of (answered s.b s.wire_a.chars)) =
-    second.a ∙ (λ i. fed (first.b i) (first_answers i)) in
+    let first_answers : one.wire_b.chars ≡ chars_of (port_answers s.b s.wire_a.chars) =
+    first.wire_a ∙ ap (λ (cs : List Char). cs ++ chars_of (port_answers s.b s.wire_a.chars)) none in
+    let near : two.a ≡ port_fed s.a (chars_of (port_answers s.b s.wire_a.chars)) =
+    second.a ∙ (λ i. port_fed (first.b i) (first_answers i)) in
     let second_answers : two.wire_a.chars
-    ≡ chars_of (answered s.a (chars_of (answered s.b s.wire_a.chars))) =
+    ≡ chars_of (port_answers s.a (chars_of (port_answers s.b s.wire_a.chars))) =
     second.wire_a
-    ∙ ap (λ (cs : List Char). cs ++ chars_of (answered one.a one.wire_b.chars)) first.wire_b
-    ∙ (λ i. chars_of (answered (first.b i) (first_answers i))) in
-    let far : two.b ≡ fed s.b s.wire_a.chars = second.b ∙ first.a in
+    ∙ ap (λ (cs : List Char). cs ++ chars_of (port_answers one.a one.wire_b.chars)) first.wire_b
+    ∙ (λ i. chars_of (port_answers (first.b i) (first_answers i))) in
+    let far : two.b ≡ port_fed s.b s.wire_a.chars = second.b ∙ first.a in
     record {
       sound = round_sound (turned_round m) third.sound;
       a = third.b ∙ near;
-      b = third.a ∙ (λ i. fed (far i) (second_answers i));
+      b = third.a ∙ (λ i. port_fed (far i) (second_answers i));
       wire_a = third.wire_b;
       wire_b =
           third.wire_a
-          ∙ ap (λ (cs : List Char). cs ++ chars_of (answered two.b two.wire_a.chars)) second.wire_b
-          ∙ (λ i. chars_of (answered (far i) (second_answers i)));
+          ∙ ap (λ (cs : List Char). cs ++ chars_of (port_answers two.b two.wire_a.chars))
+          second.wire_b
+          ∙ (λ i. chars_of (port_answers (far i) (second_answers i)));
     }
 
 three_from_a : (s : LinkState) → IsSoundLink s → s.wire_b.chars ≡ []
@@ -114,7 +118,7 @@ pub drain_exchanges : (near : Side) (s : LinkState) (all : List Act) → IsSound
     → (from_end near s).wire_b.chars ≡ [] → Drains (At s) all
     → (let p = (from_end near s).a in let q = (from_end near s).b in
     let cs = (from_end near s).wire_a.chars in
-    answered (fed q cs) (chars_of (answered p (chars_of (answered q cs)))) ≡ [])
+    port_answers (port_fed q cs) (chars_of (port_answers p (chars_of (port_answers q cs)))) ≡ [])
     → OnState (λ m. Exchanged (from_end near s).a (from_end near s).b (from_end near s).wire_a.chars
     (from_end near m) × AreEmpty m) (goes (At s) all)
 unfolding chars_of
@@ -129,13 +133,15 @@ drain_exchanges near s all l none drains silent =
     (on_state (three near (At s)) (λ m x. (x, empty_after near p q cs silent m x)) h)
   where
     empty_after : (near : Side) (p q : PortState) (cs : List Char)
-        → answered (fed q cs) (chars_of (answered p (chars_of (answered q cs)))) ≡ []
+        → port_answers (port_fed q cs) (chars_of (port_answers p (chars_of (port_answers q cs))))
+        ≡ []
         → (m : LinkState) → Exchanged p q cs (from_end near m) → AreEmpty m
     empty_after A p q cs silent m x = (x.wire_a, x.wire_b ∙ ap chars_of silent)
     empty_after B p q cs silent m x = (x.wire_b ∙ ap chars_of silent, x.wire_a)
 
     idle_after : (near : Side) (p q : PortState) (cs : List Char)
-        → answered (fed q cs) (chars_of (answered p (chars_of (answered q cs)))) ≡ []
+        → port_answers (port_fed q cs) (chars_of (port_answers p (chars_of (port_answers q cs))))
+        ≡ []
         → (r : Reached) → OnState (λ m. Exchanged p q cs (from_end near m)) r → is_busy r ≡ false
     idle_after near p q cs silent (At m) x = empty_is_idle m (empty_after near p q cs silent m x)
-    idle_after near p q cs silent (Found side e) x = refl
+    idle_after near p q cs silent (FoundAt side e) x = refl

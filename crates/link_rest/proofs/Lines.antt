@@ -5,13 +5,13 @@ use Rattle.std.proofs.lemmas.Bool.{le-leb}
 use Rattle.link_model.specs.Prelude.{Char, Fields, run, place_after, said}
 use Rattle.link_port.specs.Prelude.{Event, PortState, acts, is_acted, replies}
 use Rattle.link_machine.specs.Prelude.{other_side, Side, A, B, LinkState, turned_round, from_end, first_takes, has_none, IsSoundLink}
-use Rattle.link_wires.specs.Prelude.{behind, Flow, Delivered, Through, Undetected, begun, done, met, goes_on, come, ended, delivered}
+use Rattle.link_wires.specs.Prelude.{behind, Flow, Delivered, Through, Unsent, begun, done, met, goes_on, come, ended, delivered}
 use Rattle.link_machine.specs.Calls.{delivery, after_delivery}
 use Rattle.link_machine.specs.Queues.{queues_between}
 use Rattle.link_machine.proofs.Flowing.{AreFlowing, delivered_flowing}
 use Rattle.link_machine.proofs.Telling.{AreTelling, delivered_telling}
-use Rattle.link_rest.specs.Led.{led, fed, answered, chars_of}
-use Rattle.link_rest.specs.Acts.{Act, Deliver, Reached, At, reached_by, after, goes, OnState}
+use Rattle.link_rest.specs.Led.{led, port_fed, port_answers, chars_of}
+use Rattle.link_rest.specs.Acts.{Act, Deliver, Reached, At, reached_by, after_act, goes, OnState}
 use Rattle.link_rest.specs.Settling.{first_has_chars, of_end, all_chars}
 use Rattle.link_rest.proofs.Signals.{fed_none, answered_none}
 
@@ -20,12 +20,12 @@ use Rattle.link_rest.proofs.Signals.{fed_none, answered_none}
 -- what is true of a delivery of which every event was sent
 abbrev pub OnFlow : (Flow → Type 0) → Delivered → Type 0
 OnFlow P (Through flow) = P flow
-OnFlow P (Undetected told e) = Unit {0}
+OnFlow P (Unsent told e) = Unit {0}
 
 on_flow : (P Q : Flow → Type 0) → ((flow : Flow) → P flow → Q flow) → (d : Delivered) → OnFlow P d
     → OnFlow Q d
 on_flow P Q so (Through flow) h = so flow h
-on_flow P Q so (Undetected told e) h = tt
+on_flow P Q so (Unsent told e) h = tt
 
 -- events were led through the tables
 abbrev IsLed : Flow → List Event → Flow → Type 0
@@ -74,19 +74,20 @@ come_led (placed ∷ events) flow =
 
 -- the port and its answers are those of the tables
 abbrev pub IsFed : PortState → List Char → Flow → Type 0
-IsFed port chars flow = (flow.port ≡ fed port chars) × (flow.told.replies ≡ answered port chars)
+IsFed port chars flow =
+    (flow.port ≡ port_fed port chars) × (flow.told.replies ≡ port_answers port chars)
 
 ended_led : (port : PortState) (kept : List Event) (chars : List Char) (events : List Event)
     (count : ℕ) (d : Delivered) → events ≡ said port.place chars
     → OnFlow (IsLed (begun port kept) events) d
     → OnFlow (IsFed port chars) (ended (place_after port.place chars) count d)
-unfolding fed answered
+unfolding port_fed port_answers
 ended_led port kept chars events count (Through flow) is h = (
   ap (λ (p : PortState). record p { place = place_after port.place chars })
       (h.0 ∙ ap (led port) is),
   h.1 ∙ ap (replies port) is,
 )
-ended_led port kept chars events count (Undetected told e) is h = tt
+ended_led port kept chars events count (Unsent told e) is h = tt
 
 pub by_tables : (port : PortState) (kept : List Event) (chars : List Char)
     → OnFlow (IsFed port chars) (delivered port kept chars)
@@ -100,19 +101,19 @@ by_tables port kept chars =
 -- The first port took all characters of the far port's wire, and its answers went on its own.
 pub record Takes (s m : LinkState) : Type 0 where
   pub sound : IsSoundLink m
-  pub a : m.a ≡ fed s.a s.wire_b.chars
+  pub a : m.a ≡ port_fed s.a s.wire_b.chars
   pub b : m.b ≡ s.b
-  pub wire_a : m.wire_a.chars ≡ s.wire_a.chars ++ chars_of (answered s.a s.wire_b.chars)
+  pub wire_a : m.wire_a.chars ≡ s.wire_a.chars ++ chars_of (port_answers s.a s.wire_b.chars)
   pub wire_b : m.wire_b.chars ≡ []
 
 takes_none : (s : LinkState) → IsSoundLink s → s.wire_b.chars ≡ [] → Takes s s
 unfolding chars_of
 takes_none s sound none = record {
   sound = sound;
-  a = sym (ap (fed s.a) none ∙ fed_none s.a);
+  a = sym (ap (port_fed s.a) none ∙ fed_none s.a);
   b = refl;
   wire_a =
-      sym (ap (λ (cs : List Char). s.wire_a.chars ++ chars_of (answered s.a cs)) none
+      sym (ap (λ (cs : List Char). s.wire_a.chars ++ chars_of (port_answers s.a cs)) none
       ∙ ap (λ (r : List Fields). s.wire_a.chars ++ chars_of r) (answered_none s.a)
       ∙ append-nil s.wire_a.chars);
   wire_b = none;
@@ -132,12 +133,13 @@ takes_by s count chars (Through flow) l all whole f t h to = record {
     told_b = t.told_b;
     told_a = t.told_a;
   };
-  a = h.0 ∙ ap (fed s.a) whole;
+  a = h.0 ∙ ap (port_fed s.a) whole;
   b = refl;
-  wire_a = ap (λ (r : List Fields). s.wire_a.chars ++ chars_of r) (h.1 ∙ ap (answered s.a) whole);
+  wire_a =
+      ap (λ (r : List Fields). s.wire_a.chars ++ chars_of r) (h.1 ∙ ap (port_answers s.a) whole);
   wire_b = drop_all count s.wire_b.chars (omega arith);
 }
-takes_by s count chars (Undetected told e) l all whole f t h to = tt
+takes_by s count chars (Unsent told e) l all whole f t h to = tt
 
 takes_all : (s : LinkState) (to : Side) → IsSoundLink s
     → OnState (λ m. Takes s m)
@@ -168,9 +170,9 @@ none_is (c ∷ chars) h = absurd cc
 same_count : (n : ℕ) → nat_le n n ≡ true
 same_count n = le-leb n n (omega arith)
 
-pub goes_one : (s : LinkState) (act : Act) → goes (At s) (act ∷ []) ≡ after act s
+pub goes_one : (s : LinkState) (act : Act) → goes (At s) (act ∷ []) ≡ after_act act s
 unfolding goes
-goes_one s act = ends (after act s)
+goes_one s act = ends (after_act act s)
   where
     ends : (r : Reached) → goes r [] ≡ r
     ends r = refl
@@ -189,10 +191,11 @@ turned_by : (s : LinkState) (next : LinkState) (d : Delivered)
     → OnState (λ m. Takes s m) (reached_by B next d)
     → OnState (λ m. Takes s (turned_round m)) (reached_by B (turned_round next) d)
 turned_by s next (Through flow) h = h
-turned_by s next (Undetected told e) h = tt
+turned_by s next (Unsent told e) h = tt
 
 full_takes : (from : Side) (s : LinkState) → IsSoundLink s
-    → OnState (TakesFrom from s) (after (Deliver from (length (from_end from s).wire_a.chars)) s)
+    → OnState (TakesFrom from s)
+    (after_act (Deliver from (length (from_end from s).wire_a.chars)) s)
 full_takes A s l =
     let t = turned_round s in
     let n = length s.wire_a.chars in

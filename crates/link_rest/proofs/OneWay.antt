@@ -2,8 +2,8 @@
 use Rattle.std.proofs.Common.{◌≡◌, Bool, true, false, not, List, [], ◌∷◌, MatchBool, sym, ◌∙◌, subst}
 use Rattle.link_port.specs.Prelude.{is_ready}
 use Rattle.link_machine.specs.Prelude.{Side, A, B}
-use Rattle.link_rest.specs.Schedules.{NextOf, WhereOf, Is, LoopOf, Rests, GoesOn, Leaves as LeavesLoop}
-use Rattle.link_rest.specs.Acts.{Pump, Tell, Fire, Reached, goes, holds}
+use Rattle.link_rest.specs.Schedules.{NextOf, WhereOf, Is, LoopOf, LoopRests, LoopGoesOn, LoopLeaves}
+use Rattle.link_rest.specs.Acts.{Pump, Tell, Fire, Reached, goes, holds_at}
 use Rattle.link_rest.specs.Settling.{of_end, first_has_chars, first_rests, is_retry_stopped, has_failed, may_fire, all_chars, Empties, is_busy, Drains, TakesTurn, Restarts, TimesOut, Requests, Recovers, Tells, SendsAll, Settles}
 
 -- no two lists are of this kind
@@ -39,27 +39,27 @@ loop_one :
     (leaves : S → Bool) (Last : S → List L → Type 0) → ((s : S) → AtMostOne (P s))
     → ((s : S) → AtMostOne (Last s)) → {s : S} {x y : List L} → LoopOf go test P leaves Last s x
     → LoopOf go test P leaves Last s y → x ≡ y
-loop_one go test P leaves Last one two (Rests t e) (Rests u f) = e ∙ sym f
-loop_one go test P leaves Last one two (Rests t e) (GoesOn first rest u a f l w) = absurd cc
-loop_one go test P leaves Last one two (Rests t e) (LeavesLoop first rest u a f l w) = absurd cc
-loop_one go test P leaves Last one two (GoesOn first rest t a e l w) (Rests u f) = absurd cc
-loop_one go test P leaves Last one two {s} (GoesOn first rest t a e l w)
-    (GoesOn first2 rest2 u b f m v) =
+loop_one go test P leaves Last one two (LoopRests t e) (LoopRests u f) = e ∙ sym f
+loop_one go test P leaves Last one two (LoopRests t e) (LoopGoesOn first rest u a f l w) = absurd cc
+loop_one go test P leaves Last one two (LoopRests t e) (LoopLeaves first rest u a f l w) = absurd cc
+loop_one go test P leaves Last one two (LoopGoesOn first rest t a e l w) (LoopRests u f) = absurd cc
+loop_one go test P leaves Last one two {s} (LoopGoesOn first rest t a e l w)
+    (LoopGoesOn first2 rest2 u b f m v) =
     let same = one s first2 first b a in
     let after = loop_one go test P leaves Last one two w
     (subst (λ x. LoopOf go test P leaves Last (go s x) rest2) same v) in
     cc
-loop_one go test P leaves Last one two {s} (GoesOn first rest t a e l w)
-    (LeavesLoop first2 rest2 u b f m v) =
+loop_one go test P leaves Last one two {s} (LoopGoesOn first rest t a e l w)
+    (LoopLeaves first2 rest2 u b f m v) =
     let same = one s first2 first b a in
     absurd cc
-loop_one go test P leaves Last one two (LeavesLoop first rest t a e l w) (Rests u f) = absurd cc
-loop_one go test P leaves Last one two {s} (LeavesLoop first rest t a e l w)
-    (GoesOn first2 rest2 u b f m v) =
+loop_one go test P leaves Last one two (LoopLeaves first rest t a e l w) (LoopRests u f) = absurd cc
+loop_one go test P leaves Last one two {s} (LoopLeaves first rest t a e l w)
+    (LoopGoesOn first2 rest2 u b f m v) =
     let same = one s first2 first b a in
     absurd cc
-loop_one go test P leaves Last one two {s} (LeavesLoop first rest t a e l w)
-    (LeavesLoop first2 rest2 u b f m v) =
+loop_one go test P leaves Last one two {s} (LoopLeaves first rest t a e l w)
+    (LoopLeaves first2 rest2 u b f m v) =
     let same = one s first2 first b a in
     let last = two (go s first) rest rest2 w (subst (λ x. Last (go s x) rest2) same v) in
     cc
@@ -78,8 +78,8 @@ drains_one s x y f g =
 
 turn_one : (side : Side) (s : Reached) → AtMostOne (TakesTurn side s)
 turn_one side =
-    next_one goes (WhereOf (holds (λ link. true)) (Is (λ reached. Pump side 1 ∷ []))) Drains
-    (where_one (holds (λ link. true)) (Is (λ reached. Pump side 1 ∷ []))
+    next_one goes (WhereOf (holds_at (λ link. true)) (Is (λ reached. Pump side 1 ∷ []))) Drains
+    (where_one (holds_at (λ link. true)) (Is (λ reached. Pump side 1 ∷ []))
     (is_one (λ reached. Pump side 1 ∷ []))) drains_one
 
 restarts_one : (side : Side) (s : Reached) → AtMostOne (Restarts side s)

@@ -1,24 +1,24 @@
 -- A packet comes to a port whose direction is at rest, and the answer comes back.
 use Rattle.std.proofs.Common.{◌≡◌, ℕ, ◌+◌, ◌%◌, ◌<◌, Bool, true, false, if◌then◌else◌, Option, Some, None, option_to_list, List, [], ◌∷◌, ◌++◌, map, length, slice_get, refl, ap, ◌∙◌, arith}
 use Rattle.std.proofs.lemmas.Bool.{eq-eqb}
-use Rattle.link_model.specs.Prelude.{Char, Fields, InRange, prio_of, Passes, Input, Arrival, Received, receives, packet_arrival, Output, Sends, hears, turns, Outstanding, from_ack, Place, place, start, at_rest, Text, Plain, Skipped, Within, placed, packet_chars_of, start_of_packet, end_of_packet, packet_accepted, window}
+use Rattle.link_model.specs.Prelude.{Char, Fields, InRange, prio_of, Passes, Input, Arrival, Received, receives, packet_arrival, Output, Sends, hears, turns, Outstanding, from_ack, Place, place, place_start, at_rest, Text, Plain, Skipped, Within, placed, packet_chars_of, start_of_packet, end_of_packet, packet_accepted, window}
 use Rattle.link_model.specs.declared.reports.Report.{Report}
 use Rattle.link_buffers.specs.Prelude.{list_at, popped, room_for, stored, lists_without, highest}
 use Rattle.link_port.specs.Prelude.{Event, Ctl, Pkt, Nothing, PortState, prios_of, expected_of, Acted, acts, replies, buffer_status, standing, packet_burst, burst_of, turn_sends, turns_to}
-use Rattle.link_model.specs.Input.{accepted, replied}
+use Rattle.link_model.specs.Input.{input_accepted, replied, InputRetryStopped, InputOk}
 use Rattle.link_model.specs.Input as in_half
 use Rattle.link_model.specs.Output.{Stype0, Turned, heard, reported, turned, credited, started}
 use Rattle.link_model.specs.Output as out
 use Rattle.link_model.specs.Outstanding.{next_ack, is_oldest, without_oldest}
 use Rattle.link_model.specs.Places.{begins_in, opened}
-use Rattle.link_model.specs.Reading.{ends_packet, ended, told}
+use Rattle.link_model.specs.Reading.{ends_packet, packet_ended, told}
 use Rattle.link_model.specs.Reports.{report_of}
 use Rattle.link_model.specs.Symbols.{packet_retry, status_with}
 use Rattle.link_model.proofs.ReadingSpeltLaws.{run-packet_anywhere, place_after-packet_anywhere}
 use Rattle.link_model.proofs.WindowFacts.{window_is, startable-open}
 use Rattle.link_port.specs.Steps.{acted, arrived}
-use Rattle.link_port.specs.Turns.{turn_of}
-use Rattle.link_rest.specs.Led.{led, fed, answered, chars_of, controls, AreAnswers}
+use Rattle.link_port.specs.Turns.{port_turn}
+use Rattle.link_rest.specs.Led.{led, port_fed, port_answers, chars_of, controls, AreAnswers}
 use Rattle.link_rest.proofs.SaidLaws.{reads}
 use Rattle.link_rest.proofs.AnswerLaws.{silent}
 use Rattle.link_rest.proofs.Signals.{fed_by, fed_is, answered_is, status_moved, hearing, status_acts, unbroken_reads}
@@ -52,7 +52,8 @@ sent_by p ack packet =
 -- with nothing in progress
 packet_reads : (t : Text) (e b ack : ℕ) (packet : List ℕ) → at_rest (place t Nothing) ≡ true
     → e < 32 → b < 32 → ack < 32 → Passes packet
-    → reads (place t Nothing) (chars_from e b ack packet) ≡ (packet_events e b ack packet, start)
+    → reads (place t Nothing) (chars_from e b ack packet)
+    ≡ (packet_events e b ack packet, place_start)
 packet_reads t e b ack packet rests below small few passes =
     let first = start_of_packet e b in
     let last = end_of_packet e b in
@@ -66,7 +67,7 @@ packet_reads t e b ack packet rests below small few passes =
     place_after-packet_anywhere t Nothing first ack packet last in_first refl few passes in_last
     refl in
     (λ i. (events i, ends i))
-    ∙ ap (λ (es : List Event). (es, start)) (by_text t first ack packet last n refl rests)
+    ∙ ap (λ (es : List Event). (es, place_start)) (by_text t first ack packet last n refl rests)
   where
     by_text : (t : Text) (first : Fields) (ack : ℕ) (packet : List ℕ) (last : Fields) (n : ℕ)
         → first.s1 ≡ 0 → at_rest (place t Nothing) ≡ true
@@ -75,11 +76,13 @@ packet_reads t e b ack packet rests below small few passes =
         ≡ Ctl first ∷ Pkt ack packet ∷ Ctl last ∷ []
     by_text Plain first ack packet last n starts rests =
         ap (λ (s1 : ℕ). map (λ (p : ℕ × Event). p.1) (placed 3
-        ((if ends_packet s1 then ended Plain else []) ++ Ctl first ∷ []) ++ (n, Pkt ack packet)
+        ((if ends_packet s1 then packet_ended Plain else []) ++ Ctl first ∷ [])
+        ++ (n, Pkt ack packet)
         ∷ (n, Ctl last) ∷ [])) starts
     by_text Skipped first ack packet last n starts rests =
         ap (λ (s1 : ℕ). map (λ (p : ℕ × Event). p.1) (placed 3
-        ((if ends_packet s1 then ended Plain else []) ++ Ctl first ∷ []) ++ (n, Pkt ack packet)
+        ((if ends_packet s1 then packet_ended Plain else []) ++ Ctl first ∷ [])
+        ++ (n, Pkt ack packet)
         ∷ (n, Ctl last) ∷ [])) starts
     by_text (Within bytes) first ack packet last n starts rests = absurd cc
 
@@ -112,11 +115,11 @@ told_by p = report_of (expected_of p.input) (buffer_status p.tells p.received)
 
 -- by whether the packet has room: it is accepted, or asked for again, with a buffer status
 abbrev pub taken_by : Bool → (ack buffers : ℕ) → Received
-taken_by true ack buffers = accepted ack buffers
-taken_by false ack buffers = replied (Input.RetryStopped ack) (packet_retry ack buffers)
+taken_by true ack buffers = input_accepted ack buffers
+taken_by false ack buffers = replied (InputRetryStopped ack) (packet_retry ack buffers)
 
 arrives : (room : Bool) (ack buffers : ℕ)
-    → receives (packet_arrival ack ack room buffers) (Input.Ok ack) ≡ taken_by room ack buffers
+    → receives (packet_arrival ack ack room buffers) (InputOk ack) ≡ taken_by room ack buffers
 arrives true ack buffers = rw (eq-eqb ack ack refl) refl
 arrives false ack buffers = rw (eq-eqb ack ack refl) refl
 
@@ -124,13 +127,13 @@ arrives false ack buffers = rw (eq-eqb ack ack refl) refl
 abbrev pub status_after : Bool → PortState → List ℕ → ℕ
 status_after room q packet = buffer_status q.tells (stored room q.received packet)
 
-arrived_is : (q : PortState) (ack : ℕ) (packet : List ℕ) (room : Bool) → q.input ≡ Input.Ok ack
+arrived_is : (q : PortState) (ack : ℕ) (packet : List ℕ) (room : Bool) → q.input ≡ InputOk ack
     → room_for q.received (prio_of packet) ≡ room
     → arrived q ack packet ≡ taken_by room ack (status_after room q packet)
 arrived_is q ack packet room input has =
     ap (λ (i : Input). arrived (record q { input = i }) ack packet) input
     ∙ ap (λ (r : Bool). receives (packet_arrival ack ack r (status_after r q packet))
-    (Input.Ok ack)) has
+    (InputOk ack)) has
     ∙ arrives room ack (status_after room q packet)
 
 -- what a packet does, by what the input half makes of it
@@ -146,7 +149,7 @@ held_by room ack packet report q =
       output = reported report q.output;
       input = (taken_by room ack (status_after room q packet)).state;
       received = stored (taken_by room ack (status_after room q packet)).held q.received packet;
-      place = start;
+      place = place_start;
     }
 
 -- the answer to it
@@ -167,7 +170,7 @@ after_events room ack packet report q =
     }
 
 events_led : (q : PortState) (e b ack : ℕ) (packet : List ℕ) (room : Bool)
-    → q.input ≡ Input.Ok ack → room_for q.received (prio_of packet) ≡ room
+    → q.input ≡ InputOk ack → room_for q.received (prio_of packet) ≡ room
     → (led q (packet_events e b ack packet) ≡ after_events room ack packet (report_of e b) q)
     × (replies q (packet_events e b ack packet)
     ≡ answer_by room ack (status_after room q packet) ∷ [])
@@ -197,10 +200,10 @@ events_led q e b ack packet room input has =
 -- A packet of the expected ackID comes to a port with nothing in progress.
 pub packet_fed : (q : PortState) (t : Text) (e b ack : ℕ) (packet : List ℕ) (room : Bool)
     → q.place ≡ place t Nothing → at_rest (place t Nothing) ≡ true
-    → e < 32 → b < 32 → ack < 32 → Passes packet → q.input ≡ Input.Ok ack
+    → e < 32 → b < 32 → ack < 32 → Passes packet → q.input ≡ InputOk ack
     → room_for q.received (prio_of packet) ≡ room
-    → (fed q (chars_from e b ack packet) ≡ held_by room ack packet (report_of e b) q)
-    × (answered q (chars_from e b ack packet)
+    → (port_fed q (chars_from e b ack packet) ≡ held_by room ack packet (report_of e b) q)
+    × (port_answers q (chars_from e b ack packet)
     ≡ answer_by room ack (status_after room q packet) ∷ [])
 packet_fed q t e b ack packet room there rests below small few passes input has =
     let cs = chars_from e b ack packet in
@@ -208,7 +211,8 @@ packet_fed q t e b ack packet room there rests below small few passes input has 
     ap (λ (from : Place). reads from cs) there
     ∙ packet_reads t e b ack packet rests below small few passes in
     let does = events_led q e b ack packet room input has in (
-      fed_is q cs ∙ ap (fed_by q) r ∙ ap (λ (p : PortState). record p { place = start }) does.0,
+      fed_is q cs ∙ ap (fed_by q) r
+          ∙ ap (λ (p : PortState). record p { place = place_start }) does.0,
       answered_is q cs ∙ ap (λ (x : List Event × Place). replies q x.0) r ∙ does.1,
     )
 
@@ -276,7 +280,7 @@ pub answer_fed : (room : Bool) (p : PortState) (t : Text) (ack prio buffers : �
     (old : Option Report)
     → p.output ≡ Output.Ok (one_out ack prio old) → p.place ≡ place t Nothing
     → AreAnswers (answer_by room ack buffers ∷ [])
-    → fed p (chars_of (answer_by room ack buffers ∷ []))
+    → port_fed p (chars_of (answer_by room ack buffers ∷ []))
     ≡ replied_by room ack prio (report_by room ack buffers) (opened t) p
 unfolding led controls
 answer_fed room p t ack prio buffers old is there are =
@@ -295,7 +299,7 @@ next_is ack report few = omega arith
 -- what the table says of a turn of a port with nothing outstanding
 pub turn_is : (p : PortState) (ack : ℕ) (report : Option Report)
     → p.output ≡ Output.Ok (from_ack ack report)
-    → turn_of p
+    → port_turn p
     ≡ started p.tells (from_ack ack report) (credited (from_ack ack report) (highest p.queued))
 turn_is p ack report is =
     let w = from_ack ack report in
@@ -306,7 +310,7 @@ turn_is p ack report is =
 starts_is : (p : PortState) (ack prio : ℕ) (report : Option Report) → ack < 32
     → p.output ≡ Output.Ok (from_ack ack report)
     → credited (from_ack ack report) (highest p.queued) ≡ Some prio
-    → turn_of p ≡ turned (Output.Ok (one_out ack prio report)) (Sends.Packet ack prio)
+    → port_turn p ≡ turned (Output.Ok (one_out ack prio report)) (Sends.Packet ack prio)
 starts_is p ack prio report few is first =
     turn_is p ack report is
     ∙ ap (started p.tells (from_ack ack report)) first

@@ -3,6 +3,7 @@ use Rattle.std.proofs.Common.{◌≡◌, ℕ, ◌%◌, ◌&&◌, Bool, true, fal
 use Rattle.std.proofs.lemmas.Bool.{and_parts, and_from}
 use Rattle.link_model.specs.Prelude.{Input, Output, times_out, Outstanding, from_ack, at_rest}
 use Rattle.link_model.specs.declared.reports.Report.{Report}
+use Rattle.link_model.specs.Input.{InputOk, InputRetryStopped, InputErrorStopped}
 use Rattle.link_sound.specs.Marks.{Forward, Backward}
 use Rattle.link_sound.specs.Between.{IsBetween}
 use Rattle.link_sound.specs.Meanings.{forward, backward}
@@ -10,7 +11,7 @@ use Rattle.link_machine.specs.Prelude.{Side, A, B, LinkState, at_end, from_end, 
 use Rattle.link_machine.specs.Calls.{first_fires}
 use Rattle.link_machine.proofs.Machine.{fired_keeps, none_failed}
 use Rattle.link_rest.specs.Schedules.{NextOf}
-use Rattle.link_rest.specs.Acts.{Act, Fire, Reached, At, Found, goes, OnState}
+use Rattle.link_rest.specs.Acts.{Act, Fire, Reached, At, FoundAt, goes, OnState}
 use Rattle.link_rest.specs.Settling.{is_retry_stopped, has_failed, may_fire, is_none, is_done, is_ok, first_rests, TakesTurn, Restarts, TimesOut, Requests, Recovers}
 use Rattle.link_rest.specs.Rest.{IsAtRest}
 use Rattle.link_rest.proofs.Lines.{goes_one}
@@ -119,14 +120,14 @@ done_output (Output.RetryStopped w) done = absurd cc
 done_output (Output.ErrorStopped asked w) done = absurd cc
 done_output Output.Failed done = absurd cc
 
-ok_input : (i : Input) → is_ok i ≡ true → (ack : ℕ) × (i ≡ Input.Ok ack)
-ok_input (Input.Ok e) ok = (e, refl)
-ok_input (Input.RetryStopped e) ok = absurd cc
-ok_input (Input.ErrorStopped e) ok = absurd cc
+ok_input : (i : Input) → is_ok i ≡ true → (ack : ℕ) × (i ≡ InputOk ack)
+ok_input (InputOk e) ok = (e, refl)
+ok_input (InputRetryStopped e) ok = absurd cc
+ok_input (InputErrorStopped e) ok = absurd cc
 
 same_ack : (x y : ℕ) (report : Option Report) (queued : List (List (List ℕ))) (ahead : List Forward)
     (back : List Backward)
-    → IsBetween (Output.Ok (from_ack x report)) (Input.Ok y) queued ahead back → x ≡ y
+    → IsBetween (Output.Ok (from_ack x report)) (InputOk y) queued ahead back → x ≡ y
 same_ack x y report queued ahead back b =
     let rest = ap length b.outstanding ∙ length-drop b.freed b.sent in
     let same : b.held ≡ b.freed = omega (arith, b.is.held_first, b.is.sent_first) in
@@ -141,15 +142,15 @@ rests_is s l rests =
     let ahead = map forward s.wire_a.kept in
     let back = map backward s.wire_b.kept in
     let window = from_ack out.0 out.1 in
-    let between : IsBetween (Output.Ok window) (Input.Ok into.0) s.a.queued ahead back =
-    subst (λ (o : Output). IsBetween o (Input.Ok into.0) s.a.queued ahead back) out.2
+    let between : IsBetween (Output.Ok window) (InputOk into.0) s.a.queued ahead back =
+    subst (λ (o : Output). IsBetween o (InputOk into.0) s.a.queued ahead back) out.2
     (subst (λ (i : Input). IsBetween s.a.output i s.a.queued ahead back) into.1 l.sound.a_to_b) in
     record {
       ack = out.0;
       report = out.1;
       sender_ok = out.2;
       receiver_ok =
-          into.1 ∙ ap Input.Ok (sym (same_ack out.0 into.0 out.1 s.a.queued ahead back between));
+          into.1 ∙ ap InputOk (sym (same_ack out.0 into.0 out.1 s.a.queued ahead back between));
       place = second.1;
     }
 
@@ -208,7 +209,7 @@ then_requested near s (At m) rest h turn =
     on_state (goes (At m) rest)
     (λ n x. record { kept = then_kept near s m n h.kept x.kept; rests = x.rests })
     (requested near m rest h.window h.kept.sound h.kept.none h.stopped turn)
-then_requested near s (Found side e) rest h turn = rw (goes_found side e rest) tt
+then_requested near s (FoundAt side e) rest h turn = rw (goes_found side e rest) tt
 
 requests_by : (near : Side) (s : LinkState) (all : List Act) (b : Bool)
     → first_rests (from_end near s) ≡ b → is_retry_stopped (from_end near s).a.output ≡ false
@@ -237,7 +238,7 @@ then_requests near s (At m) rest h does =
     })
     (requests_by near m rest (first_rests (from_end near m)) refl h.awake h.kept.sound h.kept.none
     does)
-then_requests near s (Found side e) rest h does = rw (goes_found side e rest) tt
+then_requests near s (FoundAt side e) rest h does = rw (goes_found side e rest) tt
 
 recovers_by : (near : Side) (s : LinkState) (all : List Act) → IsSoundLink s → AreEmpty s
     → NextOf goes (Restarts near) (Requests near) (At s) all

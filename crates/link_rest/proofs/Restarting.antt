@@ -10,7 +10,7 @@ use Rattle.link_model.specs.Reports.{has_buffer_status, base_of, report_of}
 use Rattle.link_model.specs.Places.{broken_off, rests_by}
 use Rattle.link_machine.specs.Prelude.{Side, A, B, LinkState, turned_round, from_end, IsSoundLink}
 use Rattle.link_machine.proofs.Machine.{none_failed}
-use Rattle.link_rest.specs.Led.{led, fed, answered, chars_of, controls, AreAnswers}
+use Rattle.link_rest.specs.Led.{led, port_fed, port_answers, chars_of, controls, AreAnswers}
 use Rattle.link_rest.specs.Acts.{Act, At, goes, OnState}
 use Rattle.link_rest.specs.Settling.{is_retry_stopped, TakesTurn}
 use Rattle.link_rest.specs.Rest.{IsAtRest}
@@ -47,7 +47,7 @@ rest_place from rests =
 pub record Signalled (what : Arrival) (p q : PortState) (m : LinkState) : Type 0 where
   pub place : at_rest m.b.place ≡ true
   pub input : m.b.input ≡ input_signalled what q.place.pending q.input
-  pub a : m.a ≡ fed p (chars_of (replies_signalled what q.place.pending q.input))
+  pub a : m.a ≡ port_fed p (chars_of (replies_signalled what q.place.pending q.input))
   pub other : IsAtRest q p → IsAtRest m.b m.a
 
 pub signal_silent : (p q : PortState) (symbol : Fields) (what : Arrival) → IsSignal symbol what
@@ -56,9 +56,9 @@ pub signal_silent : (p q : PortState) (symbol : Fields) (what : Arrival) → IsS
 signal_silent p q symbol what is narrow =
     let cs = symbol_chars_of symbol in
     let there = ap (λ (x : PortState). x.place) (signal_fed q symbol what is) in
-    let second = answered p (chars_of (answered q cs)) in
-    (unbroken_leaves (fed q cs) Plain second there
-    (answers_are p (chars_of (answered q cs)) narrow)).0.silent
+    let second = port_answers p (chars_of (port_answers q cs)) in
+    (unbroken_leaves (port_fed q cs) Plain second there
+    (answers_are p (chars_of (port_answers q cs)) narrow)).0.silent
 
 -- a sender with nothing outstanding has nothing outstanding after a symbol that tells of buffers
 rest_reported : (symbol : Fields) (ack : ℕ) (old : Option Report)
@@ -83,15 +83,15 @@ other_rests : (p q : PortState) (symbol : Fields) (what : Arrival) (m : LinkStat
 unfolding chars_of
 other_rests p q symbol what m is far x rests =
     let cs = symbol_chars_of symbol in
-    let first = answered q cs in
+    let first = port_answers q cs in
     let near_place = rest_place p.place rests.place in
     let leaves = unbroken_leaves p p.place.text first near_place (answers_are q cs far) in
     let text_rests : at_rest (place p.place.text Nothing) ≡ true =
     subst (λ (from : Place). at_rest from ≡ true) near_place rests.place in
-    let b_is : m.b ≡ fed q cs =
+    let b_is : m.b ≡ port_fed q cs =
     x.b
-    ∙ ap (λ (r : List Fields). fed (fed q cs) (chars_of r)) leaves.0.silent
-    ∙ fed_none (fed q cs) in
+    ∙ ap (λ (r : List Fields). port_fed (port_fed q cs) (chars_of r)) leaves.0.silent
+    ∙ fed_none (port_fed q cs) in
     let told = rest_reported symbol rests.ack rests.report in
     record {
       ack = rests.ack;
@@ -112,11 +112,11 @@ pub signal_over : (p q : PortState) (symbol : Fields) (what : Arrival) (m : Link
     → Exchanged p q (symbol_chars_of symbol) m → Signalled what p q m
 signal_over p q symbol what m is near far x =
     let cs = symbol_chars_of symbol in
-    let second = answered p (chars_of (answered q cs)) in
+    let second = port_answers p (chars_of (port_answers q cs)) in
     let there = ap (λ (y : PortState). y.place) (signal_fed q symbol what is) in
     let leaves =
-    unbroken_leaves (fed q cs) Plain second there
-    (answers_are p (chars_of (answered q cs)) near) in
+    unbroken_leaves (port_fed q cs) Plain second there
+    (answers_are p (chars_of (port_answers q cs)) near) in
     record {
       place =
           ap (λ (y : PortState). at_rest y.place) x.b
@@ -126,7 +126,8 @@ signal_over p q symbol what m is near far x =
           ap (λ (y : PortState). y.input) x.b
           ∙ leaves.0.input
           ∙ ap (λ (y : PortState). y.input) (signal_fed q symbol what is);
-      a = x.a ∙ ap (λ (r : List Fields). fed p (chars_of r)) (signal_answered q symbol what is);
+      a = x.a ∙ ap (λ (r : List Fields). port_fed p (chars_of r))
+          (signal_answered q symbol what is);
       other = other_rests p q symbol what m is far x;
     }
 
@@ -244,7 +245,7 @@ restarted near s all w l none is turn =
 -- ---- a link-request
 
 fed_output : (p : PortState) (ss : List Fields) → AreAnswers ss
-    → (fed p (chars_of ss)).output ≡ output_after p.output ss
+    → (port_fed p (chars_of ss)).output ≡ output_after p.output ss
 unfolding chars_of output_after
 fed_output p [] are = ap (λ (q : PortState). q.output) (fed_none p)
 fed_output p (s ∷ ss) are =
@@ -275,7 +276,7 @@ heard_response : (p q : PortState) (w : Outstanding) (m : LinkState)
     → p.output ≡ Output.ErrorStopped true w
     → AreAnswers (replies_signalled Arrival.LinkRequest q.place.pending q.input)
     → IsSoundLink m
-    → m.a ≡ fed p (chars_of (replies_signalled Arrival.LinkRequest q.place.pending q.input))
+    → m.a ≡ port_fed p (chars_of (replies_signalled Arrival.LinkRequest q.place.pending q.input))
     → m.a.output ≡ Output.Ok (from_ack (expected_of q.input) w.report)
 heard_response p q w m asked are l is =
     let k = q.place.pending in

@@ -1,15 +1,16 @@
 -- What waits is sent: each round is a packet that is held and freed, or the last.
 use Rattle.std.proofs.Common.{◌≡◌, inr, ℕ, ◌+◌, ◌%◌, [], Bool, true, false, MatchBool, List, slice_get, refl, sym, ap, ◌∙◌, subst}
-use Rattle.link_model.specs.Prelude.{Fields, prio_of, Input, Arrival, Output, hears_report, Place, start, at_rest, symbol_chars_of}
+use Rattle.link_model.specs.Prelude.{Fields, prio_of, Input, Arrival, Output, hears_report, Place, place_start, at_rest, symbol_chars_of}
 use Rattle.link_model.specs.Output.{reported}
+use Rattle.link_model.specs.Input.{InputRetryStopped, InputOk}
 use Rattle.link_buffers.specs.Prelude.{Buffered, list_at, room_for, highest}
 use Rattle.link_port.specs.Prelude.{PortState, turns_to, is_ready}
 use Rattle.link_sound.specs.Told.{last_report}
 use Rattle.link_machine.specs.Prelude.{Side, LinkState, from_end, IsSoundLink}
-use Rattle.link_rest.specs.Led.{fed, answered, chars_of}
+use Rattle.link_rest.specs.Led.{port_fed, port_answers, chars_of}
 use Rattle.link_rest.specs.Schedules.{LoopOf}
-use Rattle.link_rest.specs.Schedules.LoopOf.{Rests, GoesOn, Leaves}
-use Rattle.link_rest.specs.Acts.{Act, Reached, At, Found, goes, OnState}
+use Rattle.link_rest.specs.Schedules.LoopOf.{LoopRests, LoopGoesOn, LoopLeaves}
+use Rattle.link_rest.specs.Acts.{Act, Reached, At, FoundAt, goes, OnState}
 use Rattle.link_rest.specs.Settling.{is_retry_stopped, of_end, TakesTurn, SendsAll}
 use Rattle.link_rest.specs.Rest.{IsAtRest, KnowsRoom, IsDone}
 use Rattle.link_rest.proofs.AnswerLaws.{port_narrow}
@@ -133,37 +134,37 @@ left near s m all ack l none beside r other knows turn =
     let report = report_by false ack (status_after false (from_end near s).b r.packet) in
     let window = one_out ack r.prio report in
     let stopped : t.a.output ≡ Output.RetryStopped window = ap (λ (p : PortState). p.output) r.a in
-    let refused : t.b.input ≡ Input.RetryStopped ack = ap (λ (q : PortState). q.input) r.b in
-    let there : t.b.place ≡ start = ap (λ (q : PortState). q.place) r.b in
+    let refused : t.b.input ≡ InputRetryStopped ack = ap (λ (q : PortState). q.input) r.b in
+    let there : t.b.place ≡ place_start = ap (λ (q : PortState). q.place) r.b in
     let p = turns_to t.a in
     let symbol = restart_of t.a in
     let cs = symbol_chars_of symbol in
     let signal = restart_is t.a sound.port_a in
     let silent =
     signal_silent p t.b symbol Arrival.RestartFromRetry signal (port_narrow t.a sound.port_a) in
-    let no_answer : answered t.b cs ≡ [] =
+    let no_answer : port_answers t.b cs ≡ [] =
     signal_answered t.b symbol Arrival.RestartFromRetry signal
     ∙ (λ i. replies_of (there i) (refused i)) in
     let next : PortState =
     record t.b {
       output = hears_report symbol t.b.output;
-      input = Input.Ok ack;
-      place = start;
+      input = InputOk ack;
+      place = place_start;
     } in
-    let far : fed t.b cs ≡ next =
+    let far : port_fed t.b cs ≡ next =
     signal_fed t.b symbol Arrival.RestartFromRetry signal
     ∙ (λ i. record next { input = input_of (there i) (refused i) }) in
     on_state (goes (At m) all)
     (λ n x.
     let u = from_end near n in
     let near_is : u.a ≡ p =
-    x.0.a ∙ ap (λ (ss : List Fields). fed p (chars_of ss)) no_answer ∙ fed_none p in
-    let second : answered p (chars_of (answered t.b cs)) ≡ [] =
-    ap (λ (ss : List Fields). answered p (chars_of ss)) no_answer ∙ answered_none p in
+    x.0.a ∙ ap (λ (ss : List Fields). port_fed p (chars_of ss)) no_answer ∙ fed_none p in
+    let second : port_answers p (chars_of (port_answers t.b cs)) ≡ [] =
+    ap (λ (ss : List Fields). port_answers p (chars_of ss)) no_answer ∙ answered_none p in
     let far_is : u.b ≡ next =
     x.0.b
-    ∙ ap (λ (ss : List Fields). fed (fed t.b cs) (chars_of ss)) second
-    ∙ fed_none (fed t.b cs)
+    ∙ ap (λ (ss : List Fields). port_fed (port_fed t.b cs) (chars_of ss)) second
+    ∙ fed_none (port_fed t.b cs)
     ∙ far in
     record {
       knowing = record {
@@ -277,7 +278,7 @@ pub goes_on : (near : Side) (s : LinkState) (r : Reached) → Quiet near s
     → OnState (λ m. Knowing near m × Beside near s m) r
 goes_on near s (At m) quiet h more =
     (round_knowing near s m h quiet (by_room near s m h quiet more), beside_round near s m h)
-goes_on near s (Found side e) quiet h more = tt
+goes_on near s (FoundAt side e) quiet h more = tt
 
 -- after the last
 leaves : (near : Side) (s : LinkState) (r : Reached) (all : List Act) → Quiet near s
@@ -286,7 +287,7 @@ leaves : (near : Side) (s : LinkState) (r : Reached) (all : List Act) → Quiet 
 leaves near s (At m) all quiet h last turn =
     left near s m all h.ack h.sound h.none (beside_round near s m h) (by_no_room near s m h last)
     (other_round near s m h quiet) (round_knows h.room h.round) turn
-leaves near s (Found side e) all quiet h last turn = absurd cc
+leaves near s (FoundAt side e) all quiet h last turn = absurd cc
 
 then_joined : (near : Side) (s m n : LinkState) → Beside near s m → Beside near m n
     → Beside near s n
@@ -304,7 +305,7 @@ rests_here near s (At m) all idle nothing h =
     subst (λ (r : Reached). OnState (Sent near s) r)
     (sym (ap (goes (At m)) nothing ∙ goes_none (At m)))
     (then_beside near s m m h.1 (ends near m h.0 idle))
-rests_here near s (Found side e) all idle nothing h = rw (goes_found side e all) tt
+rests_here near s (FoundAt side e) all idle nothing h = rw (goes_found side e all) tt
 
 -- a round that goes on
 goes_further : (near : Side) (s : LinkState) (r : Reached) (first : List Act)
@@ -316,7 +317,7 @@ goes_further near s (At m) first busy turn more h =
     on_state (goes (At m) first) (λ n x. (x.0, then_joined near s m n h.1 x.1))
     (goes_on near m (goes (At m) first) h.0.quiet (round_goes near m first h.0.quiet busy turn)
     more)
-goes_further near s (Found side e) first busy turn more h = absurd cc
+goes_further near s (FoundAt side e) first busy turn more h = absurd cc
 
 -- the last round
 goes_last : (near : Side) (s : LinkState) (r : Reached) (first rest : List Act)
@@ -328,17 +329,17 @@ goes_last near s (At m) first rest busy turn last again h =
     on_state (goes (goes (At m) first) rest) (λ n x. then_beside near s m n h.1 x)
     (leaves near m (goes (At m) first) rest h.0.quiet (round_goes near m first h.0.quiet busy turn)
     last again)
-goes_last near s (Found side e) first rest busy turn last again h = absurd cc
+goes_last near s (FoundAt side e) first rest busy turn last again h = absurd cc
 
 -- from how far the rounds before it came
 pub sends : (near : Side) (s : LinkState) {r : Reached} {all : List Act} → Sending near r all
     → OnState (λ m. Knowing near m × Beside near s m) r → OnState (Sent near s) (goes r all)
-sends near s {r} {all} (Rests idle nothing) h = rests_here near s r all idle nothing h
-sends near s {r} {all} (GoesOn first rest busy turn split more later) h =
+sends near s {r} {all} (LoopRests idle nothing) h = rests_here near s r all idle nothing h
+sends near s {r} {all} (LoopGoesOn first rest busy turn split more later) h =
     subst (λ (x : Reached). OnState (Sent near s) x)
     (sym (ap (goes r) split ∙ goes-append first rest r))
     (sends near s later (goes_further near s r first busy turn more h))
-sends near s {r} {all} (Leaves first rest busy turn split last again) h =
+sends near s {r} {all} (LoopLeaves first rest busy turn split last again) h =
     subst (λ (x : Reached). OnState (Sent near s) x)
     (sym (ap (goes r) split ∙ goes-append first rest r))
     (goes_last near s r first rest busy turn last again h)

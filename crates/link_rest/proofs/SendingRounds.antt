@@ -8,7 +8,7 @@ use Rattle.link_model.specs.Output.{credited, reported}
 use Rattle.link_sound.specs.Told.{last_report}
 use Rattle.link_model.specs.Places.{opened}
 use Rattle.link_machine.specs.Prelude.{Side, LinkState, from_end, IsSoundLink}
-use Rattle.link_rest.specs.Led.{fed, answered, chars_of, AreAnswers}
+use Rattle.link_rest.specs.Led.{port_fed, port_answers, chars_of, AreAnswers}
 use Rattle.link_rest.specs.Acts.{Act, At, goes, OnState}
 use Rattle.link_rest.specs.Settling.{is_some, TakesTurn}
 use Rattle.link_rest.specs.Rest.{IsAtRest, KnowsRoom}
@@ -62,13 +62,13 @@ ready_chars p q r =
 
 -- the far port takes the packet, and the near one the answer
 record Answered (room : Bool) (p q : PortState) (cs : List Char) (r : Ready p q) : Type 0 where
-  far : fed q cs ≡ held_by room r.out.ack r.packet_is.packet (told_by p) q
-  answers : answered q cs
+  far : port_fed q cs ≡ held_by room r.out.ack r.packet_is.packet (told_by p) q
+  answers : port_answers q cs
       ≡ answer_by room r.out.ack (status_after room q r.packet_is.packet) ∷ []
-  near : fed (turns_to p) (chars_of (answered q cs))
+  near : port_fed (turns_to p) (chars_of (port_answers q cs))
       ≡ replied_by room r.out.ack r.packet_is.prio
       (report_by room r.out.ack (status_after room q r.packet_is.packet)) (opened p.place.text) p
-  none : answered (turns_to p) (chars_of (answered q cs)) ≡ []
+  none : port_answers (turns_to p) (chars_of (port_answers q cs)) ≡ []
 
 answered_by : (room : Bool) (p q : PortState) (r : Ready p q)
     → room_for q.received (prio_of r.packet_is.packet) ≡ room
@@ -97,16 +97,18 @@ answered_by room p q r has =
       far = does.0;
       answers = does.1;
       near =
-          (λ i. fed (turn i) (chars_of (does.1 i)))
+          (λ i. port_fed (turn i) (chars_of (does.1 i)))
           ∙ answer_fed room sent p.place.text ack prio buffers r.out.report refl near_place one;
-      none = (unbroken_leaves (turns_to p) p.place.text (answered q cs) near_place are).0.silent;
+      none = (unbroken_leaves (turns_to p) p.place.text (port_answers q cs) near_place
+          are).0.silent;
     }
 
 round_silent : (room : Bool) (p q : PortState) (cs : List Char) (r : Ready p q)
     → Answered room p q cs r → third_answers (turns_to p) q cs ≡ []
 unfolding chars_of
 round_silent room p q cs r h =
-    ap (λ (ss : List Fields). answered (fed q cs) (chars_of ss)) h.none ∙ answered_none (fed q cs)
+    ap (λ (ss : List Fields). port_answers (port_fed q cs) (chars_of ss)) h.none
+    ∙ answered_none (port_fed q cs)
 
 round_over : (room : Bool) (p q : PortState) (cs : List Char) (r : Ready p q) (m : LinkState)
     → room_for q.received (prio_of r.packet_is.packet) ≡ room → Answered room p q cs r
@@ -122,8 +124,8 @@ round_over room p q cs r m has h x = record {
   a = x.a ∙ h.near;
   b =
       x.b
-      ∙ ap (λ (ss : List Fields). fed (fed q cs) (chars_of ss)) h.none
-      ∙ fed_none (fed q cs)
+      ∙ ap (λ (ss : List Fields). port_fed (port_fed q cs) (chars_of ss)) h.none
+      ∙ fed_none (port_fed q cs)
       ∙ h.far;
 }
 

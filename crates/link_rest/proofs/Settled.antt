@@ -8,8 +8,8 @@ use Rattle.link_sound.specs.Lent.{lent}
 use Rattle.link_sound.specs.Meanings.{oldest_of}
 use Rattle.link_machine.specs.Prelude.{A, B, LinkState, IsSoundLink}
 use Rattle.link_rest.specs.Schedules.{NextOf}
-use Rattle.link_rest.specs.Acts.{Act, Reached, At, Found, goes, OnState}
-use Rattle.link_rest.specs.Settling.{Part, Drains, Recovers, Tells, SendsAll, Settles}
+use Rattle.link_rest.specs.Acts.{Act, Reached, At, FoundAt, goes, OnState}
+use Rattle.link_rest.specs.Settling.{SchedulePart, Drains, Recovers, Tells, SendsAll, Settles}
 use Rattle.link_rest.specs.Rest.{IsAtRest, KnowsRoom, IsDone, IsSettled}
 use Rattle.link_rest.proofs.Drains.{goes_found, goes-append, on_state, AreEmpty, drain_rests}
 use Rattle.link_rest.proofs.Recovery.{recovers}
@@ -50,7 +50,7 @@ pub go_on : (P : LinkState → Type 0) (Part : Reached → List Act → Type 0) 
     → Leads P Part Q → (r : Reached) (all : List Act) → OnState P r → Part r all
     → OnState Q (goes r all)
 go_on P Part Q leads (At s) all h does = leads s all h does
-go_on P Part Q leads (Found side e) all h does = rw (goes_found side e all) tt
+go_on P Part Q leads (FoundAt side e) all h does = rw (goes_found side e all) tt
 
 next_leads : (P Q R : LinkState → Type 0) (First Then : Reached → List Act → Type 0)
     → Leads P First Q → Leads Q Then R → Leads P (NextOf goes First Then) R
@@ -170,13 +170,13 @@ settled s h =
     }
 
 -- the schedule from a part on
-abbrev pub FromSending : Part
+abbrev pub FromSending : SchedulePart
 FromSending = NextOf goes (SendsAll A) (SendsAll B)
 
-abbrev pub FromTelling : Part
+abbrev pub FromTelling : SchedulePart
 FromTelling = NextOf goes (Tells A) (NextOf goes (Tells B) FromSending)
 
-abbrev pub FromRecovering : Part
+abbrev pub FromRecovering : SchedulePart
 FromRecovering = NextOf goes (Recovers A) (NextOf goes (Recovers B) FromTelling)
 
 sends_lead : Leads BothTold FromSending BothDone

@@ -1,6 +1,6 @@
 -- A restart-from-retry or a link-request comes to a port, and answers come back.
 use Rattle.std.proofs.Common.{◌≡◌, ◌⊎◌, inl, inr, ℕ, Bool, true, false, nat_lt, nat_le, ◌&&◌, ◌==◌, if◌then◌else◌, Option, None, option_to_list, List, [], ◌∷◌, ◌++◌, take, length, refl, sym, ap, ◌∙◌, append-nil}
-use Rattle.link_model.specs.Prelude.{Char, Fields, InRange, Input, Arrival, Received, symbol_arrival, receives, Output, hears, hears_report, Outstanding, from_ack, distance, Place, run, place, start, place_after, at_rest, Text, Plain, Skipped, Within, symbol_chars_of, said}
+use Rattle.link_model.specs.Prelude.{Char, Fields, InRange, Input, Arrival, Received, symbol_arrival, receives, Output, hears, hears_report, Outstanding, from_ack, distance, Place, run, place, place_start, place_after, at_rest, Text, Plain, Skipped, Within, symbol_chars_of, said}
 use Rattle.link_model.specs.declared.reports.Report.{Report}
 use Rattle.link_buffers.specs.Priorities.{packets_of, lists_without}
 use Rattle.link_port.specs.Prelude.{Event, Ctl, Pkt, Bad, Pending, Nothing, Opened, One, Two, PortState, prios_of, expected_of, Acted, acts, replies}
@@ -9,8 +9,9 @@ use Rattle.link_model.specs.Reports.{has_buffer_status, base_of, report_of}
 use Rattle.link_model.specs.Outstanding.{is_oldest}
 use Rattle.link_model.specs.Places.{broken_off, begins_in, opened}
 use Rattle.link_model.specs.Reading.{text_after, told}
+use Rattle.link_model.specs.Input.{InputOk, InputRetryStopped, InputErrorStopped}
 use Rattle.link_port.specs.Steps.{acted, acts_symbol}
-use Rattle.link_rest.specs.Led.{led, fed, answered, chars_of, controls, AreAnswers}
+use Rattle.link_rest.specs.Led.{led, port_fed, port_answers, chars_of, controls, AreAnswers}
 use Rattle.link_rest.proofs.SaidLaws.{reads, prepended, symbol_reads}
 use Rattle.link_rest.proofs.TableLaws.{led-append, replies-append}
 use Rattle.link_rest.proofs.AnswerLaws.{LeavesInput, answers_leave, first_breaks}
@@ -20,21 +21,22 @@ use Rattle.link_rest.proofs.AnswerLaws.{LeavesInput, answers_leave, first_breaks
 abbrev pub fed_by : PortState → List Event × Place → PortState
 fed_by port r = record (led port r.0) { place = r.1 }
 
-pub fed_is : (p : PortState) (cs : List Char) → fed p cs ≡ fed_by p (reads p.place cs)
-unfolding fed
+pub fed_is : (p : PortState) (cs : List Char) → port_fed p cs ≡ fed_by p (reads p.place cs)
+unfolding port_fed
 fed_is p cs = refl
 
-pub answered_is : (p : PortState) (cs : List Char) → answered p cs ≡ replies p (reads p.place cs).0
-unfolding answered
+pub answered_is : (p : PortState) (cs : List Char)
+    → port_answers p cs ≡ replies p (reads p.place cs).0
+unfolding port_answers
 answered_is p cs = refl
 
 -- no character
-pub fed_none : (p : PortState) → fed p [] ≡ p
-unfolding fed run led place_after
+pub fed_none : (p : PortState) → port_fed p [] ≡ p
+unfolding port_fed run led place_after
 fed_none p = refl
 
-pub answered_none : (p : PortState) → answered p [] ≡ []
-unfolding answered run replies
+pub answered_none : (p : PortState) → port_answers p [] ≡ []
+unfolding port_answers run replies
 answered_none p = refl
 
 -- ---- a symbol is broken off
@@ -115,7 +117,7 @@ signal_acts p s what is =
     ∙ ap (λ (a : Arrival). status_moved p s (receives a p.input)) is.arrival
 
 signal_reads : (from : Place) (s : Fields) (what : Arrival) → IsSignal s what
-    → reads from (symbol_chars_of s) ≡ (broken_off from.pending ++ Ctl s ∷ [], start)
+    → reads from (symbol_chars_of s) ≡ (broken_off from.pending ++ Ctl s ∷ [], place_start)
 unfolding run place_after
 signal_reads from s what is =
     let u = begins_in from.text from.pending in
@@ -126,7 +128,8 @@ signal_reads from s what is =
     ∙ ap
     (λ (v : Text). prepended (broken_off from.pending ++ Ctl s ∷ []) (reads (place v Nothing) []))
     (is.plain u)
-    ∙ ap (λ (es : List Event). (es, start)) (append-nil (broken_off from.pending ++ Ctl s ∷ []))
+    ∙ ap (λ (es : List Event). (es, place_start))
+    (append-nil (broken_off from.pending ++ Ctl s ∷ []))
 
 -- the input half after it, and the answers
 abbrev pub input_signalled : Arrival → Pending → Input → Input
@@ -138,24 +141,25 @@ replies_signalled what k input =
     ++ option_to_list (receives what (input_broken k input)).reply
 
 pub signal_fed : (p : PortState) (s : Fields) (what : Arrival) → IsSignal s what
-    → fed p (symbol_chars_of s)
+    → port_fed p (symbol_chars_of s)
     ≡ record p {
       output = hears_report s p.output;
       input = input_signalled what p.place.pending p.input;
-      place = start;
+      place = place_start;
     }
 unfolding led
 signal_fed p s what is =
     let k = p.place.pending in
     fed_is p (symbol_chars_of s)
     ∙ ap (fed_by p) (signal_reads p.place s what is)
-    ∙ ap (λ (q : PortState). record q { place = start }) (led-append p (broken_off k) (Ctl s ∷ [])
+    ∙ ap (λ (q : PortState). record q { place = place_start })
+    (led-append p (broken_off k) (Ctl s ∷ [])
     ∙ ap (λ (q : PortState). (acts q (Ctl s)).port) (break_led p k))
-    ∙ ap (λ (a : Acted). record a.port { place = start })
+    ∙ ap (λ (a : Acted). record a.port { place = place_start })
     (signal_acts (record p { input = input_broken k p.input }) s what is)
 
 pub signal_answered : (p : PortState) (s : Fields) (what : Arrival) → IsSignal s what
-    → answered p (symbol_chars_of s) ≡ replies_signalled what p.place.pending p.input
+    → port_answers p (symbol_chars_of s) ≡ replies_signalled what p.place.pending p.input
 unfolding led replies
 signal_answered p s what is =
     let k = p.place.pending in
@@ -193,8 +197,8 @@ resting_answered (s ∷ ss) (Within bytes) rests = absurd cc
 -- where no symbol is in progress, answers leave the input half as it is, and have no answer
 pub unbroken_leaves : (p : PortState) (t : Text) (ss : List Fields) → p.place ≡ place t Nothing
     → AreAnswers ss
-    → LeavesInput p (fed p (chars_of ss)) (answered p (chars_of ss))
-    × ((fed p (chars_of ss)).place ≡ place (text_answered ss t) Nothing)
+    → LeavesInput p (port_fed p (chars_of ss)) (port_answers p (chars_of ss))
+    × ((port_fed p (chars_of ss)).place ≡ place (text_answered ss t) Nothing)
 unbroken_leaves p t ss there are =
     let r = ap (λ (from : Place). reads from (chars_of ss)) there ∙ unbroken_reads t ss are in
     let leaves = answers_leave p ss are in
@@ -211,7 +215,8 @@ unbroken_leaves p t ss there are =
 
 -- after an answer no symbol is in progress
 pub answers_end : (p : PortState) (s : Fields) (ss : List Fields) → AreAnswers (s ∷ ss)
-    → (fed p (chars_of (s ∷ ss))).place ≡ place (begins_in p.place.text p.place.pending) Nothing
+    → (port_fed p (chars_of (s ∷ ss))).place
+    ≡ place (begins_in p.place.text p.place.pending) Nothing
 answers_end p s ss are =
     ap (λ (q : PortState). q.place) (fed_is p (chars_of (s ∷ ss))
     ∙ ap (fed_by p) (first_breaks p.place.text p.place.pending s ss are))
@@ -219,16 +224,17 @@ answers_end p s ss are =
 -- Of answers, what is answered to those, and what is answered to that: it has no answer.
 pub third_is_silent : (q p : PortState) (second fourth : List Fields) → AreAnswers second
     → AreAnswers fourth
-    → fourth ≡ answered p (chars_of (answered q (chars_of second)))
-    → answered (fed q (chars_of second)) (chars_of fourth) ≡ []
+    → fourth ≡ port_answers p (chars_of (port_answers q (chars_of second)))
+    → port_answers (port_fed q (chars_of second)) (chars_of fourth) ≡ []
 unfolding chars_of
 third_is_silent q p [] fourth are answer is =
-    let none : answered q [] ≡ [] = answered_none q in
+    let none : port_answers q [] ≡ [] = answered_none q in
     let silent : fourth ≡ [] =
-    is ∙ ap (λ (r : List Fields). answered p (chars_of r)) none ∙ answered_none p in
-    ap (λ (r : List Fields). answered (fed q []) (chars_of r)) silent ∙ answered_none (fed q [])
+    is ∙ ap (λ (r : List Fields). port_answers p (chars_of r)) none ∙ answered_none p in
+    ap (λ (r : List Fields). port_answers (port_fed q []) (chars_of r)) silent
+    ∙ answered_none (port_fed q [])
 third_is_silent q p (s ∷ ss) fourth are answer is =
-    let next = fed q (chars_of (s ∷ ss)) in
+    let next = port_fed q (chars_of (s ∷ ss)) in
     let leaves =
     unbroken_leaves next (begins_in q.place.text q.place.pending) fourth
     (answers_end q s ss are) answer in
@@ -300,27 +306,27 @@ down_led p (Ctl s ∷ es) down =
 down_led p (Pkt ack packet ∷ es) down = down_led (acts p (Pkt ack packet)).port es down
 down_led p (Bad cause ∷ es) down = down_led (acts p (Bad cause)).port es down
 
-pub down_fed : (p : PortState) (cs : List Char) → IsDown p.output → IsDown (fed p cs).output
-unfolding fed
+pub down_fed : (p : PortState) (cs : List Char) → IsDown p.output → IsDown (port_fed p cs).output
+unfolding port_fed
 down_fed p cs down = down_led p (said p.place cs) down
 
 -- ---- a link-request and its response
 
 -- a link-request is answered by a link-response, and the input half takes packets
 pub request_input : (k : Pending) (i : Input)
-    → input_signalled Arrival.LinkRequest k i ≡ Input.Ok (expected_of i)
-request_input Nothing (Input.Ok e) = refl
-request_input Nothing (Input.RetryStopped e) = refl
-request_input Nothing (Input.ErrorStopped e) = refl
-request_input (Opened d) (Input.Ok e) = refl
-request_input (Opened d) (Input.RetryStopped e) = refl
-request_input (Opened d) (Input.ErrorStopped e) = refl
-request_input (One d x) (Input.Ok e) = refl
-request_input (One d x) (Input.RetryStopped e) = refl
-request_input (One d x) (Input.ErrorStopped e) = refl
-request_input (Two d x y) (Input.Ok e) = refl
-request_input (Two d x y) (Input.RetryStopped e) = refl
-request_input (Two d x y) (Input.ErrorStopped e) = refl
+    → input_signalled Arrival.LinkRequest k i ≡ InputOk (expected_of i)
+request_input Nothing (InputOk e) = refl
+request_input Nothing (InputRetryStopped e) = refl
+request_input Nothing (InputErrorStopped e) = refl
+request_input (Opened d) (InputOk e) = refl
+request_input (Opened d) (InputRetryStopped e) = refl
+request_input (Opened d) (InputErrorStopped e) = refl
+request_input (One d x) (InputOk e) = refl
+request_input (One d x) (InputRetryStopped e) = refl
+request_input (One d x) (InputErrorStopped e) = refl
+request_input (Two d x y) (InputOk e) = refl
+request_input (Two d x y) (InputRetryStopped e) = refl
+request_input (Two d x y) (InputErrorStopped e) = refl
 
 -- the output half after a list of symbols
 unfoldable pub output_after : Output → List Fields → Output
@@ -338,18 +344,18 @@ pub response_heard : (k : Pending) (i : Input) (w : Outstanding)
     → output_after (Output.ErrorStopped true w) (replies_signalled Arrival.LinkRequest k i)
     ≡ (responded true w (expected_of i)).state
 unfolding output_after
-response_heard Nothing (Input.Ok e) w = refl
-response_heard Nothing (Input.RetryStopped e) w = refl
-response_heard Nothing (Input.ErrorStopped e) w = refl
-response_heard (Opened d) (Input.Ok e) w = refl
-response_heard (Opened d) (Input.RetryStopped e) w = refl
-response_heard (Opened d) (Input.ErrorStopped e) w = refl
-response_heard (One d x) (Input.Ok e) w = refl
-response_heard (One d x) (Input.RetryStopped e) w = refl
-response_heard (One d x) (Input.ErrorStopped e) w = refl
-response_heard (Two d x y) (Input.Ok e) w = refl
-response_heard (Two d x y) (Input.RetryStopped e) w = refl
-response_heard (Two d x y) (Input.ErrorStopped e) w = refl
+response_heard Nothing (InputOk e) w = refl
+response_heard Nothing (InputRetryStopped e) w = refl
+response_heard Nothing (InputErrorStopped e) w = refl
+response_heard (Opened d) (InputOk e) w = refl
+response_heard (Opened d) (InputRetryStopped e) w = refl
+response_heard (Opened d) (InputErrorStopped e) w = refl
+response_heard (One d x) (InputOk e) w = refl
+response_heard (One d x) (InputRetryStopped e) w = refl
+response_heard (One d x) (InputErrorStopped e) w = refl
+response_heard (Two d x y) (InputOk e) w = refl
+response_heard (Two d x y) (InputRetryStopped e) w = refl
+response_heard (Two d x y) (InputErrorStopped e) w = refl
 
 responded_by : (within : Bool) (next : Outstanding) (count : ℕ)
     → ((if within then heard (Output.Ok next) count else heard Output.Failed 0).state

@@ -11,7 +11,7 @@ use Rattle.link_port.proofs.SentReads.{standing_range}
 use Rattle.link_sound.specs.Told.{last_report}
 use Rattle.link_machine.specs.Prelude.{Side, A, B, LinkState, from_end, told_from, IsSoundLink}
 use Rattle.link_machine.proofs.Machine.{told_keeps}
-use Rattle.link_rest.specs.Led.{led, fed, answered, chars_of, controls, AreAnswers}
+use Rattle.link_rest.specs.Led.{led, port_fed, port_answers, chars_of, controls, AreAnswers}
 use Rattle.link_rest.specs.Acts.{Act, Tell, Reached, At, goes, OnState}
 use Rattle.link_rest.specs.Schedules.{NextOf, Is}
 use Rattle.link_rest.specs.Settling.{Drains, Tells}
@@ -59,8 +59,8 @@ status_is p is = (status_answers p is, tt)
 
 -- what the status does, which has no answer
 record StatusHeard (p q : PortState) : Type 0 where
-  far : fed q (symbol_chars_of (status_of p)) ≡ hearing_port p q
-  none : answered q (symbol_chars_of (status_of p)) ≡ []
+  far : port_fed q (symbol_chars_of (status_of p)) ≡ hearing_port p q
+  none : port_answers q (symbol_chars_of (status_of p)) ≡ []
 
 status_heard : (p q : PortState) → IsPort p → at_rest q.place ≡ true → StatusHeard p q
 unfolding led controls
@@ -71,13 +71,13 @@ status_heard p q is rests =
     let told = bound_tells q (expected_of p.input) (buffer_status p.tells p.received) 7 refl in
     record {
       far =
-          ap (fed q) (one_symbol p)
+          ap (port_fed q) (one_symbol p)
           ∙ fed_is q (chars_of ss)
           ∙ ap (fed_by q) (ap (λ (from : Place). reads from (chars_of ss)) there
           ∙ unbroken_reads q.place.text ss are)
           ∙ ap (λ (a : Acted). record a.port { place = place (opened q.place.text) Nothing }) told;
       none =
-          ap (answered q) (one_symbol p)
+          ap (port_answers q) (one_symbol p)
           ∙ (unbroken_leaves q q.place.text ss there are).0.silent;
     }
 
@@ -86,9 +86,10 @@ status_silent : (p q : PortState) → StatusHeard p q
 unfolding chars_of
 status_silent p q h =
     let cs = symbol_chars_of (status_of p) in
-    let second : answered p (chars_of (answered q cs)) ≡ [] =
-    ap (λ (ss : List Fields). answered p (chars_of ss)) h.none ∙ answered_none p in
-    ap (λ (ss : List Fields). answered (fed q cs) (chars_of ss)) second ∙ answered_none (fed q cs)
+    let second : port_answers p (chars_of (port_answers q cs)) ≡ [] =
+    ap (λ (ss : List Fields). port_answers p (chars_of ss)) h.none ∙ answered_none p in
+    ap (λ (ss : List Fields). port_answers (port_fed q cs) (chars_of ss)) second
+    ∙ answered_none (port_fed q cs)
 
 -- the ports after it
 record PortsTold (p q m_a m_b : PortState) : Type 0 where
@@ -101,14 +102,14 @@ ports_told : (near : Side) (p q : PortState) (m : LinkState) → StatusHeard p q
 unfolding chars_of
 ports_told near p q m h x =
     let cs = symbol_chars_of (status_of p) in
-    let second : answered p (chars_of (answered q cs)) ≡ [] =
-    ap (λ (ss : List Fields). answered p (chars_of ss)) h.none ∙ answered_none p in
+    let second : port_answers p (chars_of (port_answers q cs)) ≡ [] =
+    ap (λ (ss : List Fields). port_answers p (chars_of ss)) h.none ∙ answered_none p in
     record {
-      a = x.0.a ∙ ap (λ (ss : List Fields). fed p (chars_of ss)) h.none ∙ fed_none p;
+      a = x.0.a ∙ ap (λ (ss : List Fields). port_fed p (chars_of ss)) h.none ∙ fed_none p;
       b =
           x.0.b
-          ∙ ap (λ (ss : List Fields). fed (fed q cs) (chars_of ss)) second
-          ∙ fed_none (fed q cs)
+          ∙ ap (λ (ss : List Fields). port_fed (port_fed q cs) (chars_of ss)) second
+          ∙ fed_none (port_fed q cs)
           ∙ h.far;
     }
 

@@ -3,9 +3,9 @@ use Rattle.std.proofs.Common.{◌≡◌, ◌++◌, List, [], refl, sym, ap, ◌�
 use Rattle.link_model.specs.Prelude.{Char, Fields}
 use Rattle.link_port.specs.Prelude.{PortState, turn_sends, turns_to}
 use Rattle.link_machine.specs.Prelude.{Side, A, B, LinkState, from_end, pumped, IsSoundLink}
-use Rattle.link_wires.specs.Wires.{turned, bursts}
+use Rattle.link_wires.specs.Wires.{port_turned, bursts}
 use Rattle.link_machine.proofs.Machine.{pump_keeps}
-use Rattle.link_rest.specs.Led.{fed, answered, chars_of}
+use Rattle.link_rest.specs.Led.{port_fed, port_answers, chars_of}
 use Rattle.link_rest.specs.Acts.{Act, Pump, Reached, At, goes, OnState}
 use Rattle.link_rest.specs.Settling.{Drains, TakesTurn}
 use Rattle.link_rest.proofs.Lines.{goes_one, round_sound}
@@ -26,7 +26,8 @@ end_empty B s none = (none.1, none.0)
 
 -- what is answered to the answers to the answers
 abbrev pub third_answers : PortState → PortState → List Char → List Fields
-third_answers p q cs = answered (fed q cs) (chars_of (answered p (chars_of (answered q cs))))
+third_answers p q cs =
+    port_answers (port_fed q cs) (chars_of (port_answers p (chars_of (port_answers q cs))))
 
 -- the ports after it, with this end first, and both wires empty
 abbrev pub Over : Side → PortState → PortState → List Char → LinkState → Type 0
@@ -47,7 +48,7 @@ drain_over near s all p q cs l first second third none drains =
 
 turned_a : (near : Side) (s : LinkState)
     → (from_end near (pumped near 1 s)).a ≡ turns_to (from_end near s).a
-unfolding turned
+unfolding port_turned
 turned_a A s = refl
 turned_a B s = refl
 

@@ -2,7 +2,7 @@
 use Rattle.std.specs.Prelude.{ℕ, Bool, false, if◌then◌else◌, List, [], ◌∷◌, ◌++◌}
 use Rattle.link_model.specs.declared.event.Event.{Event}
 use Rattle.link_machine.specs.Prelude.{other_side, Note, Side, LinkState, pumped, pump_notes, told_from, tell_notes, has_chars, delivery_from, delivered_from, delivery_notes, timed_out_at, time_out_notes}
-use Rattle.link_wires.specs.Deliveries.{Delivered, Through, Undetected}
+use Rattle.link_wires.specs.Deliveries.{Delivered, Through, Unsent}
 
 -- turns of a port; the status of a port that tells its free buffers; a delivery of characters from
 -- a port's wire; a time-out of a port
@@ -16,29 +16,29 @@ pub data Act : Type 0 where
 -- Nothing is done after such an event.
 pub data Reached : Type 0 where
   At : LinkState → Reached
-  Found : Side → Event → Reached
+  FoundAt : Side → Event → Reached
 
 -- by what became of a delivery to a port
 abbrev pub reached_by : Side → LinkState → Delivered → Reached
 reached_by to next (Through flow) = At next
-reached_by to next (Undetected told e) = Found to e
+reached_by to next (Unsent told e) = FoundAt to e
 
 -- after one thing
-abbrev pub after : Act → LinkState → Reached
-after (Pump from turns) link = At (pumped from turns link)
-after (Tell from) link = At (told_from from link)
-after (Deliver from count) link =
+abbrev pub after_act : Act → LinkState → Reached
+after_act (Pump from turns) link = At (pumped from turns link)
+after_act (Tell from) link = At (told_from from link)
+after_act (Deliver from count) link =
     if has_chars from count link
     then reached_by (other_side from) (delivered_from from count link)
     (delivery_from from count link)
     else At link
-after (Fire side) link = At (timed_out_at side link)
+after_act (Fire side) link = At (timed_out_at side link)
 
 -- after a list of things
 unfoldable pub goes : Reached → List Act → Reached
 goes reached [] = reached
-goes (At link) (act ∷ acts) = goes (after act link) acts
-goes (Found side e) (act ∷ acts) = Found side e
+goes (At link) (act ∷ acts) = goes (after_act act link) acts
+goes (FoundAt side e) (act ∷ acts) = FoundAt side e
 
 -- what one thing is noted as
 abbrev pub act_notes : Act → LinkState → List Note
@@ -50,15 +50,15 @@ act_notes (Fire side) link = time_out_notes side link
 -- the notes of a list of things
 unfoldable pub acts_notes : Reached → List Act → List Note
 acts_notes reached [] = []
-acts_notes (At link) (act ∷ acts) = act_notes act link ++ acts_notes (after act link) acts
-acts_notes (Found side e) (act ∷ acts) = []
+acts_notes (At link) (act ∷ acts) = act_notes act link ++ acts_notes (after_act act link) acts
+acts_notes (FoundAt side e) (act ∷ acts) = []
 
 -- whether a test holds of the state that is reached
-abbrev pub holds : (LinkState → Bool) → Reached → Bool
-holds test (At link) = test link
-holds test (Found side e) = false
+abbrev pub holds_at : (LinkState → Bool) → Reached → Bool
+holds_at test (At link) = test link
+holds_at test (FoundAt side e) = false
 
 -- what is true of the state that is reached, if every event was sent
 abbrev pub OnState : (LinkState → Type 0) → Reached → Type 0
 OnState P (At link) = P link
-OnState P (Found side e) = Unit {0}
+OnState P (FoundAt side e) = Unit {0}

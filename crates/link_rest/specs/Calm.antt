@@ -6,7 +6,7 @@ use Rattle.link_wires.specs.Kept.{IsSubsequence}
 use Rattle.link_wires.specs.Wires.{WireState}
 use Rattle.link_machine.specs.Sound.{IsSoundLink}
 use Rattle.link_machine.specs.States.{LinkState}
-use Rattle.link_rest.specs.Acts.{Reached, At, Found}
+use Rattle.link_rest.specs.Acts.{Reached, At, FoundAt}
 
 -- What the characters on the wire say to the port, read on from where it stands, was sent in this
 -- order and is not acted on yet. Behind them neither a symbol nor a packet is in progress; data may
@@ -23,4 +23,4 @@ pub record IsCalm (s : LinkState) : Type 0 where
 -- a link has come to a sound and calm state, and not to an event that was not sent
 abbrev pub IsStillCalm : Reached → Type 0
 IsStillCalm (At m) = IsSoundLink m × IsCalm m
-IsStillCalm (Found side e) = ⊥
+IsStillCalm (FoundAt side e) = ⊥

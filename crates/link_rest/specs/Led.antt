@@ -12,11 +12,12 @@ led port [] = port
 led port (e ∷ es) = led (acts port e).port es
 
 -- the port after characters, and the symbols with which it answers them
-unfoldable pub fed : PortState → List Char → PortState
-fed port chars = record (led port (said port.place chars)) { place = place_after port.place chars }
+unfoldable pub port_fed : PortState → List Char → PortState
+port_fed port chars =
+    record (led port (said port.place chars)) { place = place_after port.place chars }
 
-unfoldable pub answered : PortState → List Char → List Fields
-answered port chars = replies port (said port.place chars)
+unfoldable pub port_answers : PortState → List Char → List Fields
+port_answers port chars = replies port (said port.place chars)
 
 -- symbols as characters and as events
 unfoldable pub chars_of : List Fields → List Char

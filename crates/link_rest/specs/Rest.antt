@@ -19,7 +19,7 @@ pub record IsAtRest (sender receiver : PortState) : Type 0 where
   pub ack : ℕ
   pub report : Option Report
   pub sender_ok : sender.output ≡ out.Output.Ok (from_ack ack report)
-  pub receiver_ok : receiver.input ≡ in_half.Input.Ok ack
+  pub receiver_ok : receiver.input ≡ in_half.InputOk ack
   pub place : at_rest receiver.place ≡ true
 
 -- The last report that the sender keeps is what the receiver would tell now: its free buffers, if

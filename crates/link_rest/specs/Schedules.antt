@@ -22,10 +22,11 @@ Is things state all = all ≡ things state
 -- is done instead of more.
 pub data LoopOf {S T : Type 0} (go : S → List T → S) (test : S → Bool) (Part : S → List T → Type 0)
     (leaves : S → Bool) (Last : S → List T → Type 0) : S → List T → Type 0 where
-  Rests : {s : S} {all : List T} → test s ≡ false → all ≡ [] → LoopOf go test Part leaves Last s all
-  GoesOn : {s : S} {all : List T} (first rest : List T)
+  LoopRests : {s : S} {all : List T} → test s ≡ false → all ≡ []
+      → LoopOf go test Part leaves Last s all
+  LoopGoesOn : {s : S} {all : List T} (first rest : List T)
       → test s ≡ true → Part s first → all ≡ first ++ rest → leaves (go s first) ≡ false
       → LoopOf go test Part leaves Last (go s first) rest → LoopOf go test Part leaves Last s all
-  Leaves : {s : S} {all : List T} (first rest : List T)
+  LoopLeaves : {s : S} {all : List T} (first rest : List T)
       → test s ≡ true → Part s first → all ≡ first ++ rest → leaves (go s first) ≡ true
       → Last (go s first) rest → LoopOf go test Part leaves Last s all

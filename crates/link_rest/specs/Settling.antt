@@ -9,11 +9,11 @@ use Rattle.link_model.specs.Places.{at_rest}
 use Rattle.link_port.specs.Prelude.{PortState, waiting_in, is_ready}
 use Rattle.link_machine.specs.Prelude.{Side, A, B, LinkState, from_end, has_none}
 use Rattle.link_rest.specs.Schedules.{NextOf, WhereOf, Is, LoopOf}
-use Rattle.link_rest.specs.Acts.{Act, Pump, Tell, Deliver, Fire, Reached, At, Found, goes, holds}
+use Rattle.link_rest.specs.Acts.{Act, Pump, Tell, Deliver, Fire, Reached, At, FoundAt, goes, holds_at}
 
 -- a part of the schedule: from how far a link has come, what is done
-abbrev pub Part : Type 1
-Part = Reached → List Act → Type 0
+abbrev pub SchedulePart : Type 1
+SchedulePart = Reached → List Act → Type 0
 
 -- ---- tests of an output half, of an input half and of a port
 
@@ -48,9 +48,9 @@ is_done (out.Output.ErrorStopped asked w) = false
 is_done out.Output.Failed = false
 
 abbrev pub is_ok : in_half.Input → Bool
-is_ok (in_half.Input.Ok expected) = true
-is_ok (in_half.Input.RetryStopped expected) = false
-is_ok (in_half.Input.ErrorStopped expected) = false
+is_ok (in_half.InputOk expected) = true
+is_ok (in_half.InputRetryStopped expected) = false
+is_ok (in_half.InputErrorStopped expected) = false
 
 abbrev pub is_some : Option ℕ → Bool
 is_some None = false
@@ -76,17 +76,17 @@ first_has_chars link = not (has_none link.wire_a.chars)
 
 -- of how far a link has come, a test with an end of it first
 abbrev pub of_end : Side → (LinkState → Bool) → Reached → Bool
-of_end side test = holds (λ link. test (from_end side link))
+of_end side test = holds_at (λ link. test (from_end side link))
 
 -- ---- draining
 
 -- all characters of a wire
 abbrev pub all_chars : Side → Reached → List Act
 all_chars from (At link) = Deliver from (length (from_end from link).wire_a.chars) ∷ []
-all_chars from (Found side e) = []
+all_chars from (FoundAt side e) = []
 
 -- all characters of a wire are delivered, if there are any
-abbrev pub Empties : Side → Part
+abbrev pub Empties : Side → SchedulePart
 Empties from = WhereOf (of_end from first_has_chars) (Is (all_chars from))
 
 abbrev pub is_busy : Reached → Bool
@@ -96,33 +96,33 @@ abbrev never : Reached → Bool
 never reached = false
 
 -- while a wire has characters, all of them are delivered, side A's first
-abbrev pub Drains : Part
+abbrev pub Drains : SchedulePart
 Drains =
     LoopOf goes is_busy (NextOf goes (Empties A) (Empties B)) never (Is (λ reached. []))
 
 -- a turn of a port, and what comes of it
-abbrev pub TakesTurn : Side → Part
+abbrev pub TakesTurn : Side → SchedulePart
 TakesTurn side =
-    NextOf goes (WhereOf (holds (λ link. true)) (Is (λ reached. Pump side 1 ∷ []))) Drains
+    NextOf goes (WhereOf (holds_at (λ link. true)) (Is (λ reached. Pump side 1 ∷ []))) Drains
 
 -- ---- recovery of one side
 
 -- a restart-from-retry, where one is owed
-abbrev pub Restarts : Side → Part
+abbrev pub Restarts : Side → SchedulePart
 Restarts side = WhereOf (of_end side (λ link. is_retry_stopped link.a.output)) (TakesTurn side)
 
 -- a time-out, where it may fire
-abbrev pub TimesOut : Side → Part
+abbrev pub TimesOut : Side → SchedulePart
 TimesOut side =
     WhereOf (of_end side (λ link. may_fire link.a.output)) (Is (λ reached. Fire side ∷ []))
 
 -- a link-request, where the direction is not at rest
-abbrev pub Requests : Side → Part
+abbrev pub Requests : Side → SchedulePart
 Requests side =
     WhereOf (of_end side (λ link. not (first_rests link)))
     (NextOf goes (TimesOut side) (TakesTurn side))
 
-abbrev pub Recovers : Side → Part
+abbrev pub Recovers : Side → SchedulePart
 Recovers side =
     WhereOf (of_end side (λ link. not (has_failed link.a.output)))
     (NextOf goes (Restarts side) (Requests side))
@@ -130,7 +130,7 @@ Recovers side =
 -- ---- free buffers are told
 
 -- the status of a port that tells its free buffers, and what comes of it
-abbrev pub Tells : Side → Part
+abbrev pub Tells : Side → SchedulePart
 Tells side =
     WhereOf (of_end side (λ link. link.a.tells))
     (NextOf goes (Is (λ reached. Tell side ∷ [])) Drains)
@@ -139,13 +139,13 @@ Tells side =
 
 -- If the direction is at rest, packet by packet, as long as a turn starts one. One that has no room
 -- is asked for again; then the port restarts and sends no more.
-abbrev pub SendsAll : Side → Part
+abbrev pub SendsAll : Side → SchedulePart
 SendsAll side =
     WhereOf (of_end side first_rests)
     (LoopOf goes (of_end side (λ link. is_ready link.a)) (TakesTurn side)
     (of_end side (λ link. is_retry_stopped link.a.output)) (TakesTurn side))
 
-abbrev pub Settles : Part
+abbrev pub Settles : SchedulePart
 Settles =
     NextOf goes Drains
     (NextOf goes (Recovers A)

@@ -10,7 +10,7 @@ ghost use Rattle.link_machine.specs.States.{link, empty_wires};
 ghost use Rattle.link_rest.specs.Acts.{Act, Reached, At, goes, OnState};
 ghost use Rattle.link_rest.specs.Calm.{IsCalm, IsStillCalm};
 ghost use Rattle.link_rest.specs.Counts.{fires};
-ghost use Rattle.link_rest.specs.Led.{answered, chars_of};
+ghost use Rattle.link_rest.specs.Led.{port_answers, chars_of};
 ghost use Rattle.link_rest.specs.Rest.{IsQuiet, IsSettled, IsRound, HasPassed, KnowsRoom};
 ghost use Rattle.link_rest.specs.Settling.{of_end, Drains, TakesTurn, Settles};
 
@@ -19,7 +19,7 @@ ghost use Rattle.link_rest.specs.Settling.{of_end, Drains, TakesTurn, Settles};
 pub fn answers_have_no_answer()
     ensures { (p q : PortState) (chars : List Char)
         → expected_of p.input < 32 → p.received.buffers < 32 → q.place.pending ≡ Pending.Nothing
-        → answered q (chars_of (answered p chars)) ≡ [] }
+        → port_answers q (chars_of (port_answers p chars)) ≡ [] }
 {}
 
 /// A drain of a sound link is at most five deliveries, whatever stood on its wires and however the

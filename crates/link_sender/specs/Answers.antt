@@ -2,7 +2,7 @@
 use Rattle.std.specs.Prelude.{Option, Some, None}
 use Rattle.link_model.specs.Output.{Output, Sends, Turned, turned}
 use Rattle.link_model.specs.Outstanding.{Outstanding}
-use Rattle.link_sender.specs.OutErrorStopped.{ErrorStopped}
+use Rattle.link_sender.specs.OutErrorStopped.{StoppedOutput}
 use Rattle.link_sender.specs.declared.answers.Started.{Started}
 use Rattle.link_sender.specs.declared.answers.AfterAccepted.{AfterAccepted}
 use Rattle.link_sender.specs.declared.answers.AfterAccepted.TheVariants as After
@@ -11,7 +11,7 @@ use Rattle.link_sender.specs.declared.answers.AfterRetry.TheVariants as Retried
 use Rattle.link_sender.specs.declared.answers.AfterResponse.{AfterResponse}
 use Rattle.link_sender.specs.declared.answers.AfterResponse.TheVariants as Responded
 
-abbrev pub error_stopped : ErrorStopped → Output
+abbrev pub error_stopped : StoppedOutput → Output
 error_stopped s = Output.ErrorStopped s.asked s.outstanding
 
 abbrev pub after_accepted : AfterAccepted → Output
@@ -28,9 +28,9 @@ after_response (Responded.Failed _) = Output.Failed
 after_response (Responded.Ignored s) = error_stopped s
 
 -- what a turn of a sender did
-abbrev pub sends_of : Option Started → Sends
-sends_of None = Sends.Nothing
-sends_of (Some s) = Sends.Packet s.ack s.prio
+abbrev pub sender_sends : Option Started → Sends
+sender_sends None = Sends.Nothing
+sender_sends (Some s) = Sends.Packet s.ack s.prio
 
-abbrev pub after_turn : Outstanding → Option Started → Turned
-after_turn w packet = turned (Output.Ok w) (sends_of packet)
+abbrev pub sender_after_turn : Outstanding → Option Started → Turned
+sender_after_turn w packet = turned (Output.Ok w) (sender_sends packet)

@@ -26,9 +26,9 @@ pub struct OutErrorStopped {
 }
 
 impl Model for OutErrorStopped {
-    ghost use Rattle.link_sender.specs.OutErrorStopped.{ErrorStopped};
+    ghost use Rattle.link_sender.specs.OutErrorStopped.{StoppedOutput};
 
-    ghost Value = { ErrorStopped };
+    ghost Value = { StoppedOutput };
 
     ghost view = { λ s. record { asked = s.asked; outstanding = s.outstanding } };
 }

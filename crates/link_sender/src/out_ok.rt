@@ -8,7 +8,7 @@ ghost use Rattle.link_model.specs.Output.{Heard, startable};
 ghost use Rattle.link_model.specs.Outstanding.{with_report};
 ghost use Rattle.link_model.specs.Reports.{report_of};
 ghost use Rattle.link_model.specs.Output.Stype0.{PacketAccepted, PacketRetry, PacketNotAccepted};
-ghost use Rattle.link_sender.specs.Answers.{after_accepted, after_retry, after_turn, error_stopped};
+ghost use Rattle.link_sender.specs.Answers.{after_accepted, after_retry, sender_after_turn, error_stopped};
 
 use crate::answers::{AfterAccepted, AfterRetry, Started};
 use crate::freed::free_all;
@@ -93,7 +93,7 @@ impl OutOk {
     /// for it or does not tell. It takes the next ackID.
     pub fn turn(self, store: &OutStore) -> (OutOk, Option<Started>)
         requires { Covers self.prios store.now }
-        ensures entry { after_turn result.0 result.1
+        ensures entry { sender_after_turn result.0 result.1
             ≡ turns false (Output.Ok self) (highest (lists_without self.prios store.now)) }
         ensures place { IfSome result.1 (λ packet. packet.place ≡ count_of self.prios packet.prio) }
         ensures waits { IfSome result.1

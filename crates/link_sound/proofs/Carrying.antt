@@ -13,7 +13,7 @@ use Rattle.link_model.specs.Output as out
 use Rattle.link_sound.specs.Meanings.{forward, backward, oldest_of}
 use Rattle.link_sound.specs.Sound.{IsSound}
 use Rattle.link_sound.specs.Lent.{lent, waiting, Holds, Frees}
-use Rattle.link_sound.specs.Histories.{AreBuffers, Journeys, Link, new_link, turned_round, after_event, IsStep, Turns, Tells, Acts, Others, TimesOut, Puts, Loses, GoesOn, IsHistory, Rests, AtFirst, AtSecond, AreCarried}
+use Rattle.link_sound.specs.Histories.{AreBuffers, Journeys, Link, new_link, link_turned_round, after_event, IsStep, StepTurns, StepTells, StepActs, Others, StepTimesOut, Puts, Loses, StepGoesOn, IsHistory, Rests, AtFirst, AtSecond, AreCarried}
 use Rattle.link_sound.proofs.Freed.{turn_stays, time_out_stays}
 use Rattle.link_sound.proofs.Steps.{begins, exchanged, turn_keeps, tell_keeps, acted_keeps, other_keeps, time_out_keeps, lost_keeps, put_keeps, other_parts}
 use Rattle.link_sound.proofs.Moves.{acted_holds, other_holds, acted_frees, other_frees}
@@ -138,7 +138,7 @@ event_keeps l e rest port has sound frees holds is = record {
 }
 
 step_keeps : (l next : Link) → IsStep l next → IsLawful l → IsLawful next
-step_keeps l next (Turns _) is =
+step_keeps l next (StepTurns _) is =
     let stays =
     turn_stays l.a.tells l.a.output (highest (waiting_in l.a)) l.b.input l.a.queued
     (map forward l.kept_a)
@@ -152,7 +152,7 @@ step_keeps l next (Turns _) is =
       of_a = stay_carried l.of_a l.a l.b (turns_to l.a) l.b stays.0 stays.1 is.of_a;
       of_b = stay_carried l.of_b l.b l.a l.b (turns_to l.a) refl refl is.of_b;
     }
-step_keeps l next (Tells _) is = record {
+step_keeps l next (StepTells _) is = record {
   port_a = is.port_a;
   port_b = is.port_b;
   sound = tell_keeps l.a l.b l.kept_a l.kept_b is.sound;
@@ -161,7 +161,7 @@ step_keeps l next (Tells _) is = record {
   of_a = is.of_a;
   of_b = is.of_b;
 }
-step_keeps l next (Acts _ e rest first acted) is =
+step_keeps l next (StepActs _ e rest first acted) is =
     let sound = subst (λ (es : List Event). IsSound l.a l.b l.kept_a es) first is.sound in
     let has = subst (λ (es : List Event). All HasAck es) first is.has_b in
     event_keeps l e rest
@@ -174,7 +174,7 @@ step_keeps l next (Others _ e other) is =
     event_keeps l e l.kept_b (other_port l.a e is.port_a other) is.has_b
     (other_keeps l.a l.b l.kept_a l.kept_b e other is.sound) (other_frees l.a l.b e other)
     (other_holds l.a l.b e other) is
-step_keeps l next (TimesOut _) is =
+step_keeps l next (StepTimesOut _) is =
     let stays = time_out_stays l.a.output (expected_of l.b.input) l.a.queued in
     record {
       port_a = time_out_port l.a is.port_a;
@@ -213,7 +213,7 @@ step_keeps l next (Loses _ lost_a kept_a lost_b kept_b first second) is =
       of_a = is.of_a;
       of_b = is.of_b;
     }
-step_keeps l next (GoesOn _ received place store bounded) is = record {
+step_keeps l next (StepGoesOn _ received place store bounded) is = record {
   port_a = read_port l.a received place store bounded is.port_a;
   port_b = is.port_b;
   sound = other_parts l.a l.b l.kept_a l.kept_b received place is.sound;
@@ -227,7 +227,7 @@ step_keeps l next (GoesOn _ received place store bounded) is = record {
       is.of_b;
 }
 
-round_keeps : (l : Link) → IsLawful l → IsLawful (turned_round l)
+round_keeps : (l : Link) → IsLawful l → IsLawful (link_turned_round l)
 round_keeps l is = record {
   port_a = is.port_b;
   port_b = is.port_a;
@@ -243,8 +243,8 @@ history_keeps l end (Rests _) is = is
 history_keeps l end (AtFirst {next} _ step more) is =
     history_keeps next end more (step_keeps l next step is)
 history_keeps l end (AtSecond {next} _ step more) is =
-    history_keeps (turned_round next) end more
-    (round_keeps next (step_keeps (turned_round l) next step (round_keeps l is)))
+    history_keeps (link_turned_round next) end more
+    (round_keeps next (step_keeps (link_turned_round l) next step (round_keeps l is)))
 
 none_waits : (prio : ℕ) → [] ≡ list_at no_packets prio
 none_waits zero = refl

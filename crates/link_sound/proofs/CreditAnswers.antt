@@ -4,7 +4,7 @@ use Rattle.std.proofs.lemmas.List.{append-nil}
 use Rattle.rio_symbols.specs.Fields.{Fields}
 use Rattle.link_buffers.specs.Prelude.{Buffered, list_at}
 use Rattle.link_model.specs.Prelude.{Input, receives, Sends, status}
-use Rattle.link_model.specs.Input.{Arrival}
+use Rattle.link_model.specs.Input.{Arrival, InputOk, InputRetryStopped, InputErrorStopped}
 use Rattle.link_model.specs.Input.Arrival.{ExpectedWithRoom, ExpectedWithoutRoom, UnexpectedAck, Damaged, RestartFromRetry, LinkRequest, OtherStype1}
 use Rattle.link_model.specs.declared.reports.Report.{Report}
 use Rattle.link_port.specs.Prelude.{PortState, IsPort, standing, buffer_status, expected_of, burst_of, packet_burst, symbol_burst, no_burst}
@@ -12,7 +12,7 @@ use Rattle.link_sound.specs.Marks.{Forward, is_forward}
 use Rattle.link_sound.specs.Kept.{Lacks}
 use Rattle.link_sound.specs.Meanings.{receiver_of}
 use Rattle.link_sound.specs.Sound.{reply_sent}
-use Rattle.link_sound.specs.Credits.{Word, Told, Responded, Silent, word, AreCounted, free_buffers, HaveRoomAt}
+use Rattle.link_sound.specs.Credits.{Word, WordTold, Responded, Silent, word, AreCounted, free_buffers, HaveRoomAt}
 use Rattle.link_sound.proofs.CreditLaws.{WordsInTurn-append, MaySay, HaveRoom-none}
 use Rattle.link_sound.proofs.CreditTimely.{IsTimely}
 
@@ -39,7 +39,7 @@ status_free false store is = absurd cc
 -- what a port that tells says of itself
 pub may_tell : (tells : Bool) (store : Buffered) (ack held : ℕ) → tells ≡ true → store.buffers ≤ 30
     → ack ≡ held % 32
-    → MaySay held (free_buffers store + held) (Told ack (buffer_status tells store))
+    → MaySay held (free_buffers store + held) (WordTold ack (buffer_status tells store))
 may_tell tells store ack held is few same =
     let free = status_free tells store is in (same, omega arith, omega arith)
 
@@ -53,7 +53,7 @@ packet_counted :
 packet_counted p oldest count report freed held ack None words tells is c = rw append-nil c
 packet_counted p oldest count report freed held ack (Some packet) words tells is c =
     let total = free_buffers p.received + held in
-    let told = Told (expected_of p.input) (buffer_status p.tells p.received) in
+    let told = WordTold (expected_of p.input) (buffer_status p.tells p.received) in
     let may =
     may_tell p.tells p.received (expected_of p.input) held tells is.receives.most c.expected_is in
     let one = words ++ told ∷ [] in
@@ -144,44 +144,44 @@ no_packet_said (ExpectedWithRoom buffers) input oldest count report total freed 
 no_packet_said (ExpectedWithoutRoom buffers) input oldest count report total freed held words none c
     =
     absurd none
-no_packet_said UnexpectedAck (Input.Ok e) oldest count report total freed held words none c =
+no_packet_said UnexpectedAck (InputOk e) oldest count report total freed held words none c =
     say_counted oldest count report _ _ freed held words Silent tt c
-no_packet_said UnexpectedAck (Input.RetryStopped e) oldest count report total freed held words none
+no_packet_said UnexpectedAck (InputRetryStopped e) oldest count report total freed held words none
     c =
     rw append-nil c
-no_packet_said UnexpectedAck (Input.ErrorStopped e) oldest count report total freed held words none
+no_packet_said UnexpectedAck (InputErrorStopped e) oldest count report total freed held words none
     c =
     rw append-nil c
-no_packet_said (Damaged cause) (Input.Ok e) oldest count report total freed held words none c =
+no_packet_said (Damaged cause) (InputOk e) oldest count report total freed held words none c =
     say_counted oldest count report _ _ freed held words Silent tt c
-no_packet_said (Damaged cause) (Input.RetryStopped e) oldest count report total freed held words
+no_packet_said (Damaged cause) (InputRetryStopped e) oldest count report total freed held words
     none c =
     say_counted oldest count report _ _ freed held words Silent tt c
-no_packet_said (Damaged cause) (Input.ErrorStopped e) oldest count report total freed held words
+no_packet_said (Damaged cause) (InputErrorStopped e) oldest count report total freed held words
     none c =
     rw append-nil c
-no_packet_said RestartFromRetry (Input.Ok e) oldest count report total freed held words none c =
+no_packet_said RestartFromRetry (InputOk e) oldest count report total freed held words none c =
     say_counted oldest count report _ _ freed held words Silent tt c
-no_packet_said RestartFromRetry (Input.RetryStopped e) oldest count report total freed held words
+no_packet_said RestartFromRetry (InputRetryStopped e) oldest count report total freed held words
     none c =
     rw append-nil c
-no_packet_said RestartFromRetry (Input.ErrorStopped e) oldest count report total freed held words
+no_packet_said RestartFromRetry (InputErrorStopped e) oldest count report total freed held words
     none c =
     rw append-nil c
-no_packet_said LinkRequest (Input.Ok e) oldest count report total freed held words none c =
+no_packet_said LinkRequest (InputOk e) oldest count report total freed held words none c =
     say_counted oldest count report _ _ freed held words (Responded e) c.expected_is c
-no_packet_said LinkRequest (Input.RetryStopped e) oldest count report total freed held words none
-    c =
-    say_counted oldest count report _ _ freed held words (Responded e) c.expected_is c
-no_packet_said LinkRequest (Input.ErrorStopped e) oldest count report total freed held words none
+no_packet_said LinkRequest (InputRetryStopped e) oldest count report total freed held words none
     c =
     say_counted oldest count report _ _ freed held words (Responded e) c.expected_is c
-no_packet_said OtherStype1 (Input.Ok e) oldest count report total freed held words none c =
+no_packet_said LinkRequest (InputErrorStopped e) oldest count report total freed held words none
+    c =
+    say_counted oldest count report _ _ freed held words (Responded e) c.expected_is c
+no_packet_said OtherStype1 (InputOk e) oldest count report total freed held words none c =
     rw append-nil c
-no_packet_said OtherStype1 (Input.RetryStopped e) oldest count report total freed held words none
+no_packet_said OtherStype1 (InputRetryStopped e) oldest count report total freed held words none
     c =
     rw append-nil c
-no_packet_said OtherStype1 (Input.ErrorStopped e) oldest count report total freed held words none
+no_packet_said OtherStype1 (InputErrorStopped e) oldest count report total freed held words none
     c =
     rw append-nil c
 
@@ -194,18 +194,18 @@ no_packet_room :
 no_packet_room (ExpectedWithRoom buffers) input total held next kept none alone find = absurd none
 no_packet_room (ExpectedWithoutRoom buffers) input total held next kept none alone find =
     absurd none
-no_packet_room what (Input.RetryStopped e) total held next kept none alone find = absurd find
-no_packet_room UnexpectedAck (Input.Ok e) total held next kept none alone find = tt
-no_packet_room UnexpectedAck (Input.ErrorStopped e) total held next kept none alone find = tt
-no_packet_room (Damaged cause) (Input.Ok e) total held next kept none alone find = tt
-no_packet_room (Damaged cause) (Input.ErrorStopped e) total held next kept none alone find = tt
-no_packet_room RestartFromRetry (Input.Ok e) total held next kept none alone find = tt
-no_packet_room RestartFromRetry (Input.ErrorStopped e) total held next kept none alone find = tt
-no_packet_room LinkRequest (Input.Ok e) total held next kept none alone find = find
-no_packet_room LinkRequest (Input.ErrorStopped e) total held next kept none alone find =
+no_packet_room what (InputRetryStopped e) total held next kept none alone find = absurd find
+no_packet_room UnexpectedAck (InputOk e) total held next kept none alone find = tt
+no_packet_room UnexpectedAck (InputErrorStopped e) total held next kept none alone find = tt
+no_packet_room (Damaged cause) (InputOk e) total held next kept none alone find = tt
+no_packet_room (Damaged cause) (InputErrorStopped e) total held next kept none alone find = tt
+no_packet_room RestartFromRetry (InputOk e) total held next kept none alone find = tt
+no_packet_room RestartFromRetry (InputErrorStopped e) total held next kept none alone find = tt
+no_packet_room LinkRequest (InputOk e) total held next kept none alone find = find
+no_packet_room LinkRequest (InputErrorStopped e) total held next kept none alone find =
     HaveRoom-none total held next kept alone
-no_packet_room OtherStype1 (Input.Ok e) total held next kept none alone find = find
-no_packet_room OtherStype1 (Input.ErrorStopped e) total held next kept none alone find = tt
+no_packet_room OtherStype1 (InputOk e) total held next kept none alone find = find
+no_packet_room OtherStype1 (InputErrorStopped e) total held next kept none alone find = tt
 
 no_packet_timely :
     (timely : Bool) (what : Arrival) (input : Input) (report : Option Report)

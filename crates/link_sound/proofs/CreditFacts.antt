@@ -3,10 +3,11 @@ use Rattle.std.proofs.Common.{◌≡◌, ℕ, ◌%◌, ◌<◌, true, false, Lis
 use Rattle.std.proofs.lemmas.Option.{slice_get_within}
 use Rattle.link_buffers.specs.Prelude.{Covers}
 use Rattle.link_model.specs.Prelude.{Input, Output, Outstanding, distance}
+use Rattle.link_model.specs.Input.{InputOk}
 use Rattle.link_model.proofs.WindowFacts.{window_few}
 use Rattle.link_port.specs.Prelude.{prios_of, expected_of}
 use Rattle.link_port.specs.States.{has_asked}
-use Rattle.link_sound.specs.Marks.{Forward, Packet, Request, is_forward, Backward, Response, is_response}
+use Rattle.link_sound.specs.Marks.{Forward, ForwardPacket, ForwardRequest, is_forward, Backward, Response, is_response}
 use Rattle.link_sound.specs.Receiver.{IsShut}
 use Rattle.link_sound.specs.Kept.{Lacks}
 use Rattle.link_sound.specs.Meanings.{oldest_of, receiver_of}
@@ -30,7 +31,7 @@ stopped_shut Output.Failed input queued kept_ahead kept_back w is b = absurd cc
 pub packet_within :
     (output : Output) (expected ack : ℕ) (packet : List ℕ) (queued : List (List (List ℕ)))
     (kept_ahead : List Forward) (kept_back : List Backward) → Covers (prios_of output) queued
-    → IsBetween output (Input.Ok expected) queued (Packet ack packet ∷ kept_ahead) kept_back
+    → IsBetween output (InputOk expected) queued (ForwardPacket ack packet ∷ kept_ahead) kept_back
     → distance (oldest_of output) expected < length (prios_of output)
 packet_within output expected ack packet queued kept_ahead kept_back covers b =
     let total =
@@ -47,7 +48,7 @@ packet_within output expected ack packet queued kept_ahead kept_back covers b =
 pub packet_unanswered :
     (output : Output) (input : Input) (ack : ℕ) (packet : List ℕ) (queued : List (List (List ℕ)))
     (kept_ahead : List Forward) (kept_back : List Backward)
-    → IsBetween output input queued (Packet ack packet ∷ kept_ahead) kept_back
+    → IsBetween output input queued (ForwardPacket ack packet ∷ kept_ahead) kept_back
     → Lacks is_response kept_back
 packet_unanswered (Output.Ok w) input ack packet queued kept_ahead kept_back b = b.is.sender.1
 packet_unanswered (Output.RetryStopped w) input ack packet queued kept_ahead kept_back b =
@@ -65,7 +66,8 @@ packet_unanswered Output.Failed input ack packet queued kept_ahead kept_back b =
 -- nothing that means anything is behind a link-request
 pub request_alone :
     (output : Output) (input : Input) (queued : List (List (List ℕ))) (kept_ahead : List Forward)
-    (kept_back : List Backward) → IsBetween output input queued (Request ∷ kept_ahead) kept_back
+    (kept_back : List Backward)
+    → IsBetween output input queued (ForwardRequest ∷ kept_ahead) kept_back
     → Lacks is_forward kept_ahead
 request_alone (Output.Ok w) input queued kept_ahead kept_back b =
     let none = b.is.sender.0.0 in absurd cc

@@ -9,7 +9,7 @@ use Rattle.link_model.specs.Output.{Stype0, stype0}
 use Rattle.link_model.specs.Reports.{has_buffer_status}
 use Rattle.link_model.specs.declared.reports.Report.{Report}
 use Rattle.link_port.specs.Prelude.{Event, Ctl, Pkt, Bad, PortState, IsPort, prios_of, expected_of, standing, acts, is_acted, turns_to, turn_sends, tell_sends, timed_out, symbol_burst, no_burst}
-use Rattle.link_port.specs.Turns.{turn_of}
+use Rattle.link_port.specs.Turns.{port_turn}
 use Rattle.link_port.specs.States.{has_asked}
 use Rattle.link_port.proofs.HearLaws.{report_prios}
 use Rattle.link_sound.specs.Marks.{Forward, Other}
@@ -168,9 +168,9 @@ turn_known timely a b kept_a kept_b is s k =
       held = k.held;
       counted = turned.0;
       in_time =
-          subst (λ (fs : List Forward). IsTimely timely (last_report (turn_of a).state)
+          subst (λ (fs : List Forward). IsTimely timely (last_report (port_turn a).state)
           (receiver_of b.input) (free_buffers b.received + k.held) k.held
-          (k.freed + length (prios_of (turn_of a).state)) fs)
+          (k.freed + length (prios_of (port_turn a).state)) fs)
           (sym (map-append forward kept_a (turn_sends a).sent)) turned.1;
     }
 

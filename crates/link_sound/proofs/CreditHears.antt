@@ -9,7 +9,7 @@ use Rattle.link_model.specs.Outstanding.{is_oldest, without_oldest}
 use Rattle.link_model.specs.declared.reports.Report.{Report}
 use Rattle.link_port.specs.Prelude.{prios_of}
 use Rattle.link_port.specs.States.{has_asked}
-use Rattle.link_sound.specs.Credits.{Word, Accepted, Told, Responded, word_of, WordsInTurn, IsCovered, AreCounted, AreCountedAt}
+use Rattle.link_sound.specs.Credits.{Word, Accepted, WordTold, Responded, word_of, WordsInTurn, IsCovered, AreCounted, AreCountedAt}
 use Rattle.link_sound.proofs.CreditLaws.{WordsInTurn-lower, WordsInTurn-rest}
 
 -- a word is taken away
@@ -99,14 +99,14 @@ accept_counted false w ack free input total freed held words is most c =
 retry_counted :
     (is : Bool) (w : Outstanding) (ack free : ℕ) (input : Input) (total freed held : ℕ)
     (words : List Word)
-    → AreCountedAt (Output.Ok w) input total freed held (Told ack free ∷ words)
+    → AreCountedAt (Output.Ok w) input total freed held (WordTold ack free ∷ words)
     → AfterHearing Stype0.PacketRetry (Output.Ok w)
     (if is then out.heard (Output.RetryStopped w) 0 else out.error w).state input total freed held
     words
 retry_counted true w ack free input total freed held words c =
-    (freed, rest_counted _ _ _ _ total freed held (Told ack free) words c, inl refl)
+    (freed, rest_counted _ _ _ _ total freed held (WordTold ack free) words c, inl refl)
 retry_counted false w ack free input total freed held words c =
-    (freed, rest_counted _ _ _ _ total freed held (Told ack free) words c, inl refl)
+    (freed, rest_counted _ _ _ _ total freed held (WordTold ack free) words c, inl refl)
 
 pub distance_counts : (oldest ack freed held : ℕ) → oldest ≡ freed % 32 → ack ≡ held % 32
     → freed ≤ held → held ≤ freed + 31 → distance oldest ack ≡ held - freed

@@ -5,14 +5,15 @@ use Rattle.std.proofs.lemmas.Bool.{cases_Bool}
 use Rattle.link_buffers.specs.Queues.{room_for, stored}
 use Rattle.link_model.specs.Prelude.{prio_of, number_of, Input, Arrival, Received, packet_arrival, symbol_arrival, receives, Damaged, PACKET_RETRY}
 use Rattle.link_model.specs.Input.Arrival.{ExpectedWithRoom, ExpectedWithoutRoom, UnexpectedAck, RestartFromRetry, LinkRequest, OtherStype1}
+use Rattle.link_model.specs.Input.{InputOk, InputRetryStopped, InputErrorStopped}
 use Rattle.link_port.specs.Prelude.{Event, Ctl, Pkt, Bad, PortState, acts, is_acted, buffer_status, prios_of, expected_of}
-use Rattle.link_sound.specs.Marks.{Forward, is_packet}
-use Rattle.link_sound.specs.Receiver.{Receiver}
+use Rattle.link_sound.specs.Marks.{Forward, is_packet, ForwardPacket, ForwardRestart, ForwardRequest}
+use Rattle.link_sound.specs.Receiver.{Receiver, ReceiverRetryStopped, ReceiverOk, ReceiverErrorStopped}
 use Rattle.link_sound.specs.Kept.{Lacks}
 use Rattle.link_sound.specs.Meanings.{forward, receiver_of}
 use Rattle.link_sound.specs.Sound.{IsSound}
 use Rattle.link_sound.specs.Credits.{HasTold, FindsRoom, free_buffers, HaveRoom, HaveRoomAt}
-use Rattle.link_sound.specs.Histories.{Link, turned_round, IsHistory, Rests, AtFirst, AtSecond}
+use Rattle.link_sound.specs.Histories.{Link, link_turned_round, IsHistory, Rests, AtFirst, AtSecond}
 use Rattle.link_sound.specs.InTime.{LeaveRoom, IsLinked, IsToldInTime}
 use Rattle.link_sound.proofs.Steps.{exchanged}
 use Rattle.link_sound.proofs.CreditSteps.{step_linked, round_linked, Hears, hearer_step, teller_step}
@@ -27,9 +28,9 @@ history_known timely l end (AtFirst {next} _ step more) leave is k =
     (hearer_step timely l next step is k)
 history_known timely l end (AtSecond {next} _ step more) leave is k =
     let round = round_linked l is in
-    history_known timely (turned_round next) end more leave.1
-    (round_linked next (step_linked (turned_round l) next step round))
-    (teller_step timely (turned_round l) next step leave.0 round k)
+    history_known timely (link_turned_round next) end more leave.1
+    (round_linked next (step_linked (link_turned_round l) next step round))
+    (teller_step timely (link_turned_round l) next step leave.0 round k)
 
 -- what was told stays true
 pub told_stays : (l end : Link) (history : IsHistory l end) → LeaveRoom history → IsLinked l
@@ -43,10 +44,10 @@ told_stays l end history leave linked told =
 unstarted_room : (total least next : ℕ) (kept : List Forward) → Lacks is_packet kept
     → HaveRoom total least next kept
 unstarted_room total least next [] none = tt
-unstarted_room total least next (Forward.Packet ack packet ∷ kept) none = absurd cc
-unstarted_room total least next (Forward.Restart ∷ kept) none =
+unstarted_room total least next (ForwardPacket ack packet ∷ kept) none = absurd cc
+unstarted_room total least next (ForwardRestart ∷ kept) none =
     unstarted_room total least next kept none.1
-unstarted_room total least next (Forward.Request ∷ kept) none =
+unstarted_room total least next (ForwardRequest ∷ kept) none =
     unstarted_room total least next kept none.1
 unstarted_room total least next (Forward.Other ∷ kept) none =
     unstarted_room total least next kept none.1
@@ -74,19 +75,19 @@ end_in_time l end history leave is =
     (known_from_room l.a l.b l.kept_a l.kept_b (room_in_time l is))
 
 find_open : (r : Receiver) (total held next : ℕ) (kept : List Forward)
-    → HaveRoomAt r total held next kept → r ≢ Receiver.RetryStopped
-find_open Receiver.Ok total held next kept find is = absurd cc
-find_open Receiver.RetryStopped total held next kept find is = find
-find_open Receiver.ErrorStopped total held next kept find is = absurd cc
+    → HaveRoomAt r total held next kept → r ≢ ReceiverRetryStopped
+find_open ReceiverOk total held next kept find is = absurd cc
+find_open ReceiverRetryStopped total held next kept find is = find
+find_open ReceiverErrorStopped total held next kept find is = absurd cc
 
 known_open : (a b : PortState) (kept_a kept_b : List Event) → IsKnown true a b kept_a kept_b
-    → receiver_of b.input ≢ Receiver.RetryStopped
+    → receiver_of b.input ≢ ReceiverRetryStopped
 known_open a b kept_a kept_b k =
     find_open (receiver_of b.input) _ k.held _ (map forward kept_a) k.in_time.1
 
 -- its far port does not wait for a restart-from-retry
 pub room_open : (a b : PortState) (kept_a kept_b : List Event) → FindsRoom a b kept_a kept_b
-    → receiver_of b.input ≢ Receiver.RetryStopped
+    → receiver_of b.input ≢ ReceiverRetryStopped
 room_open a b kept_a kept_b f = known_open a b kept_a kept_b (known_from_room a b kept_a kept_b f)
 
 pub stays_in_time : (l end : Link) (history : IsHistory l end) → LeaveRoom history → IsToldInTime l
@@ -97,34 +98,34 @@ stays_in_time l end history leave is =
 -- what is answered is no packet-retry, or the receiver waits then
 abbrev NoRetry : Received → Type 0
 NoRetry does =
-    (receiver_of does.state ≢ Receiver.RetryStopped)
+    (receiver_of does.state ≢ ReceiverRetryStopped)
     → IfSome does.reply (λ answer. answer.s0 ≢ PACKET_RETRY)
 
 no_retry : (what : Arrival) (input : Input) → NoRetry (receives what input)
-no_retry (ExpectedWithRoom buffers) (Input.Ok e) stands = λ is. omega arith
-no_retry (ExpectedWithRoom buffers) (Input.RetryStopped e) stands = tt
-no_retry (ExpectedWithRoom buffers) (Input.ErrorStopped e) stands = tt
-no_retry (ExpectedWithoutRoom buffers) (Input.Ok e) stands = absurd (stands refl)
-no_retry (ExpectedWithoutRoom buffers) (Input.RetryStopped e) stands = tt
-no_retry (ExpectedWithoutRoom buffers) (Input.ErrorStopped e) stands = tt
-no_retry UnexpectedAck (Input.Ok e) stands = λ is. omega arith
-no_retry UnexpectedAck (Input.RetryStopped e) stands = tt
-no_retry UnexpectedAck (Input.ErrorStopped e) stands = tt
-no_retry (Damaged cause) (Input.Ok e) stands = λ is. omega arith
-no_retry (Damaged cause) (Input.RetryStopped e) stands = λ is. omega arith
-no_retry (Damaged cause) (Input.ErrorStopped e) stands = tt
-no_retry RestartFromRetry (Input.Ok e) stands = λ is. omega arith
-no_retry RestartFromRetry (Input.RetryStopped e) stands = tt
-no_retry RestartFromRetry (Input.ErrorStopped e) stands = tt
-no_retry LinkRequest (Input.Ok e) stands = λ is. omega arith
-no_retry LinkRequest (Input.RetryStopped e) stands = λ is. omega arith
-no_retry LinkRequest (Input.ErrorStopped e) stands = λ is. omega arith
-no_retry OtherStype1 (Input.Ok e) stands = tt
-no_retry OtherStype1 (Input.RetryStopped e) stands = tt
-no_retry OtherStype1 (Input.ErrorStopped e) stands = tt
+no_retry (ExpectedWithRoom buffers) (InputOk e) stands = λ is. omega arith
+no_retry (ExpectedWithRoom buffers) (InputRetryStopped e) stands = tt
+no_retry (ExpectedWithRoom buffers) (InputErrorStopped e) stands = tt
+no_retry (ExpectedWithoutRoom buffers) (InputOk e) stands = absurd (stands refl)
+no_retry (ExpectedWithoutRoom buffers) (InputRetryStopped e) stands = tt
+no_retry (ExpectedWithoutRoom buffers) (InputErrorStopped e) stands = tt
+no_retry UnexpectedAck (InputOk e) stands = λ is. omega arith
+no_retry UnexpectedAck (InputRetryStopped e) stands = tt
+no_retry UnexpectedAck (InputErrorStopped e) stands = tt
+no_retry (Damaged cause) (InputOk e) stands = λ is. omega arith
+no_retry (Damaged cause) (InputRetryStopped e) stands = λ is. omega arith
+no_retry (Damaged cause) (InputErrorStopped e) stands = tt
+no_retry RestartFromRetry (InputOk e) stands = λ is. omega arith
+no_retry RestartFromRetry (InputRetryStopped e) stands = tt
+no_retry RestartFromRetry (InputErrorStopped e) stands = tt
+no_retry LinkRequest (InputOk e) stands = λ is. omega arith
+no_retry LinkRequest (InputRetryStopped e) stands = λ is. omega arith
+no_retry LinkRequest (InputErrorStopped e) stands = λ is. omega arith
+no_retry OtherStype1 (InputOk e) stands = tt
+no_retry OtherStype1 (InputRetryStopped e) stands = tt
+no_retry OtherStype1 (InputErrorStopped e) stands = tt
 
 answer_no_retry : (q : PortState) (e : Event)
-    → (receiver_of (acts q e).port.input ≢ Receiver.RetryStopped)
+    → (receiver_of (acts q e).port.input ≢ ReceiverRetryStopped)
     → IfSome (acts q e).reply (λ answer. answer.s0 ≢ PACKET_RETRY)
 answer_no_retry q (Ctl symbol) stands =
     no_retry (symbol_arrival symbol.s1 symbol.cmd) q.input stands

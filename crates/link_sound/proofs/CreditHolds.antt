@@ -8,12 +8,13 @@ use Rattle.link_buffers.proofs.QueueLemmas.{packet_count-appended}
 use Rattle.link_model.specs.Prelude.{prio_of, Input, packet_arrival, receives, untold}
 use Rattle.link_model.specs.Input.Arrival.{ExpectedWithRoom, ExpectedWithoutRoom, UnexpectedAck}
 use Rattle.link_model.specs.declared.reports.Report.{Report}
+use Rattle.link_model.specs.Input.{InputOk, InputRetryStopped, InputErrorStopped}
 use Rattle.link_port.specs.Prelude.{buffer_status, expected_of, expects}
-use Rattle.link_sound.specs.Marks.{Forward, Packet}
-use Rattle.link_sound.specs.Receiver.{Receiver}
+use Rattle.link_sound.specs.Marks.{Forward, ForwardPacket}
+use Rattle.link_sound.specs.Receiver.{ReceiverOk, ReceiverRetryStopped, ReceiverErrorStopped}
 use Rattle.link_sound.specs.Kept.{Lacks}
 use Rattle.link_sound.specs.Meanings.{receiver_of}
-use Rattle.link_sound.specs.Credits.{Word, Accepted, Told, WordsInTurn, IsCovered, AreCounted, free_buffers}
+use Rattle.link_sound.specs.Credits.{Word, Accepted, WordTold, WordsInTurn, IsCovered, AreCounted, free_buffers}
 use Rattle.link_sound.proofs.CreditLaws.{WordsInTurn-more, WordsInTurn-accept, is_responded, HaveRoom-lower, HaveRoom-more}
 use Rattle.link_sound.proofs.CreditTimely.{IsTimely}
 use Rattle.link_sound.proofs.CreditAnswers.{say_counted, may_tell, status_free, Answered, no_packet_answered}
@@ -75,8 +76,8 @@ accept_counted oldest count report ack total freed held free words within few gr
 accept_timely :
     (timely : Bool) (report : Option Report) (total more held next ack : ℕ) (packet : List ℕ)
     (kept : List Forward) → total ≤ more
-    → IsTimely timely report Receiver.Ok total held next (Packet ack packet ∷ kept)
-    → IsTimely timely report Receiver.Ok more (suc held) next kept
+    → IsTimely timely report ReceiverOk total held next (ForwardPacket ack packet ∷ kept)
+    → IsTimely timely report ReceiverOk more (suc held) next kept
 accept_timely true report total more held next ack packet kept grows
     (some, (n, is, from, within, room, rest)) = (
       some,
@@ -89,9 +90,9 @@ accept_timely false report total more held next ack packet kept grows known = tt
 retry_timely :
     (timely : Bool) (report : Option Report) (store : Buffered) (held next ack : ℕ)
     (packet : List ℕ) (kept : List Forward) → room_for store (prio_of packet) ≡ false
-    → IsTimely timely report Receiver.Ok (free_buffers store + held) held next
-    (Packet ack packet ∷ kept)
-    → IsTimely timely report Receiver.RetryStopped (free_buffers store + held) held next kept
+    → IsTimely timely report ReceiverOk (free_buffers store + held) held next
+    (ForwardPacket ack packet ∷ kept)
+    → IsTimely timely report ReceiverRetryStopped (free_buffers store + held) held next kept
 retry_timely true report store held next ack packet kept full
     (some, (n, is, from, within, room, rest)) =
     let none =
@@ -106,15 +107,15 @@ pub expected_answered :
     (kept : List Forward) → room_for store (prio_of packet) ≡ room → tells ≡ true
     → store.buffers ≤ 30 → held < freed + count → Lacks is_responded words
     → AreCounted oldest count report ack (free_buffers store + held) freed held words
-    → IsTimely timely report Receiver.Ok (free_buffers store + held) held (freed + count)
-    (Packet ack packet ∷ kept)
+    → IsTimely timely report ReceiverOk (free_buffers store + held) held (freed + count)
+    (ForwardPacket ack packet ∷ kept)
     → Answered timely oldest count report freed words kept
     (receives (packet_arrival ack ack room (buffer_status tells (stored room store packet)))
-    (Input.Ok ack)).state
+    (InputOk ack)).state
     (stored (receives (packet_arrival ack ack room
-    (buffer_status tells (stored room store packet))) (Input.Ok ack)).held store packet)
+    (buffer_status tells (stored room store packet))) (InputOk ack)).held store packet)
     (receives (packet_arrival ack ack room (buffer_status tells (stored room store packet)))
-    (Input.Ok ack)).reply
+    (InputOk ack)).reply
 expected_answered timely tells true store ack packet oldest count report freed held words kept
     room is few within none c known =
     let after = stored true store packet in
@@ -136,7 +137,7 @@ expected_answered timely tells false store ack packet oldest count report freed 
     rw (eq-eqb ack ack refl) (
       held,
       say_counted oldest count report ack (free_buffers store + held) freed held words
-          (Told ack (buffer_status tells store)) (may_tell tells store ack held is few
+          (WordTold ack (buffer_status tells store)) (may_tell tells store ack held is few
           c.expected_is) c,
       retry_timely timely report store held (freed + count) ack packet kept room known,
     )
@@ -147,18 +148,18 @@ shut_answered :
     (oldest count : ℕ) (report : Option Report) (freed held : ℕ) (words : List Word)
     (kept : List Forward)
     → AreCounted oldest count report e (free_buffers store + held) freed held words
-    → IsTimely timely report Receiver.RetryStopped (free_buffers store + held) held (freed + count)
+    → IsTimely timely report ReceiverRetryStopped (free_buffers store + held) held (freed + count)
     kept
     → Answered timely oldest count report freed words kept
     (receives (if same
     then (if room then ExpectedWithRoom buffers else ExpectedWithoutRoom buffers)
-    else UnexpectedAck) (Input.RetryStopped e)).state
+    else UnexpectedAck) (InputRetryStopped e)).state
     (stored (receives (if same
     then (if room then ExpectedWithRoom buffers else ExpectedWithoutRoom buffers)
-    else UnexpectedAck) (Input.RetryStopped e)).held store packet)
+    else UnexpectedAck) (InputRetryStopped e)).held store packet)
     (receives (if same
     then (if room then ExpectedWithRoom buffers else ExpectedWithoutRoom buffers)
-    else UnexpectedAck) (Input.RetryStopped e)).reply
+    else UnexpectedAck) (InputRetryStopped e)).reply
 shut_answered timely true true buffers store packet e oldest count report freed held words kept c
     known =
     rw append-nil (held, c, known)
@@ -174,18 +175,18 @@ stopped_answered :
     (oldest count : ℕ) (report : Option Report) (freed held : ℕ) (words : List Word)
     (kept : List Forward)
     → AreCounted oldest count report e (free_buffers store + held) freed held words
-    → IsTimely timely report Receiver.ErrorStopped (free_buffers store + held) held (freed + count)
+    → IsTimely timely report ReceiverErrorStopped (free_buffers store + held) held (freed + count)
     kept
     → Answered timely oldest count report freed words kept
     (receives (if same
     then (if room then ExpectedWithRoom buffers else ExpectedWithoutRoom buffers)
-    else UnexpectedAck) (Input.ErrorStopped e)).state
+    else UnexpectedAck) (InputErrorStopped e)).state
     (stored (receives (if same
     then (if room then ExpectedWithRoom buffers else ExpectedWithoutRoom buffers)
-    else UnexpectedAck) (Input.ErrorStopped e)).held store packet)
+    else UnexpectedAck) (InputErrorStopped e)).held store packet)
     (receives (if same
     then (if room then ExpectedWithRoom buffers else ExpectedWithoutRoom buffers)
-    else UnexpectedAck) (Input.ErrorStopped e)).reply
+    else UnexpectedAck) (InputErrorStopped e)).reply
 stopped_answered timely true true buffers store packet e oldest count report freed held words kept
     c known =
     rw append-nil (held, c, known)
@@ -210,15 +211,15 @@ pub unexpected_answered :
     (stored (receives (packet_arrival (expected_of input) ack room buffers) input).held store
     packet)
     (receives (packet_arrival (expected_of input) ack room buffers) input).reply
-unexpected_answered timely room buffers (Input.Ok e) store ack packet oldest count report freed
+unexpected_answered timely room buffers (InputOk e) store ack packet oldest count report freed
     held words kept other c known =
-    rw other (no_packet_answered timely UnexpectedAck (Input.Ok e) oldest count report freed held
+    rw other (no_packet_answered timely UnexpectedAck (InputOk e) oldest count report freed held
     words kept store tt tt c known)
-unexpected_answered timely room buffers (Input.RetryStopped e) store ack packet oldest count report
+unexpected_answered timely room buffers (InputRetryStopped e) store ack packet oldest count report
     freed held words kept other c known =
     shut_answered timely (ack == e) room buffers store packet e oldest count report freed held
     words kept c known
-unexpected_answered timely room buffers (Input.ErrorStopped e) store ack packet oldest count report
+unexpected_answered timely room buffers (InputErrorStopped e) store ack packet oldest count report
     freed held words kept other c known =
     stopped_answered timely (ack == e) room buffers store packet e oldest count report freed held
     words kept c known

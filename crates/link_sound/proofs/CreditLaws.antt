@@ -2,9 +2,9 @@
 -- be lost, more buffers may be free, and events come in at the end.
 use Rattle.std.proofs.Common.{◌≡◌, ℕ, suc, ◌+◌, ◌-◌, ◌%◌, ◌<◌, ◌≤◌, Bool, true, false, List, [], ◌∷◌, ◌++◌, refl, arith}
 use Rattle.link_model.specs.Prelude.{prio_of, untold}
-use Rattle.link_sound.specs.Marks.{Forward, Packet, Restart, Request, Other, is_forward, is_packet}
+use Rattle.link_sound.specs.Marks.{Forward, ForwardPacket, ForwardRestart, ForwardRequest, Other, is_forward, is_packet}
 use Rattle.link_sound.specs.Kept.{Lacks}
-use Rattle.link_sound.specs.Credits.{Word, Accepted, Told, Responded, Silent, WordsInTurn, HaveRoom}
+use Rattle.link_sound.specs.Credits.{Word, Accepted, WordTold, Responded, Silent, WordsInTurn, HaveRoom}
 
 pub WordsInTurn-lower : (low least held total : ℕ) (words : List Word) → low ≤ least
     → WordsInTurn least held total words → WordsInTurn low held total words
@@ -12,7 +12,7 @@ WordsInTurn-lower low least held total [] below are = tt
 WordsInTurn-lower low least held total (Accepted ack free ∷ words) below
     (n, is, from, within, few, enough, rest) =
     (n, is, omega arith, within, few, enough, rest)
-WordsInTurn-lower low least held total (Told ack free ∷ words) below
+WordsInTurn-lower low least held total (WordTold ack free ∷ words) below
     (n, is, from, within, few, enough, rest) = (
       n,
       is,
@@ -32,7 +32,7 @@ pub WordsInTurn-rest : (least held total : ℕ) (w : Word) (words : List Word) �
 WordsInTurn-rest least held total (Accepted ack free) words below
     (n, is, from, within, few, enough, rest) =
     WordsInTurn-lower least (suc n) held total words (omega arith) rest
-WordsInTurn-rest least held total (Told ack free) words below
+WordsInTurn-rest least held total (WordTold ack free) words below
     (n, is, from, within, few, enough, rest) =
     rest
 WordsInTurn-rest least held total (Responded ack) words below (is, rest) =
@@ -60,7 +60,7 @@ WordsInTurn-more least held total more (Accepted ack free ∷ words) grows
       omega arith,
       WordsInTurn-more (suc n) held total more words grows rest,
     )
-WordsInTurn-more least held total more (Told ack free ∷ words) grows
+WordsInTurn-more least held total more (WordTold ack free ∷ words) grows
     (n, is, from, within, few, enough, rest) = (
       n,
       is,
@@ -78,14 +78,14 @@ WordsInTurn-more least held total more (Silent ∷ words) grows are =
 -- what a receiver may say that holds no packet
 abbrev pub MaySay : (held total : ℕ) → Word → Type 0
 MaySay held total (Accepted ack free) = ⊥
-MaySay held total (Told ack free) = (ack ≡ held % 32) × (free < untold) × (free + held ≤ total)
+MaySay held total (WordTold ack free) = (ack ≡ held % 32) × (free < untold) × (free + held ≤ total)
 MaySay held total (Responded ack) = ack ≡ held % 32
 MaySay held total Silent = Unit {0}
 
 said : (least held total : ℕ) (w : Word) → least ≤ held → MaySay held total w
     → WordsInTurn least held total (w ∷ [])
 said least held total (Accepted ack free) below may = absurd may
-said least held total (Told ack free) below (is, few, enough) =
+said least held total (WordTold ack free) below (is, few, enough) =
     (held, is, below, omega arith, few, enough, tt)
 said least held total (Responded ack) below is = (is, tt)
 said least held total Silent below may = tt
@@ -104,7 +104,7 @@ WordsInTurn-append least held total (Accepted ack free ∷ words) w below may
       enough,
       WordsInTurn-append (suc n) held total words w within may rest,
     )
-WordsInTurn-append least held total (Told ack free ∷ words) w below may
+WordsInTurn-append least held total (WordTold ack free ∷ words) w below may
     (n, is, from, within, few, enough, rest) = (
       n,
       is,
@@ -121,7 +121,7 @@ WordsInTurn-append least held total (Silent ∷ words) w below may are =
 
 abbrev pub is_responded : Word → Bool
 is_responded (Accepted ack free) = false
-is_responded (Told ack free) = false
+is_responded (WordTold ack free) = false
 is_responded (Responded ack) = true
 is_responded Silent = false
 
@@ -142,7 +142,7 @@ WordsInTurn-accept least held total free (Accepted ack f ∷ words) below few en
       there,
       WordsInTurn-accept (suc n) held total free words within few enough none.1 rest,
     )
-WordsInTurn-accept least held total free (Told ack f ∷ words) below few enough none
+WordsInTurn-accept least held total free (WordTold ack f ∷ words) below few enough none
     (n, is, from, within, first, there, rest) = (
       n,
       is,
@@ -160,12 +160,12 @@ WordsInTurn-accept least held total free (Silent ∷ words) below few enough non
 pub HaveRoom-lower : (total low least next : ℕ) (kept : List Forward) → low ≤ least
     → HaveRoom total least next kept → HaveRoom total low next kept
 HaveRoom-lower total low least next [] below have = tt
-HaveRoom-lower total low least next (Packet ack packet ∷ kept) below
+HaveRoom-lower total low least next (ForwardPacket ack packet ∷ kept) below
     (n, is, from, within, room, rest) =
     (n, is, omega arith, within, room, rest)
-HaveRoom-lower total low least next (Restart ∷ kept) below have =
+HaveRoom-lower total low least next (ForwardRestart ∷ kept) below have =
     HaveRoom-lower total low least next kept below have
-HaveRoom-lower total low least next (Request ∷ kept) below have =
+HaveRoom-lower total low least next (ForwardRequest ∷ kept) below have =
     HaveRoom-lower total low least next kept below have
 HaveRoom-lower total low least next (Other ∷ kept) below have =
     HaveRoom-lower total low least next kept below have
@@ -173,12 +173,19 @@ HaveRoom-lower total low least next (Other ∷ kept) below have =
 pub HaveRoom-lost : (total least next : ℕ) (lost kept : List Forward)
     → HaveRoom total least next (lost ++ kept) → HaveRoom total least next kept
 HaveRoom-lost total least next [] kept have = have
-HaveRoom-lost total least next (Packet ack packet ∷ lost) kept (n, is, from, within, room, rest) =
+HaveRoom-lost total least next (ForwardPacket ack packet ∷ lost) kept (
+  n,
+  is,
+  from,
+  within,
+  room,
+  rest,
+) =
     HaveRoom-lower total least (suc n) next kept (omega arith)
     (HaveRoom-lost total (suc n) next lost kept rest)
-HaveRoom-lost total least next (Restart ∷ lost) kept have =
+HaveRoom-lost total least next (ForwardRestart ∷ lost) kept have =
     HaveRoom-lost total least next lost kept have
-HaveRoom-lost total least next (Request ∷ lost) kept have =
+HaveRoom-lost total least next (ForwardRequest ∷ lost) kept have =
     HaveRoom-lost total least next lost kept have
 HaveRoom-lost total least next (Other ∷ lost) kept have =
     HaveRoom-lost total least next lost kept have
@@ -187,12 +194,12 @@ HaveRoom-lost total least next (Other ∷ lost) kept have =
 pub HaveRoom-more : (total more least next : ℕ) (kept : List Forward) → total ≤ more
     → HaveRoom total least next kept → HaveRoom more least next kept
 HaveRoom-more total more least next [] grows have = tt
-HaveRoom-more total more least next (Packet ack packet ∷ kept) grows
+HaveRoom-more total more least next (ForwardPacket ack packet ∷ kept) grows
     (n, is, from, within, room, rest) =
     (n, is, from, within, omega arith, HaveRoom-more total more (suc n) next kept grows rest)
-HaveRoom-more total more least next (Restart ∷ kept) grows have =
+HaveRoom-more total more least next (ForwardRestart ∷ kept) grows have =
     HaveRoom-more total more least next kept grows have
-HaveRoom-more total more least next (Request ∷ kept) grows have =
+HaveRoom-more total more least next (ForwardRequest ∷ kept) grows have =
     HaveRoom-more total more least next kept grows have
 HaveRoom-more total more least next (Other ∷ kept) grows have =
     HaveRoom-more total more least next kept grows have
@@ -200,16 +207,16 @@ HaveRoom-more total more least next (Other ∷ kept) grows have =
 pub HaveRoom-append : (total least next : ℕ) (kept : List Forward) (e : Forward)
     → is_packet e ≡ false → HaveRoom total least next kept
     → HaveRoom total least next (kept ++ e ∷ [])
-HaveRoom-append total least next [] (Packet ack packet) is have = absurd cc
-HaveRoom-append total least next [] Restart is have = tt
-HaveRoom-append total least next [] Request is have = tt
+HaveRoom-append total least next [] (ForwardPacket ack packet) is have = absurd cc
+HaveRoom-append total least next [] ForwardRestart is have = tt
+HaveRoom-append total least next [] ForwardRequest is have = tt
 HaveRoom-append total least next [] Other is have = tt
-HaveRoom-append total least next (Packet ack packet ∷ kept) e is
+HaveRoom-append total least next (ForwardPacket ack packet ∷ kept) e is
     (n, number, from, within, room, rest) =
     (n, number, from, within, room, HaveRoom-append total (suc n) next kept e is rest)
-HaveRoom-append total least next (Restart ∷ kept) e is have =
+HaveRoom-append total least next (ForwardRestart ∷ kept) e is have =
     HaveRoom-append total least next kept e is have
-HaveRoom-append total least next (Request ∷ kept) e is have =
+HaveRoom-append total least next (ForwardRequest ∷ kept) e is have =
     HaveRoom-append total least next kept e is have
 HaveRoom-append total least next (Other ∷ kept) e is have =
     HaveRoom-append total least next kept e is have
@@ -217,10 +224,10 @@ HaveRoom-append total least next (Other ∷ kept) e is have =
 -- the next packet starts
 pub HaveRoom-start : (total least next : ℕ) (kept : List Forward) (packet : List ℕ) → least ≤ next
     → next + (3 - prio_of packet) < total → HaveRoom total least next kept
-    → HaveRoom total least (suc next) (kept ++ Packet (next % 32) packet ∷ [])
+    → HaveRoom total least (suc next) (kept ++ ForwardPacket (next % 32) packet ∷ [])
 HaveRoom-start total least next [] packet below room have =
     (next, refl, below, omega arith, room, tt)
-HaveRoom-start total least next (Packet ack p ∷ kept) packet below room
+HaveRoom-start total least next (ForwardPacket ack p ∷ kept) packet below room
     (n, is, from, within, there, rest) = (
       n,
       is,
@@ -229,9 +236,9 @@ HaveRoom-start total least next (Packet ack p ∷ kept) packet below room
       there,
       HaveRoom-start total (suc n) next kept packet within room rest,
     )
-HaveRoom-start total least next (Restart ∷ kept) packet below room have =
+HaveRoom-start total least next (ForwardRestart ∷ kept) packet below room have =
     HaveRoom-start total least next kept packet below room have
-HaveRoom-start total least next (Request ∷ kept) packet below room have =
+HaveRoom-start total least next (ForwardRequest ∷ kept) packet below room have =
     HaveRoom-start total least next kept packet below room have
 HaveRoom-start total least next (Other ∷ kept) packet below room have =
     HaveRoom-start total least next kept packet below room have
@@ -240,7 +247,7 @@ HaveRoom-start total least next (Other ∷ kept) packet below room have =
 pub HaveRoom-none : (total least next : ℕ) (kept : List Forward) → Lacks is_forward kept
     → HaveRoom total least next kept
 HaveRoom-none total least next [] none = tt
-HaveRoom-none total least next (Packet ack packet ∷ kept) none = absurd cc
-HaveRoom-none total least next (Restart ∷ kept) none = absurd cc
-HaveRoom-none total least next (Request ∷ kept) none = absurd cc
+HaveRoom-none total least next (ForwardPacket ack packet ∷ kept) none = absurd cc
+HaveRoom-none total least next (ForwardRestart ∷ kept) none = absurd cc
+HaveRoom-none total least next (ForwardRequest ∷ kept) none = absurd cc
 HaveRoom-none total least next (Other ∷ kept) none = HaveRoom-none total least next kept none.1

@@ -6,7 +6,7 @@ use Rattle.link_model.specs.Output.{Stype0, stype0, reported}
 use Rattle.link_model.specs.Reports.{has_buffer_status, report_of}
 use Rattle.link_model.specs.declared.reports.Report.{Report}
 use Rattle.link_port.specs.Prelude.{prios_of}
-use Rattle.link_sound.specs.Credits.{Word, Accepted, Told, word_of, WordsInTurn, IsCovered, AreCountedAt}
+use Rattle.link_sound.specs.Credits.{Word, Accepted, WordTold, word_of, WordsInTurn, IsCovered, AreCountedAt}
 
 -- what a symbol reports, by its stype0
 abbrev pub reports_as : Stype0 → Bool → (ack free : ℕ) → Output → Output
@@ -107,7 +107,7 @@ accepted_is freed held count total ack free words most
 
 -- the report of a packet-retry or a status
 told_is : (freed held count total ack free : ℕ) (words : List Word) → count ≤ 31
-    → WordsInTurn freed held total (Told ack free ∷ words)
+    → WordsInTurn freed held total (WordTold ack free ∷ words)
     → IfSome (report_of ack free) (IsCovered held (freed + count) total)
 told_is freed held count total ack free words most (n, is, from, within, few, enough, rest) =
     covered_if held (freed + count) total ack free n (nat_lt free untold) is within (omega arith)
@@ -121,7 +121,7 @@ status_counted :
     → AreCountedAt (reports_as Stype0.OtherStype0 has ack free output) input total freed held
     (word_of Stype0.OtherStype0 has ack free ∷ words)
 status_counted true ack free output input total freed held words most c =
-    reported_counted (report_of ack free) output input total freed held (Told ack free ∷ words)
+    reported_counted (report_of ack free) output input total freed held (WordTold ack free ∷ words)
     (told_is freed held (length (prios_of output)) total ack free words most c.words_are) c
 status_counted false ack free output input total freed held words most c = c
 
@@ -137,7 +137,7 @@ reports_counted Stype0.PacketAccepted has ack free output input total freed held
     (Accepted ack free ∷ words)
     (accepted_is freed held (length (prios_of output)) total ack free words most c.words_are) c
 reports_counted Stype0.PacketRetry has ack free output input total freed held words most c =
-    reported_counted (report_of ack free) output input total freed held (Told ack free ∷ words)
+    reported_counted (report_of ack free) output input total freed held (WordTold ack free ∷ words)
     (told_is freed held (length (prios_of output)) total ack free words most c.words_are) c
 reports_counted Stype0.PacketNotAccepted has ack free output input total freed held words most c =
     c

@@ -6,7 +6,7 @@ use Rattle.link_model.specs.Prelude.{prio_of}
 use Rattle.link_port.specs.Prelude.{Event, acts, turn_sends, tell_sends}
 use Rattle.link_sound.specs.Sound.{IsSound, reply_sent}
 use Rattle.link_sound.specs.Credits.{HasTold, FindsRoom}
-use Rattle.link_sound.specs.Histories.{AreBuffers, Link, new_link, turned_round, IsStep, Turns, Tells, Acts, Others, TimesOut, Puts, Loses, GoesOn, IsHistory, Rests, AtFirst, AtSecond}
+use Rattle.link_sound.specs.Histories.{AreBuffers, Link, new_link, link_turned_round, IsStep, StepTurns, StepTells, StepActs, Others, StepTimesOut, Puts, Loses, StepGoesOn, IsHistory, Rests, AtFirst, AtSecond}
 use Rattle.link_sound.specs.InTime.{LeavesRoom, HasAck, IsLinked}
 use Rattle.link_sound.proofs.Steps.{exchanged, turn_keeps, tell_keeps, acted_keeps, other_keeps, time_out_keeps, lost_keeps, put_keeps, other_parts, begins}
 use Rattle.link_sound.proofs.PortBounds.{new_is_port, turn_port, time_out_port, put_port, read_port, acted_port, other_port}
@@ -17,7 +17,7 @@ use Rattle.link_sound.proofs.CreditHearer as hearer
 use Rattle.link_sound.proofs.CreditTeller as teller
 
 pub step_linked : (l next : Link) → IsStep l next → IsLinked l → IsLinked next
-step_linked l next (Turns _) is = record {
+step_linked l next (StepTurns _) is = record {
   port_a = turn_port l.a is.port_a;
   port_b = is.port_b;
   sound = turn_keeps l.a l.b l.kept_a l.kept_b is.port_a.covered is.sound;
@@ -26,7 +26,7 @@ step_linked l next (Turns _) is = record {
       (turn_has l.a is.port_a.expected_ack);
   acks_b = is.acks_b;
 }
-step_linked l next (Tells _) is = record {
+step_linked l next (StepTells _) is = record {
   port_a = is.port_a;
   port_b = is.port_b;
   sound = tell_keeps l.a l.b l.kept_a l.kept_b is.sound;
@@ -35,7 +35,7 @@ step_linked l next (Tells _) is = record {
       (tell_has l.a is.port_a.expected_ack);
   acks_b = is.acks_b;
 }
-step_linked l next (Acts _ e rest first acted) is =
+step_linked l next (StepActs _ e rest first acted) is =
     let sound = subst (λ (es : List Event). IsSound l.a l.b l.kept_a es) first is.sound in
     let has = subst (λ (es : List Event). All HasAck es) first is.acks_b in
     record {
@@ -58,7 +58,7 @@ step_linked l next (Others _ e other) is = record {
       (event_has l.a e is.port_a.expected_ack);
   acks_b = is.acks_b;
 }
-step_linked l next (TimesOut _) is = record {
+step_linked l next (StepTimesOut _) is = record {
   port_a = time_out_port l.a is.port_a;
   port_b = is.port_b;
   sound = time_out_keeps l.a l.b l.kept_a l.kept_b is.sound;
@@ -89,7 +89,7 @@ step_linked l next (Loses _ lost_a kept_a lost_b kept_b first second) is =
           rest_told HasAck lost_b kept_b
           (subst (λ (es : List Event). All HasAck es) second is.acks_b);
     }
-step_linked l next (GoesOn _ received place store bounded) is = record {
+step_linked l next (StepGoesOn _ received place store bounded) is = record {
   port_a = read_port l.a received place store bounded is.port_a;
   port_b = is.port_b;
   sound = other_parts l.a l.b l.kept_a l.kept_b received place is.sound;
@@ -97,7 +97,7 @@ step_linked l next (GoesOn _ received place store bounded) is = record {
   acks_b = is.acks_b;
 }
 
-pub round_linked : (l : Link) → IsLinked l → IsLinked (turned_round l)
+pub round_linked : (l : Link) → IsLinked l → IsLinked (link_turned_round l)
 round_linked l is = record {
   port_a = is.port_b;
   port_b = is.port_a;
@@ -111,8 +111,8 @@ linked_history l end (Rests _) is = is
 linked_history l end (AtFirst {next} _ step more) is =
     linked_history next end more (step_linked l next step is)
 linked_history l end (AtSecond {next} _ step more) is =
-    linked_history (turned_round next) end more
-    (round_linked next (step_linked (turned_round l) next step (round_linked l is)))
+    linked_history (link_turned_round next) end more
+    (round_linked next (step_linked (link_turned_round l) next step (round_linked l is)))
 
 pub new_linked : (tells_a tells_b : Bool) (m n : ℕ) → AreBuffers m → AreBuffers n
     → IsLinked (new_link tells_a tells_b m n)
@@ -141,16 +141,16 @@ Told timely l = IsKnown timely l.b l.a l.kept_b l.kept_a
 
 pub hearer_step : (timely : Bool) (l next : Link) → IsStep l next → IsLinked l → Hears timely l
     → Hears timely next
-hearer_step timely l next (Turns _) is k =
+hearer_step timely l next (StepTurns _) is k =
     hearer.turn_known timely l.a l.b l.kept_a l.kept_b is.port_a is.sound k
-hearer_step timely l next (Tells _) is k = hearer.tell_known timely l.a l.b l.kept_a l.kept_b k
-hearer_step timely l next (Acts _ e rest first acted) is k =
+hearer_step timely l next (StepTells _) is k = hearer.tell_known timely l.a l.b l.kept_a l.kept_b k
+hearer_step timely l next (StepActs _ e rest first acted) is k =
     hearer.acted_known timely l.a l.b l.kept_a rest e is.port_a acted
     (subst (λ (es : List Event). IsSound l.a l.b l.kept_a es) first is.sound)
     (subst (λ (es : List Event). IsKnown timely l.a l.b l.kept_a es) first k)
 hearer_step timely l next (Others _ e other) is k =
     hearer.other_known timely l.a l.b l.kept_a l.kept_b e other k
-hearer_step timely l next (TimesOut _) is k =
+hearer_step timely l next (StepTimesOut _) is k =
     hearer.late_known timely l.a l.b l.kept_a l.kept_b k
 hearer_step timely l next (Puts _ packet few passes room) is k =
     hearer.same_sender timely l.a l.b (appended l.a.queued (prio_of packet) packet) l.a.received
@@ -159,22 +159,22 @@ hearer_step timely l next (Loses _ lost_a kept_a lost_b kept_b first second) is 
     hearer.lost_known timely l.a l.b lost_a kept_a lost_b kept_b
     (subst (λ (es : List Event). IsKnown timely l.a l.b (lost_a ++ kept_a) es) second
     (subst (λ (es : List Event). IsKnown timely l.a l.b es l.kept_b) first k))
-hearer_step timely l next (GoesOn _ received place store bounded) is k =
+hearer_step timely l next (StepGoesOn _ received place store bounded) is k =
     hearer.same_sender timely l.a l.b l.a.queued received l.a.input place l.kept_a l.kept_b k
 
 pub teller_step : (timely : Bool) (l next : Link) (step : IsStep l next) → LeavesRoom step
     → IsLinked l → Told timely l → Told timely next
-teller_step timely l next (Turns _) leaves is k =
+teller_step timely l next (StepTurns _) leaves is k =
     teller.turn_told timely l.b l.a l.kept_b l.kept_a is.port_a k
-teller_step timely l next (Tells _) leaves is k =
+teller_step timely l next (StepTells _) leaves is k =
     teller.tell_told timely l.b l.a l.kept_b l.kept_a is.port_a k
-teller_step timely l next (Acts _ e rest first acted) leaves is k =
+teller_step timely l next (StepActs _ e rest first acted) leaves is k =
     teller.acted_told timely l.b l.a rest l.kept_a e is.port_a is.port_b acted
     (subst (λ (es : List Event). IsSound l.a l.b l.kept_a es) first is.sound)
     (subst (λ (es : List Event). IsKnown timely l.b l.a es l.kept_a) first k)
 teller_step timely l next (Others _ e other) leaves is k =
     teller.other_told timely l.b l.a l.kept_b l.kept_a e other k
-teller_step timely l next (TimesOut _) leaves is k =
+teller_step timely l next (StepTimesOut _) leaves is k =
     teller.late_told timely l.b l.a l.kept_b l.kept_a k
 teller_step timely l next (Puts _ packet few passes room) leaves is k =
     teller.same_receiver timely l.b l.a l.a.output (appended l.a.queued (prio_of packet) packet)
@@ -183,7 +183,7 @@ teller_step timely l next (Loses _ lost_a kept_a lost_b kept_b first second) lea
     hearer.lost_known timely l.b l.a lost_b kept_b lost_a kept_a
     (subst (λ (es : List Event). IsKnown timely l.b l.a (lost_b ++ kept_b) es) first
     (subst (λ (es : List Event). IsKnown timely l.b l.a es l.kept_a) second k))
-teller_step timely l next (GoesOn _ received place store bounded) leaves is k =
+teller_step timely l next (StepGoesOn _ received place store bounded) leaves is k =
     teller.taken_told timely l.b l.a received place l.kept_b l.kept_a leaves k
 
 -- what was told stays true at a step of either port

@@ -5,12 +5,12 @@ use Rattle.std.proofs.lemmas.List.{map-append}
 use Rattle.rio_symbols.specs.Fields.{Fields}
 use Rattle.link_buffers.specs.Prelude.{Buffered, room_for, stored}
 use Rattle.link_model.specs.Prelude.{number_of, prio_of, distance, Input, Output, Place, receives, symbol_arrival, packet_arrival}
-use Rattle.link_model.specs.Input.{Arrival}
+use Rattle.link_model.specs.Input.{Arrival, InputOk}
 use Rattle.link_model.specs.Input.Arrival.{ExpectedWithRoom, ExpectedWithoutRoom, UnexpectedAck, Damaged, RestartFromRetry, LinkRequest, OtherStype1}
 use Rattle.link_model.specs.declared.reports.Report.{Report}
 use Rattle.link_port.specs.Prelude.{Event, Ctl, Pkt, Bad, PortState, IsPort, buffer_status, prios_of, expected_of, acts, is_acted, turns_to, turn_sends, tell_sends, timed_out, waiting_in}
-use Rattle.link_port.specs.Turns.{turn_of}
-use Rattle.link_sound.specs.Marks.{Forward, Backward, Packet}
+use Rattle.link_port.specs.Turns.{port_turn}
+use Rattle.link_sound.specs.Marks.{Forward, Backward, ForwardPacket}
 use Rattle.link_sound.specs.Kept.{Lacks}
 use Rattle.link_sound.specs.Meanings.{asks, forward, backward, oldest_of, receiver_of}
 use Rattle.link_sound.specs.Between.{IsBetween}
@@ -61,9 +61,9 @@ pub turn_told : (timely : Bool) (b a : PortState) (kept_b kept_a : List Event) �
     → IsKnown timely b a kept_b kept_a
     → IsKnown timely b (turns_to a) kept_b (kept_a ++ (turn_sends a).sent)
 turn_told timely b a kept_b kept_a is k =
-    same_receiver timely b a (turn_of a).state a.queued kept_b (kept_a ++ (turn_sends a).sent)
+    same_receiver timely b a (port_turn a).state a.queued kept_b (kept_a ++ (turn_sends a).sent)
     (sent_known timely b a kept_b kept_a (turn_sends a).sent k
-    (burst_counted a (turn_of a).sends (waiting_in a) (oldest_of b.output)
+    (burst_counted a (port_turn a).sends (waiting_in a) (oldest_of b.output)
     (length (prios_of b.output)) (last_report b.output) k.freed k.held (map word kept_a) k.tells is
     k.counted))
 
@@ -171,12 +171,12 @@ few_held oldest expected freed held count first second below within few far =
 expected_at :
     (timely tells room : Bool) (input : Input) (store : Buffered) (ack : ℕ) (packet : List ℕ)
     (oldest count : ℕ) (report : Option Report) (freed held : ℕ) (words : List Word)
-    (kept : List Forward) → input ≡ Input.Ok ack → room_for store (prio_of packet) ≡ room
+    (kept : List Forward) → input ≡ InputOk ack → room_for store (prio_of packet) ≡ room
     → tells ≡ true → store.buffers ≤ 30 → held < freed + count → Lacks is_responded words
     → AreCounted oldest count report (expected_of input) (free_buffers store + held) freed held
     words
     → IsTimely timely report (receiver_of input) (free_buffers store + held) held (freed + count)
-    (Packet ack packet ∷ kept)
+    (ForwardPacket ack packet ∷ kept)
     → Answered timely oldest count report freed words kept
     (receives (packet_arrival (expected_of input) ack room
     (buffer_status tells (stored room store packet))) input).state
@@ -199,7 +199,7 @@ expected_at timely tells room input store ack packet oldest count report freed h
     (subst (λ (i : Input). AreCounted oldest count report (expected_of i)
     (free_buffers store + held) freed held words) same c)
     (subst (λ (i : Input). IsTimely timely report (receiver_of i) (free_buffers store + held) held
-    (freed + count) (Packet ack packet ∷ kept)) same known))
+    (freed + count) (ForwardPacket ack packet ∷ kept)) same known))
 
 -- a packet that the far port sent
 packet_told :
@@ -213,7 +213,8 @@ packet_told timely b a kept_b kept_a ack packet is far acted s k =
     let same = is_expected a.input ack acted in
     let count = length (prios_of b.output) in
     let between =
-    subst (λ (i : Input). IsBetween b.output i b.queued (Packet ack packet ∷ map forward kept_b)
+    subst (λ (i : Input).
+    IsBetween b.output i b.queued (ForwardPacket ack packet ∷ map forward kept_b)
     (map backward kept_a)) same s.b_to_a in
     let away =
     packet_within b.output ack ack packet b.queued (map forward kept_b) (map backward kept_a)
@@ -227,7 +228,7 @@ packet_told timely b a kept_b kept_a ack packet is far acted s k =
     (expected_at timely a.tells (room_for a.received (prio_of packet)) a.input a.received ack
     packet (oldest_of b.output) count (last_report b.output) k.freed k.held (map word kept_a)
     (map forward kept_b) same refl k.tells is.receives.most within
-    (none_responded kept_a (packet_unanswered b.output (Input.Ok ack) ack packet b.queued
+    (none_responded kept_a (packet_unanswered b.output (InputOk ack) ack packet b.queued
     (map forward kept_b) (map backward kept_a) between)) k.counted k.in_time)
 
 -- an event that the far port sent

@@ -4,8 +4,8 @@ use Rattle.std.proofs.Common.{◌≡◌, ℕ, suc, ◌+◌, ◌-◌, ◌%◌, �
 use Rattle.link_model.specs.Prelude.{prio_of}
 use Rattle.link_model.specs.declared.reports.Report.{Report}
 use Rattle.link_port.specs.Prelude.{Event, PortState, prios_of}
-use Rattle.link_sound.specs.Marks.{Forward, Packet, Other, is_forward, is_packet}
-use Rattle.link_sound.specs.Receiver.{Receiver, IsShut}
+use Rattle.link_sound.specs.Marks.{Forward, ForwardPacket, Other, is_forward, is_packet}
+use Rattle.link_sound.specs.Receiver.{Receiver, IsShut, ReceiverOk, ReceiverRetryStopped, ReceiverErrorStopped}
 use Rattle.link_sound.specs.Kept.{Lacks}
 use Rattle.link_sound.specs.Meanings.{forward, receiver_of}
 use Rattle.link_sound.specs.Told.{last_report}
@@ -34,10 +34,10 @@ pub record IsKnown (timely : Bool) (hearer teller : PortState) (kept_ahead kept_
 HaveRoomAt-append : (r : Receiver) (total held next : ℕ) (kept : List Forward) (e : Forward)
     → is_packet e ≡ false → HaveRoomAt r total held next kept
     → HaveRoomAt r total held next (kept ++ e ∷ [])
-HaveRoomAt-append Receiver.Ok total held next kept e is find =
+HaveRoomAt-append ReceiverOk total held next kept e is find =
     HaveRoom-append total held next kept e is find
-HaveRoomAt-append Receiver.RetryStopped total held next kept e is find = find
-HaveRoomAt-append Receiver.ErrorStopped total held next kept e is find = tt
+HaveRoomAt-append ReceiverRetryStopped total held next kept e is find = find
+HaveRoomAt-append ReceiverErrorStopped total held next kept e is find = tt
 
 pub timely_append :
     (timely : Bool) (report : Option Report) (r : Receiver) (total held next : ℕ)
@@ -50,10 +50,10 @@ timely_append false report r total held next kept e is known = tt
 
 HaveRoomAt-lost : (r : Receiver) (total held next : ℕ) (lost kept : List Forward)
     → HaveRoomAt r total held next (lost ++ kept) → HaveRoomAt r total held next kept
-HaveRoomAt-lost Receiver.Ok total held next lost kept find =
+HaveRoomAt-lost ReceiverOk total held next lost kept find =
     HaveRoom-lost total held next lost kept find
-HaveRoomAt-lost Receiver.RetryStopped total held next lost kept find = find
-HaveRoomAt-lost Receiver.ErrorStopped total held next lost kept find = tt
+HaveRoomAt-lost ReceiverRetryStopped total held next lost kept find = find
+HaveRoomAt-lost ReceiverErrorStopped total held next lost kept find = tt
 
 pub timely_lost :
     (timely : Bool) (report : Option Report) (r : Receiver) (total held next : ℕ)
@@ -65,10 +65,10 @@ timely_lost false report r total held next lost kept known = tt
 
 HaveRoomAt-more : (r : Receiver) (total more held next : ℕ) (kept : List Forward) → total ≤ more
     → HaveRoomAt r total held next kept → HaveRoomAt r more held next kept
-HaveRoomAt-more Receiver.Ok total more held next kept grows find =
+HaveRoomAt-more ReceiverOk total more held next kept grows find =
     HaveRoom-more total more held next kept grows find
-HaveRoomAt-more Receiver.RetryStopped total more held next kept grows find = find
-HaveRoomAt-more Receiver.ErrorStopped total more held next kept grows find = tt
+HaveRoomAt-more ReceiverRetryStopped total more held next kept grows find = find
+HaveRoomAt-more ReceiverErrorStopped total more held next kept grows find = tt
 
 pub timely_more :
     (timely : Bool) (report : Option Report) (r : Receiver) (total more held next : ℕ)
@@ -80,10 +80,10 @@ timely_more false report r total more held next kept grows known = tt
 
 HaveRoomAt-none : (r : Receiver) (total held next other : ℕ) (kept : List Forward)
     → Lacks is_forward kept → HaveRoomAt r total held next kept → HaveRoomAt r total held other kept
-HaveRoomAt-none Receiver.Ok total held next other kept none find =
+HaveRoomAt-none ReceiverOk total held next other kept none find =
     HaveRoom-none total held other kept none
-HaveRoomAt-none Receiver.RetryStopped total held next other kept none find = find
-HaveRoomAt-none Receiver.ErrorStopped total held next other kept none find = tt
+HaveRoomAt-none ReceiverRetryStopped total held next other kept none find = find
+HaveRoomAt-none ReceiverErrorStopped total held next other kept none find = tt
 
 -- another packet is the next to be sent, and nothing is on its way
 pub timely_none :
@@ -96,9 +96,9 @@ timely_none false report r total held next other kept none known = tt
 
 HaveRoomAt-shut : (r : Receiver) (total held next other : ℕ) (kept more : List Forward) → IsShut r
     → HaveRoomAt r total held next kept → HaveRoomAt r total held other more
-HaveRoomAt-shut Receiver.Ok total held next other kept more shut find = absurd shut
-HaveRoomAt-shut Receiver.RetryStopped total held next other kept more shut find = find
-HaveRoomAt-shut Receiver.ErrorStopped total held next other kept more shut find = tt
+HaveRoomAt-shut ReceiverOk total held next other kept more shut find = absurd shut
+HaveRoomAt-shut ReceiverRetryStopped total held next other kept more shut find = find
+HaveRoomAt-shut ReceiverErrorStopped total held next other kept more shut find = tt
 
 -- the receiver takes no packets
 pub timely_shut :
@@ -112,11 +112,11 @@ timely_shut false report r total held next other kept more shut known = tt
 HaveRoomAt-start :
     (r : Receiver) (total held next : ℕ) (kept : List Forward) (packet : List ℕ) → held ≤ next
     → next + (3 - prio_of packet) < total → HaveRoomAt r total held next kept
-    → HaveRoomAt r total held (suc next) (kept ++ Packet (next % 32) packet ∷ [])
-HaveRoomAt-start Receiver.Ok total held next kept packet below room find =
+    → HaveRoomAt r total held (suc next) (kept ++ ForwardPacket (next % 32) packet ∷ [])
+HaveRoomAt-start ReceiverOk total held next kept packet below room find =
     HaveRoom-start total held next kept packet below room find
-HaveRoomAt-start Receiver.RetryStopped total held next kept packet below room find = find
-HaveRoomAt-start Receiver.ErrorStopped total held next kept packet below room find = tt
+HaveRoomAt-start ReceiverRetryStopped total held next kept packet below room find = find
+HaveRoomAt-start ReceiverErrorStopped total held next kept packet below room find = tt
 
 -- a packet starts, of the three events of its start one means something
 pub timely_start :
@@ -125,17 +125,17 @@ pub timely_start :
     → (IsSome report → next + (3 - prio_of packet) < total)
     → IsTimely timely report r total held next kept
     → IsTimely timely report r total held (suc next)
-    (kept ++ Other ∷ Packet (next % 32) packet ∷ Other ∷ [])
+    (kept ++ Other ∷ ForwardPacket (next % 32) packet ∷ Other ∷ [])
 timely_start true report r total held next kept packet below room (some, find) =
     let first = kept ++ Other ∷ [] in
-    let second = first ++ Packet (next % 32) packet ∷ [] in
+    let second = first ++ ForwardPacket (next % 32) packet ∷ [] in
     let started =
     HaveRoomAt-start r total held next first packet below (room some)
     (HaveRoomAt-append r total held next kept Other refl find) in (
       some,
       subst (λ (fs : List Forward). HaveRoomAt r total held (suc next) fs)
-          (append_assoc first (Packet (next % 32) packet ∷ []) (Other ∷ [])
-          ∙ append_assoc kept (Other ∷ []) (Packet (next % 32) packet ∷ Other ∷ []))
+          (append_assoc first (ForwardPacket (next % 32) packet ∷ []) (Other ∷ [])
+          ∙ append_assoc kept (Other ∷ []) (ForwardPacket (next % 32) packet ∷ Other ∷ []))
           (HaveRoomAt-append r total held (suc next) second Other refl started),
     )
 timely_start false report r total held next kept packet below room known = tt

@@ -13,7 +13,7 @@ use Rattle.link_model.proofs.WindowFacts.{startable-full, startable-open}
 use Rattle.link_port.specs.Prelude.{PortState, standing, prios_of, burst_of, packet_burst}
 use Rattle.link_port.specs.States.{IsOutput}
 use Rattle.link_port.proofs.FirstPackets.{first_has_prio}
-use Rattle.link_sound.specs.Marks.{Forward, Packet, Restart, Request, Other}
+use Rattle.link_sound.specs.Marks.{Forward, ForwardPacket, ForwardRestart, ForwardRequest, Other}
 use Rattle.link_sound.specs.Receiver.{Receiver, IsShut}
 use Rattle.link_sound.specs.Meanings.{forward}
 use Rattle.link_sound.specs.Told.{last_report}
@@ -135,9 +135,9 @@ start_counts timely w queued p r input total freed held words kept prio is store
             (freed + length (with_next w prio).prios) w.report (omega arith) may.1;
       },
       subst (λ (n : ℕ). IsTimely timely w.report r total held n
-          (kept ++ Other ∷ Packet (next_ack w) there.0 ∷ Other ∷ [])) (sym next)
+          (kept ++ Other ∷ ForwardPacket (next_ack w) there.0 ∷ Other ∷ [])) (sym next)
           (subst (λ (ack : ℕ). IsTimely timely w.report r total held (suc (freed + length w.prios))
-          (kept ++ Other ∷ Packet ack there.0 ∷ Other ∷ [])) (sym number)
+          (kept ++ Other ∷ ForwardPacket ack there.0 ∷ Other ∷ [])) (sym number)
           (timely_start timely w.report r total held (freed + length w.prios) kept there.0
           c.sent_first
           (subst (λ (q : ℕ). IsSome w.report → freed + length w.prios + (3 - q) < total)
@@ -205,11 +205,11 @@ own_counts timely tells (Output.RetryStopped w) queued p r input total freed hel
             c.report_is;
       },
       timely_shut timely w.report r total held (freed + length w.prios) (freed + 0) kept
-          (kept ++ Restart ∷ []) none.1 known,
+          (kept ++ ForwardRestart ∷ []) none.1 known,
     )
 own_counts timely tells (Output.ErrorStopped false w) queued p r input total freed held words kept
     is store covers stopped (c, known) =
-    (c, timely_append timely w.report r total held _ kept Request refl known)
+    (c, timely_append timely w.report r total held _ kept ForwardRequest refl known)
 own_counts timely tells (Output.ErrorStopped true w) queued p r input total freed held words kept
     is store covers stopped turn =
     rw append-nil turn

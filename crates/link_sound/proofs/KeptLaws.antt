@@ -1,7 +1,7 @@
 -- Laws of what is on its way: a front may be lost, and events come in at the end.
 use Rattle.std.proofs.Common.{◌≡◌, ℕ, zero, suc, ◌%◌, ◌≤◌, Bool, true, false, List, [], ◌∷◌, ◌++◌, length, Some, slice_get, refl, arith}
 use Rattle.std.proofs.lemmas.Option.{slice_get_within}
-use Rattle.link_sound.specs.Marks.{Forward, Packet, Restart, Request, Other, is_packet, is_restart, is_request, is_forward, Backward, Accept, Retry, Response, Neutral, is_retry, is_response, is_backward}
+use Rattle.link_sound.specs.Marks.{Forward, ForwardPacket, ForwardRestart, ForwardRequest, Other, is_packet, is_restart, is_forward_request, is_forward, Backward, Accept, Retry, Response, Neutral, is_retry, is_response, is_backward}
 use Rattle.link_sound.specs.Kept.{Lacks, AcceptsInTurn, PacketsInTurn, RetryOnce, RestartOnce, RequestLast, ResponseLast}
 
 abbrev pub is_accept : Backward → Bool
@@ -86,11 +86,17 @@ AcceptsInTurn-none least held (Neutral ∷ kept) none = AcceptsInTurn-none least
 pub PacketsInTurn-lower : (sent : List (List ℕ)) (low least : ℕ) (kept : List Forward) → low ≤ least
     → PacketsInTurn sent least kept → PacketsInTurn sent low kept
 PacketsInTurn-lower sent low least [] below flight = tt
-PacketsInTurn-lower sent low least (Packet ack packet ∷ kept) below (n, is, from, found, rest) =
+PacketsInTurn-lower sent low least (ForwardPacket ack packet ∷ kept) below (
+  n,
+  is,
+  from,
+  found,
+  rest,
+) =
     (n, is, omega arith, found, rest)
-PacketsInTurn-lower sent low least (Restart ∷ kept) below flight =
+PacketsInTurn-lower sent low least (ForwardRestart ∷ kept) below flight =
     PacketsInTurn-lower sent low least kept below flight
-PacketsInTurn-lower sent low least (Request ∷ kept) below flight =
+PacketsInTurn-lower sent low least (ForwardRequest ∷ kept) below flight =
     PacketsInTurn-lower sent low least kept below flight
 PacketsInTurn-lower sent low least (Other ∷ kept) below flight =
     PacketsInTurn-lower sent low least kept below flight
@@ -98,12 +104,12 @@ PacketsInTurn-lower sent low least (Other ∷ kept) below flight =
 pub PacketsInTurn-lost : (sent : List (List ℕ)) (least : ℕ) (lost kept : List Forward)
     → PacketsInTurn sent least (lost ++ kept) → PacketsInTurn sent least kept
 PacketsInTurn-lost sent least [] kept flight = flight
-PacketsInTurn-lost sent least (Packet ack packet ∷ lost) kept (n, is, from, found, rest) =
+PacketsInTurn-lost sent least (ForwardPacket ack packet ∷ lost) kept (n, is, from, found, rest) =
     PacketsInTurn-lower sent least (suc n) kept (omega arith)
     (PacketsInTurn-lost sent (suc n) lost kept rest)
-PacketsInTurn-lost sent least (Restart ∷ lost) kept flight =
+PacketsInTurn-lost sent least (ForwardRestart ∷ lost) kept flight =
     PacketsInTurn-lost sent least lost kept flight
-PacketsInTurn-lost sent least (Request ∷ lost) kept flight =
+PacketsInTurn-lost sent least (ForwardRequest ∷ lost) kept flight =
     PacketsInTurn-lost sent least lost kept flight
 PacketsInTurn-lost sent least (Other ∷ lost) kept flight =
     PacketsInTurn-lost sent least lost kept flight
@@ -111,15 +117,21 @@ PacketsInTurn-lost sent least (Other ∷ lost) kept flight =
 pub PacketsInTurn-append : (sent : List (List ℕ)) (least : ℕ) (kept : List Forward) (e : Forward)
     → is_packet e ≡ false → PacketsInTurn sent least kept
     → PacketsInTurn sent least (kept ++ e ∷ [])
-PacketsInTurn-append sent least [] (Packet ack packet) is flight = absurd cc
-PacketsInTurn-append sent least [] Restart is flight = tt
-PacketsInTurn-append sent least [] Request is flight = tt
+PacketsInTurn-append sent least [] (ForwardPacket ack packet) is flight = absurd cc
+PacketsInTurn-append sent least [] ForwardRestart is flight = tt
+PacketsInTurn-append sent least [] ForwardRequest is flight = tt
 PacketsInTurn-append sent least [] Other is flight = tt
-PacketsInTurn-append sent least (Packet ack packet ∷ kept) e is (n, number, from, found, rest) =
+PacketsInTurn-append sent least (ForwardPacket ack packet ∷ kept) e is (
+  n,
+  number,
+  from,
+  found,
+  rest,
+) =
     (n, number, from, found, PacketsInTurn-append sent (suc n) kept e is rest)
-PacketsInTurn-append sent least (Restart ∷ kept) e is flight =
+PacketsInTurn-append sent least (ForwardRestart ∷ kept) e is flight =
     PacketsInTurn-append sent least kept e is flight
-PacketsInTurn-append sent least (Request ∷ kept) e is flight =
+PacketsInTurn-append sent least (ForwardRequest ∷ kept) e is flight =
     PacketsInTurn-append sent least kept e is flight
 PacketsInTurn-append sent least (Other ∷ kept) e is flight =
     PacketsInTurn-append sent least kept e is flight
@@ -140,19 +152,26 @@ slice_get-before (first ∷ sent) packet (suc n) other found =
 pub PacketsInTurn-start :
     (sent : List (List ℕ)) (least : ℕ) (kept : List Forward) (packet : List ℕ) → least ≤ length sent
     → PacketsInTurn sent least kept
-    → PacketsInTurn (sent ++ packet ∷ []) least (kept ++ Packet (length sent % 32) packet ∷ [])
+    → PacketsInTurn (sent ++ packet ∷ []) least (kept ++ ForwardPacket (length sent % 32) packet
+    ∷ [])
 PacketsInTurn-start sent least [] packet below flight =
     (length sent, refl, below, slice_get-last sent packet, tt)
-PacketsInTurn-start sent least (Packet ack other ∷ kept) packet below (n, is, from, found, rest) = (
+PacketsInTurn-start sent least (ForwardPacket ack other ∷ kept) packet below (
+  n,
+  is,
+  from,
+  found,
+  rest,
+) = (
   n,
   is,
   from,
   slice_get-before sent packet n other found,
   PacketsInTurn-start sent (suc n) kept packet (slice_get_within sent n other found) rest,
 )
-PacketsInTurn-start sent least (Restart ∷ kept) packet below flight =
+PacketsInTurn-start sent least (ForwardRestart ∷ kept) packet below flight =
     PacketsInTurn-start sent least kept packet below flight
-PacketsInTurn-start sent least (Request ∷ kept) packet below flight =
+PacketsInTurn-start sent least (ForwardRequest ∷ kept) packet below flight =
     PacketsInTurn-start sent least kept packet below flight
 PacketsInTurn-start sent least (Other ∷ kept) packet below flight =
     PacketsInTurn-start sent least kept packet below flight
@@ -160,9 +179,9 @@ PacketsInTurn-start sent least (Other ∷ kept) packet below flight =
 pub PacketsInTurn-none : (sent : List (List ℕ)) (least : ℕ) (kept : List Forward)
     → Lacks is_forward kept → PacketsInTurn sent least kept
 PacketsInTurn-none sent least [] none = tt
-PacketsInTurn-none sent least (Packet ack packet ∷ kept) none = absurd cc
-PacketsInTurn-none sent least (Restart ∷ kept) none = absurd cc
-PacketsInTurn-none sent least (Request ∷ kept) none = absurd cc
+PacketsInTurn-none sent least (ForwardPacket ack packet ∷ kept) none = absurd cc
+PacketsInTurn-none sent least (ForwardRestart ∷ kept) none = absurd cc
+PacketsInTurn-none sent least (ForwardRequest ∷ kept) none = absurd cc
 PacketsInTurn-none sent least (Other ∷ kept) none = PacketsInTurn-none sent least kept none.1
 
 pub RetryOnce-none : (held : ℕ) (kept : List Backward) → Lacks is_retry kept → RetryOnce held kept
@@ -205,34 +224,36 @@ RetryOnce-retry held (Neutral ∷ kept) none = RetryOnce-retry held kept none.1
 pub RestartOnce-none : (sent : List (List ℕ)) (held : ℕ) (kept : List Forward)
     → Lacks is_restart kept → RestartOnce sent held kept
 RestartOnce-none sent held [] none = tt
-RestartOnce-none sent held (Packet ack packet ∷ kept) none = RestartOnce-none sent held kept none.1
-RestartOnce-none sent held (Restart ∷ kept) none = absurd cc
-RestartOnce-none sent held (Request ∷ kept) none = RestartOnce-none sent held kept none.1
+RestartOnce-none sent held (ForwardPacket ack packet ∷ kept) none =
+    RestartOnce-none sent held kept none.1
+RestartOnce-none sent held (ForwardRestart ∷ kept) none = absurd cc
+RestartOnce-none sent held (ForwardRequest ∷ kept) none = RestartOnce-none sent held kept none.1
 RestartOnce-none sent held (Other ∷ kept) none = RestartOnce-none sent held kept none.1
 
 pub RestartOnce-lost : (sent : List (List ℕ)) (held : ℕ) (lost kept : List Forward)
     → RestartOnce sent held (lost ++ kept) → RestartOnce sent held kept
 RestartOnce-lost sent held [] kept once = once
-RestartOnce-lost sent held (Packet ack packet ∷ lost) kept once =
+RestartOnce-lost sent held (ForwardPacket ack packet ∷ lost) kept once =
     RestartOnce-lost sent held lost kept once
-RestartOnce-lost sent held (Restart ∷ lost) kept once =
+RestartOnce-lost sent held (ForwardRestart ∷ lost) kept once =
     RestartOnce-none sent held kept (Lacks-lost is_restart lost kept once.0)
-RestartOnce-lost sent held (Request ∷ lost) kept once = RestartOnce-lost sent held lost kept once
+RestartOnce-lost sent held (ForwardRequest ∷ lost) kept once =
+    RestartOnce-lost sent held lost kept once
 RestartOnce-lost sent held (Other ∷ lost) kept once = RestartOnce-lost sent held lost kept once
 
 pub RestartOnce-append :
     (sent : List (List ℕ)) (held : ℕ) (kept : List Forward) (e : Forward) → is_packet e ≡ false
     → is_restart e ≡ false → RestartOnce sent held kept
     → RestartOnce sent held (kept ++ e ∷ [])
-RestartOnce-append sent held [] (Packet ack packet) is not once = tt
-RestartOnce-append sent held [] Restart is not once = absurd cc
-RestartOnce-append sent held [] Request is not once = tt
+RestartOnce-append sent held [] (ForwardPacket ack packet) is not once = tt
+RestartOnce-append sent held [] ForwardRestart is not once = absurd cc
+RestartOnce-append sent held [] ForwardRequest is not once = tt
 RestartOnce-append sent held [] Other is not once = tt
-RestartOnce-append sent held (Packet ack packet ∷ kept) e is not once =
+RestartOnce-append sent held (ForwardPacket ack packet ∷ kept) e is not once =
     RestartOnce-append sent held kept e is not once
-RestartOnce-append sent held (Restart ∷ kept) e is not once =
+RestartOnce-append sent held (ForwardRestart ∷ kept) e is not once =
     (Lacks-append is_restart kept e once.0 not, PacketsInTurn-append sent held kept e is once.1)
-RestartOnce-append sent held (Request ∷ kept) e is not once =
+RestartOnce-append sent held (ForwardRequest ∷ kept) e is not once =
     RestartOnce-append sent held kept e is not once
 RestartOnce-append sent held (Other ∷ kept) e is not once =
     RestartOnce-append sent held kept e is not once
@@ -241,58 +262,59 @@ RestartOnce-append sent held (Other ∷ kept) e is not once =
 pub RestartOnce-start :
     (sent : List (List ℕ)) (held : ℕ) (kept : List Forward) (packet : List ℕ) → held ≤ length sent
     → RestartOnce sent held kept
-    → RestartOnce (sent ++ packet ∷ []) held (kept ++ Packet (length sent % 32) packet ∷ [])
+    → RestartOnce (sent ++ packet ∷ []) held (kept ++ ForwardPacket (length sent % 32) packet ∷ [])
 RestartOnce-start sent held [] packet below once = tt
-RestartOnce-start sent held (Packet ack other ∷ kept) packet below once =
+RestartOnce-start sent held (ForwardPacket ack other ∷ kept) packet below once =
     RestartOnce-start sent held kept packet below once
-RestartOnce-start sent held (Restart ∷ kept) packet below once = (
-  Lacks-append is_restart kept (Packet (length sent % 32) packet) once.0 refl,
+RestartOnce-start sent held (ForwardRestart ∷ kept) packet below once = (
+  Lacks-append is_restart kept (ForwardPacket (length sent % 32) packet) once.0 refl,
   PacketsInTurn-start sent held kept packet below once.1,
 )
-RestartOnce-start sent held (Request ∷ kept) packet below once =
+RestartOnce-start sent held (ForwardRequest ∷ kept) packet below once =
     RestartOnce-start sent held kept packet below once
 RestartOnce-start sent held (Other ∷ kept) packet below once =
     RestartOnce-start sent held kept packet below once
 
 -- the first restart-from-retry is sent
 pub RestartOnce-restart : (sent : List (List ℕ)) (held : ℕ) (kept : List Forward)
-    → Lacks is_restart kept → RestartOnce sent held (kept ++ Restart ∷ [])
+    → Lacks is_restart kept → RestartOnce sent held (kept ++ ForwardRestart ∷ [])
 RestartOnce-restart sent held [] none = (tt, tt)
-RestartOnce-restart sent held (Packet ack packet ∷ kept) none =
+RestartOnce-restart sent held (ForwardPacket ack packet ∷ kept) none =
     RestartOnce-restart sent held kept none.1
-RestartOnce-restart sent held (Restart ∷ kept) none = absurd cc
-RestartOnce-restart sent held (Request ∷ kept) none = RestartOnce-restart sent held kept none.1
+RestartOnce-restart sent held (ForwardRestart ∷ kept) none = absurd cc
+RestartOnce-restart sent held (ForwardRequest ∷ kept) none =
+    RestartOnce-restart sent held kept none.1
 RestartOnce-restart sent held (Other ∷ kept) none = RestartOnce-restart sent held kept none.1
 
 pub RequestLast-none : (kept : List Forward) → Lacks is_forward kept → RequestLast kept
 RequestLast-none [] none = tt
-RequestLast-none (Packet ack packet ∷ kept) none = absurd cc
-RequestLast-none (Restart ∷ kept) none = absurd cc
-RequestLast-none (Request ∷ kept) none = absurd cc
+RequestLast-none (ForwardPacket ack packet ∷ kept) none = absurd cc
+RequestLast-none (ForwardRestart ∷ kept) none = absurd cc
+RequestLast-none (ForwardRequest ∷ kept) none = absurd cc
 RequestLast-none (Other ∷ kept) none = RequestLast-none kept none.1
 
 pub RequestLast-lost : (lost kept : List Forward) → RequestLast (lost ++ kept) → RequestLast kept
 RequestLast-lost [] kept last = last
-RequestLast-lost (Packet ack packet ∷ lost) kept last = RequestLast-lost lost kept last
-RequestLast-lost (Restart ∷ lost) kept last = RequestLast-lost lost kept last
-RequestLast-lost (Request ∷ lost) kept last =
+RequestLast-lost (ForwardPacket ack packet ∷ lost) kept last = RequestLast-lost lost kept last
+RequestLast-lost (ForwardRestart ∷ lost) kept last = RequestLast-lost lost kept last
+RequestLast-lost (ForwardRequest ∷ lost) kept last =
     RequestLast-none kept (Lacks-lost is_forward lost kept last)
 RequestLast-lost (Other ∷ lost) kept last = RequestLast-lost lost kept last
 
 pub RequestLast-append : (kept : List Forward) → RequestLast kept → RequestLast (kept ++ Other ∷ [])
 RequestLast-append [] last = tt
-RequestLast-append (Packet ack packet ∷ kept) last = RequestLast-append kept last
-RequestLast-append (Restart ∷ kept) last = RequestLast-append kept last
-RequestLast-append (Request ∷ kept) last = Lacks-append is_forward kept Other last refl
+RequestLast-append (ForwardPacket ack packet ∷ kept) last = RequestLast-append kept last
+RequestLast-append (ForwardRestart ∷ kept) last = RequestLast-append kept last
+RequestLast-append (ForwardRequest ∷ kept) last = Lacks-append is_forward kept Other last refl
 RequestLast-append (Other ∷ kept) last = RequestLast-append kept last
 
 -- the first link-request is sent
-pub RequestLast-request : (kept : List Forward) → Lacks is_request kept
-    → RequestLast (kept ++ Request ∷ [])
+pub RequestLast-request : (kept : List Forward) → Lacks is_forward_request kept
+    → RequestLast (kept ++ ForwardRequest ∷ [])
 RequestLast-request [] none = tt
-RequestLast-request (Packet ack packet ∷ kept) none = RequestLast-request kept none.1
-RequestLast-request (Restart ∷ kept) none = RequestLast-request kept none.1
-RequestLast-request (Request ∷ kept) none = absurd cc
+RequestLast-request (ForwardPacket ack packet ∷ kept) none = RequestLast-request kept none.1
+RequestLast-request (ForwardRestart ∷ kept) none = RequestLast-request kept none.1
+RequestLast-request (ForwardRequest ∷ kept) none = absurd cc
 RequestLast-request (Other ∷ kept) none = RequestLast-request kept none.1
 
 pub ResponseLast-none : (held : ℕ) (kept : List Backward) → Lacks is_response kept

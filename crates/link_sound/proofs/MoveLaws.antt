@@ -1,8 +1,8 @@
 -- What each step of the sender or the receiver does to a direction.
 use Rattle.std.proofs.Common.{◌≡◌, ℕ, ◌+◌, ◌%◌, ◌<◌, ◌≤◌, List, [], ◌∷◌, ◌++◌, inl, inr, refl, arith}
-use Rattle.link_sound.specs.Marks.{Forward, Other, is_restart, is_request, is_forward, Backward, Neutral, is_retry, is_response}
-use Rattle.link_sound.specs.Sender.{Sender}
-use Rattle.link_sound.specs.Receiver.{Receiver}
+use Rattle.link_sound.specs.Marks.{Forward, Other, is_restart, is_forward_request, is_forward, Backward, Neutral, is_retry, is_response}
+use Rattle.link_sound.specs.Sender.{Sender, SenderOk, SenderRetryStopped, SenderErrorStopped, SenderFailed}
+use Rattle.link_sound.specs.Receiver.{Receiver, ReceiverOk, ReceiverRetryStopped, ReceiverErrorStopped}
 use Rattle.link_sound.specs.Direction.{FitsSender, FitsReceiver, IsDirection}
 use Rattle.link_sound.proofs.KeptLaws.{Lacks-lost, Lacks-append, AcceptsInTurn-lost, AcceptsInTurn-append, PacketsInTurn-lost, PacketsInTurn-append, RetryOnce-lost, RetryOnce-append, RestartOnce-lost, RestartOnce-append, RequestLast-lost, RequestLast-append, ResponseLast-lost, ResponseLast-append}
 
@@ -16,31 +16,33 @@ FitsSender-lost :
     (gone kept_back : List Backward)
     → FitsSender s r freed held (lost ++ kept_ahead) (gone ++ kept_back)
     → FitsSender s r freed held kept_ahead kept_back
-FitsSender-lost Sender.Ok r freed held lost kept_ahead gone kept_back
+FitsSender-lost SenderOk r freed held lost kept_ahead gone kept_back
     (asks, answers, once, inl none) = (
-      Lacks-lost is_request lost kept_ahead asks,
+      Lacks-lost is_forward_request lost kept_ahead asks,
       Lacks-lost is_response gone kept_back answers,
       RetryOnce-lost held gone kept_back once,
       inl (Lacks-lost is_retry gone kept_back none),
     )
-FitsSender-lost Sender.Ok r freed held lost kept_ahead gone kept_back
+FitsSender-lost SenderOk r freed held lost kept_ahead gone kept_back
     (asks, answers, once, inr (shut, none)) = (
-      Lacks-lost is_request lost kept_ahead asks,
+      Lacks-lost is_forward_request lost kept_ahead asks,
       Lacks-lost is_response gone kept_back answers,
       RetryOnce-lost held gone kept_back once,
       inr (shut, Lacks-lost is_restart lost kept_ahead none),
     )
-FitsSender-lost Sender.RetryStopped r freed held lost kept_ahead gone kept_back
+FitsSender-lost SenderRetryStopped r freed held lost kept_ahead gone kept_back
     (same, shut, asks, starts, retries, answers) = (
       same,
       shut,
-      Lacks-lost is_request lost kept_ahead asks,
+      Lacks-lost is_forward_request lost kept_ahead asks,
       Lacks-lost is_restart lost kept_ahead starts,
       Lacks-lost is_retry gone kept_back retries,
       Lacks-lost is_response gone kept_back answers,
     )
-FitsSender-lost Sender.ErrorStopped r freed held lost kept_ahead gone kept_back (asks, answers) =
-    (Lacks-lost is_request lost kept_ahead asks, Lacks-lost is_response gone kept_back answers)
+FitsSender-lost SenderErrorStopped r freed held lost kept_ahead gone kept_back (asks, answers) = (
+  Lacks-lost is_forward_request lost kept_ahead asks,
+  Lacks-lost is_response gone kept_back answers,
+)
 FitsSender-lost Sender.ErrorStoppedAsked r freed held lost kept_ahead gone kept_back
     (asks, answers, inl none) = (
       RequestLast-lost lost kept_ahead asks,
@@ -53,18 +55,18 @@ FitsSender-lost Sender.ErrorStoppedAsked r freed held lost kept_ahead gone kept_
       ResponseLast-lost held gone kept_back answers,
       inr (Lacks-lost is_forward lost kept_ahead none),
     )
-FitsSender-lost Sender.Failed r freed held lost kept_ahead gone kept_back never = never
+FitsSender-lost SenderFailed r freed held lost kept_ahead gone kept_back never = never
 
 FitsReceiver-lost : (r : Receiver) (held : ℕ) (sent : List (List ℕ))
     (lost kept_ahead : List Forward) → FitsReceiver r held sent (lost ++ kept_ahead)
     → FitsReceiver r held sent kept_ahead
-FitsReceiver-lost Receiver.Ok held sent lost kept_ahead (none, flight) = (
+FitsReceiver-lost ReceiverOk held sent lost kept_ahead (none, flight) = (
   Lacks-lost is_restart lost kept_ahead none,
   PacketsInTurn-lost sent held lost kept_ahead flight,
 )
-FitsReceiver-lost Receiver.RetryStopped held sent lost kept_ahead once =
+FitsReceiver-lost ReceiverRetryStopped held sent lost kept_ahead once =
     RestartOnce-lost sent held lost kept_ahead once
-FitsReceiver-lost Receiver.ErrorStopped held sent lost kept_ahead any = tt
+FitsReceiver-lost ReceiverErrorStopped held sent lost kept_ahead any = tt
 
 pub lost_front :
     (s : Sender) (r : Receiver) (freed held : ℕ) (sent : List (List ℕ))
@@ -85,26 +87,26 @@ FitsSender-other :
     (kept_back : List Backward)
     → FitsSender s r freed held kept_ahead kept_back
     → FitsSender s r freed held (kept_ahead ++ Other ∷ []) kept_back
-FitsSender-other Sender.Ok r freed held kept_ahead kept_back (asks, answers, once, inl none) =
-    (Lacks-append is_request kept_ahead Other asks refl, answers, once, inl none)
-FitsSender-other Sender.Ok r freed held kept_ahead kept_back
+FitsSender-other SenderOk r freed held kept_ahead kept_back (asks, answers, once, inl none) =
+    (Lacks-append is_forward_request kept_ahead Other asks refl, answers, once, inl none)
+FitsSender-other SenderOk r freed held kept_ahead kept_back
     (asks, answers, once, inr (shut, none)) = (
-      Lacks-append is_request kept_ahead Other asks refl,
+      Lacks-append is_forward_request kept_ahead Other asks refl,
       answers,
       once,
       inr (shut, Lacks-append is_restart kept_ahead Other none refl),
     )
-FitsSender-other Sender.RetryStopped r freed held kept_ahead kept_back
+FitsSender-other SenderRetryStopped r freed held kept_ahead kept_back
     (same, shut, asks, starts, retries, answers) = (
       same,
       shut,
-      Lacks-append is_request kept_ahead Other asks refl,
+      Lacks-append is_forward_request kept_ahead Other asks refl,
       Lacks-append is_restart kept_ahead Other starts refl,
       retries,
       answers,
     )
-FitsSender-other Sender.ErrorStopped r freed held kept_ahead kept_back (asks, answers) =
-    (Lacks-append is_request kept_ahead Other asks refl, answers)
+FitsSender-other SenderErrorStopped r freed held kept_ahead kept_back (asks, answers) =
+    (Lacks-append is_forward_request kept_ahead Other asks refl, answers)
 FitsSender-other Sender.ErrorStoppedAsked r freed held kept_ahead kept_back
     (asks, answers, inl none) =
     (RequestLast-append kept_ahead asks, answers, inl none)
@@ -114,17 +116,17 @@ FitsSender-other Sender.ErrorStoppedAsked r freed held kept_ahead kept_back
       answers,
       inr (Lacks-append is_forward kept_ahead Other none refl),
     )
-FitsSender-other Sender.Failed r freed held kept_ahead kept_back never = never
+FitsSender-other SenderFailed r freed held kept_ahead kept_back never = never
 
 FitsReceiver-other : (r : Receiver) (held : ℕ) (sent : List (List ℕ)) (kept_ahead : List Forward)
     → FitsReceiver r held sent kept_ahead → FitsReceiver r held sent (kept_ahead ++ Other ∷ [])
-FitsReceiver-other Receiver.Ok held sent kept_ahead (none, flight) = (
+FitsReceiver-other ReceiverOk held sent kept_ahead (none, flight) = (
   Lacks-append is_restart kept_ahead Other none refl,
   PacketsInTurn-append sent held kept_ahead Other refl flight,
 )
-FitsReceiver-other Receiver.RetryStopped held sent kept_ahead once =
+FitsReceiver-other ReceiverRetryStopped held sent kept_ahead once =
     RestartOnce-append sent held kept_ahead Other refl refl once
-FitsReceiver-other Receiver.ErrorStopped held sent kept_ahead any = tt
+FitsReceiver-other ReceiverErrorStopped held sent kept_ahead any = tt
 
 pub other_sent :
     (s : Sender) (r : Receiver) (freed held : ℕ) (sent : List (List ℕ)) (kept_ahead : List Forward)
@@ -145,19 +147,19 @@ FitsSender-neutral :
     (kept_back : List Backward)
     → FitsSender s r freed held kept_ahead kept_back
     → FitsSender s r freed held kept_ahead (kept_back ++ Neutral ∷ [])
-FitsSender-neutral Sender.Ok r freed held kept_ahead kept_back (asks, answers, once, inl none) = (
+FitsSender-neutral SenderOk r freed held kept_ahead kept_back (asks, answers, once, inl none) = (
   asks,
   Lacks-append is_response kept_back Neutral answers refl,
   RetryOnce-append held kept_back Neutral refl once,
   inl (Lacks-append is_retry kept_back Neutral none refl),
 )
-FitsSender-neutral Sender.Ok r freed held kept_ahead kept_back (asks, answers, once, inr shut) = (
+FitsSender-neutral SenderOk r freed held kept_ahead kept_back (asks, answers, once, inr shut) = (
   asks,
   Lacks-append is_response kept_back Neutral answers refl,
   RetryOnce-append held kept_back Neutral refl once,
   inr shut,
 )
-FitsSender-neutral Sender.RetryStopped r freed held kept_ahead kept_back
+FitsSender-neutral SenderRetryStopped r freed held kept_ahead kept_back
     (same, shut, asks, starts, retries, answers) = (
       same,
       shut,
@@ -166,7 +168,7 @@ FitsSender-neutral Sender.RetryStopped r freed held kept_ahead kept_back
       Lacks-append is_retry kept_back Neutral retries refl,
       Lacks-append is_response kept_back Neutral answers refl,
     )
-FitsSender-neutral Sender.ErrorStopped r freed held kept_ahead kept_back (asks, answers) =
+FitsSender-neutral SenderErrorStopped r freed held kept_ahead kept_back (asks, answers) =
     (asks, Lacks-append is_response kept_back Neutral answers refl)
 FitsSender-neutral Sender.ErrorStoppedAsked r freed held kept_ahead kept_back
     (asks, answers, inl none) = (
@@ -177,7 +179,7 @@ FitsSender-neutral Sender.ErrorStoppedAsked r freed held kept_ahead kept_back
 FitsSender-neutral Sender.ErrorStoppedAsked r freed held kept_ahead kept_back
     (asks, answers, inr none) =
     (asks, ResponseLast-append held kept_back answers, inr none)
-FitsSender-neutral Sender.Failed r freed held kept_ahead kept_back never = never
+FitsSender-neutral SenderFailed r freed held kept_ahead kept_back never = never
 
 pub neutral_sent :
     (s : Sender) (r : Receiver) (freed held : ℕ) (sent : List (List ℕ)) (kept_ahead : List Forward)

@@ -5,7 +5,8 @@ use Rattle.link_model.specs.Prelude.{number_of, prio_of, Input, packet_arrival, 
 use Rattle.link_buffers.specs.Prelude.{Buffered, room_for, stored, IsOutStore, Covers}
 use Rattle.link_port.specs.Prelude.{Event, Ctl, Pkt, Bad, prios_of, expected_of, expects, PortState, acts, is_acted}
 use Rattle.link_model.specs.Input.Arrival.{ExpectedWithRoom, ExpectedWithoutRoom, UnexpectedAck}
-use Rattle.link_sound.specs.Marks.{Forward, Backward, Packet}
+use Rattle.link_model.specs.Input.{InputOk, InputRetryStopped, InputErrorStopped}
+use Rattle.link_sound.specs.Marks.{Forward, Backward, ForwardPacket}
 use Rattle.link_sound.specs.Receiver.{IsShut}
 use Rattle.link_sound.specs.Meanings.{receiver_of}
 use Rattle.link_sound.specs.Between.{IsBetween}
@@ -24,15 +25,15 @@ nothing_held output queued store expected next same =
 
 obeyed_expects : (is_restart is_request : Bool) (input : Input)
     → expected_of (receives (arrival is_restart is_request) input).state ≡ expected_of input
-obeyed_expects true is_request (Input.Ok expected) = refl
-obeyed_expects true is_request (Input.RetryStopped expected) = refl
-obeyed_expects true is_request (Input.ErrorStopped expected) = refl
-obeyed_expects false true (Input.Ok expected) = refl
-obeyed_expects false true (Input.RetryStopped expected) = refl
-obeyed_expects false true (Input.ErrorStopped expected) = refl
-obeyed_expects false false (Input.Ok expected) = refl
-obeyed_expects false false (Input.RetryStopped expected) = refl
-obeyed_expects false false (Input.ErrorStopped expected) = refl
+obeyed_expects true is_request (InputOk expected) = refl
+obeyed_expects true is_request (InputRetryStopped expected) = refl
+obeyed_expects true is_request (InputErrorStopped expected) = refl
+obeyed_expects false true (InputOk expected) = refl
+obeyed_expects false true (InputRetryStopped expected) = refl
+obeyed_expects false true (InputErrorStopped expected) = refl
+obeyed_expects false false (InputOk expected) = refl
+obeyed_expects false false (InputRetryStopped expected) = refl
+obeyed_expects false false (InputErrorStopped expected) = refl
 
 symbol_expects : (s1 cmd : ℕ) (input : Input)
     → expected_of (receives (symbol_arrival s1 cmd) input).state ≡ expected_of input
@@ -40,9 +41,9 @@ symbol_expects s1 cmd input = obeyed_expects (s1 == 3) ((s1 == 4) && (cmd == 4))
 
 damaged_expects : (cause : ℕ) (input : Input)
     → expected_of (receives (Damaged cause) input).state ≡ expected_of input
-damaged_expects cause (Input.Ok expected) = refl
-damaged_expects cause (Input.RetryStopped expected) = refl
-damaged_expects cause (Input.ErrorStopped expected) = refl
+damaged_expects cause (InputOk expected) = refl
+damaged_expects cause (InputRetryStopped expected) = refl
+damaged_expects cause (InputErrorStopped expected) = refl
 
 -- what a packet of the expected ackID does
 abbrev PacketHolds : Output → List (List (List ℕ)) → Buffered → Input → ℕ → List ℕ → Bool → ℕ
@@ -60,8 +61,8 @@ expected_holds :
     (output : Output) (queued : List (List (List ℕ))) (store : Buffered) (ack : ℕ) (packet : List ℕ)
     (kept_ahead : List Forward) (kept_back : List Backward) (room : Bool) (buffers : ℕ)
     → room_for store (prio_of packet) ≡ room → Covers (prios_of output) queued → IsOutStore queued
-    → IsBetween output (Input.Ok ack) queued (Packet ack packet ∷ kept_ahead) kept_back
-    → PacketHolds output queued store (Input.Ok ack) ack packet room buffers
+    → IsBetween output (InputOk ack) queued (ForwardPacket ack packet ∷ kept_ahead) kept_back
+    → PacketHolds output queued store (InputOk ack) ack packet room buffers
 expected_holds output queued store ack packet kept_ahead kept_back true buffers room covers four b =
     let does = held_is output ack queued packet kept_ahead kept_back covers four b in
     rw (eq-eqb ack ack refl) (does.first, room, does.lent, does.waiting, refl)
@@ -72,8 +73,8 @@ expected_holds output queued store ack packet kept_ahead kept_back false buffers
 packet_holds :
     (output : Output) (queued : List (List (List ℕ))) (store : Buffered) (input : Input) (ack : ℕ)
     (packet : List ℕ) (kept_ahead : List Forward) (kept_back : List Backward) (buffers : ℕ)
-    → input ≡ Input.Ok ack → Covers (prios_of output) queued → IsOutStore queued
-    → IsBetween output input queued (Packet ack packet ∷ kept_ahead) kept_back
+    → input ≡ InputOk ack → Covers (prios_of output) queued → IsOutStore queued
+    → IsBetween output input queued (ForwardPacket ack packet ∷ kept_ahead) kept_back
     → PacketHolds output queued store input ack packet (room_for store (prio_of packet)) buffers
 packet_holds output queued store input ack packet kept_ahead kept_back buffers same covers four b =
     subst
@@ -82,7 +83,8 @@ packet_holds output queued store input ack packet kept_ahead kept_back buffers s
     (sym same)
     (expected_holds output queued store ack packet kept_ahead kept_back
     (room_for store (prio_of packet)) buffers refl covers four
-    (subst (λ (i : Input). IsBetween output i queued (Packet ack packet ∷ kept_ahead) kept_back)
+    (subst (λ (i : Input).
+    IsBetween output i queued (ForwardPacket ack packet ∷ kept_ahead) kept_back)
     same b))
 
 -- an event that is acted on
@@ -116,31 +118,31 @@ shut_holds :
     (if same then (if room then ExpectedWithRoom buffers else ExpectedWithoutRoom buffers)
     else UnexpectedAck)
     input).held then Some packet else None)
-shut_holds same room buffers output queued store (Input.Ok expected) packet shut = absurd shut
-shut_holds true true buffers output queued store (Input.RetryStopped expected) packet shut =
+shut_holds same room buffers output queued store (InputOk expected) packet shut = absurd shut
+shut_holds true true buffers output queued store (InputRetryStopped expected) packet shut =
     nothing_held output queued store expected expected refl
-shut_holds true false buffers output queued store (Input.RetryStopped expected) packet shut =
+shut_holds true false buffers output queued store (InputRetryStopped expected) packet shut =
     nothing_held output queued store expected expected refl
-shut_holds false room buffers output queued store (Input.RetryStopped expected) packet shut =
+shut_holds false room buffers output queued store (InputRetryStopped expected) packet shut =
     nothing_held output queued store expected expected refl
-shut_holds true true buffers output queued store (Input.ErrorStopped expected) packet shut =
+shut_holds true true buffers output queued store (InputErrorStopped expected) packet shut =
     nothing_held output queued store expected expected refl
-shut_holds true false buffers output queued store (Input.ErrorStopped expected) packet shut =
+shut_holds true false buffers output queued store (InputErrorStopped expected) packet shut =
     nothing_held output queued store expected expected refl
-shut_holds false room buffers output queued store (Input.ErrorStopped expected) packet shut =
+shut_holds false room buffers output queued store (InputErrorStopped expected) packet shut =
     nothing_held output queued store expected expected refl
 
 dropped_holds :
     (output : Output) (queued : List (List (List ℕ))) (store : Buffered) (input : Input) (ack : ℕ)
     (packet : List ℕ) (room : Bool) (buffers : ℕ) → expects input ack ≡ false
     → PacketHolds output queued store input ack packet room buffers
-dropped_holds output queued store (Input.Ok expected) ack packet room buffers other =
+dropped_holds output queued store (InputOk expected) ack packet room buffers other =
     rw other (nothing_held output queued store expected expected refl)
-dropped_holds output queued store (Input.RetryStopped expected) ack packet room buffers other =
-    shut_holds (ack == expected) room buffers output queued store (Input.RetryStopped expected)
+dropped_holds output queued store (InputRetryStopped expected) ack packet room buffers other =
+    shut_holds (ack == expected) room buffers output queued store (InputRetryStopped expected)
     packet tt
-dropped_holds output queued store (Input.ErrorStopped expected) ack packet room buffers other =
-    shut_holds (ack == expected) room buffers output queued store (Input.ErrorStopped expected)
+dropped_holds output queued store (InputErrorStopped expected) ack packet room buffers other =
+    shut_holds (ack == expected) room buffers output queued store (InputErrorStopped expected)
     packet tt
 
 -- what is not acted on

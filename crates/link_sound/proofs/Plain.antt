@@ -2,12 +2,13 @@
 use Rattle.std.proofs.Common.{◌≡◌, ℕ, zero, suc, ◌+◌, ◌-◌, ◌%◌, ◌<◌, List, [], ◌∷◌, ◌++◌, length, take, drop, Some, option_map, slice_get, refl, sym, ap, ◌∙◌, subst, arith}
 use Rattle.std.proofs.lemmas.Option.{slice_get_within, slice_get-map}
 use Rattle.link_model.specs.Prelude.{prio_of, Input, Output, distance}
+use Rattle.link_model.specs.Input.{InputOk}
 use Rattle.link_buffers.specs.Queues.{list_at, popped, Sorted, IsOutStore}
 use Rattle.link_buffers.specs.Priorities.{packets_of, lists_without, Covers}
 use Rattle.link_buffers.proofs.PriorityParts.{drop_at}
 use Rattle.link_buffers.proofs.PriorityLists.{lists_without-append}
 use Rattle.link_buffers.proofs.PriorityLaws.{map-prio_of-packets_of, take-packets_of, drop-packets_of, Covers-drop, Covers-first}
-use Rattle.link_sound.specs.Marks.{Forward, Backward, Packet}
+use Rattle.link_sound.specs.Marks.{Forward, Backward, ForwardPacket}
 use Rattle.link_sound.proofs.ReceiverMoves.{packet_held}
 use Rattle.link_sound.proofs.SenderMoves.{distance_is}
 use Rattle.link_port.specs.States.{prios_of, expected_of}
@@ -113,7 +114,7 @@ pub held_is :
     (output : Output) (ack : ℕ) (queued : List (List (List ℕ))) (packet : List ℕ)
     (kept_ahead : List Forward) (kept_back : List Backward) → Covers (prios_of output) queued
     → IsOutStore queued
-    → IsBetween output (Input.Ok ack) queued (Packet ack packet ∷ kept_ahead) kept_back
+    → IsBetween output (InputOk ack) queued (ForwardPacket ack packet ∷ kept_ahead) kept_back
     → IsHeld output ack queued packet
 held_is output ack queued packet kept_ahead kept_back covers store b =
     let prios = prios_of output in
@@ -125,7 +126,7 @@ held_is output ack queued packet kept_ahead kept_back covers store b =
     let few = b.is.few in
     let place : ℕ = b.held - b.freed in
     let now : distance (oldest_of output) ack ≡ place =
-    lent_count output (Input.Ok ack) queued (Packet ack packet ∷ kept_ahead) kept_back b in
+    lent_count output (InputOk ack) queued (ForwardPacket ack packet ∷ kept_ahead) kept_back b in
     let then : distance (oldest_of output) ((ack + 1) % 32) ≡ suc place =
     ap (λ oldest. distance oldest ((ack + 1) % 32)) b.oldest
     ∙ distance_is b.freed (suc b.held) ((ack + 1) % 32) (next_expected ack b.held b.expected)

@@ -1,10 +1,10 @@
 -- Histories that are played: moves of two ports, one after another, of which each is a step.
 use Rattle.std.proofs.Common.{◌≡◌, nat_lt, Bool, true, false, List, [], ◌∷◌, length, refl, arith, ltb-true}
-use Rattle.link_model.specs.Prelude.{BadPacket, start}
+use Rattle.link_model.specs.Prelude.{BadPacket, place_start}
 use Rattle.link_buffers.specs.Queues.{no_packets, list_at}
 use Rattle.link_port.specs.Prelude.{Event, Bad, is_acted}
-use Rattle.link_sound.specs.Histories.{Link, turned_round, after_turn, after_event, after_put, IsStep, Turns, Acts, Others, Puts, Loses, GoesOn, IsHistory, Rests, AtFirst, AtSecond}
-use Rattle.link_sound.specs.Worked.{packet}
+use Rattle.link_sound.specs.Histories.{Link, link_turned_round, after_turn, after_event, after_put, IsStep, StepTurns, StepActs, Others, Puts, Loses, StepGoesOn, IsHistory, Rests, AtFirst, AtSecond}
+use Rattle.link_sound.specs.Worked.{worked_packet}
 use Rattle.link_sound.proofs.PortBounds.{new_is_port}
 use Rattle.link_sound.proofs.WorkedHistory.{passes_packet}
 
@@ -31,7 +31,7 @@ abbrev still : Link → Link
 still l = record l { kept_a = l.kept_a; kept_b = l.kept_b }
 
 abbrev putting : Bool → Link → Link
-putting true l = after_put l packet
+putting true l = after_put l worked_packet
 putting false l = still l
 
 abbrev hearing : Bool → Link → Event → List Event → Link
@@ -56,7 +56,7 @@ after MeetsError l = after_event l (Bad BadPacket) l.kept_b
 after Empties l =
     record l {
       a =
-          record l.a { received = record { lists = no_packets; buffers = 4 }; place = start };
+          record l.a { received = record { lists = no_packets; buffers = 4 }; place = place_start };
     }
 
 stays : (l : Link) → IsStep l (still l)
@@ -65,12 +65,13 @@ stays l = Loses l [] l.kept_a [] l.kept_b refl refl
 put_step : (l : Link) (room : Bool) → nat_lt (length (list_at l.a.queued 0)) 16 ≡ room
     → IsStep l (putting room l)
 put_step l true is =
-    Puts l packet (omega arith) passes_packet (ltb-true (length (list_at l.a.queued 0)) 16 is)
+    Puts l worked_packet (omega arith) passes_packet
+    (ltb-true (length (list_at l.a.queued 0)) 16 is)
 put_step l false is = stays l
 
 hearing_step : (l : Link) (e : Event) (rest : List Event) (does : Bool) → l.kept_b ≡ e ∷ rest
     → is_acted l.a e ≡ does → IsStep l (hearing does l e rest)
-hearing_step l e rest true first is = Acts l e rest first is
+hearing_step l e rest true first is = StepActs l e rest first is
 hearing_step l e rest false first is = stays l
 
 heard_step : (l : Link) (kept : List Event) → l.kept_b ≡ kept → IsStep l (heard l kept)
@@ -83,24 +84,24 @@ missed_step l (e ∷ rest) is = Loses l [] l.kept_a (e ∷ []) rest refl is
 
 step : (d : Does) (l : Link) → IsStep l (after d l)
 step PutsOne l = put_step l _ refl
-step TakesTurn l = Turns l
+step TakesTurn l = StepTurns l
 step Hears l = heard_step l l.kept_b refl
 step Misses l = missed_step l l.kept_b refl
 step MeetsError l = Others l (Bad BadPacket) refl
 step Empties l =
-    GoesOn l (record { lists = no_packets; buffers = 4 }) start
+    StepGoesOn l (record { lists = no_packets; buffers = 4 }) place_start
     (new_is_port false 4 (omega arith, omega arith)).receives tt
 
 -- the link after the moves
 unfoldable pub played : List Move → Link → Link
 played [] l = l
 played (First d ∷ moves) l = played moves (after d l)
-played (Second d ∷ moves) l = played moves (turned_round (after d (turned_round l)))
+played (Second d ∷ moves) l = played moves (link_turned_round (after d (link_turned_round l)))
 
 pub is_history : (moves : List Move) (l : Link) → IsHistory l (played moves l)
 unfolding played
 is_history [] l = Rests l
 is_history (First d ∷ moves) l = AtFirst l (step d l) (is_history moves (after d l))
 is_history (Second d ∷ moves) l =
-    AtSecond l (step d (turned_round l))
-    (is_history moves (turned_round (after d (turned_round l))))
+    AtSecond l (step d (link_turned_round l))
+    (is_history moves (link_turned_round (after d (link_turned_round l))))

@@ -12,8 +12,9 @@ use Rattle.link_buffers.proofs.StoreLemmas.{IsInStore-appended, IsOutStore-appen
 use Rattle.link_buffers.proofs.PriorityLaws.{Covers-appended, Covers-take, IsOutStore-lists_without, length-lists_without}
 use Rattle.link_port.specs.Prelude.{Event, Ctl, Pkt, Bad, prios_of, expected_of, expects, PortState, IsPort, new_port, acts, is_acted, turns_to, timed_out}
 use Rattle.link_model.specs.Input.Arrival.{ExpectedWithRoom, ExpectedWithoutRoom, UnexpectedAck, RestartFromRetry, LinkRequest, OtherStype1}
-use Rattle.link_port.specs.Steps.{heard}
-use Rattle.link_sound.specs.Marks.{Forward, Backward, Packet}
+use Rattle.link_model.specs.Input.{InputOk, InputRetryStopped, InputErrorStopped}
+use Rattle.link_port.specs.Steps.{symbol_heard}
+use Rattle.link_sound.specs.Marks.{Forward, Backward, ForwardPacket}
 use Rattle.link_sound.specs.Receiver.{IsShut}
 use Rattle.link_sound.specs.Meanings.{receiver_of, oldest_of}
 use Rattle.link_sound.specs.Between.{IsBetween}
@@ -28,27 +29,27 @@ use Rattle.link_sound.proofs.Steps.{is_expected}
 -- the expected ackID stays one of five bits
 pub expected_below : (what : Arrival) (input : Input) → expected_of input < 32
     → expected_of (receives what input).state < 32
-expected_below (ExpectedWithRoom buffers) (Input.Ok expected) below = omega arith
-expected_below (ExpectedWithRoom buffers) (Input.RetryStopped expected) below = below
-expected_below (ExpectedWithRoom buffers) (Input.ErrorStopped expected) below = below
-expected_below (ExpectedWithoutRoom buffers) (Input.Ok expected) below = below
-expected_below (ExpectedWithoutRoom buffers) (Input.RetryStopped expected) below = below
-expected_below (ExpectedWithoutRoom buffers) (Input.ErrorStopped expected) below = below
-expected_below UnexpectedAck (Input.Ok expected) below = below
-expected_below UnexpectedAck (Input.RetryStopped expected) below = below
-expected_below UnexpectedAck (Input.ErrorStopped expected) below = below
-expected_below (Damaged cause) (Input.Ok expected) below = below
-expected_below (Damaged cause) (Input.RetryStopped expected) below = below
-expected_below (Damaged cause) (Input.ErrorStopped expected) below = below
-expected_below RestartFromRetry (Input.Ok expected) below = below
-expected_below RestartFromRetry (Input.RetryStopped expected) below = below
-expected_below RestartFromRetry (Input.ErrorStopped expected) below = below
-expected_below LinkRequest (Input.Ok expected) below = below
-expected_below LinkRequest (Input.RetryStopped expected) below = below
-expected_below LinkRequest (Input.ErrorStopped expected) below = below
-expected_below OtherStype1 (Input.Ok expected) below = below
-expected_below OtherStype1 (Input.RetryStopped expected) below = below
-expected_below OtherStype1 (Input.ErrorStopped expected) below = below
+expected_below (ExpectedWithRoom buffers) (InputOk expected) below = omega arith
+expected_below (ExpectedWithRoom buffers) (InputRetryStopped expected) below = below
+expected_below (ExpectedWithRoom buffers) (InputErrorStopped expected) below = below
+expected_below (ExpectedWithoutRoom buffers) (InputOk expected) below = below
+expected_below (ExpectedWithoutRoom buffers) (InputRetryStopped expected) below = below
+expected_below (ExpectedWithoutRoom buffers) (InputErrorStopped expected) below = below
+expected_below UnexpectedAck (InputOk expected) below = below
+expected_below UnexpectedAck (InputRetryStopped expected) below = below
+expected_below UnexpectedAck (InputErrorStopped expected) below = below
+expected_below (Damaged cause) (InputOk expected) below = below
+expected_below (Damaged cause) (InputRetryStopped expected) below = below
+expected_below (Damaged cause) (InputErrorStopped expected) below = below
+expected_below RestartFromRetry (InputOk expected) below = below
+expected_below RestartFromRetry (InputRetryStopped expected) below = below
+expected_below RestartFromRetry (InputErrorStopped expected) below = below
+expected_below LinkRequest (InputOk expected) below = below
+expected_below LinkRequest (InputRetryStopped expected) below = below
+expected_below LinkRequest (InputErrorStopped expected) below = below
+expected_below OtherStype1 (InputOk expected) below = below
+expected_below OtherStype1 (InputRetryStopped expected) below = below
+expected_below OtherStype1 (InputErrorStopped expected) below = below
 
 -- a list that has a packet is one of the lists
 list_within : (lists : List (List (List ℕ))) (prio : ℕ) (packet : List ℕ)
@@ -74,9 +75,9 @@ expected_store :
     (kept_ahead : List Forward) (kept_back : List Backward) (room : Bool)
     (buffers : ℕ) → room_for store (prio_of packet) ≡ room → Covers (prios_of output) queued
     → IsOutStore queued
-    → IsBetween output (Input.Ok ack) queued (Packet ack packet ∷ kept_ahead) kept_back
+    → IsBetween output (InputOk ack) queued (ForwardPacket ack packet ∷ kept_ahead) kept_back
     → IsInStore store
-    → IsInStore (stored (receives (packet_arrival ack ack room buffers) (Input.Ok ack)).held store
+    → IsInStore (stored (receives (packet_arrival ack ack room buffers) (InputOk ack)).held store
     packet)
 expected_store output queued store ack packet kept_ahead kept_back true buffers room covers four
     b is =
@@ -99,8 +100,9 @@ expected_store output queued store ack packet kept_ahead kept_back false buffers
 packet_store :
     (output : Output) (queued : List (List (List ℕ))) (store : Buffered) (input : Input) (ack : ℕ)
     (packet : List ℕ) (kept_ahead : List Forward) (kept_back : List Backward) (buffers : ℕ)
-    → input ≡ Input.Ok ack → Covers (prios_of output) queued → IsOutStore queued
-    → IsBetween output input queued (Packet ack packet ∷ kept_ahead) kept_back → IsInStore store
+    → input ≡ InputOk ack → Covers (prios_of output) queued → IsOutStore queued
+    → IsBetween output input queued (ForwardPacket ack packet ∷ kept_ahead) kept_back
+    → IsInStore store
     → IsInStore (stored (receives
     (packet_arrival (expected_of input) ack (room_for store (prio_of packet)) buffers) input).held
     store
@@ -113,7 +115,8 @@ packet_store output queued store input ack packet kept_ahead kept_back buffers s
     packet)) (sym same)
     (expected_store output queued store ack packet kept_ahead kept_back
     (room_for store (prio_of packet)) buffers refl covers four
-    (subst (λ (i : Input). IsBetween output i queued (Packet ack packet ∷ kept_ahead) kept_back)
+    (subst (λ (i : Input).
+    IsBetween output i queued (ForwardPacket ack packet ∷ kept_ahead) kept_back)
     same b) is)
 
 shut_store :
@@ -123,13 +126,13 @@ shut_store :
     (if same then (if room then ExpectedWithRoom buffers else ExpectedWithoutRoom buffers)
     else UnexpectedAck)
     input).held store packet ≡ store
-shut_store same room buffers store (Input.Ok expected) packet shut = absurd shut
-shut_store true true buffers store (Input.RetryStopped expected) packet shut = refl
-shut_store true false buffers store (Input.RetryStopped expected) packet shut = refl
-shut_store false room buffers store (Input.RetryStopped expected) packet shut = refl
-shut_store true true buffers store (Input.ErrorStopped expected) packet shut = refl
-shut_store true false buffers store (Input.ErrorStopped expected) packet shut = refl
-shut_store false room buffers store (Input.ErrorStopped expected) packet shut = refl
+shut_store same room buffers store (InputOk expected) packet shut = absurd shut
+shut_store true true buffers store (InputRetryStopped expected) packet shut = refl
+shut_store true false buffers store (InputRetryStopped expected) packet shut = refl
+shut_store false room buffers store (InputRetryStopped expected) packet shut = refl
+shut_store true true buffers store (InputErrorStopped expected) packet shut = refl
+shut_store true false buffers store (InputErrorStopped expected) packet shut = refl
+shut_store false room buffers store (InputErrorStopped expected) packet shut = refl
 
 dropped_store :
     (store : Buffered) (input : Input) (ack : ℕ) (packet : List ℕ) (room : Bool)
@@ -137,11 +140,11 @@ dropped_store :
     → stored (receives (packet_arrival (expected_of input) ack room buffers) input).held store
     packet
     ≡ store
-dropped_store store (Input.Ok expected) ack packet room buffers other = rw other refl
-dropped_store store (Input.RetryStopped expected) ack packet room buffers other =
-    shut_store (ack == expected) room buffers store (Input.RetryStopped expected) packet tt
-dropped_store store (Input.ErrorStopped expected) ack packet room buffers other =
-    shut_store (ack == expected) room buffers store (Input.ErrorStopped expected) packet tt
+dropped_store store (InputOk expected) ack packet room buffers other = rw other refl
+dropped_store store (InputRetryStopped expected) ack packet room buffers other =
+    shut_store (ack == expected) room buffers store (InputRetryStopped expected) packet tt
+dropped_store store (InputErrorStopped expected) ack packet room buffers other =
+    shut_store (ack == expected) room buffers store (InputErrorStopped expected) packet tt
 
 pub turn_port : (a : PortState) → IsPort a → IsPort (turns_to a)
 turn_port a is =
@@ -213,8 +216,9 @@ acted_port a b kept_a kept_b (Ctl symbol) is far below acted s =
       covered = sends.covered;
       expected_ack = expected_below (symbol_arrival symbol.s1 symbol.cmd) a.input is.expected_ack;
       sends =
-          IsOutStore-lists_without (take (heard a symbol).freed (prios_of a.output)) a.queued
-          (Covers-take (heard a symbol).freed (prios_of a.output) a.queued is.covered) is.sends;
+          IsOutStore-lists_without (take (symbol_heard a symbol).freed (prios_of a.output)) a.queued
+          (Covers-take (symbol_heard a symbol).freed (prios_of a.output) a.queued is.covered)
+          is.sends;
       receives = is.receives;
       bounded = is.bounded;
     }

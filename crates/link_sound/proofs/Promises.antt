@@ -4,7 +4,8 @@ use Rattle.std.proofs.lemmas.Option.{slice_get_within}
 use Rattle.link_buffers.specs.Prelude.{no_packets, Covers}
 use Rattle.link_port.specs.Prelude.{Event, PortState, prios_of, expected_of}
 use Rattle.link_model.specs.Prelude.{Input, Output, Outstanding, distance, from_ack}
-use Rattle.link_sound.specs.Marks.{Forward, Packet, Backward, Accept, Response}
+use Rattle.link_model.specs.Input.{InputOk}
+use Rattle.link_sound.specs.Marks.{Forward, ForwardPacket, Backward, Accept, Response}
 use Rattle.link_sound.specs.Kept.{AcceptsInTurn, PacketsInTurn}
 use Rattle.link_sound.specs.Meanings.{forward, backward, oldest_of}
 use Rattle.link_sound.specs.Between.{IsBetween}
@@ -55,7 +56,7 @@ none_lent_at_retry a b kept_a kept_b w is s =
 -- a new sender and a new receiver
 abbrev IsNew : List Forward → List Backward → Type 0
 IsNew kept_ahead kept_back =
-    IsBetween (Output.Ok (from_ack 0 None)) (Input.Ok 0) no_packets kept_ahead kept_back
+    IsBetween (Output.Ok (from_ack 0 None)) (InputOk 0) no_packets kept_ahead kept_back
 
 -- nothing was sent, so none is outstanding
 sent_none : (freed : ℕ) (sent : List (List ℕ)) → freed ≤ length sent → [] ≡ drop freed sent
@@ -80,11 +81,11 @@ pub none_answered : (ack : ℕ) → IsNew [] (Response ack ∷ []) → ⊥
 none_answered ack b = let none = b.is.sender.1.0 in absurd cc
 
 no_flight : (sent : List (List ℕ)) (held ack : ℕ) (packet : List ℕ) → length sent ≡ held
-    → PacketsInTurn sent held (Packet ack packet ∷ []) → ⊥
+    → PacketsInTurn sent held (ForwardPacket ack packet ∷ []) → ⊥
 no_flight sent held ack packet all (n, is, from, found, rest) =
     let within = slice_get_within sent n packet found in omega arith
 
-pub none_sent : (packet : List ℕ) → IsNew (Packet 0 packet ∷ []) [] → ⊥
+pub none_sent : (packet : List ℕ) → IsNew (ForwardPacket 0 packet ∷ []) [] → ⊥
 none_sent packet b =
     no_flight b.sent b.held 0 packet (omega (arith, (held_none b).0, (held_none b).1))
     b.is.receiver.1

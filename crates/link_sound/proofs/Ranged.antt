@@ -3,9 +3,10 @@ use Rattle.std.proofs.Common.{ℕ, ◌<◌, Bool, true, false, if◌then◌else�
 use Rattle.std.proofs.lemmas.List.Elements.{All-nil, All-cons}
 use Rattle.link_model.specs.Prelude.{Fields, Input, Arrival, number_of, receives, symbol_arrival, Damaged, Sends, status, start_of_packet, end_of_packet}
 use Rattle.link_model.specs.Input.Arrival.{ExpectedWithRoom, ExpectedWithoutRoom, UnexpectedAck, RestartFromRetry, LinkRequest, OtherStype1}
+use Rattle.link_model.specs.Input.{InputOk, InputRetryStopped, InputErrorStopped}
 use Rattle.link_buffers.specs.Queues.{list_at}
 use Rattle.link_port.specs.Prelude.{Event, Ctl, Pkt, Bad, PortState, expected_of, acts, standing, burst_of, packet_burst, symbol_burst, no_burst, turn_sends, tell_sends, waiting_in}
-use Rattle.link_port.specs.Turns.{turn_of}
+use Rattle.link_port.specs.Turns.{port_turn}
 use Rattle.link_sound.specs.Sound.{reply_sent}
 pub use Rattle.link_sound.specs.InTime.{HasAck}
 
@@ -35,7 +36,7 @@ burst_has Sends.Nothing p waiting below = All-nil HasAck
 
 -- a turn
 pub turn_has : (a : PortState) → expected_of a.input < 32 → All HasAck (turn_sends a).sent
-turn_has a below = burst_has (turn_of a).sends a (waiting_in a) below
+turn_has a below = burst_has (port_turn a).sends a (waiting_in a) below
 
 told_has : (tells : Bool) (p : PortState) → expected_of p.input < 32
     → All HasAck (if tells then symbol_burst (status (standing p).expected (standing p).buffers)
@@ -49,27 +50,27 @@ tell_has a below = told_has a.tells a below
 
 reply_has : (what : Arrival) (input : Input) → expected_of input < 32
     → All HasAck (reply_sent (receives what input).reply)
-reply_has (ExpectedWithRoom buffers) (Input.Ok expected) below = one_symbol _ below
-reply_has (ExpectedWithRoom buffers) (Input.RetryStopped expected) below = All-nil HasAck
-reply_has (ExpectedWithRoom buffers) (Input.ErrorStopped expected) below = All-nil HasAck
-reply_has (ExpectedWithoutRoom buffers) (Input.Ok expected) below = one_symbol _ below
-reply_has (ExpectedWithoutRoom buffers) (Input.RetryStopped expected) below = All-nil HasAck
-reply_has (ExpectedWithoutRoom buffers) (Input.ErrorStopped expected) below = All-nil HasAck
-reply_has UnexpectedAck (Input.Ok expected) below = one_symbol _ below
-reply_has UnexpectedAck (Input.RetryStopped expected) below = All-nil HasAck
-reply_has UnexpectedAck (Input.ErrorStopped expected) below = All-nil HasAck
-reply_has (Damaged cause) (Input.Ok expected) below = one_symbol _ below
-reply_has (Damaged cause) (Input.RetryStopped expected) below = one_symbol _ below
-reply_has (Damaged cause) (Input.ErrorStopped expected) below = All-nil HasAck
-reply_has RestartFromRetry (Input.Ok expected) below = one_symbol _ below
-reply_has RestartFromRetry (Input.RetryStopped expected) below = All-nil HasAck
-reply_has RestartFromRetry (Input.ErrorStopped expected) below = All-nil HasAck
-reply_has LinkRequest (Input.Ok expected) below = one_symbol _ below
-reply_has LinkRequest (Input.RetryStopped expected) below = one_symbol _ below
-reply_has LinkRequest (Input.ErrorStopped expected) below = one_symbol _ below
-reply_has OtherStype1 (Input.Ok expected) below = All-nil HasAck
-reply_has OtherStype1 (Input.RetryStopped expected) below = All-nil HasAck
-reply_has OtherStype1 (Input.ErrorStopped expected) below = All-nil HasAck
+reply_has (ExpectedWithRoom buffers) (InputOk expected) below = one_symbol _ below
+reply_has (ExpectedWithRoom buffers) (InputRetryStopped expected) below = All-nil HasAck
+reply_has (ExpectedWithRoom buffers) (InputErrorStopped expected) below = All-nil HasAck
+reply_has (ExpectedWithoutRoom buffers) (InputOk expected) below = one_symbol _ below
+reply_has (ExpectedWithoutRoom buffers) (InputRetryStopped expected) below = All-nil HasAck
+reply_has (ExpectedWithoutRoom buffers) (InputErrorStopped expected) below = All-nil HasAck
+reply_has UnexpectedAck (InputOk expected) below = one_symbol _ below
+reply_has UnexpectedAck (InputRetryStopped expected) below = All-nil HasAck
+reply_has UnexpectedAck (InputErrorStopped expected) below = All-nil HasAck
+reply_has (Damaged cause) (InputOk expected) below = one_symbol _ below
+reply_has (Damaged cause) (InputRetryStopped expected) below = one_symbol _ below
+reply_has (Damaged cause) (InputErrorStopped expected) below = All-nil HasAck
+reply_has RestartFromRetry (InputOk expected) below = one_symbol _ below
+reply_has RestartFromRetry (InputRetryStopped expected) below = All-nil HasAck
+reply_has RestartFromRetry (InputErrorStopped expected) below = All-nil HasAck
+reply_has LinkRequest (InputOk expected) below = one_symbol _ below
+reply_has LinkRequest (InputRetryStopped expected) below = one_symbol _ below
+reply_has LinkRequest (InputErrorStopped expected) below = one_symbol _ below
+reply_has OtherStype1 (InputOk expected) below = All-nil HasAck
+reply_has OtherStype1 (InputRetryStopped expected) below = All-nil HasAck
+reply_has OtherStype1 (InputErrorStopped expected) below = All-nil HasAck
 
 -- an event
 pub event_has : (a : PortState) (e : Event) → expected_of a.input < 32

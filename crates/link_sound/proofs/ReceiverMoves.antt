@@ -3,10 +3,10 @@ use Rattle.std.proofs.Common.{◌≡◌, ℕ, suc, ◌+◌, ◌%◌, ◌≤◌, 
 use Rattle.std.proofs.lemmas.Option.{slice_get_within}
 use Rattle.link_model.specs.Window.{window}
 use Rattle.link_model.proofs.WindowFacts.{window_few}
-use Rattle.link_sound.specs.Marks.{Forward, Packet, Restart, Request, is_restart, is_forward, Backward, Accept, Retry, Response, Neutral, is_retry, is_response}
+use Rattle.link_sound.specs.Marks.{Forward, ForwardPacket, ForwardRestart, ForwardRequest, is_restart, is_forward, Backward, Accept, Retry, Response, Neutral, is_retry, is_response}
 use Rattle.link_sound.specs.Kept.{Lacks, AcceptsInTurn, PacketsInTurn, RetryOnce}
-use Rattle.link_sound.specs.Sender.{Sender}
-use Rattle.link_sound.specs.Receiver.{Receiver}
+use Rattle.link_sound.specs.Sender.{Sender, SenderOk, SenderRetryStopped, SenderErrorStopped, SenderFailed}
+use Rattle.link_sound.specs.Receiver.{Receiver, ReceiverErrorStopped, ReceiverOk, ReceiverRetryStopped}
 use Rattle.link_sound.specs.Direction.{FitsSender, IsDirection}
 use Rattle.link_sound.proofs.KeptLaws.{Lacks-append, AcceptsInTurn-accept, AcceptsInTurn-append, PacketsInTurn-none, RetryOnce-none, RetryOnce-retry, RestartOnce-none, RequestLast-none, ResponseLast-none, ResponseLast-response}
 use Rattle.link_sound.proofs.NoneLaws.{Lacks-restart}
@@ -15,26 +15,26 @@ use Rattle.link_sound.proofs.MoveLaws.{same_number, neutral_sent}
 FitsSender-error_stopped :
     (s : Sender) (r : Receiver) (freed held : ℕ) (kept_ahead : List Forward)
     (kept_back : List Backward) → FitsSender s r freed held kept_ahead kept_back
-    → FitsSender s Receiver.ErrorStopped freed held kept_ahead kept_back
-FitsSender-error_stopped Sender.Ok r freed held kept_ahead kept_back
+    → FitsSender s ReceiverErrorStopped freed held kept_ahead kept_back
+FitsSender-error_stopped SenderOk r freed held kept_ahead kept_back
     (asks, answers, once, inl none) =
     (asks, answers, once, inl none)
-FitsSender-error_stopped Sender.Ok r freed held kept_ahead kept_back
+FitsSender-error_stopped SenderOk r freed held kept_ahead kept_back
     (asks, answers, once, inr (shut, none)) =
     (asks, answers, once, inr (tt, none))
-FitsSender-error_stopped Sender.RetryStopped r freed held kept_ahead kept_back
+FitsSender-error_stopped SenderRetryStopped r freed held kept_ahead kept_back
     (same, shut, asks, starts, retries, answers) =
     (same, tt, asks, starts, retries, answers)
-FitsSender-error_stopped Sender.ErrorStopped r freed held kept_ahead kept_back d = d
+FitsSender-error_stopped SenderErrorStopped r freed held kept_ahead kept_back d = d
 FitsSender-error_stopped Sender.ErrorStoppedAsked r freed held kept_ahead kept_back d = d
-FitsSender-error_stopped Sender.Failed r freed held kept_ahead kept_back never = never
+FitsSender-error_stopped SenderFailed r freed held kept_ahead kept_back never = never
 
 pub error_met :
     (s : Sender) (r : Receiver) (freed held : ℕ) (sent : List (List ℕ)) (kept_ahead : List Forward)
     (kept_back : List Backward) → IsDirection s r freed held sent kept_ahead kept_back
-    → IsDirection s Receiver.ErrorStopped freed held sent kept_ahead (kept_back ++ Neutral ∷ [])
+    → IsDirection s ReceiverErrorStopped freed held sent kept_ahead (kept_back ++ Neutral ∷ [])
 error_met s r freed held sent kept_ahead kept_back d =
-    neutral_sent s Receiver.ErrorStopped freed held sent kept_ahead kept_back (record {
+    neutral_sent s ReceiverErrorStopped freed held sent kept_ahead kept_back (record {
       held_first = d.held_first;
       sent_first = d.sent_first;
       few = d.few;
@@ -47,7 +47,7 @@ error_met s r freed held sent kept_ahead kept_back d =
 found_there :
     (freed held ack : ℕ) (sent : List (List ℕ)) (packet : List ℕ) (kept_ahead : List Forward)
     → freed ≤ held → length sent ≤ freed + window → ack ≡ held % 32
-    → PacketsInTurn sent held (Packet ack packet ∷ kept_ahead)
+    → PacketsInTurn sent held (ForwardPacket ack packet ∷ kept_ahead)
     → (slice_get sent held ≡ Some packet) × PacketsInTurn sent (suc held) kept_ahead
 found_there freed held ack sent packet kept_ahead first few expected (n, is, from, found, rest) =
     let within = slice_get_within sent n packet found in
@@ -61,9 +61,9 @@ found_there freed held ack sent packet kept_ahead first few expected (n, is, fro
 FitsSender-accepted :
     (s : Sender) (freed held ack : ℕ) (packet : List ℕ) (kept_ahead : List Forward)
     (kept_back : List Backward)
-    → FitsSender s Receiver.Ok freed held (Packet ack packet ∷ kept_ahead) kept_back
-    → FitsSender s Receiver.Ok freed (suc held) kept_ahead (kept_back ++ Accept ack ∷ [])
-FitsSender-accepted Sender.Ok freed held ack packet kept_ahead kept_back
+    → FitsSender s ReceiverOk freed held (ForwardPacket ack packet ∷ kept_ahead) kept_back
+    → FitsSender s ReceiverOk freed (suc held) kept_ahead (kept_back ++ Accept ack ∷ [])
+FitsSender-accepted SenderOk freed held ack packet kept_ahead kept_back
     (asks, answers, once, inl none) =
     let lacks = Lacks-append is_retry kept_back (Accept ack) none refl in (
       asks.1,
@@ -71,13 +71,13 @@ FitsSender-accepted Sender.Ok freed held ack packet kept_ahead kept_back
       RetryOnce-none (suc held) (kept_back ++ Accept ack ∷ []) lacks,
       inl lacks,
     )
-FitsSender-accepted Sender.Ok freed held ack packet kept_ahead kept_back
+FitsSender-accepted SenderOk freed held ack packet kept_ahead kept_back
     (asks, answers, once, inr (shut, none)) =
     absurd shut
-FitsSender-accepted Sender.RetryStopped freed held ack packet kept_ahead kept_back
+FitsSender-accepted SenderRetryStopped freed held ack packet kept_ahead kept_back
     (same, shut, asks, starts, retries, answers) =
     absurd shut
-FitsSender-accepted Sender.ErrorStopped freed held ack packet kept_ahead kept_back (asks, answers) =
+FitsSender-accepted SenderErrorStopped freed held ack packet kept_ahead kept_back (asks, answers) =
     (asks.1, Lacks-append is_response kept_back (Accept ack) answers refl)
 FitsSender-accepted Sender.ErrorStoppedAsked freed held ack packet kept_ahead kept_back
     (asks, answers, inl none) =
@@ -86,15 +86,15 @@ FitsSender-accepted Sender.ErrorStoppedAsked freed held ack packet kept_ahead ke
 FitsSender-accepted Sender.ErrorStoppedAsked freed held ack packet kept_ahead kept_back
     (asks, answers, inr none) =
     absurd cc
-FitsSender-accepted Sender.Failed freed held ack packet kept_ahead kept_back never = never
+FitsSender-accepted SenderFailed freed held ack packet kept_ahead kept_back never = never
 
 -- the packet that is expected comes and is held
 pub packet_held :
     (s : Sender) (freed held ack : ℕ) (sent : List (List ℕ)) (packet : List ℕ)
     (kept_ahead : List Forward) (kept_back : List Backward) → ack ≡ held % 32
-    → IsDirection s Receiver.Ok freed held sent (Packet ack packet ∷ kept_ahead) kept_back
+    → IsDirection s ReceiverOk freed held sent (ForwardPacket ack packet ∷ kept_ahead) kept_back
     → (slice_get sent held ≡ Some packet)
-    × IsDirection s Receiver.Ok freed (suc held) sent kept_ahead (kept_back ++ Accept ack ∷ [])
+    × IsDirection s ReceiverOk freed (suc held) sent kept_ahead (kept_back ++ Accept ack ∷ [])
 packet_held s freed held ack sent packet kept_ahead kept_back expected d =
     let there =
     found_there freed held ack sent packet kept_ahead d.held_first d.few expected
@@ -117,9 +117,9 @@ packet_held s freed held ack sent packet kept_ahead kept_back expected d =
 FitsSender-retry_stopped :
     (s : Sender) (freed held ack : ℕ) (packet : List ℕ) (kept_ahead : List Forward)
     (kept_back : List Backward) → ack ≡ held % 32 → Lacks is_restart kept_ahead
-    → FitsSender s Receiver.Ok freed held (Packet ack packet ∷ kept_ahead) kept_back
-    → FitsSender s Receiver.RetryStopped freed held kept_ahead (kept_back ++ Retry ack ∷ [])
-FitsSender-retry_stopped Sender.Ok freed held ack packet kept_ahead kept_back expected starts
+    → FitsSender s ReceiverOk freed held (ForwardPacket ack packet ∷ kept_ahead) kept_back
+    → FitsSender s ReceiverRetryStopped freed held kept_ahead (kept_back ++ Retry ack ∷ [])
+FitsSender-retry_stopped SenderOk freed held ack packet kept_ahead kept_back expected starts
     (asks, answers, once, inl none) = (
       asks.1,
       Lacks-append is_response kept_back (Retry ack) answers refl,
@@ -127,13 +127,13 @@ FitsSender-retry_stopped Sender.Ok freed held ack packet kept_ahead kept_back ex
           (RetryOnce-retry held kept_back none),
       inr (tt, starts),
     )
-FitsSender-retry_stopped Sender.Ok freed held ack packet kept_ahead kept_back expected starts
+FitsSender-retry_stopped SenderOk freed held ack packet kept_ahead kept_back expected starts
     (asks, answers, once, inr (shut, none)) =
     absurd shut
-FitsSender-retry_stopped Sender.RetryStopped freed held ack packet kept_ahead kept_back expected
+FitsSender-retry_stopped SenderRetryStopped freed held ack packet kept_ahead kept_back expected
     starts (same, shut, asks, none, retries, answers) =
     absurd shut
-FitsSender-retry_stopped Sender.ErrorStopped freed held ack packet kept_ahead kept_back expected
+FitsSender-retry_stopped SenderErrorStopped freed held ack packet kept_ahead kept_back expected
     starts (asks, answers) =
     (asks.1, Lacks-append is_response kept_back (Retry ack) answers refl)
 FitsSender-retry_stopped Sender.ErrorStoppedAsked freed held ack packet kept_ahead kept_back
@@ -143,7 +143,7 @@ FitsSender-retry_stopped Sender.ErrorStoppedAsked freed held ack packet kept_ahe
 FitsSender-retry_stopped Sender.ErrorStoppedAsked freed held ack packet kept_ahead kept_back
     expected starts (asks, answers, inr none) =
     absurd cc
-FitsSender-retry_stopped Sender.Failed freed held ack packet kept_ahead kept_back expected starts
+FitsSender-retry_stopped SenderFailed freed held ack packet kept_ahead kept_back expected starts
     never =
     never
 
@@ -151,8 +151,8 @@ FitsSender-retry_stopped Sender.Failed freed held ack packet kept_ahead kept_bac
 pub packet_refused :
     (s : Sender) (freed held ack : ℕ) (sent : List (List ℕ)) (packet : List ℕ)
     (kept_ahead : List Forward) (kept_back : List Backward) → ack ≡ held % 32
-    → IsDirection s Receiver.Ok freed held sent (Packet ack packet ∷ kept_ahead) kept_back
-    → IsDirection s Receiver.RetryStopped freed held sent kept_ahead
+    → IsDirection s ReceiverOk freed held sent (ForwardPacket ack packet ∷ kept_ahead) kept_back
+    → IsDirection s ReceiverRetryStopped freed held sent kept_ahead
     (kept_back ++ Retry ack ∷ [])
 packet_refused s freed held ack sent packet kept_ahead kept_back expected d = record {
   held_first = d.held_first;
@@ -169,22 +169,22 @@ packet_refused s freed held ack sent packet kept_ahead kept_back expected d = re
 pub no_restart_at_ok :
     (s : Sender) (freed held : ℕ) (sent : List (List ℕ)) (kept_ahead : List Forward)
     (kept_back : List Backward)
-    → IsDirection s Receiver.Ok freed held sent (Restart ∷ kept_ahead) kept_back → ⊥
+    → IsDirection s ReceiverOk freed held sent (ForwardRestart ∷ kept_ahead) kept_back → ⊥
 no_restart_at_ok s freed held sent kept_ahead kept_back d = let none = d.receiver.0.0 in absurd cc
 
 FitsSender-reopened :
     (s : Sender) (freed held : ℕ) (kept_ahead : List Forward) (kept_back : List Backward)
-    → FitsSender s Receiver.RetryStopped freed held (Restart ∷ kept_ahead) kept_back
-    → FitsSender s Receiver.Ok freed held kept_ahead kept_back
-FitsSender-reopened Sender.Ok freed held kept_ahead kept_back (asks, answers, once, inl none) =
+    → FitsSender s ReceiverRetryStopped freed held (ForwardRestart ∷ kept_ahead) kept_back
+    → FitsSender s ReceiverOk freed held kept_ahead kept_back
+FitsSender-reopened SenderOk freed held kept_ahead kept_back (asks, answers, once, inl none) =
     (asks.1, answers, once, inl none)
-FitsSender-reopened Sender.Ok freed held kept_ahead kept_back
+FitsSender-reopened SenderOk freed held kept_ahead kept_back
     (asks, answers, once, inr (shut, none)) =
     absurd cc
-FitsSender-reopened Sender.RetryStopped freed held kept_ahead kept_back
+FitsSender-reopened SenderRetryStopped freed held kept_ahead kept_back
     (same, shut, asks, starts, retries, answers) =
     absurd cc
-FitsSender-reopened Sender.ErrorStopped freed held kept_ahead kept_back (asks, answers) =
+FitsSender-reopened SenderErrorStopped freed held kept_ahead kept_back (asks, answers) =
     (asks.1, answers)
 FitsSender-reopened Sender.ErrorStoppedAsked freed held kept_ahead kept_back
     (asks, answers, inl none) =
@@ -192,14 +192,14 @@ FitsSender-reopened Sender.ErrorStoppedAsked freed held kept_ahead kept_back
 FitsSender-reopened Sender.ErrorStoppedAsked freed held kept_ahead kept_back
     (asks, answers, inr none) =
     absurd cc
-FitsSender-reopened Sender.Failed freed held kept_ahead kept_back never = never
+FitsSender-reopened SenderFailed freed held kept_ahead kept_back never = never
 
 -- it comes to a receiver that asked for a retry
 pub restart_met :
     (s : Sender) (freed held : ℕ) (sent : List (List ℕ)) (kept_ahead : List Forward)
     (kept_back : List Backward)
-    → IsDirection s Receiver.RetryStopped freed held sent (Restart ∷ kept_ahead) kept_back
-    → IsDirection s Receiver.Ok freed held sent kept_ahead kept_back
+    → IsDirection s ReceiverRetryStopped freed held sent (ForwardRestart ∷ kept_ahead) kept_back
+    → IsDirection s ReceiverOk freed held sent kept_ahead kept_back
 restart_met s freed held sent kept_ahead kept_back d = record {
   held_first = d.held_first;
   sent_first = d.sent_first;
@@ -212,15 +212,15 @@ restart_met s freed held sent kept_ahead kept_back d = record {
 -- a link-request comes from a sender alone that has asked, and nothing is behind it
 FitsSender-answered :
     (s : Sender) (r : Receiver) (freed held : ℕ) (kept_ahead : List Forward)
-    (kept_back : List Backward) → FitsSender s r freed held (Request ∷ kept_ahead) kept_back
-    → FitsSender s Receiver.Ok freed held kept_ahead (kept_back ++ Response (held % 32) ∷ [])
+    (kept_back : List Backward) → FitsSender s r freed held (ForwardRequest ∷ kept_ahead) kept_back
+    → FitsSender s ReceiverOk freed held kept_ahead (kept_back ++ Response (held % 32) ∷ [])
     × Lacks is_forward kept_ahead
-FitsSender-answered Sender.Ok r freed held kept_ahead kept_back (asks, answers, once, retries) =
+FitsSender-answered SenderOk r freed held kept_ahead kept_back (asks, answers, once, retries) =
     absurd cc
-FitsSender-answered Sender.RetryStopped r freed held kept_ahead kept_back
+FitsSender-answered SenderRetryStopped r freed held kept_ahead kept_back
     (same, shut, asks, starts, retries, answers) =
     absurd cc
-FitsSender-answered Sender.ErrorStopped r freed held kept_ahead kept_back (asks, answers) =
+FitsSender-answered SenderErrorStopped r freed held kept_ahead kept_back (asks, answers) =
     absurd cc
 FitsSender-answered Sender.ErrorStoppedAsked r freed held kept_ahead kept_back
     (asks, answers, inl none) =
@@ -228,13 +228,13 @@ FitsSender-answered Sender.ErrorStoppedAsked r freed held kept_ahead kept_back
 FitsSender-answered Sender.ErrorStoppedAsked r freed held kept_ahead kept_back
     (asks, answers, inr none) =
     absurd cc
-FitsSender-answered Sender.Failed r freed held kept_ahead kept_back never = absurd never
+FitsSender-answered SenderFailed r freed held kept_ahead kept_back never = absurd never
 
 pub request_met :
     (s : Sender) (r : Receiver) (freed held : ℕ) (sent : List (List ℕ)) (kept_ahead : List Forward)
     (kept_back : List Backward)
-    → IsDirection s r freed held sent (Request ∷ kept_ahead) kept_back
-    → IsDirection s Receiver.Ok freed held sent kept_ahead
+    → IsDirection s r freed held sent (ForwardRequest ∷ kept_ahead) kept_back
+    → IsDirection s ReceiverOk freed held sent kept_ahead
     (kept_back ++ Response (held % 32) ∷ [])
 request_met s r freed held sent kept_ahead kept_back d =
     let does = FitsSender-answered s r freed held kept_ahead kept_back d.sender in

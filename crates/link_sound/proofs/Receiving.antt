@@ -4,8 +4,9 @@ use Rattle.std.proofs.lemmas.Bool.{eq-eqb}
 use Rattle.std.proofs.lemmas.List.{append-nil}
 use Rattle.link_model.specs.Prelude.{Input, Arrival, packet_arrival, symbol_arrival, receives, Damaged, Output}
 use Rattle.link_model.specs.Input.Arrival.{ExpectedWithRoom, ExpectedWithoutRoom, UnexpectedAck, RestartFromRetry, LinkRequest, OtherStype1}
-use Rattle.link_sound.specs.Marks.{Forward, Backward, Packet, Restart, Request, Other, Response, Neutral}
-use Rattle.link_sound.specs.Receiver.{Receiver, IsShut}
+use Rattle.link_model.specs.Input.{InputErrorStopped, InputOk, InputRetryStopped}
+use Rattle.link_sound.specs.Marks.{Forward, Backward, ForwardPacket, ForwardRestart, ForwardRequest, Other, Response, Neutral}
+use Rattle.link_sound.specs.Receiver.{IsShut, ReceiverOk}
 use Rattle.link_sound.specs.Direction.{IsDirection}
 use Rattle.link_sound.proofs.MoveLaws.{lost_front, other_sent}
 use Rattle.link_sound.proofs.ReceiverMoves.{error_met, packet_held, packet_refused, no_restart_at_ok, restart_met, request_met}
@@ -36,7 +37,7 @@ error_keeps :
     (output : Output) (input : Input) (queued : List (List (List ℕ))) (kept_ahead : List Forward)
     (kept_back : List Backward)
     → IsBetween output input queued kept_ahead kept_back
-    → IsBetween output (Input.ErrorStopped (expected_of input)) queued kept_ahead
+    → IsBetween output (InputErrorStopped (expected_of input)) queued kept_ahead
     (kept_back ++ Neutral ∷ [])
 error_keeps output input queued kept_ahead kept_back b = record {
   sent = b.sent;
@@ -52,12 +53,13 @@ error_keeps output input queued kept_ahead kept_back b = record {
 
 restart_keeps :
     (output : Output) (input : Input) (queued : List (List (List ℕ))) (kept_ahead : List Forward)
-    (kept_back : List Backward) → IsBetween output input queued (Restart ∷ kept_ahead) kept_back
+    (kept_back : List Backward)
+    → IsBetween output input queued (ForwardRestart ∷ kept_ahead) kept_back
     → IsBetween output (receives RestartFromRetry input).state queued kept_ahead
     (kept_back ++ reply_backward (receives RestartFromRetry input).reply)
-restart_keeps output (Input.Ok expected) queued kept_ahead kept_back b =
+restart_keeps output (InputOk expected) queued kept_ahead kept_back b =
     absurd (no_restart_at_ok (sender_of output) b.freed b.held b.sent kept_ahead kept_back b.is)
-restart_keeps output (Input.RetryStopped expected) queued kept_ahead kept_back b =
+restart_keeps output (InputRetryStopped expected) queued kept_ahead kept_back b =
     rw append-nil (record {
       sent = b.sent;
       freed = b.freed;
@@ -67,14 +69,15 @@ restart_keeps output (Input.RetryStopped expected) queued kept_ahead kept_back b
       outstanding = b.outstanding;
       is = restart_met (sender_of output) b.freed b.held b.sent kept_ahead kept_back b.is;
     })
-restart_keeps output (Input.ErrorStopped expected) queued kept_ahead kept_back b =
+restart_keeps output (InputErrorStopped expected) queued kept_ahead kept_back b =
     rw append-nil
-    (one_taken output (Input.ErrorStopped expected) queued Restart kept_ahead kept_back b)
+    (one_taken output (InputErrorStopped expected) queued ForwardRestart kept_ahead kept_back b)
 
 answered_keeps :
     (output : Output) (input : Input) (queued : List (List (List ℕ))) (kept_ahead : List Forward)
-    (kept_back : List Backward) → IsBetween output input queued (Request ∷ kept_ahead) kept_back
-    → IsBetween output (Input.Ok (expected_of input)) queued kept_ahead
+    (kept_back : List Backward)
+    → IsBetween output input queued (ForwardRequest ∷ kept_ahead) kept_back
+    → IsBetween output (InputOk (expected_of input)) queued kept_ahead
     (kept_back ++ Response (expected_of input) ∷ [])
 answered_keeps output input queued kept_ahead kept_back b = record {
   sent = b.sent;
@@ -84,7 +87,7 @@ answered_keeps output input queued kept_ahead kept_back b = record {
   expected = b.expected;
   outstanding = b.outstanding;
   is =
-      subst (λ (ack : ℕ). IsDirection (sender_of output) Receiver.Ok b.freed b.held b.sent
+      subst (λ (ack : ℕ). IsDirection (sender_of output) ReceiverOk b.freed b.held b.sent
       kept_ahead (kept_back ++ Response ack ∷ [])) (sym b.expected)
       (request_met (sender_of output) (receiver_of input) b.freed b.held b.sent kept_ahead kept_back
       b.is);
@@ -92,24 +95,25 @@ answered_keeps output input queued kept_ahead kept_back b = record {
 
 request_keeps :
     (output : Output) (input : Input) (queued : List (List (List ℕ))) (kept_ahead : List Forward)
-    (kept_back : List Backward) → IsBetween output input queued (Request ∷ kept_ahead) kept_back
+    (kept_back : List Backward)
+    → IsBetween output input queued (ForwardRequest ∷ kept_ahead) kept_back
     → IsBetween output (receives LinkRequest input).state queued kept_ahead
     (kept_back ++ reply_backward (receives LinkRequest input).reply)
-request_keeps output (Input.Ok expected) queued kept_ahead kept_back b =
-    answered_keeps output (Input.Ok expected) queued kept_ahead kept_back b
-request_keeps output (Input.RetryStopped expected) queued kept_ahead kept_back b =
-    answered_keeps output (Input.RetryStopped expected) queued kept_ahead kept_back b
-request_keeps output (Input.ErrorStopped expected) queued kept_ahead kept_back b =
-    answered_keeps output (Input.ErrorStopped expected) queued kept_ahead kept_back b
+request_keeps output (InputOk expected) queued kept_ahead kept_back b =
+    answered_keeps output (InputOk expected) queued kept_ahead kept_back b
+request_keeps output (InputRetryStopped expected) queued kept_ahead kept_back b =
+    answered_keeps output (InputRetryStopped expected) queued kept_ahead kept_back b
+request_keeps output (InputErrorStopped expected) queued kept_ahead kept_back b =
+    answered_keeps output (InputErrorStopped expected) queued kept_ahead kept_back b
 
 other_keeps :
     (output : Output) (input : Input) (queued : List (List (List ℕ))) (kept_ahead : List Forward)
     (kept_back : List Backward) → IsBetween output input queued kept_ahead kept_back
     → IsBetween output (receives OtherStype1 input).state queued kept_ahead
     (kept_back ++ reply_backward (receives OtherStype1 input).reply)
-other_keeps output (Input.Ok expected) queued kept_ahead kept_back b = rw append-nil b
-other_keeps output (Input.RetryStopped expected) queued kept_ahead kept_back b = rw append-nil b
-other_keeps output (Input.ErrorStopped expected) queued kept_ahead kept_back b = rw append-nil b
+other_keeps output (InputOk expected) queued kept_ahead kept_back b = rw append-nil b
+other_keeps output (InputRetryStopped expected) queued kept_ahead kept_back b = rw append-nil b
+other_keeps output (InputErrorStopped expected) queued kept_ahead kept_back b = rw append-nil b
 
 -- the two tests of a symbol's stype1 and cmd
 abbrev pub arrival : Bool → Bool → Arrival
@@ -147,11 +151,11 @@ pub damaged_keeps :
     → IsBetween output input queued kept_ahead kept_back
     → IsBetween output (receives (Damaged cause) input).state queued kept_ahead
     (kept_back ++ reply_backward (receives (Damaged cause) input).reply)
-damaged_keeps cause output (Input.Ok expected) queued kept_ahead kept_back b =
-    error_keeps output (Input.Ok expected) queued kept_ahead kept_back b
-damaged_keeps cause output (Input.RetryStopped expected) queued kept_ahead kept_back b =
-    error_keeps output (Input.RetryStopped expected) queued kept_ahead kept_back b
-damaged_keeps cause output (Input.ErrorStopped expected) queued kept_ahead kept_back b =
+damaged_keeps cause output (InputOk expected) queued kept_ahead kept_back b =
+    error_keeps output (InputOk expected) queued kept_ahead kept_back b
+damaged_keeps cause output (InputRetryStopped expected) queued kept_ahead kept_back b =
+    error_keeps output (InputRetryStopped expected) queued kept_ahead kept_back b
+damaged_keeps cause output (InputErrorStopped expected) queued kept_ahead kept_back b =
     rw append-nil b
 
 pub next_expected : (expected held : ℕ) → expected ≡ held % 32 → (expected + 1) % 32 ≡ suc held % 32
@@ -162,11 +166,11 @@ pub expected_keeps :
     (room : Bool) (buffers ack : ℕ) (packet : List ℕ) (output : Output)
     (queued : List (List (List ℕ)))
     (kept_ahead : List Forward) (kept_back : List Backward)
-    → IsBetween output (Input.Ok ack) queued (Packet ack packet ∷ kept_ahead) kept_back
-    → IsBetween output (receives (packet_arrival ack ack room buffers) (Input.Ok ack)).state queued
+    → IsBetween output (InputOk ack) queued (ForwardPacket ack packet ∷ kept_ahead) kept_back
+    → IsBetween output (receives (packet_arrival ack ack room buffers) (InputOk ack)).state queued
     kept_ahead
     (kept_back ++ reply_backward (receives (packet_arrival ack ack room buffers)
-    (Input.Ok ack)).reply)
+    (InputOk ack)).reply)
 expected_keeps true buffers ack packet output queued kept_ahead kept_back b =
     let does =
     packet_held (sender_of output) b.freed b.held ack b.sent packet kept_ahead kept_back
@@ -206,19 +210,19 @@ dropped :
     (if same then (if room then ExpectedWithRoom buffers else ExpectedWithoutRoom buffers)
     else UnexpectedAck)
     input).reply)
-dropped same room buffers output (Input.Ok expected) queued kept_ahead kept_back b shut = absurd
+dropped same room buffers output (InputOk expected) queued kept_ahead kept_back b shut = absurd
     shut
-dropped true true buffers output (Input.RetryStopped expected) queued kept_ahead kept_back b shut =
+dropped true true buffers output (InputRetryStopped expected) queued kept_ahead kept_back b shut =
     rw append-nil b
-dropped true false buffers output (Input.RetryStopped expected) queued kept_ahead kept_back b shut =
+dropped true false buffers output (InputRetryStopped expected) queued kept_ahead kept_back b shut =
     rw append-nil b
-dropped false room buffers output (Input.RetryStopped expected) queued kept_ahead kept_back b shut =
+dropped false room buffers output (InputRetryStopped expected) queued kept_ahead kept_back b shut =
     rw append-nil b
-dropped true true buffers output (Input.ErrorStopped expected) queued kept_ahead kept_back b shut =
+dropped true true buffers output (InputErrorStopped expected) queued kept_ahead kept_back b shut =
     rw append-nil b
-dropped true false buffers output (Input.ErrorStopped expected) queued kept_ahead kept_back b shut =
+dropped true false buffers output (InputErrorStopped expected) queued kept_ahead kept_back b shut =
     rw append-nil b
-dropped false room buffers output (Input.ErrorStopped expected) queued kept_ahead kept_back b shut =
+dropped false room buffers output (InputErrorStopped expected) queued kept_ahead kept_back b shut =
     rw append-nil b
 
 -- a packet comes that is not expected, or while packets are dropped
@@ -232,16 +236,16 @@ pub unexpected_keeps :
     kept_ahead
     (kept_back
     ++ reply_backward (receives (packet_arrival (expected_of input) ack room buffers) input).reply)
-unexpected_keeps room buffers ack output (Input.Ok expected) queued kept_ahead kept_back other b =
-    rw other (error_keeps output (Input.Ok expected) queued kept_ahead kept_back b)
-unexpected_keeps room buffers ack output (Input.RetryStopped expected) queued kept_ahead kept_back
+unexpected_keeps room buffers ack output (InputOk expected) queued kept_ahead kept_back other b =
+    rw other (error_keeps output (InputOk expected) queued kept_ahead kept_back b)
+unexpected_keeps room buffers ack output (InputRetryStopped expected) queued kept_ahead kept_back
     other b =
-    dropped (ack == expected) room buffers output (Input.RetryStopped expected) queued kept_ahead
+    dropped (ack == expected) room buffers output (InputRetryStopped expected) queued kept_ahead
     kept_back
     b tt
-unexpected_keeps room buffers ack output (Input.ErrorStopped expected) queued kept_ahead kept_back
+unexpected_keeps room buffers ack output (InputErrorStopped expected) queued kept_ahead kept_back
     other b =
-    dropped (ack == expected) room buffers output (Input.ErrorStopped expected) queued kept_ahead
+    dropped (ack == expected) room buffers output (InputErrorStopped expected) queued kept_ahead
     kept_back
     b tt
 
@@ -249,27 +253,27 @@ unexpected_keeps room buffers ack output (Input.ErrorStopped expected) queued ke
 reply_is_other : (what : Arrival) (input : Input)
     → (reply_forward (receives what input).reply ≡ [])
     ⊎ (reply_forward (receives what input).reply ≡ Other ∷ [])
-reply_is_other (ExpectedWithRoom buffers) (Input.Ok expected) = inr refl
-reply_is_other (ExpectedWithRoom buffers) (Input.RetryStopped expected) = inl refl
-reply_is_other (ExpectedWithRoom buffers) (Input.ErrorStopped expected) = inl refl
-reply_is_other (ExpectedWithoutRoom buffers) (Input.Ok expected) = inr refl
-reply_is_other (ExpectedWithoutRoom buffers) (Input.RetryStopped expected) = inl refl
-reply_is_other (ExpectedWithoutRoom buffers) (Input.ErrorStopped expected) = inl refl
-reply_is_other UnexpectedAck (Input.Ok expected) = inr refl
-reply_is_other UnexpectedAck (Input.RetryStopped expected) = inl refl
-reply_is_other UnexpectedAck (Input.ErrorStopped expected) = inl refl
-reply_is_other (Damaged cause) (Input.Ok expected) = inr refl
-reply_is_other (Damaged cause) (Input.RetryStopped expected) = inr refl
-reply_is_other (Damaged cause) (Input.ErrorStopped expected) = inl refl
-reply_is_other RestartFromRetry (Input.Ok expected) = inr refl
-reply_is_other RestartFromRetry (Input.RetryStopped expected) = inl refl
-reply_is_other RestartFromRetry (Input.ErrorStopped expected) = inl refl
-reply_is_other LinkRequest (Input.Ok expected) = inr refl
-reply_is_other LinkRequest (Input.RetryStopped expected) = inr refl
-reply_is_other LinkRequest (Input.ErrorStopped expected) = inr refl
-reply_is_other OtherStype1 (Input.Ok expected) = inl refl
-reply_is_other OtherStype1 (Input.RetryStopped expected) = inl refl
-reply_is_other OtherStype1 (Input.ErrorStopped expected) = inl refl
+reply_is_other (ExpectedWithRoom buffers) (InputOk expected) = inr refl
+reply_is_other (ExpectedWithRoom buffers) (InputRetryStopped expected) = inl refl
+reply_is_other (ExpectedWithRoom buffers) (InputErrorStopped expected) = inl refl
+reply_is_other (ExpectedWithoutRoom buffers) (InputOk expected) = inr refl
+reply_is_other (ExpectedWithoutRoom buffers) (InputRetryStopped expected) = inl refl
+reply_is_other (ExpectedWithoutRoom buffers) (InputErrorStopped expected) = inl refl
+reply_is_other UnexpectedAck (InputOk expected) = inr refl
+reply_is_other UnexpectedAck (InputRetryStopped expected) = inl refl
+reply_is_other UnexpectedAck (InputErrorStopped expected) = inl refl
+reply_is_other (Damaged cause) (InputOk expected) = inr refl
+reply_is_other (Damaged cause) (InputRetryStopped expected) = inr refl
+reply_is_other (Damaged cause) (InputErrorStopped expected) = inl refl
+reply_is_other RestartFromRetry (InputOk expected) = inr refl
+reply_is_other RestartFromRetry (InputRetryStopped expected) = inl refl
+reply_is_other RestartFromRetry (InputErrorStopped expected) = inl refl
+reply_is_other LinkRequest (InputOk expected) = inr refl
+reply_is_other LinkRequest (InputRetryStopped expected) = inr refl
+reply_is_other LinkRequest (InputErrorStopped expected) = inr refl
+reply_is_other OtherStype1 (InputOk expected) = inl refl
+reply_is_other OtherStype1 (InputRetryStopped expected) = inl refl
+reply_is_other OtherStype1 (InputErrorStopped expected) = inl refl
 
 -- the other direction, whose sender's port replies
 pub reply_keeps :

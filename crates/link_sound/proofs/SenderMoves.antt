@@ -5,8 +5,8 @@ use Rattle.link_model.specs.Prelude.{distance, window}
 use Rattle.link_model.proofs.WindowFacts.{window_few}
 use Rattle.link_sound.specs.Marks.{Forward, is_forward, Backward, Accept, Retry, Response, is_backward}
 use Rattle.link_sound.specs.Kept.{Lacks, AcceptsInTurn}
-use Rattle.link_sound.specs.Sender.{Sender}
-use Rattle.link_sound.specs.Receiver.{Receiver}
+use Rattle.link_sound.specs.Sender.{Sender, SenderOk, SenderErrorStopped, SenderRetryStopped, SenderFailed}
+use Rattle.link_sound.specs.Receiver.{Receiver, ReceiverOk, ReceiverRetryStopped, ReceiverErrorStopped}
 use Rattle.link_sound.specs.Direction.{FitsSender, FitsReceiver, IsDirection}
 use Rattle.link_sound.proofs.KeptLaws.{AcceptsInTurn-none, PacketsInTurn-none, RetryOnce-none, RestartOnce-none, Lacks-response}
 use Rattle.link_sound.proofs.NoneLaws.{Lacks-restart, Lacks-request, Lacks-retry}
@@ -15,8 +15,8 @@ use Rattle.link_sound.proofs.MoveLaws.{same_number}
 -- an error, or a packet-not-accepted
 pub error_at_ok_direction :
     (r : Receiver) (freed held : ℕ) (sent : List (List ℕ)) (kept_ahead : List Forward)
-    (kept_back : List Backward) → IsDirection Sender.Ok r freed held sent kept_ahead kept_back
-    → IsDirection Sender.ErrorStopped r freed held sent kept_ahead kept_back
+    (kept_back : List Backward) → IsDirection SenderOk r freed held sent kept_ahead kept_back
+    → IsDirection SenderErrorStopped r freed held sent kept_ahead kept_back
 error_at_ok_direction r freed held sent kept_ahead kept_back d = record {
   held_first = d.held_first;
   sent_first = d.sent_first;
@@ -29,8 +29,8 @@ error_at_ok_direction r freed held sent kept_ahead kept_back d = record {
 pub error_at_retry_stopped :
     (r : Receiver) (freed held : ℕ) (sent : List (List ℕ)) (kept_ahead : List Forward)
     (kept_back : List Backward)
-    → IsDirection Sender.RetryStopped r freed held sent kept_ahead kept_back
-    → IsDirection Sender.ErrorStopped r freed held sent kept_ahead kept_back
+    → IsDirection SenderRetryStopped r freed held sent kept_ahead kept_back
+    → IsDirection SenderErrorStopped r freed held sent kept_ahead kept_back
 error_at_retry_stopped r freed held sent kept_ahead kept_back d = record {
   held_first = d.held_first;
   sent_first = d.sent_first;
@@ -54,8 +54,8 @@ oldest_held freed held ack sent kept_back first few oldest (n, is, from, within,
 
 FitsSender-freed :
     (r : Receiver) (freed held ack : ℕ) (kept_ahead : List Forward) (kept_back : List Backward)
-    → FitsSender Sender.Ok r freed held kept_ahead (Accept ack ∷ kept_back)
-    → FitsSender Sender.Ok r (suc freed) held kept_ahead kept_back
+    → FitsSender SenderOk r freed held kept_ahead (Accept ack ∷ kept_back)
+    → FitsSender SenderOk r (suc freed) held kept_ahead kept_back
 FitsSender-freed r freed held ack kept_ahead kept_back (asks, answers, once, inl none) =
     (asks, answers.1, once, inl none.1)
 FitsSender-freed r freed held ack kept_ahead kept_back (asks, answers, once, inr shut) =
@@ -64,8 +64,8 @@ FitsSender-freed r freed held ack kept_ahead kept_back (asks, answers, once, inr
 pub oldest_accepted :
     (r : Receiver) (freed held ack : ℕ) (sent : List (List ℕ)) (kept_ahead : List Forward)
     (kept_back : List Backward) → ack ≡ freed % 32
-    → IsDirection Sender.Ok r freed held sent kept_ahead (Accept ack ∷ kept_back)
-    → (freed < held) × IsDirection Sender.Ok r (suc freed) held sent kept_ahead kept_back
+    → IsDirection SenderOk r freed held sent kept_ahead (Accept ack ∷ kept_back)
+    → (freed < held) × IsDirection SenderOk r (suc freed) held sent kept_ahead kept_back
 oldest_accepted r freed held ack sent kept_ahead kept_back oldest d =
     let does = oldest_held freed held ack sent kept_back d.sent_first d.few oldest d.accepts in
     let few = d.few in (
@@ -87,22 +87,22 @@ none_between freed held ack kept_back same (n, is, from, within, rest) = omega a
 pub no_accept_at_retry :
     (r : Receiver) (freed held ack : ℕ) (sent : List (List ℕ)) (kept_ahead : List Forward)
     (kept_back : List Backward)
-    → IsDirection Sender.RetryStopped r freed held sent kept_ahead (Accept ack ∷ kept_back) → ⊥
+    → IsDirection SenderRetryStopped r freed held sent kept_ahead (Accept ack ∷ kept_back) → ⊥
 no_accept_at_retry r freed held ack sent kept_ahead kept_back d =
     none_between freed held ack kept_back d.sender.0 d.accepts
 
 pub no_retry_at_retry :
     (r : Receiver) (freed held ack : ℕ) (sent : List (List ℕ)) (kept_ahead : List Forward)
     (kept_back : List Backward)
-    → IsDirection Sender.RetryStopped r freed held sent kept_ahead (Retry ack ∷ kept_back) → ⊥
+    → IsDirection SenderRetryStopped r freed held sent kept_ahead (Retry ack ∷ kept_back) → ⊥
 no_retry_at_retry r freed held ack sent kept_ahead kept_back d =
     let none = d.sender.4.0 in absurd cc
 
 FitsSender-retried :
     (r : Receiver) (freed held ack : ℕ) (kept_ahead : List Forward) (kept_back : List Backward)
     → freed ≤ held → held ≤ freed + window → ack ≡ freed % 32
-    → FitsSender Sender.Ok r freed held kept_ahead (Retry ack ∷ kept_back)
-    → FitsSender Sender.RetryStopped r freed held kept_ahead kept_back
+    → FitsSender SenderOk r freed held kept_ahead (Retry ack ∷ kept_back)
+    → FitsSender SenderRetryStopped r freed held kept_ahead kept_back
 FitsSender-retried r freed held ack kept_ahead kept_back first few oldest
     (asks, answers, once, inl none) =
     absurd cc
@@ -117,8 +117,8 @@ FitsSender-retried r freed held ack kept_ahead kept_back first few oldest
 pub oldest_refused :
     (r : Receiver) (freed held ack : ℕ) (sent : List (List ℕ)) (kept_ahead : List Forward)
     (kept_back : List Backward) → ack ≡ freed % 32
-    → IsDirection Sender.Ok r freed held sent kept_ahead (Retry ack ∷ kept_back)
-    → IsDirection Sender.RetryStopped r freed held sent kept_ahead kept_back
+    → IsDirection SenderOk r freed held sent kept_ahead (Retry ack ∷ kept_back)
+    → IsDirection SenderRetryStopped r freed held sent kept_ahead kept_back
 oldest_refused r freed held ack sent kept_ahead kept_back oldest d =
     let first = d.sent_first in
     let few = d.few in
@@ -140,14 +140,14 @@ pub no_response_unasked :
     (kept_ahead : List Forward) (kept_back : List Backward)
     → IsDirection s r freed held sent kept_ahead (Response ack ∷ kept_back)
     → s ≡ Sender.ErrorStoppedAsked
-no_response_unasked Sender.Ok r freed held ack sent kept_ahead kept_back d =
+no_response_unasked SenderOk r freed held ack sent kept_ahead kept_back d =
     let none = d.sender.1.0 in absurd cc
-no_response_unasked Sender.RetryStopped r freed held ack sent kept_ahead kept_back d =
+no_response_unasked SenderRetryStopped r freed held ack sent kept_ahead kept_back d =
     let none = d.sender.5.0 in absurd cc
-no_response_unasked Sender.ErrorStopped r freed held ack sent kept_ahead kept_back d =
+no_response_unasked SenderErrorStopped r freed held ack sent kept_ahead kept_back d =
     let none = d.sender.1.0 in absurd cc
 no_response_unasked Sender.ErrorStoppedAsked r freed held ack sent kept_ahead kept_back d = refl
-no_response_unasked Sender.Failed r freed held ack sent kept_ahead kept_back d = absurd d.sender
+no_response_unasked SenderFailed r freed held ack sent kept_ahead kept_back d = absurd d.sender
 
 response_alone :
     (r : Receiver) (freed held ack : ℕ) (kept_ahead : List Forward) (kept_back : List Backward)
@@ -158,11 +158,11 @@ response_alone r freed held ack kept_ahead kept_back (asks, last, inr none) = (l
 
 FitsReceiver-none : (r : Receiver) (held : ℕ) (sent : List (List ℕ)) (kept_ahead : List Forward)
     → Lacks is_forward kept_ahead → FitsReceiver r held sent kept_ahead
-FitsReceiver-none Receiver.Ok held sent kept_ahead none =
+FitsReceiver-none ReceiverOk held sent kept_ahead none =
     (Lacks-restart kept_ahead none, PacketsInTurn-none sent held kept_ahead none)
-FitsReceiver-none Receiver.RetryStopped held sent kept_ahead none =
+FitsReceiver-none ReceiverRetryStopped held sent kept_ahead none =
     RestartOnce-none sent held kept_ahead (Lacks-restart kept_ahead none)
-FitsReceiver-none Receiver.ErrorStopped held sent kept_ahead none = tt
+FitsReceiver-none ReceiverErrorStopped held sent kept_ahead none = tt
 
 -- how far two numbers are apart is told by their ackIDs
 pub distance_is : (freed held ack : ℕ) → ack ≡ held % 32 → freed ≤ held → held ≤ freed + window
@@ -175,7 +175,7 @@ pub answered :
     (kept_back : List Backward)
     → IsDirection Sender.ErrorStoppedAsked r freed held sent kept_ahead (Response ack ∷ kept_back)
     → (ack ≡ held % 32) × (distance (freed % 32) ack ≡ held - freed)
-    × IsDirection Sender.Ok r held held (take held sent) kept_ahead kept_back
+    × IsDirection SenderOk r held held (take held sent) kept_ahead kept_back
 answered r freed held ack sent kept_ahead kept_back d =
     let alone = response_alone r freed held ack kept_ahead kept_back d.sender in
     let first = d.sent_first in

@@ -8,7 +8,8 @@ use Rattle.link_port.specs.Prelude.{Event, Ctl, Pkt, Bad, buffer_status, prios_o
 use Rattle.link_buffers.proofs.PriorityLaws.{packets_of-appended}
 use Rattle.link_model.specs.Output as out
 use Rattle.link_model.specs.Output.{stype0}
-use Rattle.link_sound.specs.Marks.{Forward, Backward, Packet, Neutral}
+use Rattle.link_model.specs.Input.{InputOk, InputRetryStopped, InputErrorStopped}
+use Rattle.link_sound.specs.Marks.{Forward, Backward, ForwardPacket, Neutral}
 use Rattle.link_sound.specs.Direction.{IsDirection}
 use Rattle.link_sound.proofs.MoveLaws.{lost_front}
 use Rattle.link_sound.proofs.TurnMoves.{emptied, time_is_out}
@@ -81,12 +82,12 @@ pub turn_keeps :
     → IsSound (turn.turns_to a) b (kept_a ++ (turn.turn_sends a).sent) kept_b
 turn_keeps a b kept_a kept_b covers s = record {
   a_to_b =
-      sent_ahead (turn.turn_of a).state b.input a.queued kept_a (turn.turn_sends a).sent
+      sent_ahead (turn.port_turn a).state b.input a.queued kept_a (turn.turn_sends a).sent
       (map backward kept_b)
       (own_turn a.tells a.output b.input a.queued a (map forward kept_a)
       (map backward kept_b) covers s.a_to_b);
   b_to_a = sent_back b.output a.input b.queued (map forward kept_b) kept_a (turn.turn_sends a).sent
-      (other_turn b.output a.input b.queued (turn.turn_of a).sends a
+      (other_turn b.output a.input b.queued (turn.port_turn a).sends a
       (turn.waiting_in a) (map forward kept_b) (map backward kept_a) s.b_to_a);
 }
 
@@ -128,16 +129,16 @@ symbol_acted a b kept_a kept_b symbol covers s =
           (map backward kept_a) s.b_to_a);
     }
 
-pub is_expected : (input : Input) (ack : ℕ) → expects input ack ≡ true → input ≡ Input.Ok ack
-is_expected (Input.Ok expected) ack same = ap Input.Ok (sym (eqb-true ack expected same))
-is_expected (Input.RetryStopped expected) ack same = absurd cc
-is_expected (Input.ErrorStopped expected) ack same = absurd cc
+pub is_expected : (input : Input) (ack : ℕ) → expects input ack ≡ true → input ≡ InputOk ack
+is_expected (InputOk expected) ack same = ap InputOk (sym (eqb-true ack expected same))
+is_expected (InputRetryStopped expected) ack same = absurd cc
+is_expected (InputErrorStopped expected) ack same = absurd cc
 
 expected_there :
     (input : Input) (room : Bool) (buffers ack : ℕ) (packet : List ℕ) (output : out.Output)
     (queued : List (List (List ℕ))) (kept_ahead : List Forward) (kept_back : List Backward)
-    → input ≡ Input.Ok ack
-    → IsBetween output input queued (Packet ack packet ∷ kept_ahead) kept_back
+    → input ≡ InputOk ack
+    → IsBetween output input queued (ForwardPacket ack packet ∷ kept_ahead) kept_back
     → IsBetween output (receives (packet_arrival (expected_of input) ack room buffers) input).state
     queued
     kept_ahead
@@ -150,7 +151,8 @@ expected_there input room buffers ack packet output queued kept_ahead kept_back 
     i).reply))
     (sym same)
     (expected_keeps room buffers ack packet output queued kept_ahead kept_back (subst
-    (λ (i : Input). IsBetween output i queued (Packet ack packet ∷ kept_ahead) kept_back) same b))
+    (λ (i : Input). IsBetween output i queued (ForwardPacket ack packet ∷ kept_ahead) kept_back)
+    same b))
 
 -- a packet that the far port sent
 packet_acted :
@@ -327,7 +329,7 @@ time_out_keeps a b kept_a kept_b s = record {
 
 -- two new ports, and nothing on its way
 pub begins : (output : out.Output) (input : Input) (queued : List (List (List ℕ)))
-    → output ≡ out.Output.Ok (from_ack 0 None) → input ≡ Input.Ok 0
+    → output ≡ out.Output.Ok (from_ack 0 None) → input ≡ InputOk 0
     → IsBetween output input queued [] []
 begins output input queued first second = rw (first, second) (record {
   sent = [];

@@ -2,12 +2,12 @@
 use Rattle.std.proofs.Common.{◌≡◌, ℕ, ◌-◌, ◌≤◌, ◌==◌, nat_lt, Bool, true, false, Option, Some, None, All, List, [], ◌∷◌, refl, lt-ltb, slice_get, arith, if◌then◌else◌}
 use Rattle.std.proofs.lemmas.List.Elements.{All-nil, All-cons}
 use Rattle.link_model.specs.Prelude.{Fields, number_of, prio_of, Input, receives, symbol_arrival, packet_arrival, Sends, untold, status, start_of_packet, end_of_packet}
-use Rattle.link_model.specs.Input.{Arrival}
+use Rattle.link_model.specs.Input.{Arrival, InputOk, InputRetryStopped, InputErrorStopped}
 use Rattle.link_model.specs.Input.Arrival.{ExpectedWithRoom, ExpectedWithoutRoom, UnexpectedAck, Damaged, RestartFromRetry, LinkRequest, OtherStype1}
 use Rattle.link_model.specs.Reports.{has_buffer_status}
 use Rattle.link_buffers.specs.Prelude.{Buffered, packet_count, room_for, stored, list_at}
 use Rattle.link_port.specs.Prelude.{Event, Ctl, Pkt, Bad, PortState, IsPort, standing, buffer_status, expected_of, acts, burst_of, packet_burst, turn_sends, tell_sends, waiting_in}
-use Rattle.link_port.specs.Turns.{turn_of}
+use Rattle.link_port.specs.Turns.{port_turn}
 use Rattle.link_port.specs.Turns as turn
 use Rattle.link_sound.specs.Sound.{reply_sent}
 use Rattle.link_sound.specs.Told.{TellsAs}
@@ -47,28 +47,28 @@ no_status tells symbol none = one_told tells symbol (λ has. absurd cc)
 
 reply_told : (tells : Bool) (what : Arrival) (input : Input) → ArrivalTells tells what
     → All (TellsAs tells) (reply_sent (receives what input).reply)
-reply_told tells (ExpectedWithRoom buffers) (Input.Ok expected) is = one_told tells _ (λ _. is)
-reply_told tells (ExpectedWithRoom buffers) (Input.RetryStopped expected) is = none_told tells
-reply_told tells (ExpectedWithRoom buffers) (Input.ErrorStopped expected) is = none_told tells
-reply_told tells (ExpectedWithoutRoom buffers) (Input.Ok expected) is = one_told tells _ (λ _. is)
-reply_told tells (ExpectedWithoutRoom buffers) (Input.RetryStopped expected) is = none_told tells
-reply_told tells (ExpectedWithoutRoom buffers) (Input.ErrorStopped expected) is = none_told tells
-reply_told tells UnexpectedAck (Input.Ok expected) is = no_status tells _ refl
-reply_told tells UnexpectedAck (Input.RetryStopped expected) is = none_told tells
-reply_told tells UnexpectedAck (Input.ErrorStopped expected) is = none_told tells
-reply_told tells (Damaged cause) (Input.Ok expected) is = no_status tells _ refl
-reply_told tells (Damaged cause) (Input.RetryStopped expected) is =
+reply_told tells (ExpectedWithRoom buffers) (InputOk expected) is = one_told tells _ (λ _. is)
+reply_told tells (ExpectedWithRoom buffers) (InputRetryStopped expected) is = none_told tells
+reply_told tells (ExpectedWithRoom buffers) (InputErrorStopped expected) is = none_told tells
+reply_told tells (ExpectedWithoutRoom buffers) (InputOk expected) is = one_told tells _ (λ _. is)
+reply_told tells (ExpectedWithoutRoom buffers) (InputRetryStopped expected) is = none_told tells
+reply_told tells (ExpectedWithoutRoom buffers) (InputErrorStopped expected) is = none_told tells
+reply_told tells UnexpectedAck (InputOk expected) is = no_status tells _ refl
+reply_told tells UnexpectedAck (InputRetryStopped expected) is = none_told tells
+reply_told tells UnexpectedAck (InputErrorStopped expected) is = none_told tells
+reply_told tells (Damaged cause) (InputOk expected) is = no_status tells _ refl
+reply_told tells (Damaged cause) (InputRetryStopped expected) is =
     no_status tells _ refl
-reply_told tells (Damaged cause) (Input.ErrorStopped expected) is = none_told tells
-reply_told tells RestartFromRetry (Input.Ok expected) is = no_status tells _ refl
-reply_told tells RestartFromRetry (Input.RetryStopped expected) is = none_told tells
-reply_told tells RestartFromRetry (Input.ErrorStopped expected) is = none_told tells
-reply_told tells LinkRequest (Input.Ok expected) is = no_status tells _ refl
-reply_told tells LinkRequest (Input.RetryStopped expected) is = no_status tells _ refl
-reply_told tells LinkRequest (Input.ErrorStopped expected) is = no_status tells _ refl
-reply_told tells OtherStype1 (Input.Ok expected) is = none_told tells
-reply_told tells OtherStype1 (Input.RetryStopped expected) is = none_told tells
-reply_told tells OtherStype1 (Input.ErrorStopped expected) is = none_told tells
+reply_told tells (Damaged cause) (InputErrorStopped expected) is = none_told tells
+reply_told tells RestartFromRetry (InputOk expected) is = no_status tells _ refl
+reply_told tells RestartFromRetry (InputRetryStopped expected) is = none_told tells
+reply_told tells RestartFromRetry (InputErrorStopped expected) is = none_told tells
+reply_told tells LinkRequest (InputOk expected) is = no_status tells _ refl
+reply_told tells LinkRequest (InputRetryStopped expected) is = no_status tells _ refl
+reply_told tells LinkRequest (InputErrorStopped expected) is = no_status tells _ refl
+reply_told tells OtherStype1 (InputOk expected) is = none_told tells
+reply_told tells OtherStype1 (InputRetryStopped expected) is = none_told tells
+reply_told tells OtherStype1 (InputErrorStopped expected) is = none_told tells
 
 two_ways : (tells first second : Bool) → ArrivalTells tells
     (if first then RestartFromRetry else (if second then LinkRequest else OtherStype1))
@@ -139,7 +139,7 @@ burst_told port Sends.Nothing waiting is = none_told port.tells
 
 -- what a turn sends tells as the port does
 pub turn_told : (port : PortState) → IsPort port → All (TellsAs port.tells) (turn_sends port).sent
-turn_told port is = burst_told port (turn_of port).sends (waiting_in port) is
+turn_told port is = burst_told port (port_turn port).sends (waiting_in port) is
 
 telling_told : (port : PortState) (does : Bool) → IsPort port
     → All (TellsAs port.tells) (if does

@@ -2,46 +2,50 @@
 use Rattle.std.proofs.Common.{ℕ, ◌+◌, ◌%◌, ◌<◌, ◌≤◌, List, [], ◌∷◌, ◌++◌, length, take, inl, inr, refl, arith, length-append}
 use Rattle.std.proofs.lemmas.List.{length-take-le}
 use Rattle.link_model.specs.Window.{window}
-use Rattle.link_sound.specs.Marks.{Forward, Packet, Restart, Request, is_restart, is_request, Backward}
-use Rattle.link_sound.specs.Sender.{Sender}
-use Rattle.link_sound.specs.Receiver.{Receiver}
+use Rattle.link_sound.specs.Marks.{Forward, ForwardPacket, ForwardRestart, ForwardRequest, is_restart, is_forward_request, Backward}
+use Rattle.link_sound.specs.Sender.{Sender, SenderOk, SenderRetryStopped, SenderErrorStopped, SenderFailed}
+use Rattle.link_sound.specs.Receiver.{Receiver, ReceiverOk, ReceiverRetryStopped, ReceiverErrorStopped}
 use Rattle.link_sound.specs.Direction.{FitsSender, FitsReceiver, IsDirection}
 use Rattle.link_sound.proofs.KeptLaws.{Lacks-append, PacketsInTurn-append, PacketsInTurn-start, RetryOnce-none, RestartOnce-append, RestartOnce-start, RestartOnce-restart, RequestLast-request, ResponseLast-none}
 
 FitsSender-start :
     (r : Receiver) (freed held ack : ℕ) (packet : List ℕ) (kept_ahead : List Forward)
     (kept_back : List Backward)
-    → FitsSender Sender.Ok r freed held kept_ahead kept_back
-    → FitsSender Sender.Ok r freed held (kept_ahead ++ Packet ack packet ∷ []) kept_back
-FitsSender-start r freed held ack packet kept_ahead kept_back (asks, answers, once, inl none) =
-    (Lacks-append is_request kept_ahead (Packet ack packet) asks refl, answers, once, inl none)
+    → FitsSender SenderOk r freed held kept_ahead kept_back
+    → FitsSender SenderOk r freed held (kept_ahead ++ ForwardPacket ack packet ∷ []) kept_back
+FitsSender-start r freed held ack packet kept_ahead kept_back (asks, answers, once, inl none) = (
+  Lacks-append is_forward_request kept_ahead (ForwardPacket ack packet) asks refl,
+  answers,
+  once,
+  inl none,
+)
 FitsSender-start r freed held ack packet kept_ahead kept_back
     (asks, answers, once, inr (shut, none)) = (
-      Lacks-append is_request kept_ahead (Packet ack packet) asks refl,
+      Lacks-append is_forward_request kept_ahead (ForwardPacket ack packet) asks refl,
       answers,
       once,
-      inr (shut, Lacks-append is_restart kept_ahead (Packet ack packet) none refl),
+      inr (shut, Lacks-append is_restart kept_ahead (ForwardPacket ack packet) none refl),
     )
 
 FitsReceiver-start :
     (r : Receiver) (held : ℕ) (sent : List (List ℕ)) (packet : List ℕ) (kept_ahead : List Forward)
     → held ≤ length sent → FitsReceiver r held sent kept_ahead
     → FitsReceiver r held (sent ++ packet ∷ [])
-    (kept_ahead ++ Packet (length sent % 32) packet ∷ [])
-FitsReceiver-start Receiver.Ok held sent packet kept_ahead below (none, flight) = (
-  Lacks-append is_restart kept_ahead (Packet (length sent % 32) packet) none refl,
+    (kept_ahead ++ ForwardPacket (length sent % 32) packet ∷ [])
+FitsReceiver-start ReceiverOk held sent packet kept_ahead below (none, flight) = (
+  Lacks-append is_restart kept_ahead (ForwardPacket (length sent % 32) packet) none refl,
   PacketsInTurn-start sent held kept_ahead packet below flight,
 )
-FitsReceiver-start Receiver.RetryStopped held sent packet kept_ahead below once =
+FitsReceiver-start ReceiverRetryStopped held sent packet kept_ahead below once =
     RestartOnce-start sent held kept_ahead packet below once
-FitsReceiver-start Receiver.ErrorStopped held sent packet kept_ahead below any = tt
+FitsReceiver-start ReceiverErrorStopped held sent packet kept_ahead below any = tt
 
 pub packet_started :
     (r : Receiver) (freed held : ℕ) (sent : List (List ℕ)) (packet : List ℕ)
     (kept_ahead : List Forward) (kept_back : List Backward) → length sent < freed + window
-    → IsDirection Sender.Ok r freed held sent kept_ahead kept_back
-    → IsDirection Sender.Ok r freed held (sent ++ packet ∷ [])
-    (kept_ahead ++ Packet (length sent % 32) packet ∷ []) kept_back
+    → IsDirection SenderOk r freed held sent kept_ahead kept_back
+    → IsDirection SenderOk r freed held (sent ++ packet ∷ [])
+    (kept_ahead ++ ForwardPacket (length sent % 32) packet ∷ []) kept_back
 packet_started r freed held sent packet kept_ahead kept_back room d =
     let long = length-append sent (packet ∷ []) in
     let below = d.sent_first in
@@ -57,25 +61,25 @@ packet_started r freed held sent packet kept_ahead kept_back room d =
 
 FitsReceiver-restart :
     (r : Receiver) (freed held : ℕ) (sent : List (List ℕ)) (kept_ahead : List Forward)
-    (kept_back : List Backward) → FitsSender Sender.RetryStopped r freed held kept_ahead kept_back
-    → FitsReceiver r held (take freed sent) (kept_ahead ++ Restart ∷ [])
-FitsReceiver-restart Receiver.Ok freed held sent kept_ahead kept_back
+    (kept_back : List Backward) → FitsSender SenderRetryStopped r freed held kept_ahead kept_back
+    → FitsReceiver r held (take freed sent) (kept_ahead ++ ForwardRestart ∷ [])
+FitsReceiver-restart ReceiverOk freed held sent kept_ahead kept_back
     (same, shut, asks, starts, retries, answers) =
     absurd shut
-FitsReceiver-restart Receiver.RetryStopped freed held sent kept_ahead kept_back
+FitsReceiver-restart ReceiverRetryStopped freed held sent kept_ahead kept_back
     (same, shut, asks, starts, retries, answers) =
     RestartOnce-restart (take freed sent) held kept_ahead starts
-FitsReceiver-restart Receiver.ErrorStopped freed held sent kept_ahead kept_back
+FitsReceiver-restart ReceiverErrorStopped freed held sent kept_ahead kept_back
     (same, shut, asks, starts, retries, answers) =
     tt
 
 FitsSender-restart :
     (r : Receiver) (freed held : ℕ) (kept_ahead : List Forward) (kept_back : List Backward)
-    → FitsSender Sender.RetryStopped r freed held kept_ahead kept_back
-    → FitsSender Sender.Ok r freed held (kept_ahead ++ Restart ∷ []) kept_back
+    → FitsSender SenderRetryStopped r freed held kept_ahead kept_back
+    → FitsSender SenderOk r freed held (kept_ahead ++ ForwardRestart ∷ []) kept_back
 FitsSender-restart r freed held kept_ahead kept_back
     (same, shut, asks, starts, retries, answers) = (
-      Lacks-append is_request kept_ahead Restart asks refl,
+      Lacks-append is_forward_request kept_ahead ForwardRestart asks refl,
       answers,
       RetryOnce-none held kept_back retries,
       inl retries,
@@ -84,8 +88,9 @@ FitsSender-restart r freed held kept_ahead kept_back
 pub restarted :
     (r : Receiver) (freed held : ℕ) (sent : List (List ℕ)) (kept_ahead : List Forward)
     (kept_back : List Backward)
-    → IsDirection Sender.RetryStopped r freed held sent kept_ahead kept_back
-    → IsDirection Sender.Ok r freed held (take freed sent) (kept_ahead ++ Restart ∷ []) kept_back
+    → IsDirection SenderRetryStopped r freed held sent kept_ahead kept_back
+    → IsDirection SenderOk r freed held (take freed sent) (kept_ahead ++ ForwardRestart ∷ [])
+    kept_back
 restarted r freed held sent kept_ahead kept_back d =
     let same = d.sender.0 in
     let below = d.sent_first in
@@ -100,20 +105,22 @@ restarted r freed held sent kept_ahead kept_back d =
     }
 
 FitsReceiver-request : (r : Receiver) (held : ℕ) (sent : List (List ℕ)) (kept_ahead : List Forward)
-    → FitsReceiver r held sent kept_ahead → FitsReceiver r held sent (kept_ahead ++ Request ∷ [])
-FitsReceiver-request Receiver.Ok held sent kept_ahead (none, flight) = (
-  Lacks-append is_restart kept_ahead Request none refl,
-  PacketsInTurn-append sent held kept_ahead Request refl flight,
+    → FitsReceiver r held sent kept_ahead
+    → FitsReceiver r held sent (kept_ahead ++ ForwardRequest ∷ [])
+FitsReceiver-request ReceiverOk held sent kept_ahead (none, flight) = (
+  Lacks-append is_restart kept_ahead ForwardRequest none refl,
+  PacketsInTurn-append sent held kept_ahead ForwardRequest refl flight,
 )
-FitsReceiver-request Receiver.RetryStopped held sent kept_ahead once =
-    RestartOnce-append sent held kept_ahead Request refl refl once
-FitsReceiver-request Receiver.ErrorStopped held sent kept_ahead any = tt
+FitsReceiver-request ReceiverRetryStopped held sent kept_ahead once =
+    RestartOnce-append sent held kept_ahead ForwardRequest refl refl once
+FitsReceiver-request ReceiverErrorStopped held sent kept_ahead any = tt
 
 pub requested :
     (r : Receiver) (freed held : ℕ) (sent : List (List ℕ)) (kept_ahead : List Forward)
     (kept_back : List Backward)
-    → IsDirection Sender.ErrorStopped r freed held sent kept_ahead kept_back
-    → IsDirection Sender.ErrorStoppedAsked r freed held sent (kept_ahead ++ Request ∷ []) kept_back
+    → IsDirection SenderErrorStopped r freed held sent kept_ahead kept_back
+    → IsDirection Sender.ErrorStoppedAsked r freed held sent (kept_ahead ++ ForwardRequest ∷ [])
+    kept_back
 requested r freed held sent kept_ahead kept_back d = record {
   held_first = d.held_first;
   sent_first = d.sent_first;
@@ -131,19 +138,19 @@ FitsSender-emptied :
     (s : Sender) (r : Receiver) (freed held : ℕ) (kept_ahead : List Forward)
     (kept_back : List Backward) → FitsSender s r freed held kept_ahead kept_back
     → FitsSender s r freed held [] []
-FitsSender-emptied Sender.Ok r freed held kept_ahead kept_back d = (tt, tt, tt, inl tt)
-FitsSender-emptied Sender.RetryStopped r freed held kept_ahead kept_back
+FitsSender-emptied SenderOk r freed held kept_ahead kept_back d = (tt, tt, tt, inl tt)
+FitsSender-emptied SenderRetryStopped r freed held kept_ahead kept_back
     (same, shut, asks, starts, retries, answers) =
     (same, shut, tt, tt, tt, tt)
-FitsSender-emptied Sender.ErrorStopped r freed held kept_ahead kept_back d = (tt, tt)
+FitsSender-emptied SenderErrorStopped r freed held kept_ahead kept_back d = (tt, tt)
 FitsSender-emptied Sender.ErrorStoppedAsked r freed held kept_ahead kept_back d = (tt, tt, inl tt)
-FitsSender-emptied Sender.Failed r freed held kept_ahead kept_back never = never
+FitsSender-emptied SenderFailed r freed held kept_ahead kept_back never = never
 
 FitsReceiver-emptied : (r : Receiver) (held : ℕ) (sent : List (List ℕ))
     → FitsReceiver r held sent []
-FitsReceiver-emptied Receiver.Ok held sent = (tt, tt)
-FitsReceiver-emptied Receiver.RetryStopped held sent = tt
-FitsReceiver-emptied Receiver.ErrorStopped held sent = tt
+FitsReceiver-emptied ReceiverOk held sent = (tt, tt)
+FitsReceiver-emptied ReceiverRetryStopped held sent = tt
+FitsReceiver-emptied ReceiverErrorStopped held sent = tt
 
 pub emptied :
     (s : Sender) (r : Receiver) (freed held : ℕ) (sent : List (List ℕ)) (kept_ahead : List Forward)
@@ -160,20 +167,20 @@ emptied s r freed held sent kept_ahead kept_back d = record {
 
 -- the sender after a time-out
 abbrev pub late : Sender → Sender
-late Sender.Ok = Sender.ErrorStopped
-late Sender.RetryStopped = Sender.RetryStopped
-late Sender.ErrorStopped = Sender.ErrorStopped
-late Sender.ErrorStoppedAsked = Sender.ErrorStopped
-late Sender.Failed = Sender.Failed
+late SenderOk = SenderErrorStopped
+late SenderRetryStopped = SenderRetryStopped
+late SenderErrorStopped = SenderErrorStopped
+late Sender.ErrorStoppedAsked = SenderErrorStopped
+late SenderFailed = SenderFailed
 
 FitsSender-late :
     (s : Sender) (r : Receiver) (freed held : ℕ) → FitsSender s r freed held [] []
     → FitsSender (late s) r freed held [] []
-FitsSender-late Sender.Ok r freed held d = (tt, tt)
-FitsSender-late Sender.RetryStopped r freed held d = d
-FitsSender-late Sender.ErrorStopped r freed held d = (tt, tt)
+FitsSender-late SenderOk r freed held d = (tt, tt)
+FitsSender-late SenderRetryStopped r freed held d = d
+FitsSender-late SenderErrorStopped r freed held d = (tt, tt)
 FitsSender-late Sender.ErrorStoppedAsked r freed held d = (tt, tt)
-FitsSender-late Sender.Failed r freed held never = never
+FitsSender-late SenderFailed r freed held never = never
 
 pub time_is_out :
     (s : Sender) (r : Receiver) (freed held : ℕ) (sent : List (List ℕ)) (kept_ahead : List Forward)

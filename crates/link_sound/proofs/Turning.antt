@@ -10,8 +10,8 @@ use Rattle.link_model.specs.Output.{started, startable, credited, unstarted}
 use Rattle.link_model.specs.Reports.{has_credit}
 use Rattle.link_model.specs.Outstanding.{next_ack, with_next}
 use Rattle.link_model.proofs.WindowFacts.{startable-full, startable-open}
-use Rattle.link_sound.specs.Marks.{Forward, Backward, Packet, Other, Neutral}
-use Rattle.link_sound.specs.Sender.{Sender}
+use Rattle.link_sound.specs.Marks.{Forward, Backward, ForwardPacket, Other, Neutral}
+use Rattle.link_sound.specs.Sender.{SenderOk}
 use Rattle.link_sound.specs.Receiver.{Receiver}
 use Rattle.link_sound.specs.Direction.{IsDirection}
 use Rattle.link_sound.proofs.MoveLaws.{other_sent, neutral_sent}
@@ -40,19 +40,19 @@ count_is prios queued freed sent covers below same =
 start_sent :
     (r : Receiver) (freed held : ℕ) (sent : List (List ℕ)) (packet : List ℕ)
     (kept_ahead : List Forward) (kept_back : List Backward)
-    → length sent < freed + window → IsDirection Sender.Ok r freed held sent kept_ahead kept_back
-    → IsDirection Sender.Ok r freed held (sent ++ packet ∷ [])
-    (kept_ahead ++ Other ∷ Packet (length sent % 32) packet ∷ Other ∷ []) kept_back
+    → length sent < freed + window → IsDirection SenderOk r freed held sent kept_ahead kept_back
+    → IsDirection SenderOk r freed held (sent ++ packet ∷ [])
+    (kept_ahead ++ Other ∷ ForwardPacket (length sent % 32) packet ∷ Other ∷ []) kept_back
 start_sent r freed held sent packet kept_ahead kept_back room d =
     let first = kept_ahead ++ Other ∷ [] in
-    let second = first ++ Packet (length sent % 32) packet ∷ [] in
+    let second = first ++ ForwardPacket (length sent % 32) packet ∷ [] in
     subst
-    (λ (fs : List Forward). IsDirection Sender.Ok r freed held (sent ++ packet ∷ []) fs kept_back)
-    (append_assoc first (Packet (length sent % 32) packet ∷ []) (Other ∷ [])
-    ∙ append_assoc kept_ahead (Other ∷ []) (Packet (length sent % 32) packet ∷ Other ∷ []))
-    (other_sent Sender.Ok r freed held (sent ++ packet ∷ []) second kept_back
+    (λ (fs : List Forward). IsDirection SenderOk r freed held (sent ++ packet ∷ []) fs kept_back)
+    (append_assoc first (ForwardPacket (length sent % 32) packet ∷ []) (Other ∷ [])
+    ∙ append_assoc kept_ahead (Other ∷ []) (ForwardPacket (length sent % 32) packet ∷ Other ∷ []))
+    (other_sent SenderOk r freed held (sent ++ packet ∷ []) second kept_back
     (packet_started r freed held sent packet first kept_back room
-    (other_sent Sender.Ok r freed held sent kept_ahead kept_back d)))
+    (other_sent SenderOk r freed held sent kept_ahead kept_back d)))
 
 -- the first of the packets of a list that is not empty
 first_there : (packets : List (List ℕ)) → 0 < length packets
@@ -144,8 +144,8 @@ turn_started w input queued p kept_ahead kept_back prio covers room waits b =
           ∙ ap (λ xs. xs ++ there.0 ∷ []) b.outstanding
           ∙ sym (drop-append-le b.freed b.sent (there.0 ∷ []) below);
       is =
-          subst (λ (ack : ℕ). IsDirection Sender.Ok (receiver_of input) b.freed b.held
-          (b.sent ++ there.0 ∷ []) (kept_ahead ++ Other ∷ Packet ack there.0 ∷ Other ∷ [])
+          subst (λ (ack : ℕ). IsDirection SenderOk (receiver_of input) b.freed b.held
+          (b.sent ++ there.0 ∷ []) (kept_ahead ++ Other ∷ ForwardPacket ack there.0 ∷ Other ∷ [])
           kept_back)
           (sym number)
           (start_sent (receiver_of input) b.freed b.held b.sent there.0 kept_ahead kept_back

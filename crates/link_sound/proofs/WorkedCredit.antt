@@ -5,18 +5,18 @@ use Rattle.link_model.specs.Prelude.{status}
 use Rattle.link_port.specs.Prelude.{Event, Ctl, new_port}
 use Rattle.link_buffers.specs.Priorities.{highest_below}
 use Rattle.link_model.specs.Window.{window}
-use Rattle.link_sound.specs.Receiver.{Receiver}
+use Rattle.link_sound.specs.Receiver.{ReceiverRetryStopped}
 use Rattle.link_sound.specs.Meanings.{receiver_of}
 use Rattle.link_sound.proofs.Played.{Move, First, Second, PutsOne, TakesTurn, Hears, played, is_history}
 use Rattle.link_sound.specs.Credits.{HasTold}
-use Rattle.link_sound.specs.Histories.{Link, AreBuffers, new_link, turned_round, after_telling, after_event, Tells, Acts, IsHistory, Rests, AtFirst, AtSecond}
+use Rattle.link_sound.specs.Histories.{Link, AreBuffers, new_link, link_turned_round, after_telling, after_event, StepTells, StepActs, IsHistory, Rests, AtFirst, AtSecond}
 use Rattle.link_sound.specs.InTime.{IsToldInTime}
 use Rattle.link_sound.proofs.CreditSteps.{all_linked, new_linked}
 use Rattle.link_sound.proofs.CreditHistory.{told_stays}
 
 -- the second port tells of 4 free buffers
 abbrev telling : Link
-telling = turned_round (after_telling (turned_round (new_link false true 4 4)))
+telling = link_turned_round (after_telling (link_turned_round (new_link false true 4 4)))
 
 abbrev told : Event
 told = Ctl (status 0 4)
@@ -27,8 +27,8 @@ hearing = after_event telling told []
 
 pub hearing_history : IsHistory (new_link false true 4 4) hearing
 hearing_history =
-    AtSecond (new_link false true 4 4) (Tells (turned_round (new_link false true 4 4)))
-    (AtFirst telling (Acts telling told [] refl refl) (Rests hearing))
+    AtSecond (new_link false true 4 4) (StepTells (link_turned_round (new_link false true 4 4)))
+    (AtFirst telling (StepActs telling told [] refl refl) (Rests hearing))
 
 four : AreBuffers 4
 four = (omega arith, omega arith)
@@ -73,6 +73,6 @@ refused = played untold (new_link false true 4 4)
 pub refused_history : IsHistory (new_link false true 4 4) refused
 refused_history = is_history untold (new_link false true 4 4)
 
-pub is_refused : receiver_of refused.b.input ≡ Receiver.RetryStopped
+pub is_refused : receiver_of refused.b.input ≡ ReceiverRetryStopped
 unfolding highest_below window played
 is_refused = refl

@@ -10,9 +10,9 @@ use Rattle.link_model.specs.Output.{Stype0, stype0}
 use Rattle.link_model.specs.Reports.{has_buffer_status}
 use Rattle.link_model.specs.declared.reports.Report.{Report}
 use Rattle.link_port.specs.Prelude.{Event, Ctl, Pkt, Bad, PortState, prios_of, expected_of}
-use Rattle.link_sound.specs.Marks.{Forward, Packet, Restart, Request, Other}
+use Rattle.link_sound.specs.Marks.{Forward, ForwardPacket, ForwardRestart, ForwardRequest, Other}
 use Rattle.link_sound.specs.Meanings.{forward, oldest_of, receiver_of}
-use Rattle.link_sound.specs.Receiver.{Receiver}
+use Rattle.link_sound.specs.Receiver.{Receiver, ReceiverOk, ReceiverRetryStopped, ReceiverErrorStopped}
 use Rattle.link_sound.specs.Told.{last_report}
 
 -- what an event tells on its way back to the sender
@@ -20,17 +20,17 @@ pub data Word : Type 0 where
   -- packet-accepted, with its ackID and buffer status
   Accepted : (ack free : ℕ) → Word
   -- packet-retry or status, with the ackID that is expected and the buffer status
-  Told : (ack free : ℕ) → Word
+  WordTold : (ack free : ℕ) → Word
   -- link-response, with the ackID that is expected
   Responded : (ack : ℕ) → Word
   Silent : Word
 
 abbrev pub word_of : Stype0 → (has : Bool) → (ack free : ℕ) → Word
 word_of Stype0.PacketAccepted has ack free = Accepted ack free
-word_of Stype0.PacketRetry has ack free = Told ack free
+word_of Stype0.PacketRetry has ack free = WordTold ack free
 word_of Stype0.PacketNotAccepted has ack free = Silent
 word_of Stype0.LinkResponse has ack free = Responded ack
-word_of Stype0.OtherStype0 has ack free = if has then Told ack free else Silent
+word_of Stype0.OtherStype0 has ack free = if has then WordTold ack free else Silent
 
 abbrev pub word : Event → Word
 word (Ctl symbol) = word_of (stype0 symbol.s0) (has_buffer_status symbol.s0) symbol.p0 symbol.p1
@@ -46,7 +46,7 @@ WordsInTurn least held total [] = Unit {0}
 WordsInTurn least held total (Accepted ack free ∷ words) =
     (n : ℕ) × (ack ≡ n % 32) × (least ≤ n) × (n < held) × (free < untold)
     × (free + suc n ≤ total) × WordsInTurn (suc n) held total words
-WordsInTurn least held total (Told ack free ∷ words) =
+WordsInTurn least held total (WordTold ack free ∷ words) =
     (n : ℕ) × (ack ≡ n % 32) × (least ≤ n) × (n ≤ held) × (free < untold) × (free + n ≤ total)
     × WordsInTurn least held total words
 WordsInTurn least held total (Responded ack ∷ words) =
@@ -97,18 +97,18 @@ pub record HasTold (hearer teller : PortState) (kept_back : List Event) : Type 0
 -- are more buffers, when it comes, than there are higher priorities
 abbrev pub HaveRoom : (total least next : ℕ) → List Forward → Type 0
 HaveRoom total least next [] = Unit {0}
-HaveRoom total least next (Packet ack packet ∷ kept) =
+HaveRoom total least next (ForwardPacket ack packet ∷ kept) =
     (n : ℕ) × (ack ≡ n % 32) × (least ≤ n) × (n < next) × (n + (3 - prio_of packet) < total)
     × HaveRoom total (suc n) next kept
-HaveRoom total least next (Restart ∷ kept) = HaveRoom total least next kept
-HaveRoom total least next (Request ∷ kept) = HaveRoom total least next kept
+HaveRoom total least next (ForwardRestart ∷ kept) = HaveRoom total least next kept
+HaveRoom total least next (ForwardRequest ∷ kept) = HaveRoom total least next kept
 HaveRoom total least next (Other ∷ kept) = HaveRoom total least next kept
 
 -- so if the receiver takes packets; and it never waits for a restart-from-retry
 abbrev pub HaveRoomAt : Receiver → (total held next : ℕ) → List Forward → Type 0
-HaveRoomAt Receiver.Ok total held next kept = HaveRoom total held next kept
-HaveRoomAt Receiver.RetryStopped total held next kept = ⊥
-HaveRoomAt Receiver.ErrorStopped total held next kept = Unit {0}
+HaveRoomAt ReceiverOk total held next kept = HaveRoom total held next kept
+HaveRoomAt ReceiverRetryStopped total held next kept = ⊥
+HaveRoomAt ReceiverErrorStopped total held next kept = Unit {0}
 
 -- What was told is true, and the hearer was told in time: it keeps a report, and its packets on
 -- their way have room.

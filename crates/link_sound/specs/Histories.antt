@@ -42,8 +42,8 @@ new_link tells_a tells_b m n =
     }
 
 -- the ports in the other order
-abbrev pub turned_round : Link → Link
-turned_round l =
+abbrev pub link_turned_round : Link → Link
+link_turned_round l =
     record { a = l.b; b = l.a; kept_a = l.kept_b; kept_b = l.kept_a; of_a = l.of_b; of_b = l.of_a }
 
 -- the first port takes a turn
@@ -78,15 +78,16 @@ after_put l packet = record l {
 
 -- what may happen at the first port
 pub data IsStep : Link → Link → Type 0 where
-  Turns : (l : Link) → IsStep l (after_turn l)
-  Tells : (l : Link) → IsStep l (after_telling l)
+  StepTurns : (l : Link) → IsStep l (after_turn l)
+  StepTells : (l : Link) → IsStep l (after_telling l)
   -- an event that the other port sent; what it sent before it is lost already
-  Acts : (l : Link) (e : Event) (rest : List Event) → l.kept_b ≡ e ∷ rest → is_acted l.a e ≡ true
+  StepActs : (l : Link) (e : Event) (rest : List Event) → l.kept_b ≡ e ∷ rest
+      → is_acted l.a e ≡ true
       → IsStep l (after_event l e rest)
   -- an event that is not acted on, whoever sent it; it may be an error, and have a reply
   Others : (l : Link) (e : Event) → is_acted l.a e ≡ false → IsStep l (after_event l e l.kept_b)
   -- after it nothing that was sent before arrives
-  TimesOut : (l : Link) → IsStep l (after_time_out l)
+  StepTimesOut : (l : Link) → IsStep l (after_time_out l)
   -- a packet, where its priority has a place
   Puts : (l : Link) (packet : List ℕ) → prio_of packet < 4 → Passes packet
       → length (list_at l.a.queued (prio_of packet)) < 16 → IsStep l (after_put l packet)
@@ -95,7 +96,7 @@ pub data IsStep : Link → Link → Type 0 where
       → l.kept_b ≡ lost_b ++ kept_b → IsStep l (record l { kept_a = kept_a; kept_b = kept_b })
   -- the store of packets received becomes any other, as where some are taken away, and the framer
   -- reads on
-  GoesOn : (l : Link) (received : Buffered) (place : Place) → IsInStore received
+  StepGoesOn : (l : Link) (received : Buffered) (place : Place) → IsInStore received
       → IsBounded place.text
       → IsStep l (record l { a = record l.a { received = received; place = place } })
 
@@ -103,8 +104,8 @@ pub data IsStep : Link → Link → Type 0 where
 pub data IsHistory : Link → Link → Type 0 where
   Rests : (l : Link) → IsHistory l l
   AtFirst : {next end : Link} (l : Link) → IsStep l next → IsHistory next end → IsHistory l end
-  AtSecond : {next end : Link} (l : Link) → IsStep (turned_round l) next
-      → IsHistory (turned_round next) end → IsHistory l end
+  AtSecond : {next end : Link} (l : Link) → IsStep (link_turned_round l) next
+      → IsHistory (link_turned_round next) end → IsHistory l end
 
 -- Of each priority, what was put at the port p is what the far port q has held, in order, and then
 -- what still waits; and what was held is what p has freed, in order, and then what is lent.

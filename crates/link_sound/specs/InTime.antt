@@ -2,25 +2,25 @@
 -- free buffers before it started a packet.
 use Rattle.std.specs.Prelude.{◌≡◌, ◌<◌, ◌≤◌, [], map, All, IsSome}
 use Rattle.link_port.specs.Prelude.{Event, Ctl, Pkt, Bad, IsPort, prios_of}
-use Rattle.link_sound.specs.Receiver.{Receiver}
+use Rattle.link_sound.specs.Receiver.{ReceiverOk}
 use Rattle.link_sound.specs.Meanings.{forward, receiver_of}
 use Rattle.link_sound.specs.Kept.{Lacks}
 use Rattle.link_sound.specs.Sound.{IsSound}
 use Rattle.link_sound.specs.Told.{last_report}
 use Rattle.link_sound.specs.Marks.{is_packet}
 use Rattle.link_sound.specs.Credits.{HasTold, free_buffers}
-use Rattle.link_sound.specs.Histories.{Link, IsStep, Turns, Tells, Acts, Others, TimesOut, Puts, Loses, GoesOn, IsHistory, Rests, AtFirst, AtSecond}
+use Rattle.link_sound.specs.Histories.{Link, IsStep, StepTurns, StepTells, StepActs, Others, StepTimesOut, Puts, Loses, StepGoesOn, IsHistory, Rests, AtFirst, AtSecond}
 
 -- what becomes of the store of packets received leaves no fewer buffers free
 abbrev pub LeavesRoom : {l next : Link} → IsStep l next → Type 0
-LeavesRoom (Turns l) = Unit {0}
-LeavesRoom (Tells l) = Unit {0}
-LeavesRoom (Acts l e rest first acted) = Unit {0}
+LeavesRoom (StepTurns l) = Unit {0}
+LeavesRoom (StepTells l) = Unit {0}
+LeavesRoom (StepActs l e rest first acted) = Unit {0}
 LeavesRoom (Others l e other) = Unit {0}
-LeavesRoom (TimesOut l) = Unit {0}
+LeavesRoom (StepTimesOut l) = Unit {0}
 LeavesRoom (Puts l packet few passes room) = Unit {0}
 LeavesRoom (Loses l lost_a kept_a lost_b kept_b first second) = Unit {0}
-LeavesRoom (GoesOn l received place store bounded) =
+LeavesRoom (StepGoesOn l received place store bounded) =
     free_buffers l.a.received ≤ free_buffers received
 
 -- so at each step of the second port
@@ -51,4 +51,4 @@ pub record IsToldInTime (l : Link) : Type 0 where
   pub report : IsSome (last_report l.a.output)
   pub none_outstanding : prios_of l.a.output ≡ []
   pub none_comes : Lacks is_packet (map forward l.kept_a)
-  pub takes : receiver_of l.b.input ≡ Receiver.Ok
+  pub takes : receiver_of l.b.input ≡ ReceiverOk

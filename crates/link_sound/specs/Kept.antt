@@ -2,7 +2,7 @@
 -- is a number of a packet modulo 32; packets are numbered from 0 on, in the order in which they
 -- were sent, and those that are sent again are numbered anew.
 use Rattle.std.specs.Prelude.{◌≡◌, ℕ, suc, ◌%◌, ◌<◌, ◌≤◌, Bool, false, List, [], ◌∷◌, Some, slice_get}
-use Rattle.link_sound.specs.Marks.{Forward, Packet, Restart, Request, Other, is_restart, is_forward, Backward, Accept, Retry, Response, Neutral, is_retry, is_backward}
+use Rattle.link_sound.specs.Marks.{Forward, ForwardPacket, ForwardRestart, ForwardRequest, Other, is_restart, is_forward, Backward, Accept, Retry, Response, Neutral, is_retry, is_backward}
 
 -- nothing of a kind is on its way
 abbrev pub Lacks : {X : Type 0} → (X → Bool) → List X → Type 0
@@ -23,11 +23,11 @@ AcceptsInTurn least held (Neutral ∷ kept) = AcceptsInTurn least held kept
 -- before it
 abbrev pub PacketsInTurn : List (List ℕ) → (least : ℕ) → List Forward → Type 0
 PacketsInTurn sent least [] = Unit {0}
-PacketsInTurn sent least (Packet ack packet ∷ kept) =
+PacketsInTurn sent least (ForwardPacket ack packet ∷ kept) =
     (n : ℕ) × (ack ≡ n % 32) × (least ≤ n) × (slice_get sent n ≡ Some packet)
     × PacketsInTurn sent (suc n) kept
-PacketsInTurn sent least (Restart ∷ kept) = PacketsInTurn sent least kept
-PacketsInTurn sent least (Request ∷ kept) = PacketsInTurn sent least kept
+PacketsInTurn sent least (ForwardRestart ∷ kept) = PacketsInTurn sent least kept
+PacketsInTurn sent least (ForwardRequest ∷ kept) = PacketsInTurn sent least kept
 PacketsInTurn sent least (Other ∷ kept) = PacketsInTurn sent least kept
 
 -- at most one packet-retry, of the packet that is expected
@@ -41,17 +41,17 @@ RetryOnce held (Neutral ∷ kept) = RetryOnce held kept
 -- at most one restart-from-retry, and behind it packets from the expected one on
 abbrev pub RestartOnce : List (List ℕ) → (held : ℕ) → List Forward → Type 0
 RestartOnce sent held [] = Unit {0}
-RestartOnce sent held (Packet ack packet ∷ kept) = RestartOnce sent held kept
-RestartOnce sent held (Restart ∷ kept) = Lacks is_restart kept × PacketsInTurn sent held kept
-RestartOnce sent held (Request ∷ kept) = RestartOnce sent held kept
+RestartOnce sent held (ForwardPacket ack packet ∷ kept) = RestartOnce sent held kept
+RestartOnce sent held (ForwardRestart ∷ kept) = Lacks is_restart kept × PacketsInTurn sent held kept
+RestartOnce sent held (ForwardRequest ∷ kept) = RestartOnce sent held kept
 RestartOnce sent held (Other ∷ kept) = RestartOnce sent held kept
 
 -- at most one link-request, and nothing that means anything behind it
 abbrev pub RequestLast : List Forward → Type 0
 RequestLast [] = Unit {0}
-RequestLast (Packet ack packet ∷ kept) = RequestLast kept
-RequestLast (Restart ∷ kept) = RequestLast kept
-RequestLast (Request ∷ kept) = Lacks is_forward kept
+RequestLast (ForwardPacket ack packet ∷ kept) = RequestLast kept
+RequestLast (ForwardRestart ∷ kept) = RequestLast kept
+RequestLast (ForwardRequest ∷ kept) = Lacks is_forward kept
 RequestLast (Other ∷ kept) = RequestLast kept
 
 -- at most one link-response, with the packet that is expected, and nothing that means anything

@@ -5,11 +5,11 @@ use Rattle.std.specs.Prelude.{ℕ, Bool, true, false, List}
 -- an event on its way from the sender to the receiver
 pub data Forward : Type 0 where
   -- a packet with its ackID
-  Packet : ℕ → List ℕ → Forward
+  ForwardPacket : ℕ → List ℕ → Forward
   -- restart-from-retry
-  Restart : Forward
+  ForwardRestart : Forward
   -- link-request input-status
-  Request : Forward
+  ForwardRequest : Forward
   -- it means nothing for this direction
   Other : Forward
 
@@ -26,28 +26,28 @@ pub data Backward : Type 0 where
   Neutral : Backward
 
 abbrev pub is_packet : Forward → Bool
-is_packet (Packet ack packet) = true
-is_packet Restart = false
-is_packet Request = false
+is_packet (ForwardPacket ack packet) = true
+is_packet ForwardRestart = false
+is_packet ForwardRequest = false
 is_packet Other = false
 
 abbrev pub is_restart : Forward → Bool
-is_restart (Packet ack packet) = false
-is_restart Restart = true
-is_restart Request = false
+is_restart (ForwardPacket ack packet) = false
+is_restart ForwardRestart = true
+is_restart ForwardRequest = false
 is_restart Other = false
 
-abbrev pub is_request : Forward → Bool
-is_request (Packet ack packet) = false
-is_request Restart = false
-is_request Request = true
-is_request Other = false
+abbrev pub is_forward_request : Forward → Bool
+is_forward_request (ForwardPacket ack packet) = false
+is_forward_request ForwardRestart = false
+is_forward_request ForwardRequest = true
+is_forward_request Other = false
 
 -- whether it means anything for this direction
 abbrev pub is_forward : Forward → Bool
-is_forward (Packet ack packet) = true
-is_forward Restart = true
-is_forward Request = true
+is_forward (ForwardPacket ack packet) = true
+is_forward ForwardRestart = true
+is_forward ForwardRequest = true
 is_forward Other = false
 
 abbrev pub is_retry : Backward → Bool

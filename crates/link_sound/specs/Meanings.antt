@@ -6,17 +6,17 @@ use Rattle.rio_symbols.specs.Fields.{Fields}
 use Rattle.link_port.specs.Prelude.{Event, Ctl, Pkt, Bad}
 use Rattle.link_model.specs.Input as in_half
 use Rattle.link_model.specs.Output as out
-use Rattle.link_sound.specs.Marks.{Forward, Packet, Restart, Request, Other, Backward, Accept, Retry, Response, Neutral}
-use Rattle.link_sound.specs.Sender.{Sender}
-use Rattle.link_sound.specs.Receiver.{Receiver}
+use Rattle.link_sound.specs.Marks.{Forward, ForwardPacket, ForwardRestart, ForwardRequest, Other, Backward, Accept, Retry, Response, Neutral}
+use Rattle.link_sound.specs.Sender.{Sender, SenderOk, SenderRetryStopped, SenderErrorStopped, SenderFailed}
+use Rattle.link_sound.specs.Receiver.{Receiver, ReceiverOk, ReceiverRetryStopped, ReceiverErrorStopped}
 
 abbrev pub asks : in_half.Arrival → Forward
 asks (in_half.Arrival.ExpectedWithRoom buffers) = Other
 asks (in_half.Arrival.ExpectedWithoutRoom buffers) = Other
 asks in_half.Arrival.UnexpectedAck = Other
 asks (in_half.Arrival.Damaged cause) = Other
-asks in_half.Arrival.RestartFromRetry = Restart
-asks in_half.Arrival.LinkRequest = Request
+asks in_half.Arrival.RestartFromRetry = ForwardRestart
+asks in_half.Arrival.LinkRequest = ForwardRequest
 asks in_half.Arrival.OtherStype1 = Other
 
 abbrev pub tells : out.Stype0 → ℕ → Backward
@@ -29,7 +29,7 @@ tells out.Stype0.OtherStype0 ack = Neutral
 -- what an event means on its way to the receiver
 abbrev pub forward : Event → Forward
 forward (Ctl symbol) = asks (in_half.symbol_arrival symbol.s1 symbol.cmd)
-forward (Pkt ack packet) = Packet ack packet
+forward (Pkt ack packet) = ForwardPacket ack packet
 forward (Bad cause) = Other
 
 -- what an event means on its way back to the sender
@@ -39,16 +39,16 @@ backward (Pkt ack packet) = Neutral
 backward (Bad cause) = Neutral
 
 abbrev pub sender_of : out.Output → Sender
-sender_of (out.Output.Ok w) = Sender.Ok
-sender_of (out.Output.RetryStopped w) = Sender.RetryStopped
-sender_of (out.Output.ErrorStopped false w) = Sender.ErrorStopped
+sender_of (out.Output.Ok w) = SenderOk
+sender_of (out.Output.RetryStopped w) = SenderRetryStopped
+sender_of (out.Output.ErrorStopped false w) = SenderErrorStopped
 sender_of (out.Output.ErrorStopped true w) = Sender.ErrorStoppedAsked
-sender_of out.Output.Failed = Sender.Failed
+sender_of out.Output.Failed = SenderFailed
 
 abbrev pub receiver_of : in_half.Input → Receiver
-receiver_of (in_half.Input.Ok expected) = Receiver.Ok
-receiver_of (in_half.Input.RetryStopped expected) = Receiver.RetryStopped
-receiver_of (in_half.Input.ErrorStopped expected) = Receiver.ErrorStopped
+receiver_of (in_half.InputOk expected) = ReceiverOk
+receiver_of (in_half.InputRetryStopped expected) = ReceiverRetryStopped
+receiver_of (in_half.InputErrorStopped expected) = ReceiverErrorStopped
 
 -- the ackID of the oldest packet that is not acknowledged; a sender that has failed knows of none
 abbrev pub oldest_of : out.Output → ℕ

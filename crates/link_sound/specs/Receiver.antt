@@ -2,14 +2,14 @@
 -- expects.
 pub data Receiver : Type 0 where
   -- input OK
-  Ok : Receiver
+  ReceiverOk : Receiver
   -- input retry-stopped: it asked for a packet again
-  RetryStopped : Receiver
+  ReceiverRetryStopped : Receiver
   -- input error-stopped
-  ErrorStopped : Receiver
+  ReceiverErrorStopped : Receiver
 
 -- it takes no packets
 abbrev pub IsShut : Receiver → Type 0
-IsShut Ok = ⊥
-IsShut RetryStopped = Unit {0}
-IsShut ErrorStopped = Unit {0}
+IsShut ReceiverOk = ⊥
+IsShut ReceiverRetryStopped = Unit {0}
+IsShut ReceiverErrorStopped = Unit {0}

@@ -3,12 +3,12 @@
 
 pub data Sender : Type 0 where
   -- output OK
-  Ok : Sender
+  SenderOk : Sender
   -- output retry-stopped
-  RetryStopped : Sender
+  SenderRetryStopped : Sender
   -- output error-stopped, its link-request not sent yet
-  ErrorStopped : Sender
+  SenderErrorStopped : Sender
   -- output error-stopped, its link-request sent
   ErrorStoppedAsked : Sender
   -- it has failed
-  Failed : Sender
+  SenderFailed : Sender

@@ -7,7 +7,7 @@ ghost use Rattle.link_model.specs.declared.reports.Report.{Report};
 ghost use Rattle.link_model.specs.Outstanding.{next_ack};
 ghost use Rattle.link_model.specs.Reports.{credit};
 ghost use Rattle.link_port.specs.Prelude.{Event, Ctl, PortState, IsPort, new_port, acts, is_acted, expected_of};
-ghost use Rattle.link_sound.specs.Receiver.{Receiver};
+ghost use Rattle.link_sound.specs.Receiver.{ReceiverRetryStopped};
 ghost use Rattle.link_sound.specs.Meanings.{receiver_of};
 ghost use Rattle.link_sound.specs.Sound.{IsSound};
 ghost use Rattle.link_sound.specs.Credits.{HasTold, FindsRoom, free_buffers};
@@ -43,14 +43,14 @@ pub fn told_in_time_means_no_retry()
     ensures room { (l end : Link) (history : IsHistory l end) → LeaveRoom history
         → IsToldInTime l → FindsRoom end.a end.b end.kept_a end.kept_b }
     ensures never_waits { (a b : PortState) (kept_a kept_b : List Event)
-        → FindsRoom a b kept_a kept_b → receiver_of b.input ≢ Receiver.RetryStopped }
+        → FindsRoom a b kept_a kept_b → receiver_of b.input ≢ ReceiverRetryStopped }
     ensures never_refuses { (l end : Link) (history : IsHistory l end) (e : Event)
         → LeaveRoom history → IsToldInTime l
         → (is_acted end.b e ≡ true → (rest : List Event) × (end.kept_a ≡ e ∷ rest))
         → IfSome (acts end.b e).reply (λ answer. answer.s0 ≢ PACKET_RETRY) }
     ensures worked { (l : Link) × IsHistory (new_link false true 4 4) l × IsToldInTime l }
     ensures untold { (l : Link) × IsHistory (new_link false true 4 4) l
-        × (receiver_of l.b.input ≡ Receiver.RetryStopped) }
+        × (receiver_of l.b.input ≡ ReceiverRetryStopped) }
 {}
 
 /// The same, one step at a time, of a first port that hears of free buffers and of one that tells

@@ -6,7 +6,7 @@ ghost use Rattle.link_model.specs.Outstanding.{from_ack};
 ghost use Rattle.link_port.specs.Ports.{IsPort};
 ghost use Rattle.link_sound.specs.Histories.{Link, AreBuffers, new_link, IsHistory, AreCarried};
 ghost use Rattle.link_sound.specs.Sound.{IsSound};
-ghost use Rattle.link_sound.specs.Worked.{arrived, arrivals};
+ghost use Rattle.link_sound.specs.Worked.{one_arrived, arrivals};
 
 /// After every history from two new ports, of any number of turns, events, losses, time-outs and
 /// packets put and taken, where each event that is acted on is one that the far port has sent: both
@@ -32,7 +32,7 @@ pub fn every_history_carries_packets()
 /// A history of two new ports, so that the law above is not empty: a packet is put at the one, sent
 /// between its two symbols, held by the other and accepted, and freed.
 pub fn worked_history()
-    ensures { (end : Link) × IsHistory (new_link false false 4 4) end × (end.of_a ≡ arrived) }
+    ensures { (end : Link) × IsHistory (new_link false false 4 4) end × (end.of_a ≡ one_arrived) }
 {}
 
 /// A history with a retry. The second of two packets finds no buffer and is asked for again: it is

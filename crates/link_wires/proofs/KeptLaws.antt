@@ -4,7 +4,7 @@ use Rattle.link_model.specs.declared.event.Event.{Event}
 use Rattle.link_model.specs.Events.{same_event}
 use Rattle.link_model.specs.EventsEqual.{found_same, same_back}
 use Rattle.link_wires.specs.Kept.{behind, behind_some, behind_all, IsSubsequence}
-use Rattle.link_wires.specs.Kept.IsSubsequence.{Ends, Takes, Skips}
+use Rattle.link_wires.specs.Kept.IsSubsequence.{EndsWithin, TakesWithin, SkipsWithin}
 
 -- events behind others are looked for in what these leave
 pub behind_all-append : (xs ys sent : List Event)
@@ -55,8 +55,8 @@ all-more (e ∷ acted) sent kept more h =
 
 -- nothing stands in every list
 none_in : (sent : List Event) → IsSubsequence [] sent
-none_in [] = Ends
-none_in (x ∷ sent) = Skips x (none_in sent)
+none_in [] = EndsWithin
+none_in (x ∷ sent) = SkipsWithin x (none_in sent)
 
 -- an event that was found, and those behind it
 found_in : (e : Event) (acted sent rest : List Event) → behind e sent ≡ Some rest
@@ -68,8 +68,8 @@ found_in e acted (x ∷ sent) rest h sub =
       | true ↦ λ (same : same_event x e ≡ true) (is : Some sent ≡ Some rest).
           let there : rest ≡ sent = cc in
           subst (λ (y : Event). IsSubsequence (e ∷ acted) (y ∷ sent)) (sym (found_same x e same))
-          (Takes e (subst (λ (l : List Event). IsSubsequence acted l) there sub))
-      | false ↦ λ (same : same_event x e ≡ false) (is : behind e sent ≡ Some rest). Skips x
+          (TakesWithin e (subst (λ (l : List Event). IsSubsequence acted l) there sub))
+      | false ↦ λ (same : same_event x e ≡ false) (is : behind e sent ≡ Some rest). SkipsWithin x
           (found_in e acted sent rest is sub)
     ] refl h
 
@@ -115,11 +115,12 @@ one_in_front (e ∷ acted) x sent h =
 -- the search from the front finds all events that stand there in order
 pub finds_all : {acted sent : List Event} → IsSubsequence acted sent
     → IsSome (behind_all acted sent)
-finds_all Ends = refl
-finds_all (Takes {acted = acted} {sent = sent} e sub) =
+finds_all EndsWithin = refl
+finds_all (TakesWithin {acted = acted} {sent = sent} e sub) =
     subst (λ b. IsSome (behind_some (behind_all acted) (if b then Some sent else behind e sent)))
     (sym (same_back e e refl)) (finds_all sub)
-finds_all (Skips {acted = acted} {sent = sent} x sub) = one_in_front acted x sent (finds_all sub)
+finds_all (SkipsWithin {acted = acted} {sent = sent} x sub) =
+    one_in_front acted x sent (finds_all sub)
 
 some_in : (acted sent : List Event) (o : Option (List Event)) → behind_all acted sent ≡ o → IsSome o
     → IsSubsequence acted sent

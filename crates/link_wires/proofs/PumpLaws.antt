@@ -3,16 +3,16 @@ use Rattle.std.proofs.Common.{◌≡◌, ℕ, zero, suc, ◌-◌, ◌++◌, ◌<
 use Rattle.std.proofs.lemmas.List.{append-nil}
 use Rattle.link_model.specs.Prelude.{Char}
 use Rattle.link_port.specs.Prelude.{Event, PortState, Burst, no_burst, turns_to, turn_sends}
-use Rattle.link_wires.specs.Wires.{WireState, with_sent, both_bursts, turned, bursts}
+use Rattle.link_wires.specs.Wires.{WireState, with_sent, both_bursts, port_turned, bursts}
 
 less_one : (n : ℕ) → suc n - 1 ≡ n
 less_one n = omega arith
 
 pub turned_next : (n : ℕ) (port : PortState) → 0 < n
-    → turned (n - 1) (turns_to port) ≡ turned n port
-unfolding turned
+    → port_turned (n - 1) (turns_to port) ≡ port_turned n port
+unfolding port_turned
 turned_next zero port h = absurd (omega arith)
-turned_next (suc n) port h = ap (λ k. turned k (turns_to port)) (less_one n)
+turned_next (suc n) port h = ap (λ k. port_turned k (turns_to port)) (less_one n)
 
 pub bursts_next : (n : ℕ) (port : PortState) → 0 < n
     → both_bursts (turn_sends port) (bursts (n - 1) (turns_to port)) ≡ bursts n port
@@ -21,8 +21,8 @@ bursts_next zero port h = absurd (omega arith)
 bursts_next (suc n) port h =
     ap (λ k. both_bursts (turn_sends port) (bursts k (turns_to port))) (less_one n)
 
-pub turned_none : (port : PortState) → turned 0 port ≡ port
-unfolding turned
+pub turned_none : (port : PortState) → port_turned 0 port ≡ port
+unfolding port_turned
 turned_none port = refl
 
 pub bursts_none : (port : PortState) → bursts 0 port ≡ no_burst

@@ -5,7 +5,7 @@ use Rattle.link_buffers.proofs.PriorityLaws.{highest_below-some}
 use Rattle.link_port.specs.Prelude.{PortState, Burst, no_burst, packet_burst, burst_of, standing, waiting_in, turns_to, turn_sends}
 use Rattle.link_model.specs.Outstanding.{Outstanding}
 use Rattle.link_model.specs.Output.{Output, Ok, RetryStopped, ErrorStopped, Failed, turns, started, credited, startable}
-use Rattle.link_wires.specs.Wires.{both_bursts, turned, bursts}
+use Rattle.link_wires.specs.Wires.{both_bursts, port_turned, bursts}
 
 -- a packet that is there is sent, from a port that stands as this one
 packet_sent : (at : PortState) (ack : ℕ) (packets : List (List ℕ)) → 0 < length packets
@@ -64,10 +64,10 @@ quiet_turn port none =
 
 -- ---- and so are all turns after it
 
-pub turned_quiet : (n : ℕ) (port : PortState) → turns_to port ≡ port → turned n port ≡ port
-unfolding turned
+pub turned_quiet : (n : ℕ) (port : PortState) → turns_to port ≡ port → port_turned n port ≡ port
+unfolding port_turned
 turned_quiet zero port same = refl
-turned_quiet (suc n) port same = ap (turned n) same ∙ turned_quiet n port same
+turned_quiet (suc n) port same = ap (port_turned n) same ∙ turned_quiet n port same
 
 pub bursts_quiet : (n : ℕ) (port : PortState) → turns_to port ≡ port → turn_sends port ≡ no_burst
     → bursts n port ≡ no_burst

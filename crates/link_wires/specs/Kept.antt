@@ -22,8 +22,8 @@ behind_all (e ∷ acted) sent = behind_some (behind_all acted) (behind e sent)
 
 -- The events of the first list stand in the second in the same order, with others between them.
 pub data IsSubsequence : List Event → List Event → Type 0 where
-  Ends : IsSubsequence [] []
-  Takes : {acted sent : List Event} (e : Event) → IsSubsequence acted sent
+  EndsWithin : IsSubsequence [] []
+  TakesWithin : {acted sent : List Event} (e : Event) → IsSubsequence acted sent
       → IsSubsequence (e ∷ acted) (e ∷ sent)
-  Skips : {acted sent : List Event} (x : Event) → IsSubsequence acted sent
+  SkipsWithin : {acted sent : List Event} (x : Event) → IsSubsequence acted sent
       → IsSubsequence acted (x ∷ sent)

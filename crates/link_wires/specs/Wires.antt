@@ -26,9 +26,9 @@ both_bursts first next =
     record { chars = first.chars ++ next.chars; sent = first.sent ++ next.sent }
 
 -- the port after so many turns
-unfoldable pub turned : ℕ → PortState → PortState
-turned zero port = port
-turned (suc n) port = turned n (turns_to port)
+unfoldable pub port_turned : ℕ → PortState → PortState
+port_turned zero port = port
+port_turned (suc n) port = port_turned n (turns_to port)
 
 -- what it sends in them
 unfoldable pub bursts : ℕ → PortState → Burst
@@ -66,6 +66,6 @@ after_edit edit wire =
     if fits edit wire.chars then record wire { chars = edited edit wire.chars } else wire
 
 -- the answer, by whether it fits
-abbrev pub answered : Bool → Edited
-answered true = Done
-answered false = Short
+abbrev pub edit_answered : Bool → Edited
+edit_answered true = Done
+edit_answered false = Short

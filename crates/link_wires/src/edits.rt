@@ -1,6 +1,6 @@
 //! Changes of the characters of a wire.
 ghost use Rattle.std.specs.Prelude.{◌≡◌, IfOk, OnOk, OnErr};
-ghost use Rattle.link_wires.specs.Wires.{fits, after_edit, answered};
+ghost use Rattle.link_wires.specs.Wires.{fits, after_edit, edit_answered};
 
 use crate::wire::Wire;
 use rio_chars::{Char, NoMemory};
@@ -31,7 +31,8 @@ impl Wire {
     /// an alteration is not below the length, an erasure goes past the end, or the place of an
     /// insertion lies past the end. Then, and where memory is not given, nothing changes.
     pub fn edit(&mut self, edit: &Edit) -> Result<Edited, NoMemory>
-        ensures short { IfOk result (λ answer. answer ≡ answered (fits edit.now self.old.chars)) }
+        ensures short { IfOk result (λ answer. answer
+            ≡ edit_answered (fits edit.now self.old.chars)) }
         ensures changed { OnOk result (self.new ≡ after_edit edit.now self.old) }
         ensures unchanged { OnErr result (self.new ≡ self.old) }
     {
@@ -44,7 +45,7 @@ impl Wire {
 
     /// The character at a place becomes another.
     fn alter(&mut self, place: u32, ch: Char) -> Edited
-        ensures short { result ≡ answered (fits (Edit.Alter place ch) self.old.chars) }
+        ensures short { result ≡ edit_answered (fits (Edit.Alter place ch) self.old.chars) }
         ensures changed { self.new ≡ after_edit (Edit.Alter place ch) self.old }
     {
         let place = place as usize;
@@ -57,7 +58,7 @@ impl Wire {
 
     /// Characters from a place on are lost.
     fn erase(&mut self, place: u32, count: u32) -> Edited
-        ensures short { result ≡ answered (fits (Edit.Erase place count) self.old.chars) }
+        ensures short { result ≡ edit_answered (fits (Edit.Erase place count) self.old.chars) }
         ensures changed { self.new ≡ after_edit (Edit.Erase place count) self.old }
     {
         let place = place as usize;
@@ -72,7 +73,7 @@ impl Wire {
     /// A character comes in before the one at a place.
     fn insert(&mut self, place: u32, ch: Char) -> Result<Edited, NoMemory>
         ensures short { IfOk result (λ answer. answer
-            ≡ answered (fits (Edit.Insert place ch) self.old.chars)) }
+            ≡ edit_answered (fits (Edit.Insert place ch) self.old.chars)) }
         ensures changed { OnOk result (self.new ≡ after_edit (Edit.Insert place ch) self.old) }
         ensures unchanged { OnErr result (self.new ≡ self.old) }
     {

@@ -3,7 +3,7 @@ ghost use Rattle.std.specs.Prelude.{◌≡◌, ◌≤◌, ◌++◌, ◌∷◌, [
 ghost use Rattle.link_model.specs.declared.event.Event.TheVariants.{Ctl, Pkt};
 ghost use Rattle.link_model.specs.Events.{same_event};
 ghost use Rattle.link_wires.specs.Kept.{behind};
-ghost use Rattle.link_wires.specs.Heads.{event_of, size_of};
+ghost use Rattle.link_wires.specs.Heads.{event_of, head_size};
 
 use crate::queue::Queue;
 use rio_chars::NoMemory;
@@ -80,7 +80,7 @@ impl Kept {
 
     /// Puts an event at the end, as its head and the bytes of its packet.
     fn put_head(&mut self, head: Head, bytes: &[u8]) -> Result<(), NoMemory>
-        requires { size_of head ≡ length bytes.now }
+        requires { head_size head ≡ length bytes.now }
         ensures { OnOk result (self.new ≡ self.old ++ event_of head bytes.now ∷ []) }
     {
         self.heads.reserve(1)?;
@@ -122,7 +122,7 @@ impl Kept {
 
 /// How many bytes the packet of an event has.
 fn size(head: &Head) -> usize
-    ensures { result ≡ size_of head.now }
+    ensures { result ≡ head_size head.now }
 {
     match head {
         Head::Packet { size, .. } => usize::from(*size),
@@ -132,7 +132,7 @@ fn size(head: &Head) -> usize
 
 /// Returns whether an event, whose packet has the first of these bytes, is a packet with an ackID.
 fn is_packet(head: &Head, bytes: &[u8], ack: u8, packet: &Packet) -> bool
-    requires { size_of head.now ≤ length bytes.now }
+    requires { head_size head.now ≤ length bytes.now }
     ensures { result ≡ same_event (event_of head.now bytes.now) (Pkt ack packet.now) }
 {
     match head {

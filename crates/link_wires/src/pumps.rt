@@ -1,7 +1,7 @@
 //! What is put on a wire.
 ghost use Rattle.std.specs.Prelude.{◌≡◌, ◌++◌, OnOk};
 ghost use Rattle.link_port.specs.Turns.{tell_sends};
-ghost use Rattle.link_wires.specs.Wires.{with_sent, turned, bursts, answers};
+ghost use Rattle.link_wires.specs.Wires.{with_sent, port_turned, bursts, answers};
 
 use crate::kept::Kept;
 use crate::sends::{put_sending, put_symbol};
@@ -21,7 +21,7 @@ impl Wire {
         port: &mut Port,
         sent: &mut Vec<Char>,
     ) -> Result<(), NoMemory>
-        ensures port { OnOk result (port.new ≡ turned turns port.old) }
+        ensures port { OnOk result (port.new ≡ port_turned turns port.old) }
         ensures wire { OnOk result (self.new ≡ with_sent self.old (bursts turns port.old)) }
         ensures sent { OnOk result (sent.new.items ≡ (bursts turns port.old).chars) }
     {
@@ -65,7 +65,7 @@ fn put_turns(
     kept: &mut Kept,
     chars: &mut Vec<Char>,
 ) -> Result<(), NoMemory>
-    ensures port { OnOk result (port.new ≡ turned turns port.old) }
+    ensures port { OnOk result (port.new ≡ port_turned turns port.old) }
     ensures kept { OnOk result (kept.new ≡ kept.old ++ (bursts turns port.old).sent) }
     ensures chars { OnOk result (chars.new.items
         ≡ chars.old.items ++ (bursts turns port.old).chars) }

@@ -8,8 +8,8 @@ use Rattle.std.proofs.lemmas.List.Elements.{All-nil, All-push}
 use Rattle.rio_chars.specs.Written.{Writes}
 use Rattle.rio_chars.specs.declared.outbox.Outbox.{Outbox}
 use Rattle.rio_chars.proofs.WrittenLaws.{Writes-nil, Writes-then, Writes-whole, Writes-front, Writes-rose}
-use Rattle.live_lines.specs.Lines.{IsLine, Stops, with_feed}
-use Rattle.live_lines.specs.Serving.{ServesLines, WritesAll, status_of}
+use Rattle.live_lines.specs.Lines.{IsLine, LinesStop, with_feed}
+use Rattle.live_lines.specs.Serving.{ServesLines, WritesAll, end_status}
 use Rattle.live_lines.specs.declared.input.LineEnd.{LineEnd}
 use Rattle.live_lines.specs.declared.input.LineEnd.TheVariants.{End, Fault, TooLong, NoMemory}
 use Rattle.live_lines.specs.declared.status.Status.TheVariants.{Done, WriteFault, Undetected}
@@ -137,20 +137,20 @@ module _ {K : Type 0} (written : K → Option (List ℕ)) (faults : K → ℕ) (
       lines text
       → begun.buffer.now ≡ [] → out.failed ≡ false → out.buffer.now ≡ []
       → Consumes left_now left_last taken
-      → Stops end left_last read_faults_now read_faults_last (pending ++ taken)
-      → ServesLines most (status_of end) left left_last read_faults read_faults_last
+      → LinesStop end left_last read_faults_now read_faults_last (pending ++ taken)
+      → ServesLines most (end_status end) left left_last read_faults read_faults_last
       (written begun.sink.now) (written out.sink.now) (faults begun.sink.now)
       (faults out.sink.now) lines text
   Going-stops {out} {left_now} {left_last} most pending taken {count} read_faults_now
       read_faults_last end lines text h clear fine empty more stops =
       let whole = Going-whole pending read_faults_now lines text h clear fine empty in
       let stopped =
-      subst (λ n. Stops end left_last n read_faults_last (pending ++ taken)) h.counts stops in
+      subst (λ n. LinesStop end left_last n read_faults_last (pending ++ taken)) h.counts stops in
       let read =
       read_more left left_now left_last (flat_map with_feed lines) pending taken
       (pending ++ taken) h.read more refl in
-      elim end as (λ e. Stops e left_last read_faults read_faults_last (pending ++ taken)
-      → ServesLines most (status_of e) left left_last read_faults read_faults_last
+      elim end as (λ e. LinesStop e left_last read_faults read_faults_last (pending ++ taken)
+      → ServesLines most (end_status e) left left_last read_faults read_faults_last
       (written begun.sink.now) (written out.sink.now) (faults begun.sink.now)
       (faults out.sink.now) lines text) [
         | End ↦ λ s. record {

@@ -21,10 +21,10 @@ abbrev pub with_feed : List ℕ → List ℕ
 with_feed line = line ++ codes "\n"
 
 -- Why there is no further line, of bytes that were read behind the last line feed.
-abbrev pub Stops : LineEnd → Option (List ℕ) → ℕ → ℕ → List ℕ → Type 0
-Stops End left faults faults_after bytes =
+abbrev pub LinesStop : LineEnd → Option (List ℕ) → ℕ → ℕ → List ℕ → Type 0
+LinesStop End left faults faults_after bytes =
     IsAtEnd left × HasNoFeed bytes × (faults_after ≡ faults)
-Stops Fault left faults faults_after bytes = Rose faults faults_after × HasNoFeed bytes
-Stops TooLong left faults faults_after bytes =
+LinesStop Fault left faults faults_after bytes = Rose faults faults_after × HasNoFeed bytes
+LinesStop TooLong left faults faults_after bytes =
     (most_line < length bytes) × HasNoFeed (take (most_line + 1) bytes) × (faults_after ≡ faults)
-Stops NoMemory left faults faults_after bytes = faults_after ≡ faults
+LinesStop NoMemory left faults faults_after bytes = faults_after ≡ faults

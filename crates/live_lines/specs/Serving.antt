@@ -12,24 +12,24 @@ use Rattle.live_lines.specs.declared.input.LineEnd.TheVariants.{End, Fault, TooL
 use Rattle.live_lines.specs.Lines.{IsLine, HasNoFeed, with_feed, most_line}
 
 -- how it ends if there is no further line
-abbrev pub status_of : LineEnd → Status
-status_of End = Done
-status_of Fault = ReadFault
-status_of TooLong = ends_with.TooLong
-status_of NoMemory = ends_with.NoMemory
+abbrev pub end_status : LineEnd → Status
+end_status End = Done
+end_status Fault = ReadFault
+end_status TooLong = ends_with.TooLong
+end_status NoMemory = ends_with.NoMemory
 
 -- Why it ended, if so many lines are the most: the bytes were read behind the last line that is
 -- answered.
-abbrev pub EndsBy : ℕ → Status → ℕ → Option (List ℕ) → ℕ → ℕ → List ℕ → Type 0
-EndsBy most Done count left faults faults_after behind = (faults_after ≡ faults)
+abbrev pub ServingEnds : ℕ → Status → ℕ → Option (List ℕ) → ℕ → ℕ → List ℕ → Type 0
+ServingEnds most Done count left faults faults_after behind = (faults_after ≡ faults)
     × ((IsAtEnd left × HasNoFeed behind) ⊎ (count ≡ most))
-EndsBy most Words count left faults faults_after behind = ⊥
-EndsBy most ReadFault count left faults faults_after behind =
+ServingEnds most Words count left faults faults_after behind = ⊥
+ServingEnds most ReadFault count left faults faults_after behind =
     Rose faults faults_after × HasNoFeed behind
-EndsBy most WriteFault count left faults faults_after behind = faults_after ≡ faults
-EndsBy most ends_with.NoMemory count left faults faults_after behind = faults_after ≡ faults
-EndsBy most Undetected count left faults faults_after behind = faults_after ≡ faults
-EndsBy most ends_with.TooLong count left faults faults_after behind = (faults_after ≡ faults)
+ServingEnds most WriteFault count left faults faults_after behind = faults_after ≡ faults
+ServingEnds most ends_with.NoMemory count left faults faults_after behind = faults_after ≡ faults
+ServingEnds most Undetected count left faults faults_after behind = faults_after ≡ faults
+ServingEnds most ends_with.TooLong count left faults faults_after behind = (faults_after ≡ faults)
     × (most_line < length behind) × HasNoFeed (take (most_line + 1) behind)
 
 -- all of a text was written
@@ -61,5 +61,5 @@ pub record ServesLines (most : ℕ) (status : Status) (left left_after : Option 
   pub behind : List ℕ
   pub are_lines : All (λ line. IsLine line) lines
   pub read : Consumes left left_after (flat_map with_feed lines ++ behind)
-  pub ends : EndsBy most status (length lines) left_after read_faults read_faults_after behind
+  pub ends : ServingEnds most status (length lines) left_after read_faults read_faults_after behind
   pub writes : WritesBy status written written_after write_faults write_faults_after text

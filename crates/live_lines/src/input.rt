@@ -2,7 +2,7 @@
 ghost use Rattle.std.specs.Prelude.{◌≡◌, ◌≤◌, ◌++◌, ◌∷◌, ℕ, List, [], length, IfOk, OnOk, OnErr, IfErr, IfSome, IfNone, MatchOption};
 ghost use Rattle.std.specs.Io.KnownBytes.{Consumes, Keeps, IsAtEnd};
 ghost use Rattle.rio_chars.specs.Faults.{Rose};
-ghost use Rattle.live_lines.specs.Lines.{IsLine, Stops, with_feed};
+ghost use Rattle.live_lines.specs.Lines.{IsLine, LinesStop, with_feed};
 ghost use Rattle.live_lines.specs.declared.input.LineEnd.TheVariants.{Fault};
 
 use rio_chars::{Failed, Source};
@@ -80,7 +80,7 @@ impl Input {
         ensures counts { OnOk result (S.faults source.new ≡ S.faults source.old) }
         ensures stops { IfErr result (λ end. (taken : List ℕ)
             × Consumes (S.left source.old) (S.left source.new) taken
-            × Stops end (S.left source.new) (S.faults source.old) (S.faults source.new)
+            × LinesStop end (S.left source.new) (S.faults source.old) (S.faults source.new)
             (self.old ++ taken)) }
     {
         line.clear();

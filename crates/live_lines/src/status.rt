@@ -1,8 +1,8 @@
 //! How a program ended.
 ghost use Rattle.std.specs.Prelude.{◌≡◌, false, Some, None, MatchOption};
 ghost use Rattle.rio_chars.specs.Unless.{WritesUnless};
-ghost use Rattle.live_lines.specs.Statuses.{number_of, message_of, words_of};
-ghost use Rattle.live_lines.specs.Serving.{status_of};
+ghost use Rattle.live_lines.specs.Statuses.{status_value, message_of, status_words};
+ghost use Rattle.live_lines.specs.Serving.{end_status};
 
 use crate::input::LineEnd;
 use rio_chars::{Sink, write_unless};
@@ -27,7 +27,7 @@ pub enum Status {
 }
 
 impl From<LineEnd> for Status {
-    ghost from_gives = { λ end status. status ≡ status_of end };
+    ghost from_gives = { λ end status. status ≡ end_status end };
 
     fn from(end: LineEnd) -> Self {
         match end {
@@ -41,7 +41,7 @@ impl From<LineEnd> for Status {
 
 /// The exit status of a program.
 pub fn status_number(status: Status) -> u8
-    ensures { result ≡ number_of status }
+    ensures { result ≡ status_value status }
 {
     match status {
         Status::Done => 0,
@@ -71,8 +71,8 @@ pub fn say<M: Sink>(messages: &mut M, name: &[u8], usage: &[u8], status: Status)
 
 /// What is said of a status behind the name of the program, if anything is.
 fn words(usage: &[u8], status: Status) -> Option<&[u8]>
-    ensures { MatchOption result (words_of usage.entry.now status ≡ None)
-        (λ words. words_of usage.entry.now status ≡ Some words.now) }
+    ensures { MatchOption result (status_words usage.entry.now status ≡ None)
+        (λ words. status_words usage.entry.now status ≡ Some words.now) }
 {
     match status {
         Status::Done => None,

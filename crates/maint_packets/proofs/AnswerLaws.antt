@@ -6,7 +6,8 @@ use Rattle.std.proofs.lemmas.List.{get_or_past}
 use Rattle.std.proofs.lemmas.List.Elements.{All-append, All-from_recursion}
 use Rattle.rio_packets.specs.LinkForm.{AreBytes, Passes}
 use Rattle.rio_packets.specs.Fields.{prio_of, tt_of, dest_of, source_of, ids_end, hop_place, half_word_at, ttype_of, is_request, body_of}
-use Rattle.rio_packets.specs.Hops.{ended, is_large}
+use Rattle.rio_packets.specs.Hops.{message_ended, is_large}
+use Rattle.rio_packets.specs.Words.{word_at}
 use Rattle.maint_registers.specs.Devices.{Device, IsSameDevice}
 use Rattle.maint_registers.specs.Within.{IsWithin}
 use Rattle.maint_registers.specs.Access.{value_at, written_at}
@@ -15,10 +16,10 @@ use Rattle.maint_registers.proofs.WithinLaws.{written_within, read_fits}
 use Rattle.maint_packets.specs.declared.request.Op.{Op}
 use Rattle.maint_packets.specs.declared.request.Op.TheVariants.{Read, Write, BadRead, BadWrite}
 use Rattle.maint_packets.specs.declared.request.Request.{Request}
-use Rattle.maint_packets.specs.Layout.{word_at, offset_of, tid_of, short_length, long_length, data_bytes, behind_ids}
+use Rattle.maint_packets.specs.Layout.{offset_of, tid_of, short_length, long_length, data_bytes, behind_ids}
 use Rattle.maint_packets.specs.Requests.{names_second, in_half, value_in, has_form, op_of, request_of}
 use Rattle.maint_packets.specs.Responses.{response_bytes}
-use Rattle.maint_packets.specs.Answers.{back, after_read, after_write, answered_to, answered}
+use Rattle.maint_packets.specs.Answers.{back, request_read, request_written, answered_to, request_answered}
 use Rattle.maint_packets.proofs.FormLaws.{Passes-ended}
 
 -- ---- bytes
@@ -167,7 +168,7 @@ data_fits (Some words) fit =
 body_passes : (large : Bool) (prio dest source : ℕ) (rest : List ℕ) → prio < 4
     → dest < ids_below large
     → source < ids_below large → AreBytes rest → length rest % 4 ≡ 2 → length rest ≤ 74
-    → Passes (ended large (body_of prio 8 large dest source rest))
+    → Passes (message_ended large (body_of prio 8 large dest source rest))
 body_passes false prio dest source rest p d s range fills most =
     let front : List ℕ = 0 ∷ (64 * prio + 8) ∷ dest ∷ source ∷ [] in
     Passes-ended false (front ++ rest)
@@ -272,14 +273,14 @@ half_fits offset value fits = go (names_second offset)
 
 read_passes : (device : Device) (request : Request) (o : Option ℕ) → Fits request
     → ((value : ℕ) → o ≡ Some value → value < 0x100000000)
-    → Passes (response_bytes (after_read device request o).response)
+    → Passes (response_bytes (request_read device request o).response)
 read_passes device request None fits words = back_passes request false 7 None fits (omega arith) tt
 read_passes device request (Some value) fits words =
     back_passes request false 0 (Some (in_half request.offset value)) fits (omega arith)
     (half_fits request.offset value (words value refl))
 
 write_passes : (device : Device) (request : Request) (o : Option Device) → Fits request
-    → Passes (response_bytes (after_write device request o).response)
+    → Passes (response_bytes (request_written device request o).response)
 write_passes device request None fits = back_passes request true 7 None fits (omega arith) tt
 write_passes device request (Some next) fits = back_passes request true 0 None fits (omega arith) tt
 
@@ -298,7 +299,7 @@ op_passes device request port BadWrite within low fits = write_passes device req
 -- what the registers answer is in its link form
 pub responses_pass : (device : Device) (packet : List ℕ) (request : Request) (port : ℕ)
     → IsWithin device → port < 0x100 → Passes packet → request_of packet ≡ Some request
-    → Passes (response_bytes (answered device request port).response)
+    → Passes (response_bytes (request_answered device request port).response)
 responses_pass device packet request port within low form is =
     op_passes device request port request.op within low (request_fits packet request form.range is)
 
@@ -306,12 +307,12 @@ responses_pass device packet request port within low form is =
 
 written_stays : (device : Device) (request : Request) (o : Option Device) → IsWithin device
     → ((next : Device) → o ≡ Some next → IsWithin next) → IsWithin
-    (after_write device request o).device
+    (request_written device request o).device
 written_stays device request None within nexts = within
 written_stays device request (Some next) within nexts = nexts next refl
 
 read_stays : (device : Device) (request : Request) (o : Option ℕ) → IsWithin device
-    → IsWithin (after_read device request o).device
+    → IsWithin (request_read device request o).device
 read_stays device request None within = within
 read_stays device request (Some value) within = within
 
@@ -329,7 +330,7 @@ op_stays device request port BadWrite within fits = within
 -- and leaves the device within its bounds
 pub answered_within : (device : Device) (packet : List ℕ) (request : Request) (port : ℕ)
     → IsWithin device → Passes packet → request_of packet ≡ Some request
-    → IsWithin (answered device request port).device
+    → IsWithin (request_answered device request port).device
 answered_within device packet request port within form is =
     let fits = request_fits packet request form.range is in
     op_stays device request port request.op within fits.value
@@ -337,20 +338,20 @@ answered_within device packet request port within form is =
 -- ---- kind, ports and links
 
 read_same : (device : Device) (request : Request) (o : Option ℕ)
-    → IsSameDevice device (after_read device request o).device
+    → IsSameDevice device (request_read device request o).device
 read_same device request None = same_device device
 read_same device request (Some value) = same_device device
 
 write_same : (device : Device) (request : Request) (offset value : ℕ) (o : Option Device)
     → written_at device offset value ≡ o
-    → IsSameDevice device (after_write device request o).device
+    → IsSameDevice device (request_written device request o).device
 write_same device request offset value None is = same_device device
 write_same device request offset value (Some next) is =
     written_same device next offset value is
 
 -- a device that answers is the same
 pub answered_same : (device : Device) (request : Request) (port : ℕ)
-    → IsSameDevice device (answered device request port).device
+    → IsSameDevice device (request_answered device request port).device
 answered_same device request port = by_op request.op
   where
     by_op : (op : Op) → IsSameDevice device (answered_to device request port op).device

@@ -2,7 +2,7 @@
 use Rattle.std.proofs.Common.{◌≡◌, ◌≢◌, ℕ, ◌+◌, ◌/◌, ◌%◌, ◌≤◌, Bool, true, false, List, [], ◌∷◌, ◌++◌, length, subst, ◌∙◌, inl, inr, arith, length-append}
 use Rattle.rio_packets.specs.LinkForm.{IsBody, LinkForm, Passes, padded}
 use Rattle.rio_packets.specs.Register.{running}
-use Rattle.rio_packets.specs.Hops.{closed, ended}
+use Rattle.rio_packets.specs.Hops.{closed, message_ended}
 use Rattle.rio_packets.specs.Making.{made}
 use Rattle.rio_packets.proofs.CrcLaws.{IsCrc-halves, IsCrc-one}
 use Rattle.rio_packets.proofs.FormLaws.{LinkForm-made, Passes-from_form}
@@ -39,7 +39,7 @@ above_fours true = 0
 
 -- A maintenance packet ends as the size of its IDs says.
 pub ended-link_form : (large : Bool) (body p : List ℕ) → LinkForm body p → length body ≤ 80
-    → length body % 4 ≡ above_fours large → p ≡ ended large body
+    → length body % 4 ≡ above_fours large → p ≡ message_ended large body
 ended-link_form false body p form h k = closed-link_form body p form h k
 ended-link_form true body p form h k =
     let size = length-closed body in
@@ -48,7 +48,7 @@ ended-link_form true body p form h k =
 
 -- And as it ends it passes.
 pub Passes-ended : (large : Bool) (body : List ℕ) → IsBody body → length body ≤ 80
-    → length body % 4 ≡ above_fours large → Passes (ended large body)
+    → length body % 4 ≡ above_fours large → Passes (message_ended large body)
 Passes-ended large body is_body h k =
     let form = LinkForm-made body is_body in
     subst Passes (ended-link_form large body (made body) form h k) (Passes-from_form body

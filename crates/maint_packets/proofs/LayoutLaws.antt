@@ -3,10 +3,11 @@ use Rattle.std.proofs.Common.{◌≡◌, ℕ, ◌+◌, ◌-◌, ◌*◌, ◌/◌
 use Rattle.std.proofs.lemmas.List.{get_or-append-add, get_or_append_left}
 use Rattle.rio_packets.specs.LinkForm.{LinkForm}
 use Rattle.rio_packets.specs.Fields.{prio_of, tt_of, ftype_of, dest_of, source_of, ids_end, hop_place, ttype_of, is_maintenance, is_maintenance_length, types_of, ids_of, body_of}
-use Rattle.rio_packets.specs.Hops.{closed, ended, is_large}
+use Rattle.rio_packets.specs.Hops.{closed, message_ended, is_large}
+use Rattle.rio_packets.specs.Words.{word_at}
 use Rattle.rio_packets.proofs.FieldLaws.{get_or-link_form}
 use Rattle.maint_packets.proofs.FormLaws.{length-closed, above_fours, ended-link_form}
-use Rattle.maint_packets.specs.Layout.{word_at, offset_of, tid_of, low_half_of, short_length, long_length, behind_ids}
+use Rattle.maint_packets.specs.Layout.{offset_of, tid_of, low_half_of, short_length, long_length, behind_ids}
 
 -- ---- what the size of the IDs says
 
@@ -55,7 +56,8 @@ length-front : (prio : ℕ) (large : Bool) (dest source : ℕ) → length
 length-front prio false dest source = refl
 length-front prio true dest source = refl
 
-length-ended : (large : Bool) (body : List ℕ) → length (ended large body) ≡ length body + tail_of
+length-ended : (large : Bool) (body : List ℕ)
+    → length (message_ended large body) ≡ length body + tail_of
     large
 length-ended false body = length-closed body
 length-ended true body =
@@ -105,25 +107,27 @@ source-from true p prio dest source e byte =
 -- ---- the lengths
 
 -- the pad is 0
-pad-from : (body p : List ℕ) → p ≡ ended true body
+pad-from : (body p : List ℕ) → p ≡ message_ended true body
     → (get_or p (length p - 2) 0 ≡ 0) × (get_or p (length p - 1) 0 ≡ 0)
 pad-from body p is =
     let size = length-ended true body in
     let short = length-closed body in
     let pad : List ℕ = 0 ∷ 0 ∷ [] in
-    let first : length (ended true body) - 2 ≡ length (closed body) + 0 = omega
+    let first : length (message_ended true body) - 2 ≡ length (closed body) + 0 = omega
     (arith, size, short) in
-    let second : length (ended true body) - 1 ≡ length (closed body) + 1 = omega
+    let second : length (message_ended true body) - 1 ≡ length (closed body) + 1 = omega
     (arith, size, short) in
     rw is (
-      ap (λ n. get_or (ended true body) n 0) first ∙ get_or-append-add (closed body) pad 0 0,
-      ap (λ n. get_or (ended true body) n 0) second ∙ get_or-append-add (closed body) pad 1 0,
+      ap (λ n. get_or (message_ended true body) n 0) first
+          ∙ get_or-append-add (closed body) pad 0 0,
+      ap (λ n. get_or (message_ended true body) n 0) second
+          ∙ get_or-append-add (closed body) pad 1 0,
     )
 
 -- it is a maintenance packet if it has one of the lengths
 maintenance-from : (large : Bool) (body p : List ℕ) (n : ℕ) → ftype_of p ≡ 8
     → tt_of p ≡ type_of large
-    → p ≡ ended large body → length body + 2 ≡ n + (tail_of large - 2)
+    → p ≡ message_ended large body → length body + 2 ≡ n + (tail_of large - 2)
     → is_maintenance_length n ≡ true
     → is_maintenance p ≡ true
 maintenance-from false body p n f t is size good =
@@ -190,7 +194,7 @@ module _ (prio : ℕ) (large : Bool) (dest source : ℕ) (rest p : List ℕ)
 
   -- if the rest fills a packet up, it is known how the packet ends
   module _ (fills : length rest % 4 ≡ 2) (most : length rest ≤ 74) where
-    pub is-built : p ≡ ended large body
+    pub is-built : p ≡ message_ended large body
     is-built =
         let whole = length-body in let end = end-most large in
         ended-link_form large body p form (omega (arith, whole, end, most))
@@ -297,7 +301,8 @@ pub ended-built : (prio : ℕ) (large : Bool) (dest source ttype low tid hop off
     (words : Option (ℕ × ℕ)) (p : List ℕ)
     → LinkForm (body_of prio 8 large dest source (behind_ids ttype low tid hop offset words)) p
     → prio < 4
-    → p ≡ ended large (body_of prio 8 large dest source (behind_ids ttype low tid hop offset words))
+    → p ≡ message_ended large
+    (body_of prio 8 large dest source (behind_ids ttype low tid hop offset words))
 ended-built prio large dest source ttype low tid hop offset None p form h =
     is-built prio large dest source (behind_ids ttype low tid hop offset None) p form h refl
     (omega arith)

@@ -1,13 +1,14 @@
 -- A request is read back from the packet that was built of it.
 use Rattle.std.proofs.Common.{◌≡◌, ℕ, ◌+◌, ◌<◌, Bool, true, false, Option, Some, None, List, length, ap, subst, sym, nat_lt, ◌∙◌, refl, arith, eq-eqb, if◌then◌else◌}
 use Rattle.rio_packets.specs.LinkForm.{LinkForm}
-use Rattle.rio_packets.specs.Hops.{ended, is_large}
+use Rattle.rio_packets.specs.Hops.{message_ended, is_large}
 use Rattle.rio_packets.specs.Fields.{ids_end, ttype_of, is_maintenance, is_request, body_of}
+use Rattle.rio_packets.specs.Words.{word_at}
 use Rattle.maint_packets.specs.declared.request.Op.{Op}
 use Rattle.maint_packets.specs.declared.request.Op.TheVariants.{Read, Write, BadRead, BadWrite}
 use Rattle.maint_packets.specs.declared.request.Request.{Request}
-use Rattle.maint_packets.specs.Layout.{word_at, low_half_of, short_length, long_length, behind_ids}
-use Rattle.maint_packets.specs.Requests.{names_second, in_half, value_in, op_of, request_of, IsGood, asked, request_body, request_bytes}
+use Rattle.maint_packets.specs.Layout.{low_half_of, short_length, long_length, behind_ids}
+use Rattle.maint_packets.specs.Requests.{names_second, in_half, value_in, op_of, request_of, IsGoodOp, op_bytes, request_body, request_bytes}
 use Rattle.maint_packets.proofs.LayoutLaws.{ended-built, prio-built, large-built, dest-built, source-built, ttype-built, low_half-built, tid-built, hop-built, offset-built, length-without, maintenance-without, length-with, maintenance-with, first-built, second-built}
 
 op_of-read : (p : List ℕ) → ttype_of p ≡ 0 → low_half_of p ≡ 8 → length p ≡ short_length
@@ -89,9 +90,9 @@ module _ (request : Request) (p : List ℕ) (h : request.prio < 4) where
         offset = g i;
       })
 
-  from_op : (op : Op) → request.op ≡ op → IsGood op
+  from_op : (op : Op) → request.op ≡ op → IsGoodOp op
       → LinkForm (body_of request.prio 8 request.large request.dest request.source
-      (asked request op)) p
+      (op_bytes request op)) p
       → request_of p ≡ Some request
   from_op Read is good form =
       let size = length-without request.prio request.large request.dest request.source 0 8
@@ -123,7 +124,7 @@ module _ (request : Request) (p : List ℕ) (h : request.prio < 4) where
   from_op BadRead is good form = absurd good
   from_op BadWrite is good form = absurd good
 
-  pub read_back : IsGood request.op → LinkForm (request_body request) p
+  pub read_back : IsGoodOp request.op → LinkForm (request_body request) p
       → request_of p ≡ Some request
   read_back good form = from_op request.op refl good form
 
@@ -132,15 +133,15 @@ module _ (request : Request) (p : List ℕ) (h : request.prio < 4) where
   is_bytes form = by_op request.op form
     where
       built : (ttype : ℕ) (words : Option (ℕ × ℕ)) → LinkForm (body ttype words) p
-          → p ≡ ended request.large (body ttype words)
+          → p ≡ message_ended request.large (body ttype words)
       built ttype words form =
           ended-built request.prio request.large request.dest request.source ttype 8 request.tid
           request.hop request.offset words p form h
 
       by_op : (op : Op) → LinkForm (body_of request.prio 8 request.large request.dest request.source
-          (asked request op)) p
-          → p ≡ ended request.large (body_of request.prio 8 request.large request.dest
-          request.source (asked request op))
+          (op_bytes request op)) p
+          → p ≡ message_ended request.large (body_of request.prio 8 request.large request.dest
+          request.source (op_bytes request op))
       by_op Read form = built 0 None form
       by_op (Write value) form = built 1 (Some (in_half request.offset value)) form
       by_op BadRead form = built 0 None form

@@ -3,9 +3,10 @@ use Rattle.std.proofs.Common.{◌≡◌, ℕ, ◌+◌, ◌<◌, ◌==◌, Bool, 
 use Rattle.rio_packets.specs.LinkForm.{LinkForm}
 use Rattle.rio_packets.specs.Hops.{is_large}
 use Rattle.rio_packets.specs.Fields.{ids_end, ttype_of, body_of}
+use Rattle.rio_packets.specs.Words.{word_at}
 use Rattle.maint_packets.specs.declared.response.Response.{Response}
-use Rattle.maint_packets.specs.Layout.{word_at, low_half_of, short_length, long_length, behind_ids}
-use Rattle.maint_packets.specs.Responses.{is_with_data, is_without_data, with_words, response_of, IsFormed, response_body, response_bytes}
+use Rattle.maint_packets.specs.Layout.{low_half_of, short_length, long_length, behind_ids}
+use Rattle.maint_packets.specs.Responses.{is_with_data, is_without_data, with_words, response_of, IsResponseForm, response_body, response_bytes}
 use Rattle.maint_packets.proofs.LayoutLaws.{ended-built, prio-built, large-built, dest-built, source-built, ttype-built, low_half-built, tid-built, hop-built, length-without, maintenance-without, length-with, maintenance-with, first-built, second-built}
 
 module _ (response : Response) (p : List ℕ) (h : response.prio < 4) where
@@ -96,7 +97,8 @@ module _ (response : Response) (p : List ℕ) (h : response.prio < 4) where
 
   from_form : (write : Bool) (words : Option (ℕ × ℕ)) → response.write ≡ write
       → response.words ≡ words
-      → IsFormed write response.status words → LinkForm (body (if write then 3 else 2) words) p
+      → IsResponseForm write response.status words
+      → LinkForm (body (if write then 3 else 2) words) p
       → response_of p ≡ Some response
   from_form false (Some words) w e done form = with_data words form done w e
   from_form false None w e failed form =
@@ -113,7 +115,7 @@ module _ (response : Response) (p : List ℕ) (h : response.prio < 4) where
             (λ t s n. let low : low_half_of p ≡ 7 = s ∙ failed in (rw t refl, rw (t, low, n) refl))
       ]
 
-  pub read_back : IsFormed response.write response.status response.words → LinkForm
+  pub read_back : IsResponseForm response.write response.status response.words → LinkForm
       (response_body response) p
       → response_of p ≡ Some response
   read_back formed form = from_form response.write response.words refl refl formed form

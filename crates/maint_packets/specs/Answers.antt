@@ -9,7 +9,7 @@ use Rattle.maint_packets.specs.declared.response.Response.{Response}
 use Rattle.maint_packets.specs.Requests.{in_half}
 
 -- a response, and the registers after it
-pub record Answered : Type 0 where
+pub record RequestAnswered : Type 0 where
   pub response : Response
   pub device : Device
 
@@ -29,29 +29,30 @@ back request write status words = record {
 }
 
 -- what was read, in the half that the request names
-abbrev pub after_read : Device → Request → Option ℕ → Answered
-after_read device request (Some value) = record {
+abbrev pub request_read : Device → Request → Option ℕ → RequestAnswered
+request_read device request (Some value) = record {
   response = back request false 0 (Some (in_half request.offset value));
   device = device;
 }
-after_read device request None = record { response = back request false 7 None; device = device }
+request_read device request None = record { response = back request false 7 None; device = device }
 
 -- what the write left
-abbrev pub after_write : Device → Request → Option Device → Answered
-after_write device request (Some next) = record {
+abbrev pub request_written : Device → Request → Option Device → RequestAnswered
+request_written device request (Some next) = record {
   response = back request true 0 None;
   device = next;
 }
-after_write device request None = record { response = back request true 7 None; device = device }
+request_written device request None =
+    record { response = back request true 7 None; device = device }
 
 -- the answer to a request that came to a port
-abbrev pub answered_to : Device → Request → ℕ → Op → Answered
+abbrev pub answered_to : Device → Request → ℕ → Op → RequestAnswered
 answered_to device request port Read =
-    after_read device request (value_at device request.offset port)
+    request_read device request (value_at device request.offset port)
 answered_to device request port (Write value) =
-    after_write device request (written_at device request.offset value)
-answered_to device request port BadRead = after_read device request None
-answered_to device request port BadWrite = after_write device request None
+    request_written device request (written_at device request.offset value)
+answered_to device request port BadRead = request_read device request None
+answered_to device request port BadWrite = request_written device request None
 
-abbrev pub answered : Device → Request → ℕ → Answered
-answered device request port = answered_to device request port request.op
+abbrev pub request_answered : Device → Request → ℕ → RequestAnswered
+request_answered device request port = answered_to device request port request.op

@@ -11,12 +11,7 @@
 -- The first byte of a number is its highest. A missing byte is read as 0.
 use Rattle.std.specs.Prelude.{ℕ, ◌+◌, ◌*◌, ◌/◌, ◌%◌, Bool, true, false, List, [], ◌∷◌, ◌++◌, slice_index, Option, Some, None}
 use Rattle.rio_packets.specs.Fields.{ids_end}
-
--- a word, the number of 32 bits in the four bytes from a place on
-abbrev pub word_at : List ℕ → ℕ → ℕ
-word_at bytes at =
-    0x1000000 * slice_index bytes at + 0x10000 * slice_index bytes (at + 1)
-    + 0x100 * slice_index bytes (at + 2) + slice_index bytes (at + 3)
+use Rattle.rio_packets.specs.Words.{word_bytes}
 
 -- the number of 24 bits in the three bytes behind the hop count
 abbrev pub offset_of : List ℕ → ℕ
@@ -42,10 +37,6 @@ short_length true = 16
 abbrev pub long_length : Bool → ℕ
 long_length false = 20
 long_length true = 24
-
--- the bytes of a word
-abbrev pub word_bytes : ℕ → List ℕ
-word_bytes n = n / 0x1000000 ∷ n / 0x10000 % 0x100 ∷ n / 0x100 % 0x100 ∷ n % 0x100 ∷ []
 
 -- two words as data
 abbrev pub data_bytes : Option (ℕ × ℕ) → List ℕ

@@ -2,12 +2,13 @@
 -- Part 1, maintenance packets; that only four bytes at a time are read or written is this project's
 -- profile).
 use Rattle.std.specs.Prelude.{ℕ, ◌+◌, ◌/◌, ◌%◌, ◌==◌, ◌&&◌, Bool, List, length, slice_index, Option, Some, None, unwrap_or, if◌then◌else◌}
-use Rattle.rio_packets.specs.Hops.{ended, is_large}
+use Rattle.rio_packets.specs.Hops.{message_ended, is_large}
 use Rattle.rio_packets.specs.Fields.{prio_of, dest_of, source_of, ids_end, hop_place, ttype_of, is_request, body_of}
+use Rattle.rio_packets.specs.Words.{word_at}
 use Rattle.maint_packets.specs.declared.request.Op.{Op}
 use Rattle.maint_packets.specs.declared.request.Op.TheVariants.{Read, Write, BadRead, BadWrite}
 use Rattle.maint_packets.specs.declared.request.Request.{Request}
-use Rattle.maint_packets.specs.Layout.{word_at, offset_of, tid_of, low_half_of, short_length, long_length, behind_ids}
+use Rattle.maint_packets.specs.Layout.{offset_of, tid_of, low_half_of, short_length, long_length, behind_ids}
 
 -- A double-word has two words. Bit 2 of the offset, wdptr, names the second.
 abbrev pub names_second : ℕ → Bool
@@ -50,23 +51,23 @@ request_of bytes =
     else None
 
 -- it asks to read or to write
-abbrev pub IsGood : Op → Type 0
-IsGood Read = Unit {0}
-IsGood (Write value) = Unit {0}
-IsGood BadRead = ⊥
-IsGood BadWrite = ⊥
+abbrev pub IsGoodOp : Op → Type 0
+IsGoodOp Read = Unit {0}
+IsGoodOp (Write value) = Unit {0}
+IsGoodOp BadRead = ⊥
+IsGoodOp BadWrite = ⊥
 
 -- what stands behind the IDs of a request
-abbrev pub asked : Request → Op → List ℕ
-asked request (Write value) =
+abbrev pub op_bytes : Request → Op → List ℕ
+op_bytes request (Write value) =
     behind_ids 1 8 request.tid request.hop request.offset (Some (in_half request.offset value))
-asked request _ = behind_ids 0 8 request.tid request.hop request.offset None
+op_bytes request _ = behind_ids 0 8 request.tid request.hop request.offset None
 
 -- the body of the packet that carries a request
 abbrev pub request_body : Request → List ℕ
 request_body request =
-    body_of request.prio 8 request.large request.dest request.source (asked request request.op)
+    body_of request.prio 8 request.large request.dest request.source (op_bytes request request.op)
 
 -- the packet that carries a request
 abbrev pub request_bytes : Request → List ℕ
-request_bytes request = ended request.large (request_body request)
+request_bytes request = message_ended request.large (request_body request)

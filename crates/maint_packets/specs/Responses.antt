@@ -2,14 +2,11 @@
 -- Part 1, maintenance packets; that a response with an error has no data is this project's
 -- profile).
 use Rattle.std.specs.Prelude.{◌≡◌, ℕ, ◌+◌, ◌==◌, ◌&&◌, ◌||◌, ◌⊎◌, Bool, true, false, List, length, slice_index, Option, Some, None, unwrap_or, if◌then◌else◌}
-use Rattle.rio_packets.specs.Hops.{ended, is_large}
+use Rattle.rio_packets.specs.Hops.{message_ended, is_large}
 use Rattle.rio_packets.specs.Fields.{prio_of, dest_of, source_of, ids_end, hop_place, ttype_of, is_maintenance, body_of}
+use Rattle.rio_packets.specs.Words.{is_status, word_at}
 use Rattle.maint_packets.specs.declared.response.Response.{Response}
-use Rattle.maint_packets.specs.Layout.{word_at, tid_of, low_half_of, short_length, long_length, behind_ids}
-
--- status 0 is done, and 7 is an error
-abbrev pub is_status : ℕ → Bool
-is_status status = (status == 0) || (status == 7)
+use Rattle.maint_packets.specs.Layout.{tid_of, low_half_of, short_length, long_length, behind_ids}
 
 -- a read that was done, with two words
 abbrev pub is_with_data : List ℕ → Bool
@@ -25,8 +22,8 @@ is_without_data bytes =
     || ((ttype_of bytes == 3) && is_status (low_half_of bytes)))
 
 -- the two words of data
-abbrev pub words_in : List ℕ → ℕ × ℕ
-words_in bytes = (word_at bytes (ids_end bytes + 6), word_at bytes (ids_end bytes + 10))
+abbrev pub data_words : List ℕ → ℕ × ℕ
+data_words bytes = (word_at bytes (ids_end bytes + 6), word_at bytes (ids_end bytes + 10))
 
 -- a response with the fields of a packet, and these words
 abbrev pub with_words : List ℕ → Option (ℕ × ℕ) → Response
@@ -47,16 +44,16 @@ abbrev pub response_of : List ℕ → Option Response
 response_of bytes =
     if is_maintenance bytes
     then (if is_with_data bytes
-    then Some (with_words bytes (Some (words_in bytes)))
+    then Some (with_words bytes (Some (data_words bytes)))
     else (if is_without_data bytes then Some (with_words bytes None) else None))
     else None
 
 -- one of the forms of a response: a read that is done has words, and no other has
-abbrev pub IsFormed : Bool → ℕ → Option (ℕ × ℕ) → Type 0
-IsFormed false status (Some words) = status ≡ 0
-IsFormed false status None = status ≡ 7
-IsFormed true status (Some words) = ⊥
-IsFormed true status None = (status ≡ 0) ⊎ (status ≡ 7)
+abbrev pub IsResponseForm : Bool → ℕ → Option (ℕ × ℕ) → Type 0
+IsResponseForm false status (Some words) = status ≡ 0
+IsResponseForm false status None = status ≡ 7
+IsResponseForm true status (Some words) = ⊥
+IsResponseForm true status None = (status ≡ 0) ⊎ (status ≡ 7)
 
 -- the body of the packet that carries a response
 abbrev pub response_body : Response → List ℕ
@@ -67,4 +64,4 @@ response_body response =
 
 -- the packet that carries a response
 abbrev pub response_bytes : Response → List ℕ
-response_bytes response = ended response.large (response_body response)
+response_bytes response = message_ended response.large (response_body response)

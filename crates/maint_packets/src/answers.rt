@@ -1,8 +1,8 @@
 //! How a device answers a request.
 ghost use Rattle.std.specs.Prelude.{◌≡◌, ◌<◌, ◌+◌, min};
 ghost use Rattle.maint_registers.specs.Devices.{IsSameDevice};
-ghost use Rattle.maint_packets.specs.Responses.{IsFormed};
-ghost use Rattle.maint_packets.specs.Answers.{answered, answered_to, back};
+ghost use Rattle.maint_packets.specs.Responses.{IsResponseForm};
+ghost use Rattle.maint_packets.specs.Answers.{request_answered, answered_to, back};
 
 use crate::request::{Op, Request, in_half};
 use crate::response::{DONE, ERROR, Response};
@@ -14,10 +14,10 @@ use maint_registers::Registers;
 /// back with IDs of the same size, the next higher priority, if there is one, and a hop count of
 /// 255 (RapidIO Interconnect Specification 1.3, Part 1, maintenance responses; Part 3, hop count).
 pub fn answer(registers: &mut Registers, request: &Request, port: u8) -> Response
-    ensures response { result ≡ (answered registers.old request.now port).response }
-    ensures registers { registers.new ≡ (answered registers.old request.now port).device }
+    ensures response { result ≡ (request_answered registers.old request.now port).response }
+    ensures registers { registers.new ≡ (request_answered registers.old request.now port).device }
     ensures device { IsSameDevice registers.old registers.new }
-    ensures form { IsFormed result.write result.status result.words }
+    ensures form { IsResponseForm result.write result.status result.words }
     ensures prio { result.prio < 4 }
     ensures dest { result.dest ≡ request.now.source }
     ensures source { result.source ≡ request.now.dest }

@@ -4,7 +4,8 @@ ghost use Rattle.arrayvec.specs.ArrayVec.{array_vec_len};
 ghost use Rattle.rio_packets.specs.Fields.{is_maintenance, ids_end, ttype_of, body_of};
 ghost use Rattle.rio_packets.specs.Hops.{is_large};
 ghost use Rattle.rio_packets.specs.LinkForm.{AreBytes, LinkForm};
-ghost use Rattle.maint_packets.specs.Layout.{word_at, offset_of, tid_of, low_half_of, short_length, long_length, behind_ids};
+ghost use Rattle.rio_packets.specs.Words.{word_at};
+ghost use Rattle.maint_packets.specs.Layout.{offset_of, tid_of, low_half_of, short_length, long_length, behind_ids};
 
 use arrayvec::ArrayVec;
 use rio_packets::{Header, Packet, build};

@@ -4,7 +4,7 @@ ghost use Rattle.rio_packets.specs.LinkForm.{LinkForm};
 ghost use Rattle.rio_packets.specs.Fields.{ids_end, body_of};
 ghost use Rattle.rio_packets.specs.Hops.{is_large};
 ghost use Rattle.maint_packets.specs.Layout.{short_length, long_length, behind_ids};
-ghost use Rattle.maint_packets.specs.Requests.{names_second, in_half, value_in, has_form, request_of, IsGood, request_body, request_bytes};
+ghost use Rattle.maint_packets.specs.Requests.{names_second, in_half, value_in, has_form, request_of, IsGoodOp, request_body, request_bytes};
 
 use crate::layout::{
     Parts, built, is_large, long_length, low_half_of, maintenance_bytes, offset_of, short_length,
@@ -149,7 +149,7 @@ pub(crate) fn in_half(offset: u32, value: u32) -> (u32, u32)
 /// Returns the packet that carries a request to read or to write. The half of the data that the
 /// offset does not name is 0.
 pub fn write_request(request: &Request) -> Packet
-    requires op { IsGood request.now.op }
+    requires op { IsGoodOp request.now.op }
     requires prio { request.now.prio < 4 }
     requires dest { request.now.large ≡ false → request.now.dest < 256 }
     requires source { request.now.large ≡ false → request.now.source < 256 }

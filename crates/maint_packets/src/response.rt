@@ -2,7 +2,7 @@
 ghost use Rattle.std.specs.Prelude.{◌≡◌, ◌+◌, ◌<◌, ◌≤◌, false, length, Some, if◌then◌else◌};
 ghost use Rattle.rio_packets.specs.LinkForm.{LinkForm};
 ghost use Rattle.rio_packets.specs.Fields.{ids_end};
-ghost use Rattle.maint_packets.specs.Responses.{is_with_data, is_without_data, response_of, IsFormed, response_body, response_bytes};
+ghost use Rattle.maint_packets.specs.Responses.{is_with_data, is_without_data, response_of, IsResponseForm, response_body, response_bytes};
 
 use crate::layout::{
     Parts, built, is_large, long_length, low_half_of, maintenance_bytes, short_length, tid_of,
@@ -97,7 +97,7 @@ fn is_without_data(bytes: &[u8]) -> bool
 
 /// Returns the packet that carries a response of one of the forms that [`read_response`] reads.
 pub fn write_response(response: &Response) -> Packet
-    requires form { IsFormed response.now.write response.now.status response.now.words }
+    requires form { IsResponseForm response.now.write response.now.status response.now.words }
     requires prio { response.now.prio < 4 }
     requires dest { response.now.large ≡ false → response.now.dest < 256 }
     requires source { response.now.large ≡ false → response.now.source < 256 }

@@ -16,8 +16,8 @@ device_of fields = record {
   default_port = fields.default_port;
 }
 
-abbrev pub fields_of : Device → Inside
-fields_of device = record {
+abbrev pub inside_of : Device → Inside
+inside_of device = record {
   kind = device.kind;
   ports = device.ports;
   linked = device.linked;

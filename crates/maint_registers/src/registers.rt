@@ -45,13 +45,13 @@ impl Model for Registers {
 
     ghost Value = { Device };
 
-    ghost use Rattle.maint_registers.specs.Inside.{device_of, fields_of};
+    ghost use Rattle.maint_registers.specs.Inside.{device_of, inside_of};
 
     ghost view = { device_of };
 
     ghost invariant = { λ r. IsDevice (device_of r) };
 
-    ghost inverse = { fields_of };
+    ghost inverse = { inside_of };
 }
 
 /// The entries of a route table that names no port.

@@ -1,6 +1,6 @@
 //! The fabric that a script sets up is numbered.
 ghost use Rattle.std.specs.Prelude.{◌≡◌, IfOk};
-ghost use Rattle.fabric_script.specs.Scripts.{Passes};
+ghost use Rattle.fabric_script.specs.Scripts.{ScriptPasses};
 ghost use Rattle.fabric_map.specs.Numbered.{IsNumbered};
 ghost use Rattle.fabric_map.specs.Routes.{Registers};
 ghost use Rattle.fabric_map.specs.Plain.{topology_of, registers_of};
@@ -14,7 +14,7 @@ use std::alloc::Global;
 
 /// Numbers the devices that the set-up lines of a script make, from this host. The script passes.
 pub fn number_script(alloc: Global, script: &Script, host: u8) -> Result<Map, End>
-    requires passes { Passes script.now.names.items script.now.lines.items }
+    requires passes { ScriptPasses script.now.names.items script.now.lines.items }
     requires host { IsHost (devices_of script.now.lines.items) (links_of script.now.lines.items)
         host }
     ensures { IfOk result (λ map. (after : Registers) × IsNumbered

@@ -1,6 +1,6 @@
 //! The whole program, but for where its words and its streams come from.
 ghost use Rattle.std.specs.Prelude.{◌≤◌, length};
-ghost use Rattle.fabric_script.specs.Scripts.{Passes};
+ghost use Rattle.fabric_script.specs.Scripts.{ScriptPasses};
 
 use crate::accepting::accept;
 use crate::ends::{End, Status, status_number, status_of};
@@ -95,7 +95,7 @@ fn map_of_script(alloc: Global, bytes: &[u8], node: &[u8]) -> Result<Map, End>
 
 /// The map of an accepted script, or why the node of this name cannot be its host.
 fn map_from(alloc: Global, script: &Script, node: &[u8]) -> Result<Result<Map, Reason>, End>
-    requires { Passes script.now.names.items script.now.lines.items }
+    requires { ScriptPasses script.now.names.items script.now.lines.items }
 {
     match find_host(alloc, script, node) {
         Ok(Ok(host)) => {

@@ -6,14 +6,14 @@ use Rattle.rio_chars.specs.Faults.{Rose, FailedBy}
 use Rattle.rio_chars.specs.Fronts.{AppendsFront}
 use Rattle.rio_chars.proofs.FaultLaws.{FailedBy-trans}
 use Rattle.rio_chars.specs.Unless.{WritesUnless}
-use Rattle.rio_chars.specs.Written.{Told, Tells, Writes}
+use Rattle.rio_chars.specs.Written.{TextTold, TellsMore, Writes}
 use Rattle.rio_chars.specs.declared.outbox.Outbox.{Outbox}
 
 -- ---- what was told
 
 -- where no write failed and nothing waits, all the text was written
 pub Told-end : (start written : Option (List ℕ)) (waiting : List ℕ) (failed : Bool) (text : List ℕ)
-    → Told start written waiting failed text
+    → TextTold start written waiting failed text
     → failed ≡ false → waiting ≡ [] → Appends start written text
 Told-end start written waiting failed text told fine none =
     subst (Appends start written)
@@ -22,7 +22,7 @@ Told-end start written waiting failed text told fine none =
 
 -- whatever failed, a front of the text was written
 pub Told-front : (start written : Option (List ℕ)) (waiting : List ℕ) (failed : Bool)
-    (text : List ℕ) → Told start written waiting failed text → AppendsFront start written text
+    (text : List ℕ) → TextTold start written waiting failed text → AppendsFront start written text
 Told-front start written waiting failed text told = record {
   front = told.front;
   rest = told.rest;
@@ -32,7 +32,7 @@ Told-front start written waiting failed text told = record {
 
 -- where no write failed, the text is what was written and what waits behind it
 pub Told-appends : (start written : Option (List ℕ)) (waiting : List ℕ) (failed : Bool)
-    (text : List ℕ) → Told start written waiting failed text → failed ≡ false
+    (text : List ℕ) → TextTold start written waiting failed text → failed ≡ false
     → Appends start (append_known written waiting) text
 Told-appends None written waiting failed text told fine = tt
 Told-appends (Some x) None waiting failed text told fine = absurd told.told
@@ -44,7 +44,7 @@ Told-appends (Some x) (Some y) waiting failed text told fine =
 
 -- bytes wait behind those that wait
 Tells-kept : (written : Option (List ℕ)) (waiting : List ℕ) (failed : Bool) (bytes : List ℕ)
-    → Tells written waiting failed written (waiting ++ bytes) failed bytes
+    → TellsMore written waiting failed written (waiting ++ bytes) failed bytes
 Tells-kept written waiting failed bytes start text told = record {
   front = told.front;
   rest = told.rest ++ bytes;
@@ -56,7 +56,8 @@ Tells-kept written waiting failed bytes start text told = record {
 -- what waited was written, and more bytes behind it, and nothing waits any more
 Tells-wrote : (a : Option (List ℕ)) (i : ℕ) (waiting : List ℕ) (failed : Bool) (b : Option (List ℕ))
     (j : ℕ) (failed_after : Bool) (bytes all : List ℕ) → waiting ++ bytes ≡ all
-    → WritesUnless failed a i failed_after b j all → Tells a waiting failed b [] failed_after bytes
+    → WritesUnless failed a i failed_after b j all
+    → TellsMore a waiting failed b [] failed_after bytes
 Tells-wrote a i waiting true b j true bytes all e wrote start text told = record {
   front = told.front;
   rest = told.rest ++ bytes;
@@ -134,7 +135,7 @@ module _ {K : Type 0} (written : K → Option (List ℕ)) (faults : K → ℕ) w
   Writes-nil out = record {
     same = refl;
     told =
-        λ start text told. subst (Told start (written out.sink.now) out.buffer.now out.failed)
+        λ start text told. subst (TextTold start (written out.sink.now) out.buffer.now out.failed)
         (sym (append-nil text)) told;
     cause = λ failed. inl failed;
     counts = λ fine. refl;
@@ -169,7 +170,7 @@ module _ {K : Type 0} (written : K → Option (List ℕ)) (faults : K → ℕ) w
     same = same;
     told =
         λ start text told. subst
-        (λ l. Told start (written new.sink.now) l new.failed (text ++ bytes)) (sym none)
+        (λ l. TextTold start (written new.sink.now) l new.failed (text ++ bytes)) (sym none)
         (Tells-wrote (written old.sink.now) (faults old.sink.now) old.buffer.now old.failed
         (written new.sink.now) (faults new.sink.now) new.failed bytes all e wrote start text told);
     cause =
@@ -189,7 +190,7 @@ module _ {K : Type 0} (written : K → Option (List ℕ)) (faults : K → ℕ) w
   -- a new outbox has been told nothing
   Writes-begun : (start out : Outbox K) (text : List ℕ) → start.buffer.now ≡ []
       → Writes written faults start out text
-      → Told (written start.sink.now) (written out.sink.now) out.buffer.now out.failed text
+      → TextTold (written start.sink.now) (written out.sink.now) out.buffer.now out.failed text
   Writes-begun start out text empty told = told.told (written start.sink.now) [] (record {
     front = [];
     rest = [];
@@ -233,7 +234,7 @@ Writes-then {K} {written} {faults} {old} {mid} {new} bytes more first second =
     record {
       same = second.same ∙ first.same;
       told =
-          λ start text told. subst (Told start (written new.sink.now) new.buffer.now new.failed)
+          λ start text told. subst (TextTold start (written new.sink.now) new.buffer.now new.failed)
           (append_assoc text bytes more)
           (second.told start (text ++ bytes) (first.told start text told));
       cause =

@@ -3,5 +3,5 @@ use Rattle.std.specs.Prelude.{ℕ, ◌==◌, List}
 use Rattle.std.specs.List.{slice_split}
 
 -- the pieces that line feeds part; behind a final line feed stands an empty one
-abbrev pub lines_of : List ℕ → List (List ℕ)
-lines_of bytes = slice_split (λ byte. byte == 10) bytes
+abbrev pub text_lines : List ℕ → List (List ℕ)
+text_lines bytes = slice_split (λ byte. byte == 10) bytes

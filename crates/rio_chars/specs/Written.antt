@@ -6,7 +6,8 @@ use Rattle.rio_chars.specs.declared.outbox.Outbox.{Outbox}
 
 -- From `start` on, this text was told: a front of it was written, and unless a write failed the
 -- rest waits.
-pub record Told (start written : Option (List ℕ)) (waiting : List ℕ) (failed : Bool) (text : List ℕ)
+pub record TextTold (start written : Option (List ℕ)) (waiting : List ℕ) (failed : Bool)
+    (text : List ℕ)
     : Type 0 where
   pub front : List ℕ
   pub rest : List ℕ
@@ -15,11 +16,11 @@ pub record Told (start written : Option (List ℕ)) (waiting : List ℕ) (failed
   pub waits : failed ≡ false → rest ≡ waiting
 
 -- More bytes were told behind whatever text was told before.
-abbrev pub Tells : Option (List ℕ) → List ℕ → Bool → Option (List ℕ) → List ℕ → Bool → List ℕ
+abbrev pub TellsMore : Option (List ℕ) → List ℕ → Bool → Option (List ℕ) → List ℕ → Bool → List ℕ
     → Type 0
-Tells written waiting failed written_after waiting_after failed_after bytes =
-    (start : Option (List ℕ)) (text : List ℕ) → Told start written waiting failed text
-    → Told start written_after waiting_after failed_after (text ++ bytes)
+TellsMore written waiting failed written_after waiting_after failed_after bytes =
+    (start : Option (List ℕ)) (text : List ℕ) → TextTold start written waiting failed text
+    → TextTold start written_after waiting_after failed_after (text ++ bytes)
 
 -- All that a call says that tells these bytes to an outbox. `written` and `faults` are what the
 -- sink tells of itself: a write fails only if the count rose, and the count rises in no other way;
@@ -27,7 +28,7 @@ Tells written waiting failed written_after waiting_after failed_after bytes =
 pub record Writes {K : Type 0} (written : K → Option (List ℕ)) (faults : K → ℕ) (old new : Outbox K)
     (bytes : List ℕ) : Type 0 where
   pub same : new.sink.ghost_name ≡ old.sink.ghost_name
-  pub told : Tells (written old.sink.now) old.buffer.now old.failed (written new.sink.now)
+  pub told : TellsMore (written old.sink.now) old.buffer.now old.failed (written new.sink.now)
       new.buffer.now new.failed bytes
   pub cause : FailedBy old.failed (faults old.sink.now) new.failed (faults new.sink.now)
   pub counts : new.failed ≡ false → faults new.sink.now ≡ faults old.sink.now

@@ -6,12 +6,12 @@ use Rattle.rio_chars.specs.Fronts.{AppendsFront}
 use Rattle.rio_chars.specs.Takings.{ConsumesJust, ConsumesUpTo}
 use Rattle.rio_cli.specs.declared.command.Command.{Command}
 use Rattle.rio_cli.specs.declared.command.Command.TheVariants.{Check}
-use Rattle.rio_cli.specs.Words.{Asks}
+use Rattle.rio_cli.specs.Words.{AsksCommand}
 use Rattle.rio_cli.specs.declared.refusal.Refusal.{Refusal}
 use Rattle.rio_cli.specs.declared.status.Status.{Status}
 use Rattle.rio_cli.specs.declared.status.Status.TheVariants.{Done, Words, Script, ReadFault, WriteFault, NoMemory, Undetected, TooLong, Locked, Unlawful}
 use Rattle.rio_cli.specs.Inputs.{most_input}
-use Rattle.rio_cli.specs.Outputs.{IsRefused, IsUnlawful, IsHit, Completes, Exposes, Meets, RunsOut, Declines, Gave, OfInput, verdict_text}
+use Rattle.rio_cli.specs.Outputs.{InputIsRefused, InputIsUnlawful, InputIsHit, Completes, Exposes, Meets, RunsOut, Declines, Gave, OfInput, verdict_text}
 use Rattle.trace_check.specs.Outcomes.{HasLawful}
 use Rattle.rio_cli.specs.Checking.{lawful_text}
 use Rattle.rio_cli.specs.Messages.{Explains}
@@ -125,9 +125,10 @@ module _ (command : Command) (l l2 : Option (List ℕ)) (r r' : ℕ) (w : Option
 
 -- memory ran out before anything was written, or while the input was carried out
 pub ran_out : (command : Command) (words : List (List ℕ)) (l l2 w w' : Option (List ℕ))
-    → Asks command words
+    → AsksCommand command words
     → Keeps w w' ⊎ OfInput l l2 (λ bytes. RunsOut command bytes w w')
-    → Keeps w w' ⊎ ((k : Command) × Asks k words × OfInput l l2 (λ bytes. RunsOut k bytes w w'))
+    → Keeps w w'
+    ⊎ ((k : Command) × AsksCommand k words × OfInput l l2 (λ bytes. RunsOut k bytes w w'))
 ran_out command words l l2 w w' known (inl none) = inl none
 ran_out command words l l2 w w' known (inr some) = inr (command, known, some)
 
@@ -135,13 +136,13 @@ ran_out command words l l2 w w' known (inr some) = inr (command, known, some)
 
 -- the command of the refusal is the one that the words ask for
 pub Refuses-input : (command : Command) (words : List (List ℕ)) (status : Status)
-    (refusal : Option Refusal) (l l2 w w' : Option (List ℕ)) → Asks command words
+    (refusal : Option Refusal) (l l2 w w' : Option (List ℕ)) → AsksCommand command words
     → RefusesInput command (record { status = status; refusal = refusal }) l l2 w w'
     → Refuses words (record { status = status; refusal = refusal }) l l2 w w'
 Refuses-input command words status None l l2 w w' known h = h
 Refuses-input command words status (Some r) l l2 w w' known h =
     let Of : Command → Type 0 =
-    λ k. Asks k words × OfInput l l2 (λ bytes. IsToldOf status k bytes r w w') in
+    λ k. AsksCommand k words × OfInput l l2 (λ bytes. IsToldOf status k bytes r w w') in
     subst Of (sym h.0) (known, h.1)
 
 -- what is refused of the bytes is refused of the input
@@ -162,14 +163,14 @@ RefusesInput-of command status (Some r) bytes l l2 w w' gave h = (
 -- the line of a refusal was written
 pub RefusesBytes-line : (kind : Status) (command : Command) (bytes : List ℕ) (status : Status)
     (refusal : Option Refusal) (line reason : ℕ) (w w' : Option (List ℕ))
-    → IsHit kind command bytes line reason
+    → InputIsHit kind command bytes line reason
     → TellsRefusal kind command bytes line reason (record { status = status; refusal = refusal })
     w w'
     → RefusesBytes command (record { status = status; refusal = refusal }) bytes w w'
 RefusesBytes-line kind command bytes status None line reason w w' is h = h
 RefusesBytes-line kind command bytes status (Some r) line reason w w' is h =
     let Told : Status → ℕ → ℕ → Type 0 =
-    λ k n m. IsHit k command bytes n m × Appends w w' (verdict_text k n m)
+    λ k n m. InputIsHit k command bytes n m × Appends w w' (verdict_text k n m)
     × Explains command bytes n m r.message.items in
     let here =
     subst (λ k. Told k r.line r.reason) (sym h.0)
@@ -206,7 +207,7 @@ RefusesBytes-none command bytes status (Some r) w w' none other = absurd (let e 
 module _ (command : Command) (bytes : List ℕ) (status : Status) (line reason : ℕ)
     (w : Option (List ℕ)) (f : ℕ) (w' : Option (List ℕ)) (f2 : ℕ) where
   -- the line of a refusal
-  told_line : (kind : Status) → IsHit kind command bytes line reason
+  told_line : (kind : Status) → InputIsHit kind command bytes line reason
       → (Declines kind command bytes w w' → SaysOfBytes command kind bytes w f w' f2)
       → Answers status kind (verdict_text kind line reason) w f w' f2
       ⊎ ((status ≡ NoMemory) × Keeps w w') → SaysOfBytes command status bytes w f w' f2
@@ -231,12 +232,12 @@ module _ (command : Command) (bytes : List ℕ) (status : Status) (line reason :
   told_line kind is says (inr none) =
       subst (λ s. SaysOfBytes command s bytes w f w' f2) (sym none.0) (inl none.1)
 
-  pub says_line : IsRefused command bytes line reason
+  pub says_line : InputIsRefused command bytes line reason
       → Answers status Script (verdict_text Script line reason) w f w' f2
       ⊎ ((status ≡ NoMemory) × Keeps w w') → SaysOfBytes command status bytes w f w' f2
   says_line is h = told_line Script is (λ d. d) h
 
-  pub says_condemned : IsUnlawful command bytes line reason
+  pub says_condemned : InputIsUnlawful command bytes line reason
       → Answers status Unlawful (verdict_text Unlawful line reason) w f w' f2
       ⊎ ((status ≡ NoMemory) × Keeps w w') → SaysOfBytes command status bytes w f w' f2
   says_condemned is h = told_line Unlawful is (λ d. d) h

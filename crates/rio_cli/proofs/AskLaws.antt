@@ -8,14 +8,14 @@ use Rattle.fabric_map.specs.Routes.{Registers}
 use Rattle.fabric_map.specs.Plain.{registers_of}
 use Rattle.fabric_map.specs.Numbered.{IsNumbered}
 use Rattle.fabric_map.specs.declared.map.Map.{Map}
-use Rattle.host_enumerate.specs.Ends.{EndsAtLock, IsEnded, IsFree}
+use Rattle.host_enumerate.specs.Ends.{EndsAtLock, IsEnded, IsLockFree}
 use Rattle.host_enumerate.specs.declared.ends.EnumEnd.{EnumEnd}
 use Rattle.host_enumerate.specs.declared.ends.EnumEnd.TheVariants.{LockedBy, Undetected, WriteFault, NoMemory}
 use Rattle.fabric_trace.specs.Runs.{start}
 use Rattle.fabric_trace.specs.Text.{trace_text}
 use Rattle.fabric_ports.specs.declared.noise.Quiet.{Quiet}
 use Rattle.fabric_maint.specs.Asked.{Asked}
-use Rattle.fabric_maint.specs.Going.{names_of, topology_in, registers_in, StandsWhole, IsSame, LeadsTo, Begun, Followed, Abandoned, HasMet}
+use Rattle.fabric_maint.specs.Going.{names_of, topology_in, registers_in, StandsWhole, MaintIsSame, LeadsTo, AskBegun, Followed, Abandoned, HasMet}
 use Rattle.fabric_maint.specs.declared.maint.FabricMaint.{FabricMaint}
 use Rattle.fabric_maint.proofs.Meeting.{never_met}
 use Rattle.rio_chars.specs.Faults.{Rose}
@@ -69,9 +69,9 @@ module _ {K : Type 0} (written : K → Option (List ℕ)) (faults : K → ℕ)
         part = left.bytes;
         told = subst (λ (ns : List (List ℕ)). Appends (written first.sink.now)
             (written last.sink.now) (trace_text ns left.lines ++ left.bytes)) names left.told;
-        begun = subst (λ h. Begun no_edits h (names_of first) (start lines) left.lines left.end
+        begun = subst (λ h. AskBegun no_edits h (names_of first) (start lines) left.lines left.end
             left.tid left.bytes) here
-            (subst (λ (ns : List (List ℕ)). Begun no_edits last.host ns (start lines) left.lines
+            (subst (λ (ns : List (List ℕ)). AskBegun no_edits last.host ns (start lines) left.lines
             left.end left.tid left.bytes) names left.begun);
       }
 
@@ -97,7 +97,7 @@ module _ {K : Type 0} (written : K → Option (List ℕ)) (faults : K → ℕ)
   pub maps : (result : Result Map EnumEnd)
       → IfOk result (λ map. IsNumbered (topology_in first) map.devices.items map.entries.items
       (registers_in first) (registers_in last))
-      → OnOk result (IsFree (topology_in first) (registers_in first))
+      → OnOk result (IsLockFree (topology_in first) (registers_in first))
       → IfErr result Ends → OnOk result Follows
       → OnErr result ((origin : FabricMaint Quiet K)
       → Followed no_edits written faults origin first
@@ -109,7 +109,7 @@ module _ {K : Type 0} (written : K → Option (List ℕ)) (faults : K → ℕ)
     record {
       numbered = by_lines (λ t r. IsNumbered t map.devices.items map.entries.items r
           (registers_in last)) numbered;
-      free = by_lines IsFree free;
+      free = by_lines IsLockFree free;
     },
   )
   maps (Err (LockedBy path id)) numbered free end follows leaves = (
@@ -135,7 +135,7 @@ module _ {K : Type 0} (written : K → Option (List ℕ)) (faults : K → ℕ)
       → OnErr result ((origin : FabricMaint Quiet K)
       → Followed no_edits written faults origin first
       → Abandoned no_edits written faults origin last)
-      → IsSame first last
+      → MaintIsSame first last
   same (Ok map) follows leaves = (follows first new.follows).same
   same (Err end) follows leaves = (leaves first new.follows).same
 

@@ -6,10 +6,10 @@ use Rattle.fabric_script.specs.Known.{of_script, of_set_up}
 use Rattle.fabric_script.proofs.ScriptLaws.{not_refused, refused_once}
 use Rattle.rio_cli.specs.declared.command.Command.{Command}
 use Rattle.rio_cli.specs.declared.command.Command.TheVariants.{Replay, Decode, Check, Io, Enumerate, Contest}
-use Rattle.rio_cli.specs.Words.{Asks, AskNoHost, AsksSoak, IsNamed, words_for}
+use Rattle.rio_cli.specs.Words.{AsksCommand, AskNoHost, AsksSoak, CommandIsNamed, words_for}
 use Rattle.rio_cli.proofs.WordLaws.{no_bad_word, bad_word_once}
 use Rattle.rio_cli.specs.declared.status.Status.TheVariants.{Script, Unlawful}
-use Rattle.rio_cli.specs.Outputs.{IsAccepted, IsRefused, IsUnlawful, Completes, Exposes, Meets, Declines}
+use Rattle.rio_cli.specs.Outputs.{InputIsAccepted, InputIsRefused, InputIsUnlawful, Completes, Exposes, Meets, Declines}
 use Rattle.rio_cli.specs.Checking.{HasTrace}
 use Rattle.io_script.proofs.IoOnce.{io_refused_once}
 use Rattle.rio_cli.proofs.AccessLaws.{accesses_not_refused}
@@ -29,7 +29,7 @@ trace_not_refused bytes line reason is (NotParted accepted none) =
 
 -- what is carried out is not refused: a row for each command
 pub not_refused_too : (command : Command) (bytes : List ℕ) (line reason : ℕ)
-    → IsAccepted command bytes → IsRefused command bytes line reason → ⊥
+    → InputIsAccepted command bytes → InputIsRefused command bytes line reason → ⊥
 not_refused_too Replay bytes line reason is refused =
     not_refused of_script bytes is.0 is.1 line reason is.2 refused
 not_refused_too Decode bytes line reason is refused = no_bad_word bytes is.0 line is.1 refused.0
@@ -57,7 +57,7 @@ trace_refused_once bytes line reason line2 reason2 (NotParted a none) (NotParted
 
 -- a refused input has one line and one reason: a row for each command
 pub refused_once_too : (command : Command) (bytes : List ℕ) (line reason line2 reason2 : ℕ)
-    → IsRefused command bytes line reason → IsRefused command bytes line2 reason2
+    → InputIsRefused command bytes line reason → InputIsRefused command bytes line2 reason2
     → (line ≡ line2) × (reason ≡ reason2)
 refused_once_too Replay bytes line reason line2 reason2 h k =
     refused_once of_script bytes line reason line2 reason2 h k
@@ -74,7 +74,7 @@ refused_once_too (Contest first second seed) bytes line reason line2 reason2 h k
 
 -- what an input is of which the whole output was written
 completed : (command : Command) (bytes : List ℕ) (w w' : Option (List ℕ))
-    → Completes command bytes w w' → IsAccepted command bytes
+    → Completes command bytes w w' → InputIsAccepted command bytes
 completed Replay bytes w w' h = (h.names, h.script, h.spells)
 completed Decode bytes w w' h = (h.decoded.chars, h.decoded.spells)
 completed Check bytes w w' h =
@@ -86,7 +86,7 @@ completed (Contest first second seed) bytes w w' h = h.is
 
 -- what an input is of which all was written up to an event that was not sent
 exposed : (command : Command) (bytes : List ℕ) (w w' : Option (List ℕ))
-    → Exposes command bytes w w' → IsAccepted command bytes
+    → Exposes command bytes w w' → InputIsAccepted command bytes
 exposed Replay bytes w w' h = (h.names, h.script, h.spells)
 exposed Decode bytes w w' h = absurd h
 exposed Check bytes w w' h = absurd h
@@ -96,7 +96,7 @@ exposed (Contest first second seed) bytes w w' h = absurd h
 
 -- what an input is of which all was written up to a device that another host holds
 met : (command : Command) (bytes : List ℕ) (w w' : Option (List ℕ))
-    → Meets command bytes w w' → IsAccepted command bytes
+    → Meets command bytes w w' → InputIsAccepted command bytes
 met Replay bytes w w' h = absurd h
 met Decode bytes w w' h = absurd h
 met Check bytes w w' h = absurd h
@@ -106,7 +106,7 @@ met (Contest first second seed) bytes w w' h = absurd h
 
 -- what an input is that is not lawful
 unlawful_too : (command : Command) (bytes : List ℕ) (line reason : ℕ)
-    → IsUnlawful command bytes line reason → IsAccepted command bytes
+    → InputIsUnlawful command bytes line reason → InputIsAccepted command bytes
 unlawful_too Replay bytes line reason h = absurd h
 unlawful_too Decode bytes line reason h = absurd h
 unlawful_too Check bytes line reason h =
@@ -116,29 +116,29 @@ unlawful_too (Enumerate node) bytes line reason h = absurd h
 unlawful_too (Contest first second seed) bytes line reason h = absurd h
 
 pub accepted_stays : (command : Command) (bytes : List ℕ) (w w' : Option (List ℕ))
-    → IsAccepted command bytes → Declines Script command bytes w w' → ⊥
+    → InputIsAccepted command bytes → Declines Script command bytes w w' → ⊥
 accepted_stays command bytes w w' is h = not_refused_too command bytes h.line h.reason is h.hit
 
 pub refused_stays : (command : Command) (bytes : List ℕ) (line reason : ℕ) (w w' : Option (List ℕ))
-    → IsRefused command bytes line reason → Completes command bytes w w' → ⊥
+    → InputIsRefused command bytes line reason → Completes command bytes w w' → ⊥
 refused_stays command bytes line reason w w' is h =
     not_refused_too command bytes line reason (completed command bytes w w' h) is
 
 pub refused_is_not_exposed : (command : Command) (bytes : List ℕ) (line reason : ℕ)
     (w w' : Option (List ℕ))
-    → IsRefused command bytes line reason → Exposes command bytes w w' → ⊥
+    → InputIsRefused command bytes line reason → Exposes command bytes w w' → ⊥
 refused_is_not_exposed command bytes line reason w w' is h =
     not_refused_too command bytes line reason (exposed command bytes w w' h) is
 
 pub refused_is_not_met : (command : Command) (bytes : List ℕ) (line reason : ℕ)
     (w w' : Option (List ℕ))
-    → IsRefused command bytes line reason → Meets command bytes w w' → ⊥
+    → InputIsRefused command bytes line reason → Meets command bytes w w' → ⊥
 refused_is_not_met command bytes line reason w w' is h =
     not_refused_too command bytes line reason (met command bytes w w' h) is
 
 pub refused_is_not_unlawful : (command : Command) (bytes : List ℕ) (line reason : ℕ)
     (w w' : Option (List ℕ))
-    → IsRefused command bytes line reason → Declines Unlawful command bytes w w' → ⊥
+    → InputIsRefused command bytes line reason → Declines Unlawful command bytes w w' → ⊥
 refused_is_not_unlawful command bytes line reason w w' is h =
     not_refused_too command bytes line reason (unlawful_too command bytes h.line h.reason h.hit) is
 
@@ -185,7 +185,7 @@ numeral_again Io = refl
 numeral_again (Enumerate node) = refl
 numeral_again (Contest first second seed) = refl
 
-seed_low : (command : Command) → IsNamed command → seed_in command < 2 ^ 32
+seed_low : (command : Command) → CommandIsNamed command → seed_in command < 2 ^ 32
 seed_low Replay is = omega arith
 seed_low Decode is = omega arith
 seed_low Check is = omega arith
@@ -193,7 +193,8 @@ seed_low Io is = omega arith
 seed_low (Enumerate node) is = omega arith
 seed_low (Contest first second seed) is = is.2
 
-pub same_command : (a b : Command) (words : List (List ℕ)) → Asks a words → Asks b words → a ≡ b
+pub same_command : (a b : Command) (words : List (List ℕ)) → AsksCommand a words
+    → AsksCommand b words → a ≡ b
 same_command a b words h k =
     let same = sym h.0 ∙ k.0 in
     let numerals = sym (numeral_again a) ∙ ap numeral same ∙ numeral_again b in
@@ -203,9 +204,9 @@ same_command a b words h k =
     sym (command_again a) ∙ ap (λ ws. command_in ws (seed_in a)) same
     ∙ ap (command_in (words_for b)) seeds ∙ command_again b
 
-pub unknown : (words : List (List ℕ)) → ¬ Asks Replay words → ¬ Asks Decode words
-    → ¬ Asks Check words → ¬ Asks Io words → AskNoHost words → (command : Command)
-    → ¬ Asks command words
+pub unknown : (words : List (List ℕ)) → ¬ AsksCommand Replay words → ¬ AsksCommand Decode words
+    → ¬ AsksCommand Check words → ¬ AsksCommand Io words → AskNoHost words → (command : Command)
+    → ¬ AsksCommand command words
 unknown words replay decode check io none Replay is = replay is
 unknown words replay decode check io none Decode is = decode is
 unknown words replay decode check io none Check is = check is
@@ -215,7 +216,8 @@ unknown words replay decode check io none (Contest first second seed) is =
     none.1 first second seed is
 
 -- the words of a soak begin with their own letter
-pub reads_or_soaks : (command : Command) (seed : ℕ) (words : List (List ℕ)) → Asks command words
+pub reads_or_soaks : (command : Command) (seed : ℕ) (words : List (List ℕ))
+    → AsksCommand command words
     → AsksSoak seed words → ⊥
 reads_or_soaks command seed words h k = apart command (ap letter (sym h.0 ∙ k.1))
   where

@@ -15,7 +15,7 @@ use Rattle.rio_cli.specs.declared.command.Command.TheVariants.{Contest}
 use Rattle.rio_cli.specs.declared.status.Status.{Status}
 use Rattle.rio_cli.specs.declared.status.Status.TheVariants.{Done, NoMemory}
 use Rattle.rio_cli.specs.Answers.{Answers, SaysOfBytes, IsOther}
-use Rattle.rio_cli.specs.Contesting.{FindsIn, FindsHosts, HasHosts, IsRefusedForTwo, Hit, NotHosts, contested}
+use Rattle.rio_cli.specs.Contesting.{FindsIn, FindsHosts, HasHosts, IsRefusedForTwo, HitForTwo, NotHosts, contested}
 
 -- ---- the nodes of two names, in one script
 
@@ -90,7 +90,7 @@ module _ (first second bytes : List ℕ) where
 
   pub hosts_not_refused : (line reason : ℕ) → HasHosts first second bytes
       → IsRefusedForTwo first second bytes line reason → ⊥
-  hosts_not_refused line reason is (Hit refused) =
+  hosts_not_refused line reason is (HitForTwo refused) =
       not_refused of_set_up bytes is.names is.lines line reason is.spells refused
   hosts_not_refused line reason is (NotHosts names lines why spells none) =
       hosts_or_none is.names is.lines first second is.hosts why is.found
@@ -99,11 +99,13 @@ module _ (first second bytes : List ℕ) where
   pub hosts_refused_once : (line reason line2 reason2 : ℕ)
       → IsRefusedForTwo first second bytes line reason
       → IsRefusedForTwo first second bytes line2 reason2 → (line ≡ line2) × (reason ≡ reason2)
-  hosts_refused_once line reason line2 reason2 (Hit a) (Hit b) =
+  hosts_refused_once line reason line2 reason2 (HitForTwo a) (HitForTwo b) =
       refused_once of_set_up bytes line reason line2 reason2 a b
-  hosts_refused_once line reason line2 reason2 (Hit a) (NotHosts names lines why spells none) =
+  hosts_refused_once line reason line2 reason2 (HitForTwo a) (NotHosts names lines why spells none)
+      =
       absurd (not_refused of_set_up bytes names lines line reason spells a)
-  hosts_refused_once line reason line2 reason2 (NotHosts names lines why spells none) (Hit b) =
+  hosts_refused_once line reason line2 reason2 (NotHosts names lines why spells none) (HitForTwo b)
+      =
       absurd (not_refused of_set_up bytes names lines line2 reason2 spells b)
   hosts_refused_once line reason line2 reason2 (NotHosts names lines why spells none)
       (NotHosts names2 lines2 why2 spells2 none2) = (

@@ -11,7 +11,7 @@ use Rattle.rio_chars.proofs.WrittenLaws.{Writes-nil, Writes-then, Writes-front}
 use Rattle.rio_chars.specs.declared.chars.Char.{Char}
 use Rattle.link_model.specs.declared.event.Event.{Event}
 use Rattle.link_model.specs.Reading.{placed, Plain}
-use Rattle.link_model.specs.Places.{Place, start, run, place_after, at_rest}
+use Rattle.link_model.specs.Places.{Place, place_start, run, place_after, at_rest}
 use Rattle.link_model.specs.Fronts.{telling_front}
 use Rattle.link_model.proofs.FrontLaws.{front-count, front-place, run-telling_front}
 use Rattle.link_model.proofs.PlacesLaws.{reading_only, reading_cut, run-none, place_after-none, place_after-append}
@@ -19,14 +19,14 @@ use Rattle.link_model.proofs.ReadingFound.{found, none_yet}
 use Rattle.rio_framer.specs.declared.events.Events.{Events}
 use Rattle.rio_framer.specs.declared.events.Told.{Told}
 use Rattle.rio_framer.specs.Framing.{Framing, framing_after}
-use Rattle.rio_framer.specs.Giving.{listed, told_of, events_by}
+use Rattle.rio_framer.specs.Giving.{listed, told_of_events, events_by}
 use Rattle.rio_framer.proofs.GivingLaws.{events_by-front, listed-front}
-use Rattle.rio_cli.specs.Decoding.{event_text, end_text, decode_text, SpellsChars, Decoded, Decodes, DecodesFront}
+use Rattle.rio_cli.specs.Decoding.{placed_text, end_text, decode_text, SpellsChars, Decoded, Decodes, DecodesFront}
 use Rattle.rio_cli.proofs.WordLaws.{AreTexts-once}
 
 -- the text of all lines of the characters
 abbrev pub whole_text : List Char → List ℕ
-whole_text chars = decode_text (run start 0 chars) (at_rest (place_after start chars))
+whole_text chars = decode_text (run place_start 0 chars) (at_rest (place_after place_start chars))
 
 -- how far a loop has come: the lines of the characters before these were told, and the framer
 -- stands before these
@@ -35,9 +35,9 @@ pub record Going {K : Type 0} (written : K → Option (List ℕ)) (faults : K �
   where
     pub counted : n + length left ≡ length chars
     pub found : List (ℕ × Event)
-    pub events : found ++ run framer n left ≡ run start 0 chars
-    pub stands : place_after framer left ≡ place_after start chars
-    pub told : Writes written faults begun out (flat_map event_text found)
+    pub events : found ++ run framer n left ≡ run place_start 0 chars
+    pub stands : place_after framer left ≡ place_after place_start chars
+    pub told : Writes written faults begun out (flat_map placed_text found)
 
 -- behind a run of characters
 behind_stands : (from : Place) (left : List Char)
@@ -52,27 +52,27 @@ behind_stands from left =
 
 -- what a run of characters gives is what it tells, with the packet that ended
 given_lines : (from : Place) (left : List Char) (place : ℕ) (told : Told) (new : Framing)
-    → told ≡ told_of (telling_front from left).step.gives
+    → told ≡ told_of_events (telling_front from left).step.gives
     → new ≡ framing_after (telling_front from left).step
-    → flat_map event_text
+    → flat_map placed_text
     (placed place (listed (events_by told new.ended).first (events_by told new.ended).second))
-    ≡ flat_map event_text (placed place (telling_front from left).step.gives)
+    ≡ flat_map placed_text (placed place (telling_front from left).step.gives)
 given_lines from left place told new told_is new_is =
-    ap (λ t. flat_map event_text
+    ap (λ t. flat_map placed_text
     (placed place (listed (events_by t new.ended).first (events_by t new.ended).second))) told_is
-    ∙ ap (λ (f : Framing). flat_map event_text (placed place (listed
-    (events_by (told_of (telling_front from left).step.gives) f.ended).first
-    (events_by (told_of (telling_front from left).step.gives) f.ended).second))) new_is
-    ∙ ap (λ (e : Events). flat_map event_text (placed place (listed e.first e.second)))
+    ∙ ap (λ (f : Framing). flat_map placed_text (placed place (listed
+    (events_by (told_of_events (telling_front from left).step.gives) f.ended).first
+    (events_by (told_of_events (telling_front from left).step.gives) f.ended).second))) new_is
+    ∙ ap (λ (e : Events). flat_map placed_text (placed place (listed e.first e.second)))
     (events_by-front from left)
-    ∙ ap (λ es. flat_map event_text (placed place es)) (listed-front from left)
+    ∙ ap (λ es. flat_map placed_text (placed place es)) (listed-front from left)
 
 module _ {K : Type 0} (written : K → Option (List ℕ)) (faults : K → ℕ) (begun : Outbox K)
     (chars : List Char) where
   abbrev Gone : Outbox K → ℕ → List Char → Place → Type 0
   Gone out n left framer = Going written faults begun out chars n left framer
 
-  pub Going-begin : (framer : Place) → framer ≡ start → Gone begun 0 chars framer
+  pub Going-begin : (framer : Place) → framer ≡ place_start → Gone begun 0 chars framer
   Going-begin framer new = rw new (record {
     counted = omega arith;
     found = [];
@@ -85,7 +85,7 @@ module _ {K : Type 0} (written : K → Option (List ℕ)) (faults : K → ℕ) (
   pub Going-more : (n m : ℕ) (left : List Char) (framer : Place) {out out2 : Outbox K}
       → n + (telling_front framer left).count ≡ suc m → Gone out n left framer
       → Writes written faults out out2
-      (flat_map event_text (placed m (telling_front framer left).step.gives))
+      (flat_map placed_text (placed m (telling_front framer left).step.gives))
       → Gone out2 (suc m) (drop (telling_front framer left).count left)
       (telling_front framer left).step.place
   Going-more n m left framer {out} {out2} here h more =
@@ -102,18 +102,18 @@ module _ {K : Type 0} (written : K → Option (List ℕ)) (faults : K → ℕ) (
         stands = behind_stands framer left ∙ h.stands;
         told =
             subst (Writes written faults begun out2)
-            (sym (flat_map-append event_text h.found (placed m front.step.gives)))
-            (Writes-then (flat_map event_text h.found)
-            (flat_map event_text (placed m front.step.gives)) h.told more);
+            (sym (flat_map-append placed_text h.found (placed m front.step.gives)))
+            (Writes-then (flat_map placed_text h.found)
+            (flat_map placed_text (placed m front.step.gives)) h.told more);
       }
 
   -- the same, as the framer reads the run and its lines are told
   pub Going-read : (n : ℕ) (left left2 : List Char) (from : Place) (count : ℕ) (told : Told)
       (new : Framing) {out out2 : Outbox K} → count ≡ (telling_front from left).count
-      → told ≡ told_of (telling_front from left).step.gives
+      → told ≡ told_of_events (telling_front from left).step.gives
       → new ≡ framing_after (telling_front from left).step → left2 ≡ drop count left → 0 < count
       → Gone out n left from
-      → Writes written faults out out2 (flat_map event_text (placed (n + count - 1)
+      → Writes written faults out out2 (flat_map placed_text (placed (n + count - 1)
       (listed (events_by told new.ended).first (events_by told new.ended).second)))
       → Gone out2 (n + count) left2 new.place
   Going-read n left left2 from count told new {out} {out2} count_is told_is new_is left_is some h
@@ -138,18 +138,19 @@ module _ {K : Type 0} (written : K → Option (List ℕ)) (faults : K → ℕ) (
       → AppendsFront (written begun.sink.now) (written out.sink.now) (whole_text chars)
   Going-front {out} n left {framer} empty h =
       let rest =
-      flat_map event_text (run framer n left) ++ end_text (at_rest (place_after start chars)) in
-      let all : whole_text chars ≡ flat_map event_text h.found ++ rest =
-      ap (λ es. flat_map event_text es ++ end_text (at_rest (place_after start chars)))
+      flat_map placed_text (run framer n left)
+      ++ end_text (at_rest (place_after place_start chars)) in
+      let all : whole_text chars ≡ flat_map placed_text h.found ++ rest =
+      ap (λ es. flat_map placed_text es ++ end_text (at_rest (place_after place_start chars)))
       (sym h.events)
-      ∙ ap (λ text. text ++ end_text (at_rest (place_after start chars)))
-      (flat_map-append event_text h.found (run framer n left))
-      ∙ append_assoc (flat_map event_text h.found) (flat_map event_text (run framer n left))
-      (end_text (at_rest (place_after start chars))) in
+      ∙ ap (λ text. text ++ end_text (at_rest (place_after place_start chars)))
+      (flat_map-append placed_text h.found (run framer n left))
+      ∙ append_assoc (flat_map placed_text h.found) (flat_map placed_text (run framer n left))
+      (end_text (at_rest (place_after place_start chars))) in
       subst (AppendsFront (written begun.sink.now) (written out.sink.now)) (sym all)
       (AppendsFront-longer (written begun.sink.now) (written out.sink.now)
-      (flat_map event_text h.found) rest
-      (Writes-front written faults begun out (flat_map event_text h.found) empty h.told))
+      (flat_map placed_text h.found) rest
+      (Writes-front written faults begun out (flat_map placed_text h.found) empty h.told))
 
   -- the last line was told behind all others
   pub Going-end : (n : ℕ) (left : List Char) (rest : Bool) {out out2 out3 : Outbox K}
@@ -158,27 +159,28 @@ module _ {K : Type 0} (written : K → Option (List ℕ)) (faults : K → ℕ) (
       → Writes written faults out out2 (end_text rest) → Writes written faults out2 out3 []
       → Writes written faults begun out3 (whole_text chars)
   Going-end n left rest {out} {out2} {out3} {framer} none h is last flush =
-      let events : h.found ≡ run start 0 chars =
+      let events : h.found ≡ run place_start 0 chars =
       sym (ap (λ cs. h.found ++ run framer n cs) none
       ∙ ap (λ es. h.found ++ es) (run-none framer n) ∙ append-nil h.found)
       ∙ h.events in
-      let stands : framer ≡ place_after start chars =
+      let stands : framer ≡ place_after place_start chars =
       sym (ap (place_after framer) none ∙ place_after-none framer) ∙ h.stands in
-      let text : flat_map event_text h.found ++ end_text rest ++ [] ≡ whole_text chars =
-      append-nil (flat_map event_text h.found ++ end_text rest)
-      ∙ ap (λ es. flat_map event_text es ++ end_text rest) events
-      ∙ ap (λ b. flat_map event_text (run start 0 chars) ++ end_text b) (is ∙ ap at_rest stands) in
+      let text : flat_map placed_text h.found ++ end_text rest ++ [] ≡ whole_text chars =
+      append-nil (flat_map placed_text h.found ++ end_text rest)
+      ∙ ap (λ es. flat_map placed_text es ++ end_text rest) events
+      ∙ ap (λ b. flat_map placed_text (run place_start 0 chars) ++ end_text b) (is
+      ∙ ap at_rest stands) in
       subst (Writes written faults begun out3) text (Writes-then
-      (flat_map event_text h.found ++ end_text rest) []
-      (Writes-then (flat_map event_text h.found) (end_text rest) h.told last) flush)
+      (flat_map placed_text h.found ++ end_text rest) []
+      (Writes-then (flat_map placed_text h.found) (end_text rest) h.told last) flush)
 
 -- what is spelled has the one reading that the steps tell
 abbrev pub decoded_by : (bytes : List ℕ) (chars : List Char) → SpellsChars bytes chars
     → Decoded bytes
 decoded_by bytes chars spelled = record {
   chars = chars;
-  events = run start 0 chars;
-  rest = at_rest (place_after start chars);
+  events = run place_start 0 chars;
+  rest = at_rest (place_after place_start chars);
   spells = spelled;
   only = λ other other_spelled. AreTexts-once _ chars other spelled other_spelled;
   reads = found Plain none_yet tt 0 chars;

@@ -10,7 +10,7 @@ use Rattle.host_enumerate.specs.Hosts.{reason_of, FindsHost}
 use Rattle.host_enumerate.specs.declared.devising.NoHost.{NoHost}
 use Rattle.host_enumerate.proofs.HostLaws.{found_once}
 use Rattle.script_input.specs.Inputs.{texts_of}
-use Rattle.rio_cli.specs.Numbering.{HasHost, IsRefusedFor, Hit, NotHost}
+use Rattle.rio_cli.specs.Numbering.{HasHost, IsRefusedFor, HitFor, NotHostFor}
 
 module _ (word bytes : List ℕ) where
   -- bytes spell one script, so a name is found in it or not
@@ -27,9 +27,9 @@ module _ (word bytes : List ℕ) where
 
   pub host_not_refused : (line reason : ℕ) → HasHost word bytes
       → IsRefusedFor word bytes line reason → ⊥
-  host_not_refused line reason is (Hit refused) =
+  host_not_refused line reason is (HitFor refused) =
       not_refused of_set_up bytes is.names is.lines line reason is.spells refused
-  host_not_refused line reason is (NotHost names lines end spells found) =
+  host_not_refused line reason is (NotHostFor names lines end spells found) =
       let clash = found_in is.names names is.lines lines (Ok is.host) (Err end) is.spells spells
       is.found found in cc
 
@@ -39,14 +39,14 @@ module _ (word bytes : List ℕ) where
 
   pub host_refused_once : (line reason line2 reason2 : ℕ) → IsRefusedFor word bytes line reason
       → IsRefusedFor word bytes line2 reason2 → (line ≡ line2) × (reason ≡ reason2)
-  host_refused_once line reason line2 reason2 (Hit a) (Hit b) =
+  host_refused_once line reason line2 reason2 (HitFor a) (HitFor b) =
       refused_once of_set_up bytes line reason line2 reason2 a b
-  host_refused_once line reason line2 reason2 (Hit a) (NotHost names lines end spells found) =
+  host_refused_once line reason line2 reason2 (HitFor a) (NotHostFor names lines end spells found) =
       absurd (not_refused of_set_up bytes names lines line reason spells a)
-  host_refused_once line reason line2 reason2 (NotHost names lines end spells found) (Hit b) =
+  host_refused_once line reason line2 reason2 (NotHostFor names lines end spells found) (HitFor b) =
       absurd (not_refused of_set_up bytes names lines line2 reason2 spells b)
-  host_refused_once line reason line2 reason2 (NotHost names lines a spells found)
-      (NotHost names2 lines2 b spells2 found2) = (
+  host_refused_once line reason line2 reason2 (NotHostFor names lines a spells found)
+      (NotHostFor names2 lines2 b spells2 found2) = (
         refl,
         reason_once a b (found_in names names2 lines lines2 (Err a) (Err b) spells spells2
             found found2),
@@ -61,6 +61,6 @@ module _ (word bytes : List ℕ) where
   no_host names lines end read found spells same is finds count reason counted named =
       subst (λ (n : ℕ). IsRefusedFor word bytes (n + 1) reason) (sym counted)
       (subst (IsRefusedFor word bytes (length (texts_of bytes) + 1)) (sym named)
-      (NotHost names lines end spells
+      (NotHostFor names lines end spells
       (subst (λ w. FindsHost names (devices_of lines) (links_of lines) w (Err end)) same
       (subst (FindsHost names (devices_of lines) (links_of lines) read) is finds))))

@@ -9,48 +9,48 @@ use Rattle.link_model.specs.declared.event.Event.{Event}
 use Rattle.link_model.specs.declared.event.Event.TheVariants.{Ctl, Pkt, Bad}
 use Rattle.link_model.specs.Reading.{placed}
 use Rattle.rio_framer.specs.Framing.{ended_of}
-use Rattle.rio_framer.specs.Giving.{listed, told_of}
+use Rattle.rio_framer.specs.Giving.{listed, told_of_events}
 use Rattle.rio_framer.specs.declared.events.Told.TheVariants as told
-use Rattle.rio_cli.specs.Decoding.{event_text}
+use Rattle.rio_cli.specs.Decoding.{placed_text}
 
 -- the lines of the first event and of the second
 pub listed-parts : (n : ℕ) (first : Option Event) (second : Option Fields)
-    → flat_map event_text (placed n (listed first None))
-    ++ flat_map event_text (placed n (listed None second))
-    ≡ flat_map event_text (placed n (listed first second))
+    → flat_map placed_text (placed n (listed first None))
+    ++ flat_map placed_text (placed n (listed None second))
+    ≡ flat_map placed_text (placed n (listed first second))
 listed-parts n None None = refl
 listed-parts n None (Some s) = refl
-listed-parts n (Some e) None = append-nil (event_text (n, e) ++ [])
+listed-parts n (Some e) None = append-nil (placed_text (n, e) ++ [])
 listed-parts n (Some e) (Some s) =
-    ap (λ text. text ++ (event_text (n, Ctl s) ++ [])) (append-nil (event_text (n, e)))
+    ap (λ text. text ++ (placed_text (n, Ctl s) ++ [])) (append-nil (placed_text (n, e)))
 
 pub Writes-both : {K : Type 0} {written : K → Option (List ℕ)} {faults : K → ℕ} {a b c : Outbox K}
     (n : ℕ) (first : Option Event) (second : Option Fields)
-    → Writes written faults a b (flat_map event_text (placed n (listed first None)))
-    → Writes written faults b c (flat_map event_text (placed n (listed None second)))
-    → Writes written faults a c (flat_map event_text (placed n (listed first second)))
+    → Writes written faults a b (flat_map placed_text (placed n (listed first None)))
+    → Writes written faults b c (flat_map placed_text (placed n (listed None second)))
+    → Writes written faults a c (flat_map placed_text (placed n (listed first second)))
 Writes-both {K} {written} {faults} {a} {b} {c} n first second h k =
     subst (Writes written faults a c) (listed-parts n first second) (Writes-then
-    (flat_map event_text (placed n (listed first None)))
-    (flat_map event_text (placed n (listed None second))) h k)
+    (flat_map placed_text (placed n (listed first None)))
+    (flat_map placed_text (placed n (listed None second))) h k)
 
 -- the line of one event
 pub Writes-event : {K : Type 0} {written : K → Option (List ℕ)} {faults : K → ℕ} {a b : Outbox K}
     (n : ℕ) (event : Event)
-    → Writes written faults a b (event_text (n, event))
-    → Writes written faults a b (flat_map event_text (placed n (event ∷ [])))
+    → Writes written faults a b (placed_text (n, event))
+    → Writes written faults a b (flat_map placed_text (placed n (event ∷ [])))
 Writes-event {K} {written} {faults} {a} {b} n event h =
-    subst (Writes written faults a b) (sym (append-nil (event_text (n, event)))) h
+    subst (Writes written faults a b) (sym (append-nil (placed_text (n, event)))) h
 
 -- that of the one that ended
 pub Writes-ended : {K : Type 0} {written : K → Option (List ℕ)} {faults : K → ℕ} {a b : Outbox K}
     (n : ℕ) (ended : Option Event) (event : Event) → ended ≡ Some event
-    → Writes written faults a b (event_text (n, event))
-    → Writes written faults a b (flat_map event_text (placed n (listed ended None)))
+    → Writes written faults a b (placed_text (n, event))
+    → Writes written faults a b (flat_map placed_text (placed n (listed ended None)))
 Writes-ended {K} {written} {faults} {a} {b} n ended event is h = rw is (Writes-event n event h)
 
 -- where a symbol is told that ended a packet, the packet is there
-pub ended-there : (es : List Event) (symbol : Fields) → told_of es ≡ told.Ends symbol
+pub ended-there : (es : List Event) (symbol : Fields) → told_of_events es ≡ told.Ends symbol
     → IsSome (ended_of es)
 ended-there [] symbol e = cc
 ended-there (Ctl s ∷ []) symbol e = cc

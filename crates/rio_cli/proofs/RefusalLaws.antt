@@ -1,8 +1,8 @@
 -- A line among the lines of an input.
 use Rattle.std.proofs.Common.{◌≡◌, ℕ, ◌-◌, ◌<◌, ◌+◌, ◌≤◌, zero, suc, true, false, ltb, List, [], ◌∷◌, ◌++◌, codes, map, take, length, get_or, Result, Ok, Err, OnOk, is_ok, if◌then◌else◌, refl, sym, ap, ◌∙◌, append-nil, append_assoc, arith}
 use Rattle.std.proofs.lemmas.Bool.{le-ltb, lt-ltb}
-use Rattle.rio_chars.specs.Lines.{lines_of}
-use Rattle.rio_cli.specs.Messages.{line_text, excerpt_of, shown_byte}
+use Rattle.rio_chars.specs.Lines.{text_lines}
+use Rattle.rio_cli.specs.Messages.{input_line_text, excerpt_of, shown_byte}
 
 -- what is there is read whatever stands in for what is not
 there : (lines : List (List ℕ)) (n : ℕ) (a b : List ℕ) → n < length lines
@@ -13,11 +13,11 @@ there (line ∷ lines) (suc n) a b within = there lines n a b (omega arith)
 
 -- the line behind n others
 pub line-there : (bytes : List ℕ) (line n : ℕ) (text : List ℕ) → line - 1 ≡ n
-    → n < length (lines_of bytes) → text ≡ get_or (lines_of bytes) n text
-    → text ≡ line_text bytes line
+    → n < length (text_lines bytes) → text ≡ get_or (text_lines bytes) n text
+    → text ≡ input_line_text bytes line
 line-there bytes line n text at within here =
-    here ∙ there (lines_of bytes) n text [] within
-    ∙ ap (λ k. get_or (lines_of bytes) k []) (sym at)
+    here ∙ there (text_lines bytes) n text [] within
+    ∙ ap (λ k. get_or (text_lines bytes) k []) (sym at)
 
 -- the line that is left alone is behind all that were passed
 pub last-left : (line left n : ℕ) → left + n ≡ line → (1 ≤ line → 1 ≤ left) → left ≤ 1
@@ -37,10 +37,10 @@ none (line ∷ lines) zero few = absurd (omega arith)
 none (line ∷ lines) (suc n) few = none lines n (omega arith)
 
 -- there is no such line
-pub line-none : (bytes : List ℕ) (line n : ℕ) → length (lines_of bytes) ≡ n → n ≤ line - 1
-    → [] ≡ line_text bytes line
+pub line-none : (bytes : List ℕ) (line n : ℕ) → length (text_lines bytes) ≡ n → n ≤ line - 1
+    → [] ≡ input_line_text bytes line
 line-none bytes line n all few =
-    sym (none (lines_of bytes) (line - 1) (omega (arith, all)))
+    sym (none (text_lines bytes) (line - 1) (omega (arith, all)))
 
 -- ---- what was added to a text
 

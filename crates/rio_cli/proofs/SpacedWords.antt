@@ -2,7 +2,7 @@
 use Rattle.std.proofs.Common.{◌≡◌, ℕ, ◌+◌, ◌*◌, ◌<◌, ◌≤◌, ◌/◌, ◌%◌, List, [], ◌∷◌, ◌++◌, refl, sym, ap, ap₂, ◌∙◌, arith}
 use Rattle.std.specs.Prelude.{codes}
 use Rattle.std.proofs.lemmas.Fmt.{decimal_digit}
-use Rattle.rio_cli.specs.Decoding.{spaced}
+use Rattle.host_enumerate.specs.MapTexts.{spaced}
 use Rattle.rio_cli.proofs.NumberLaws.{two}
 
 -- the word of a digit, and that of two

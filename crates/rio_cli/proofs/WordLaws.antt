@@ -18,8 +18,8 @@ use Rattle.rio_chars.specs.HexText.{hex_digit}
 use Rattle.rio_chars.specs.declared.chars.Char.TheVariants.{Data, Special, Invalid}
 use Rattle.rio_chars.proofs.CharLaws.{char_text_of-injective}
 use Rattle.rio_chars.specs.declared.chars.Char.{Char}
-use Rattle.rio_chars.specs.Lines.{lines_of}
-use Rattle.rio_cli.specs.Decoding.{is_word, word_in, words_in, words_of, AreTexts, AreSpelled, SpellsChars, BadWordAt}
+use Rattle.rio_chars.specs.Lines.{text_lines}
+use Rattle.rio_cli.specs.Decoding.{is_word, word_in, words_in_line, words_of_input, AreTexts, AreSpelled, SpellsChars, BadWordAt}
 
 pub AreTexts-append : (words more : List (List ℕ)) (chars others : List Char) → AreTexts words chars
     → AreTexts more others → AreTexts (words ++ more) (chars ++ others)
@@ -90,7 +90,7 @@ no_space Invalid x y z e =
     ((λ is. absurd (omega arith)), (λ is. absurd (omega arith)), (λ is. absurd (omega arith)))
 
 words_front : (x y z : ℕ) (rest : List ℕ) → x ≢ 32 → y ≢ 32 → z ≢ 32
-    → words_in (x ∷ y ∷ z ∷ 32 ∷ rest) ≡ (x ∷ y ∷ z ∷ []) ∷ words_in rest
+    → words_in_line (x ∷ y ∷ z ∷ 32 ∷ rest) ≡ (x ∷ y ∷ z ∷ []) ∷ words_in_line rest
 words_front x y z rest nx ny nz =
     let ex : (x == 32) ≡ false = ne_eqb x 32 nx in
     let ey : (y == 32) ≡ false = ne_eqb y 32 ny in
@@ -100,7 +100,7 @@ words_front x y z rest nx ny nz =
 -- one more word was read
 pub words-turn : (left : List ℕ) (c : Char) → 4 ≤ length left → get_or left 3 0 ≡ 32
     → (get_or left 0 0 ∷ get_or left 1 0 ∷ get_or left 2 0 ∷ []) ≡ char_text_of c
-    → words_in left ≡ char_text_of c ∷ words_in (take (length left - 4) (drop 4 left))
+    → words_in_line left ≡ char_text_of c ∷ words_in_line (take (length left - 4) (drop 4 left))
 words-turn [] c four space is = absurd (omega arith)
 words-turn (x ∷ []) c four space is = absurd (omega arith)
 words-turn (x ∷ y ∷ []) c four space is = absurd (omega arith)
@@ -108,8 +108,9 @@ words-turn (x ∷ y ∷ z ∷ []) c four space is = absurd (omega arith)
 words-turn (x ∷ y ∷ z ∷ s ∷ rest) c four space is =
     let no = no_space c x y z is in
     let all : take (length (x ∷ y ∷ z ∷ s ∷ rest) - 4) rest ≡ rest = grind (arith, common_steps) in
-    rw all (ap (λ b. words_in (x ∷ y ∷ z ∷ b ∷ rest)) space ∙ words_front x y z rest no.0 no.1 no.2
-    ∙ ap (λ w. w ∷ words_in rest) is)
+    rw all (ap (λ b. words_in_line (x ∷ y ∷ z ∷ b ∷ rest)) space
+    ∙ words_front x y z rest no.0 no.1 no.2
+    ∙ ap (λ w. w ∷ words_in_line rest) is)
 
 -- ---- and one that a space or a line feed follows
 
@@ -142,15 +143,15 @@ no_end Invalid x y z e =
 
 -- by the lines of what stands behind
 by_lines : (x y z : ℕ) (lines : List (List ℕ)) → x ≢ 32 → y ≢ 32 → z ≢ 32
-    → flat_map words_in (onto_first x (onto_first y (onto_first z (onto_first 32 lines))))
-    ≡ (x ∷ y ∷ z ∷ []) ∷ flat_map words_in lines
+    → flat_map words_in_line (onto_first x (onto_first y (onto_first z (onto_first 32 lines))))
+    ≡ (x ∷ y ∷ z ∷ []) ∷ flat_map words_in_line lines
 by_lines x y z [] nx ny nz =
     ap (λ ws. ws ++ []) (words_front x y z [] nx ny nz)
 by_lines x y z (line ∷ lines) nx ny nz =
-    ap (λ ws. ws ++ flat_map words_in lines) (words_front x y z line nx ny nz)
+    ap (λ ws. ws ++ flat_map words_in_line lines) (words_front x y z line nx ny nz)
 
 alone : (x y z : ℕ) → x ≢ 32 → y ≢ 32 → z ≢ 32
-    → words_in (x ∷ y ∷ z ∷ []) ≡ (x ∷ y ∷ z ∷ []) ∷ []
+    → words_in_line (x ∷ y ∷ z ∷ []) ≡ (x ∷ y ∷ z ∷ []) ∷ []
 alone x y z nx ny nz =
     let ex : (x == 32) ≡ false = ne_eqb x 32 nx in
     let ey : (y == 32) ≡ false = ne_eqb y 32 ny in
@@ -159,27 +160,27 @@ alone x y z nx ny nz =
 
 words_before : (x y z s : ℕ) (rest : List ℕ) → (x ≢ 32) × (y ≢ 32) × (z ≢ 32)
     → (x ≢ 10) × (y ≢ 10) × (z ≢ 10) → (s ≡ 32) ⊎ (s ≡ 10)
-    → words_of (x ∷ y ∷ z ∷ s ∷ rest) ≡ (x ∷ y ∷ z ∷ []) ∷ words_of rest
+    → words_of_input (x ∷ y ∷ z ∷ s ∷ rest) ≡ (x ∷ y ∷ z ∷ []) ∷ words_of_input rest
 words_before x y z s rest spaceless endless (inl space) =
     let ex : (x == 10) ≡ false = ne_eqb x 10 endless.0 in
     let ey : (y == 10) ≡ false = ne_eqb y 10 endless.1 in
     let ez : (z == 10) ≡ false = ne_eqb z 10 endless.2 in
-    ap (λ b. words_of (x ∷ y ∷ z ∷ b ∷ rest)) space
+    ap (λ b. words_of_input (x ∷ y ∷ z ∷ b ∷ rest)) space
     ∙ rw (ex, ey, ez)
-    (by_lines x y z (lines_of rest) spaceless.0 spaceless.1 spaceless.2)
+    (by_lines x y z (text_lines rest) spaceless.0 spaceless.1 spaceless.2)
 words_before x y z s rest spaceless endless (inr end) =
     let ex : (x == 10) ≡ false = ne_eqb x 10 endless.0 in
     let ey : (y == 10) ≡ false = ne_eqb y 10 endless.1 in
     let ez : (z == 10) ≡ false = ne_eqb z 10 endless.2 in
-    ap (λ b. words_of (x ∷ y ∷ z ∷ b ∷ rest)) end
-    ∙ rw (ex, ey, ez) (ap (λ ws. ws ++ words_of rest)
+    ap (λ b. words_of_input (x ∷ y ∷ z ∷ b ∷ rest)) end
+    ∙ rw (ex, ey, ez) (ap (λ ws. ws ++ words_of_input rest)
     (alone x y z spaceless.0 spaceless.1 spaceless.2))
 
 -- one more word was read
 pub words-next : (left : List ℕ) (c : Char) → 4 ≤ length left
     → (get_or left 3 0 ≡ 32) ⊎ (get_or left 3 0 ≡ 10)
     → (get_or left 0 0 ∷ get_or left 1 0 ∷ get_or left 2 0 ∷ []) ≡ char_text_of c
-    → words_of left ≡ char_text_of c ∷ words_of (take (length left - 4) (drop 4 left))
+    → words_of_input left ≡ char_text_of c ∷ words_of_input (take (length left - 4) (drop 4 left))
 words-next [] c four behind is = absurd (omega arith)
 words-next (x ∷ []) c four behind is = absurd (omega arith)
 words-next (x ∷ y ∷ []) c four behind is = absurd (omega arith)
@@ -187,9 +188,9 @@ words-next (x ∷ y ∷ z ∷ []) c four behind is = absurd (omega arith)
 words-next (x ∷ y ∷ z ∷ s ∷ rest) c four behind is =
     let all : take (length (x ∷ y ∷ z ∷ s ∷ rest) - 4) rest ≡ rest = grind (arith, common_steps) in
     rw all (words_before x y z s rest (no_space c x y z is) (no_end c x y z is) behind
-    ∙ ap (λ w. w ∷ words_of rest) is)
+    ∙ ap (λ w. w ∷ words_of_input rest) is)
 
-pub no_words : (left : List ℕ) → length left ≡ 0 → words_of left ≡ []
+pub no_words : (left : List ℕ) → length left ≡ 0 → words_of_input left ≡ []
 no_words [] none = refl
 no_words (x ∷ left) none = absurd (omega arith)
 
@@ -205,10 +206,10 @@ parted all n x within here =
 -- one word of a line
 pub bad_word : (line word : List ℕ) (n : ℕ) → n < length (slice_split (λ byte. byte == 32) line)
     → word ≡ get_or (slice_split (λ byte. byte == 32) line) n word
-    → ¬ AreSpelled (word_in word) → ¬ AreSpelled (words_in line)
+    → ¬ AreSpelled (word_in word) → ¬ AreSpelled (words_in_line line)
 bad_word line word n within here bad h =
     let pieces = slice_split (λ byte. byte == 32) line in
-    let whole : words_in line
+    let whole : words_in_line line
     ≡ filter is_word (take n pieces) ++ (word_in word ++ filter is_word (drop (suc n) pieces)) =
     ap (filter is_word) (parted pieces n word within here)
     ∙ filter-append is_word (take n pieces) (word ∷ drop (suc n) pieces)
@@ -224,34 +225,36 @@ bad_word line word n within here bad h =
 pub no_bad_word : (bytes : List ℕ) (chars : List Char) (line : ℕ) → SpellsChars bytes chars
     → BadWordAt bytes line → ⊥
 no_bad_word bytes chars line spelled b =
-    let whole : words_of bytes
-    ≡ flat_map words_in b.before ++ (words_in b.text ++ flat_map words_in b.behind) =
-    ap (flat_map words_in) b.split ∙ flat_map-append words_in b.before (b.text ∷ b.behind) in
+    let whole : words_of_input bytes
+    ≡ flat_map words_in_line b.before ++ (words_in_line b.text ++ flat_map words_in_line b.behind) =
+    ap (flat_map words_in_line) b.split
+    ∙ flat_map-append words_in_line b.before (b.text ∷ b.behind) in
     let behind =
-    spelled_behind (flat_map words_in b.before) (words_in b.text ++ flat_map words_in b.behind)
+    spelled_behind (flat_map words_in_line b.before) (words_in_line b.text
+    ++ flat_map words_in_line b.behind)
     chars (subst (λ words. AreTexts words chars) whole spelled) in
-    b.bad (spelled_front (words_in b.text) (flat_map words_in b.behind) behind.0 behind.1)
+    b.bad (spelled_front (words_in_line b.text) (flat_map words_in_line b.behind) behind.0 behind.1)
 
 -- the first bad line is one
 same_front : (before before2 : List (List ℕ)) (text text2 : List ℕ) (behind behind2 : List (List ℕ))
     → before ++ text ∷ behind ≡ before2 ++ text2 ∷ behind2
-    → AreSpelled (flat_map words_in before) → ¬ AreSpelled (words_in text)
-    → AreSpelled (flat_map words_in before2) → ¬ AreSpelled (words_in text2)
+    → AreSpelled (flat_map words_in_line before) → ¬ AreSpelled (words_in_line text)
+    → AreSpelled (flat_map words_in_line before2) → ¬ AreSpelled (words_in_line text2)
     → length before ≡ length before2
 same_front [] [] text text2 behind behind2 e h bad h2 bad2 = refl
 same_front [] (y ∷ ys) text text2 behind behind2 e h bad h2 bad2 =
     let here : text ≡ y = cc in
-    absurd (bad (subst (λ t. AreSpelled (words_in t)) (sym here)
-    (spelled_front (words_in y) (flat_map words_in ys) h2.0 h2.1)))
+    absurd (bad (subst (λ t. AreSpelled (words_in_line t)) (sym here)
+    (spelled_front (words_in_line y) (flat_map words_in_line ys) h2.0 h2.1)))
 same_front (x ∷ xs) [] text text2 behind behind2 e h bad h2 bad2 =
     let here : x ≡ text2 = cc in
-    absurd (bad2 (subst (λ t. AreSpelled (words_in t)) here
-    (spelled_front (words_in x) (flat_map words_in xs) h.0 h.1)))
+    absurd (bad2 (subst (λ t. AreSpelled (words_in_line t)) here
+    (spelled_front (words_in_line x) (flat_map words_in_line xs) h.0 h.1)))
 same_front (x ∷ xs) (y ∷ ys) text text2 behind behind2 e h bad h2 bad2 =
     let rest : xs ++ text ∷ behind ≡ ys ++ text2 ∷ behind2 = cc in
     ap suc (same_front xs ys text text2 behind behind2 rest
-    (spelled_behind (words_in x) (flat_map words_in xs) h.0 h.1) bad
-    (spelled_behind (words_in y) (flat_map words_in ys) h2.0 h2.1) bad2)
+    (spelled_behind (words_in_line x) (flat_map words_in_line xs) h.0 h.1) bad
+    (spelled_behind (words_in_line y) (flat_map words_in_line ys) h2.0 h2.1) bad2)
 
 pub bad_word_once : (bytes : List ℕ) (line line2 : ℕ) → BadWordAt bytes line → BadWordAt bytes line2
     → line ≡ line2
@@ -263,18 +266,20 @@ bad_word_once bytes line line2 h k =
 
 -- the n-th of the lines is bad, and those before it are not
 pub BadWordAt-from_turn : (bytes : List ℕ) (n : ℕ) (before : List (List ℕ)) (text : List ℕ)
-    (chars : List Char) (line : ℕ) → before ≡ take n (lines_of bytes) → n < length (lines_of bytes)
-    → text ≡ get_or (lines_of bytes) n text → n ≡ length before
-    → AreTexts (flat_map words_in before) chars → ¬ AreSpelled (words_in text) → line ≡ n + 1
+    (chars : List Char) (line : ℕ) → before ≡ take n (text_lines bytes)
+    → n < length (text_lines bytes)
+    → text ≡ get_or (text_lines bytes) n text → n ≡ length before
+    → AreTexts (flat_map words_in_line before) chars → ¬ AreSpelled (words_in_line text)
+    → line ≡ n + 1
     → BadWordAt bytes line
 BadWordAt-from_turn bytes n before text chars line so_far within here counted spelled bad at =
     record {
       before = before;
       text = text;
-      behind = drop (suc n) (lines_of bytes);
+      behind = drop (suc n) (text_lines bytes);
       split =
-          parted (lines_of bytes) n text within here
-          ∙ ap (λ xs. xs ++ text ∷ drop (suc n) (lines_of bytes)) (sym so_far);
+          parted (text_lines bytes) n text within here
+          ∙ ap (λ xs. xs ++ text ∷ drop (suc n) (text_lines bytes)) (sym so_far);
       spelled = (chars, spelled);
       bad = bad;
       place = omega arith;
@@ -291,29 +296,30 @@ word_longer false x ([] ∷ pieces) = omega arith
 word_longer false x ((y ∷ ys) ∷ pieces) = omega arith
 
 line_longer : (b : Bool) (x : ℕ) (lines : List (List ℕ))
-    → length (flat_map words_in (cond b ([] ∷ lines) (onto_first x lines)))
-    ≤ 1 + length (flat_map words_in lines)
+    → length (flat_map words_in_line (cond b ([] ∷ lines) (onto_first x lines)))
+    ≤ 1 + length (flat_map words_in_line lines)
 line_longer true x lines = omega arith
 line_longer false x [] =
     let one = word_longer (x == 32) x ([] ∷ []) in
-    omega (arith, length-append (words_in (x ∷ [])) [])
+    omega (arith, length-append (words_in_line (x ∷ [])) [])
 line_longer false x (line ∷ lines) =
     let one = word_longer (x == 32) x (slice_split (λ byte. byte == 32) line) in
     omega (
       arith,
-      length-append (words_in (x ∷ line)) (flat_map words_in lines),
-      length-append (words_in line) (flat_map words_in lines),
+      length-append (words_in_line (x ∷ line)) (flat_map words_in_line lines),
+      length-append (words_in_line line) (flat_map words_in_line lines),
     )
 
-few_words : (bytes : List ℕ) → length (words_of bytes) ≤ length bytes
+few_words : (bytes : List ℕ) → length (words_of_input bytes) ≤ length bytes
 few_words [] = omega arith
 few_words (x ∷ bytes) =
-    let more = line_longer (x == 10) x (lines_of bytes) in let rest = few_words bytes in omega arith
+    let more = line_longer (x == 10) x (text_lines bytes) in let rest = few_words bytes
+    in omega arith
 
 pub few_chars : (bytes : List ℕ) (chars : List Char) → SpellsChars bytes chars
     → length chars ≤ length bytes
 few_chars bytes chars spelled =
-    let same = AreTexts-length (words_of bytes) chars spelled in let few = few_words bytes in
+    let same = AreTexts-length (words_of_input bytes) chars spelled in let few = few_words bytes in
     omega arith
 
 -- ---- what loops go over
@@ -330,6 +336,6 @@ pub lines-road : {F : Type 0} {g : Mut F (Bor ℕ × Unit {0}) Bool} {f : F} {s 
     (xs : List (Bor (List ℕ))) (t : _) → Yields (split_steps g) s xs t → split_rest s ≡ bytes
     → split_done s ≡ false → split_callee s ≡ f
     → ((x : ℕ) (b : Bool) (q : F) → CalledAt g f x b q → (q ≡ f) × (b ≡ (x == 10)))
-    → YieldsList (split_steps g) (λ x. x.now) s (lines_of bytes)
+    → YieldsList (split_steps g) (λ x. x.now) s (text_lines bytes)
 lines-road {g} bytes xs t yields rest done closure calls =
     YieldsList-from_slice_split g (λ b. b == 10) bytes rest done closure calls

@@ -10,10 +10,10 @@ use Rattle.rio_cli.specs.declared.command.Command.{Command}
 use Rattle.rio_cli.specs.declared.status.Status.{Status}
 use Rattle.rio_cli.specs.declared.status.Status.TheVariants.{Done, Words, Script, ReadFault, WriteFault, NoMemory, Undetected, TooLong, Locked, Unlawful}
 use Rattle.rio_cli.specs.Inputs.{most_input, Offers, IsFaultless}
-use Rattle.rio_cli.specs.Outputs.{IsAccepted, IsRefused, Completes, Exposes, Meets, RunsOut, IsHit, Declines, Breaks, OfInput, refused_words, refused_length, verdict_text}
+use Rattle.rio_cli.specs.Outputs.{InputIsAccepted, InputIsRefused, Completes, Exposes, Meets, RunsOut, InputIsHit, Declines, Breaks, OfInput, refused_words, refused_length, verdict_text}
 use Rattle.rio_cli.specs.Messages.{Explains}
 use Rattle.rio_cli.specs.Soaking.{Soaks, SoaksInto, SoaksFront}
-use Rattle.rio_cli.specs.Words.{Asks, AsksSoak, AreUnknown}
+use Rattle.rio_cli.specs.Words.{AsksCommand, AsksSoak, AreUnknown}
 
 -- The words ask for the soak of a number. Nothing was read, and of the number this holds.
 pub record OfSoak {S : Type 0} (asked : List (List ℕ)) (source source_after : S)
@@ -27,7 +27,7 @@ pub record OfSoak {S : Type 0} (asked : List (List ℕ)) (source source_after : 
 -- What a call of the program says that ends with this status: of the words after the program's
 -- name, of what the source tells of the bytes that are left and of its faults, and of what the sink
 -- tells of the bytes that were written and of its faults.
-pub record Ended {S : Type 0} {K : Type 0} (asked : List (List ℕ)) (status : Status)
+pub record ProgramEnded {S : Type 0} {K : Type 0} (asked : List (List ℕ)) (status : Status)
     (left : S → Option (List ℕ)) (read_faults : S → ℕ) (source source_after : S)
     (written : K → Option (List ℕ)) (write_faults : K → ℕ) (sink sink_after : K) : Type 0 where
   -- Words that ask for no command read nothing, and only these are answered so.
@@ -39,26 +39,26 @@ pub record Ended {S : Type 0} {K : Type 0} (asked : List (List ℕ)) (status : S
   -- The input was read to its end and carried out, and all was written: to the end, to the first
   -- event that a port acted on and that was not sent, or to the first device that another host
   -- holds. Or it is refused or not lawful, and a line says so. A soak reads nothing.
-  pub done : status ≡ Done → ((command : Command) × Asks command asked
+  pub done : status ≡ Done → ((command : Command) × AsksCommand command asked
       × OfInput (left source) (left source_after)
       (λ bytes. Completes command bytes (written sink) (written sink_after)))
       ⊎ OfSoak asked source source_after
       (λ seed. Soaks seed (written sink) (written sink_after))
-  pub undetected : status ≡ Undetected → ((command : Command) × Asks command asked
+  pub undetected : status ≡ Undetected → ((command : Command) × AsksCommand command asked
       × OfInput (left source) (left source_after)
       (λ bytes. Exposes command bytes (written sink) (written sink_after)))
       ⊎ OfSoak asked source source_after
       (λ seed. SoaksInto seed (written sink) (written sink_after))
-  pub locked : status ≡ Locked → (command : Command) × Asks command asked
+  pub locked : status ≡ Locked → (command : Command) × AsksCommand command asked
       × OfInput (left source) (left source_after)
       (λ bytes. Meets command bytes (written sink) (written sink_after))
-  pub script : status ≡ Script → (command : Command) × Asks command asked
+  pub script : status ≡ Script → (command : Command) × AsksCommand command asked
       × OfInput (left source) (left source_after)
       (λ bytes. Declines Script command bytes (written sink) (written sink_after))
-  pub unlawful : status ≡ Unlawful → (command : Command) × Asks command asked
+  pub unlawful : status ≡ Unlawful → (command : Command) × AsksCommand command asked
       × OfInput (left source) (left source_after)
       (λ bytes. Declines Unlawful command bytes (written sink) (written sink_after))
-  pub too_long : status ≡ TooLong → (command : Command) × Asks command asked
+  pub too_long : status ≡ TooLong → (command : Command) × AsksCommand command asked
       × ConsumesJust (left source) (left source_after) (most_input + 1)
       × Appends (written sink) (written sink_after) refused_length
   -- However it ends, one byte more than an input may have is the most that is read.
@@ -70,7 +70,7 @@ pub record Ended {S : Type 0} {K : Type 0} (asked : List (List ℕ)) (status : S
       × Keeps (written sink) (written sink_after)
   pub write_fault : status ≡ WriteFault → Rose (write_faults sink) (write_faults sink_after)
       × ((AreUnknown asked × AppendsFront (written sink) (written sink_after) refused_words)
-      ⊎ (((command : Command) × Asks command asked
+      ⊎ (((command : Command) × AsksCommand command asked
       × ((ConsumesJust (left source) (left source_after) (most_input + 1)
       × AppendsFront (written sink) (written sink_after) refused_length)
       ⊎ OfInput (left source) (left source_after)
@@ -83,20 +83,21 @@ pub record Ended {S : Type 0} {K : Type 0} (asked : List (List ℕ)) (status : S
       × (write_faults sink ≤ write_faults sink_after)
   -- Memory ran out before anything was written, or while the input was carried out.
   pub no_memory : status ≡ NoMemory → Keeps (written sink) (written sink_after)
-      ⊎ ((command : Command) × Asks command asked × OfInput (left source) (left source_after)
+      ⊎ ((command : Command) × AsksCommand command asked × OfInput (left source) (left source_after)
       (λ bytes. RunsOut command bytes (written sink) (written sink_after)))
   -- With words that ask for a command and no fault the input decides, unless memory runs out.
-  pub accepted : (command : Command) (bytes : List ℕ) → Asks command asked
-      → Offers (left source) bytes → IsAccepted command bytes
+  pub accepted : (command : Command) (bytes : List ℕ) → AsksCommand command asked
+      → Offers (left source) bytes → InputIsAccepted command bytes
       → IsFaultless (read_faults source) (read_faults source_after) (write_faults sink)
       (write_faults sink_after)
       → (status ≡ Done) ⊎ ((status ≡ Undetected) ⊎ ((status ≡ Locked) ⊎ ((status ≡ Unlawful)
       ⊎ (status ≡ NoMemory))))
-  pub refused : (command : Command) (bytes : List ℕ) (line reason : ℕ) → Asks command asked
-      → Offers (left source) bytes → IsRefused command bytes line reason
+  pub refused : (command : Command) (bytes : List ℕ) (line reason : ℕ) → AsksCommand command asked
+      → Offers (left source) bytes → InputIsRefused command bytes line reason
       → IsFaultless (read_faults source) (read_faults source_after) (write_faults sink)
       (write_faults sink_after) → (status ≡ Script) ⊎ (status ≡ NoMemory)
-  pub longer : (command : Command) (bytes : List ℕ) → Asks command asked → left source ≡ Some bytes
+  pub longer : (command : Command) (bytes : List ℕ) → AsksCommand command asked
+      → left source ≡ Some bytes
       → most_input < length bytes
       → IsFaultless (read_faults source) (read_faults source_after) (write_faults sink)
       (write_faults sink_after) → (status ≡ TooLong) ⊎ (status ≡ NoMemory)
@@ -110,7 +111,7 @@ pub record Ended {S : Type 0} {K : Type 0} (asked : List (List ℕ)) (status : S
 -- in words.
 pub record IsToldOf (status : Status) (command : Command) (bytes : List ℕ) (refusal : Refusal)
     (written written_after : Option (List ℕ)) : Type 0 where
-  pub hit : IsHit status command bytes refusal.line refusal.reason
+  pub hit : InputIsHit status command bytes refusal.line refusal.reason
   pub told : Appends written written_after (verdict_text status refusal.line refusal.reason)
   pub explains : Explains command bytes refusal.line refusal.reason refusal.message.items
 
@@ -124,7 +125,7 @@ abbrev pub Refuses : List (List ℕ) → Answer → Option (List ℕ) → Option
     → Option (List ℕ) → Type 0
 Refuses asked answer left left_after written written_after = MatchOption answer.refusal
     (IsOther answer.status)
-    (λ refusal. Asks refusal.command asked × OfInput left left_after
+    (λ refusal. AsksCommand refusal.command asked × OfInput left left_after
     (λ bytes. IsToldOf answer.status refusal.command bytes refusal written written_after))
 
 -- ---- the parts of a call

@@ -20,7 +20,7 @@ pub record HasTrace (bytes : List ℕ) : Type 0 where
   pub input : IsInput bytes set_up known texts
 
 -- The trace is lawful, and how many steps it has was told.
-pub record Checks (bytes : List ℕ) (written written_after : Option (List ℕ)) : Type 0 where
+pub record ChecksTrace (bytes : List ℕ) (written written_after : Option (List ℕ)) : Type 0 where
   pub steps : ℕ
   pub lawful : HasLawful bytes steps
   pub told : Appends written written_after (lawful_text steps)

@@ -45,7 +45,7 @@ pub record HasHosts (first second bytes : List ℕ) : Type 0 where
 -- A line is refused; or none is, and the nodes of these names are not two hosts, which is told at
 -- the line after the last.
 pub data IsRefusedForTwo (first second bytes : List ℕ) : (line reason : ℕ) → Type 0 where
-  Hit : {line reason : ℕ} → RefusedIn of_set_up bytes line reason
+  HitForTwo : {line reason : ℕ} → RefusedIn of_set_up bytes line reason
       → IsRefusedForTwo first second bytes line reason
   NotHosts : (names : List (List ℕ)) (lines : List Numbered) (reason : ℕ)
       → IsScriptIn of_set_up bytes names lines

@@ -1,9 +1,10 @@
 -- What `decode` reads and writes: characters as words, and the lines of their reading.
 use Rattle.std.specs.Prelude.{◌≡◌, ◌↔◌, ℕ, ◌+◌, ◌==◌, Bool, true, false, List, [], ◌∷◌, ◌++◌, length, Option, codes}
 use Rattle.std.specs.List.{filter, flat_map, slice_split}
-use Rattle.rio_chars.specs.Lines.{lines_of}
+use Rattle.rio_chars.specs.Lines.{text_lines}
 use Rattle.std.specs.Fmt.{decimal}
 use Rattle.std.specs.Io.KnownBytes.{Appends}
+use Rattle.host_enumerate.specs.MapTexts.{spaced}
 use Rattle.rio_chars.specs.CharText.{char_text_of, HasByte}
 use Rattle.rio_chars.specs.Fronts.{AppendsFront}
 use Rattle.rio_chars.specs.HexText.{hex_of}
@@ -21,16 +22,16 @@ is_word [] = false
 is_word (byte ∷ bytes) = true
 
 -- the words of a line, which spaces part
-abbrev pub words_in : List ℕ → List (List ℕ)
-words_in line = filter is_word (slice_split (λ byte. byte == 32) line)
+abbrev pub words_in_line : List ℕ → List (List ℕ)
+words_in_line line = filter is_word (slice_split (λ byte. byte == 32) line)
 
 -- the word that stands between two spaces, if any does
 abbrev pub word_in : List ℕ → List (List ℕ)
 word_in text = filter is_word (text ∷ [])
 
 -- the words of the input, which spaces and line feeds part
-abbrev pub words_of : List ℕ → List (List ℕ)
-words_of bytes = flat_map words_in (lines_of bytes)
+abbrev pub words_of_input : List ℕ → List (List ℕ)
+words_of_input bytes = flat_map words_in_line (text_lines bytes)
 
 -- the words are the texts of these characters, one after another
 abbrev pub AreTexts : List (List ℕ) → List Char → Type 0
@@ -45,21 +46,17 @@ AreSpelled words = (chars : List Char) × AreTexts words chars
 
 -- the words of the bytes are the texts of these characters
 abbrev pub SpellsChars : List ℕ → List Char → Type 0
-SpellsChars bytes chars = AreTexts (words_of bytes) chars
+SpellsChars bytes chars = AreTexts (words_of_input bytes) chars
 
 -- this line, counted from 1, is the first that has a word which is no character
 pub record BadWordAt (bytes : List ℕ) (line : ℕ) : Type 0 where
   pub before : List (List ℕ)
   pub text : List ℕ
   pub behind : List (List ℕ)
-  pub split : lines_of bytes ≡ before ++ text ∷ behind
-  pub spelled : AreSpelled (flat_map words_in before)
-  pub bad : ¬ AreSpelled (words_in text)
+  pub split : text_lines bytes ≡ before ++ text ∷ behind
+  pub spelled : AreSpelled (flat_map words_in_line before)
+  pub bad : ¬ AreSpelled (words_in_line text)
   pub place : line ≡ length before + 1
-
--- a number behind a space
-abbrev pub spaced : ℕ → List ℕ
-spaced number = codes " " ++ decimal number
 
 -- the line of a symbol, behind its place: stype0, its two parameters, stype1 and cmd
 abbrev pub symbol_text : Fields → List ℕ
@@ -67,21 +64,22 @@ symbol_text s = codes " symbol" ++ spaced s.s0 ++ spaced s.p0 ++ spaced s.p1 ++ 
     ++ spaced s.cmd ++ codes "\n"
 
 -- the line of a packet, behind its place: its ackID, and its bytes with none
-abbrev pub packet_text : ℕ → List ℕ → List ℕ
-packet_text ack packet = codes " packet" ++ spaced ack ++ codes " " ++ hex_of packet ++ codes "\n"
+abbrev pub event_packet_text : ℕ → List ℕ → List ℕ
+event_packet_text ack packet =
+    codes " packet" ++ spaced ack ++ codes " " ++ hex_of packet ++ codes "\n"
 
 -- the line of what is neither, behind its place: its cause
 abbrev pub bad_text : Cause → List ℕ
 bad_text cause = codes " bad" ++ spaced (number_of cause) ++ codes "\n"
 
-abbrev pub told_text : Event → List ℕ
-told_text (Ctl symbol) = symbol_text symbol
-told_text (Pkt ack packet) = packet_text ack packet
-told_text (Bad cause) = bad_text cause
+abbrev pub event_told_text : Event → List ℕ
+event_told_text (Ctl symbol) = symbol_text symbol
+event_told_text (Pkt ack packet) = event_packet_text ack packet
+event_told_text (Bad cause) = bad_text cause
 
 -- the line of an event at its place
-abbrev pub event_text : ℕ × Event → List ℕ
-event_text event = decimal event.0 ++ told_text event.1
+abbrev pub placed_text : ℕ × Event → List ℕ
+placed_text event = decimal event.0 ++ event_told_text event.1
 
 -- the last line, by whether neither a symbol nor a packet is in progress
 abbrev pub end_text : Bool → List ℕ
@@ -89,7 +87,7 @@ end_text true = codes "end\n"
 end_text false = codes "end cut\n"
 
 abbrev pub decode_text : List (ℕ × Event) → Bool → List ℕ
-decode_text events rest = flat_map event_text events ++ end_text rest
+decode_text events rest = flat_map placed_text events ++ end_text rest
 
 -- The bytes spell these characters and no others; this is their one reading, and they are cut just
 -- where `rest` is false.

@@ -1,7 +1,7 @@
 -- What the program says of an answer in words: one line of standard error, or nothing.
 use Rattle.std.specs.Prelude.{◌≡◌, ℕ, ◌-◌, ◌&&◌, leb, ltb, Option, Some, None, List, [], ◌∷◌, ◌++◌, codes, length, map, take, slice_index_or, MatchOption, if◌then◌else◌}
 use Rattle.std.specs.Fmt.{decimal}
-use Rattle.rio_chars.specs.Lines.{lines_of}
+use Rattle.rio_chars.specs.Lines.{text_lines}
 use Rattle.fabric_script.specs.Advice.{IsTrueOf}
 use Rattle.fabric_script.specs.declared.advice.Advice.{Advice}
 use Rattle.trace_check.specs.declared.expecting.Expected.{Expected}
@@ -17,8 +17,8 @@ use Rattle.rio_cli.specs.Hints.{hint_text}
 use Rattle.rio_cli.specs.Texts.{advice_text, reason_text}
 
 -- the text of a line of an input, counted from 1, and nothing for a line that is not there
-abbrev pub line_text : List ℕ → ℕ → List ℕ
-line_text bytes line = slice_index_or (lines_of bytes) (line - 1) []
+abbrev pub input_line_text : List ℕ → ℕ → List ℕ
+input_line_text bytes line = slice_index_or (text_lines bytes) (line - 1) []
 
 -- a byte that a terminal prints, or a question mark
 abbrev pub shown_byte : ℕ → ℕ
@@ -56,11 +56,11 @@ IsExpectedBy _ bytes line reason expected = expected ≡ None
 pub record Explains (command : Command) (bytes : List ℕ) (line reason : ℕ) (message : List ℕ) :
     Type 0 where
   pub why : List ℕ
-  pub is_why : IsWhy command (line_text bytes line) reason why
+  pub is_why : IsWhy command (input_line_text bytes line) reason why
   pub expected : Option Expected
   pub is_expected : IsExpectedBy command bytes line reason expected
   pub says : message ≡ codes "rio: line " ++ decimal line ++ codes ": " ++ why
-      ++ hint_text expected ++ citation_of command (line_text bytes line) ++ codes "\n"
+      ++ hint_text expected ++ citation_of command (input_line_text bytes line) ++ codes "\n"
 
 -- what is said if no line is refused
 abbrev pub status_text : Status → List ℕ
@@ -82,5 +82,5 @@ message_text status None = status_text status
 message_text status (Some refusal) = refusal.message.items
 
 -- the line that is said of an answer
-abbrev pub message_of : Answer → List ℕ
-message_of answer = message_text answer.status answer.refusal
+abbrev pub answer_message : Answer → List ℕ
+answer_message answer = message_text answer.status answer.refusal

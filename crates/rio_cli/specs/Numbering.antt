@@ -16,7 +16,7 @@ use Rattle.fabric_map.specs.declared.map.Device.{Device}
 use Rattle.fabric_map.specs.declared.map.Entry.{Entry}
 use Rattle.fabric_map.specs.declared.map.Map.{Map}
 use Rattle.host_enumerate.specs.Devised.{devices_of, links_of}
-use Rattle.host_enumerate.specs.Ends.{EndsAtLock, IsFree}
+use Rattle.host_enumerate.specs.Ends.{EndsAtLock, IsLockFree}
 use Rattle.host_enumerate.specs.Hosts.{reason_of, FindsHost}
 use Rattle.host_enumerate.specs.Underway.{AreUntagged}
 use Rattle.host_enumerate.specs.MapTexts.{map_text, locked_text}
@@ -29,7 +29,7 @@ use Rattle.fabric_trace.specs.Runs.{start}
 use Rattle.fabric_trace.specs.Text.{trace_text}
 use Rattle.fabric_ports.specs.declared.noise.Quiet.{Quiet}
 use Rattle.fabric_maint.specs.Asked.{Asked}
-use Rattle.fabric_maint.specs.Going.{LeadsTo, Begun, topology_in, registers_in, StandsWhole, RestsAt, Followed}
+use Rattle.fabric_maint.specs.Going.{LeadsTo, AskBegun, topology_in, registers_in, StandsWhole, MaintRestsAt, Followed}
 use Rattle.fabric_maint.specs.declared.maint.FabricMaint.{FabricMaint}
 use Rattle.script_input.specs.Inputs.{texts_of}
 use Rattle.rio_cli.specs.declared.status.Status.{Status}
@@ -48,9 +48,9 @@ pub record HasHost (word bytes : List ℕ) : Type 0 where
 -- A line is refused; or none is, and the node of this name cannot be the host, which is told at the
 -- line after the last.
 pub data IsRefusedFor (word bytes : List ℕ) : (line reason : ℕ) → Type 0 where
-  Hit : {line reason : ℕ} → RefusedIn of_set_up bytes line reason
+  HitFor : {line reason : ℕ} → RefusedIn of_set_up bytes line reason
       → IsRefusedFor word bytes line reason
-  NotHost : (names : List (List ℕ)) (lines : List Numbered) (end : NoHost)
+  NotHostFor : (names : List (List ℕ)) (lines : List Numbered) (end : NoHost)
       → IsScriptIn of_set_up bytes names lines
       → FindsHost names (devices_of lines) (links_of lines) word (Err end)
       → IsRefusedFor word bytes (length (texts_of bytes) + 1) (reason_number (reason_of end))
@@ -73,7 +73,7 @@ registers_for lines = registers_of (devices_of lines)
 pub record IsNewHost {K : Type 0} (written : K → Option (List ℕ)) (faults : K → ℕ)
     (maint : FabricMaint Quiet K) : Type 0 where
   pub whole : StandsWhole maint
-  pub rests : RestsAt maint.host (start maint.script.now.lines.items) maint.fabric.now
+  pub rests : MaintRestsAt maint.host (start maint.script.now.lines.items) maint.fabric.now
   pub registers : registers_in maint ≡ registers_for maint.script.now.lines.items
   pub untagged : AreUntagged (topology_in maint) (registers_in maint)
   pub has_id : (registers_in maint maint.host).base_id < 255
@@ -108,7 +108,7 @@ pub record ToldPart (names : List (List ℕ)) (lines : List Numbered) (host : �
   pub leads : LeadsTo host (start lines) trace end
   pub part : List ℕ
   pub told : Appends written written_after (trace_text names trace ++ part)
-  pub begun : Begun no_edits host names (start lines) trace end tid part
+  pub begun : AskBegun no_edits host names (start lines) trace end tid part
 
 -- ---- what it answers
 
@@ -116,7 +116,7 @@ pub record ToldPart (names : List (List ℕ)) (lines : List Numbered) (host : �
 pub record IsMapOf (lines : List Numbered) (host : ℕ) (devices : List Device)
     (entries : List Entry) (after : Registers) : Type 0 where
   pub numbered : IsNumbered (topology_for lines host) devices entries (registers_for lines) after
-  pub free : IsFree (topology_for lines host) (registers_for lines)
+  pub free : IsLockFree (topology_for lines host) (registers_for lines)
 
 -- by what the asks came to; no event is acted on that was not sent
 abbrev pub Maps : List (List ℕ) → List Numbered → ℕ → Option (List ℕ) → Option (List ℕ)

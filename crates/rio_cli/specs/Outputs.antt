@@ -11,7 +11,7 @@ use Rattle.fabric_replay.specs.Replaying.{ReplayedWhole, ReplayedUnsent, Replaye
 use Rattle.rio_chars.specs.declared.chars.Char.{Char}
 use Rattle.script_input.specs.Inputs.{IsRefusedInput}
 use Rattle.trace_check.specs.Outcomes.{HasUnlawful}
-use Rattle.rio_cli.specs.Checking.{HasTrace, Checks, ChecksFront}
+use Rattle.rio_cli.specs.Checking.{HasTrace, ChecksTrace, ChecksFront}
 use Rattle.rio_cli.specs.Numbering.{HasHost, IsRefusedFor, Numbers, FindsLock, NumbersFront}
 use Rattle.io_script.specs.IoScripts.{IsIoRefused}
 use Rattle.rio_cli.specs.Accessing.{HasAccesses, CarriesOut, CarriesFront}
@@ -73,39 +73,39 @@ SpellsScript bytes =
 -- ---- what each command makes of an input that was read whole, a row each
 
 -- the input is carried out
-abbrev pub IsAccepted : Command → List ℕ → Type 0
-IsAccepted Replay = SpellsScript
-IsAccepted Decode = λ bytes. (chars : List Char) × SpellsChars bytes chars
-IsAccepted Check = HasTrace
-IsAccepted Io = HasAccesses
-IsAccepted (Enumerate node) = HasHost node
-IsAccepted (Contest first second seed) = HasHosts first second
+abbrev pub InputIsAccepted : Command → List ℕ → Type 0
+InputIsAccepted Replay = SpellsScript
+InputIsAccepted Decode = λ bytes. (chars : List Char) × SpellsChars bytes chars
+InputIsAccepted Check = HasTrace
+InputIsAccepted Io = HasAccesses
+InputIsAccepted (Enumerate node) = HasHost node
+InputIsAccepted (Contest first second seed) = HasHosts first second
 
 -- the input is refused, at this line and for this reason
-abbrev pub IsRefused : Command → List ℕ → ℕ → ℕ → Type 0
-IsRefused Replay = RefusedAt
-IsRefused Decode = λ bytes line reason. BadWordAt bytes line × (reason ≡ 1)
-IsRefused Check = IsRefusedInput
-IsRefused Io = IsIoRefused
-IsRefused (Enumerate node) = IsRefusedFor node
-IsRefused (Contest first second seed) = IsRefusedForTwo first second
+abbrev pub InputIsRefused : Command → List ℕ → ℕ → ℕ → Type 0
+InputIsRefused Replay = RefusedAt
+InputIsRefused Decode = λ bytes line reason. BadWordAt bytes line × (reason ≡ 1)
+InputIsRefused Check = IsRefusedInput
+InputIsRefused Io = IsIoRefused
+InputIsRefused (Enumerate node) = IsRefusedFor node
+InputIsRefused (Contest first second seed) = IsRefusedForTwo first second
 
 -- the input is carried out, and is not lawful, at this line and for this reason
-abbrev pub IsUnlawful : Command → List ℕ → ℕ → ℕ → Type 0
-IsUnlawful Check = HasUnlawful
-IsUnlawful _ = λ bytes line reason. ⊥
+abbrev pub InputIsUnlawful : Command → List ℕ → ℕ → ℕ → Type 0
+InputIsUnlawful Check = HasUnlawful
+InputIsUnlawful _ = λ bytes line reason. ⊥
 
 -- a line of the input is told with this status, and this reason
-abbrev pub IsHit : Status → Command → List ℕ → ℕ → ℕ → Type 0
-IsHit Script = IsRefused
-IsHit Unlawful = IsUnlawful
-IsHit _ = λ command bytes line reason. ⊥
+abbrev pub InputIsHit : Status → Command → List ℕ → ℕ → ℕ → Type 0
+InputIsHit Script = InputIsRefused
+InputIsHit Unlawful = InputIsUnlawful
+InputIsHit _ = λ command bytes line reason. ⊥
 
 -- the input is carried out, and all was written that the command writes of it
 abbrev pub Completes : Command → List ℕ → Option (List ℕ) → Option (List ℕ) → Type 0
 Completes Replay = Traces
 Completes Decode = Decodes
-Completes Check = Checks
+Completes Check = ChecksTrace
 Completes Io = CarriesOut
 Completes (Enumerate node) = Numbers node
 Completes (Contest first second seed) = Contests first second seed
@@ -146,7 +146,7 @@ pub record Declines (status : Status) (command : Command) (bytes : List ℕ)
     (written written_after : Option (List ℕ)) : Type 0 where
   pub line : ℕ
   pub reason : ℕ
-  pub hit : IsHit status command bytes line reason
+  pub hit : InputIsHit status command bytes line reason
   pub told : Appends written written_after (verdict_text status line reason)
 
 -- The same, and a front of that line was written.
@@ -155,7 +155,7 @@ pub record DeclinesFront (command : Command) (bytes : List ℕ)
   pub status : Status
   pub line : ℕ
   pub reason : ℕ
-  pub hit : IsHit status command bytes line reason
+  pub hit : InputIsHit status command bytes line reason
   pub told : AppendsFront written written_after (verdict_text status line reason)
 
 -- what was written if a write failed, of an input that was read whole

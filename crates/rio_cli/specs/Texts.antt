@@ -72,15 +72,15 @@ reason_text (Enumerate node) reason = script_reason reason
 reason_text (Contest first second seed) reason = contest_reason reason
 
 -- how a word is spelled
-abbrev pub kind_text : WordKind → List ℕ
-kind_text Kinds.Name = codes "a letter and up to seven letters or digits"
-kind_text Kinds.Port = codes "a name, a point and a number from 0 to 15"
-kind_text (Kinds.Number least most) =
+abbrev pub word_kind_text : WordKind → List ℕ
+word_kind_text Kinds.Name = codes "a letter and up to seven letters or digits"
+word_kind_text Kinds.Port = codes "a name, a point and a number from 0 to 15"
+word_kind_text (Kinds.Number least most) =
     codes "a number from " ++ decimal least ++ codes " to " ++ decimal most ++ codes " in decimal"
-kind_text Kinds.Bytes =
+word_kind_text Kinds.Bytes =
     codes "bytes of two lower-case hexadecimal digits each, or a hyphen for none"
-kind_text (Kinds.Digits count) = decimal count ++ codes " lower-case hexadecimal digits"
-kind_text Kinds.Character = codes "d or k and two lower-case hexadecimal digits"
+word_kind_text (Kinds.Digits count) = decimal count ++ codes " lower-case hexadecimal digits"
+word_kind_text Kinds.Character = codes "d or k and two lower-case hexadecimal digits"
 
 -- what in a line is to blame, or the reason if its text alone does not show that
 abbrev pub advice_text : List ℕ → Advice → List ℕ
@@ -93,4 +93,4 @@ advice_text reason Keyword = codes "no kind of line begins with this word"
 advice_text reason (WordCount count) =
     codes "this kind of line has " ++ decimal count ++ codes " words after the first"
 advice_text reason (Word place kind) =
-    codes "word " ++ decimal place ++ codes " must be " ++ kind_text kind
+    codes "word " ++ decimal place ++ codes " must be " ++ word_kind_text kind

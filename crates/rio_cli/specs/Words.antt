@@ -18,22 +18,23 @@ words_for (Contest first second seed) =
     codes "contest" ∷ first ∷ second ∷ decimal seed ∷ []
 
 -- a node is spelled as a name, and a number has room in 32 bits
-abbrev pub IsNamed : Command → Type 0
-IsNamed (Enumerate node) = is_name node ≡ true
-IsNamed (Contest first second seed) =
+abbrev pub CommandIsNamed : Command → Type 0
+CommandIsNamed (Enumerate node) = is_name node ≡ true
+CommandIsNamed (Contest first second seed) =
     (is_name first ≡ true) × (is_name second ≡ true) × (seed < 2 ^ 32)
-IsNamed _ = ⊤
+CommandIsNamed _ = ⊤
 
 -- the words ask for this to be done with the input
-abbrev pub Asks : Command → List (List ℕ) → Type 0
-Asks command words = (words ≡ words_for command) × IsNamed command
+abbrev pub AsksCommand : Command → List (List ℕ) → Type 0
+AsksCommand command words = (words ≡ words_for command) × CommandIsNamed command
 
 -- the words ask no two nodes to contest a fabric, and no node to number one
 abbrev pub AskNoContest : List (List ℕ) → Type 0
-AskNoContest words = (first second : List ℕ) (seed : ℕ) → ¬ Asks (Contest first second seed) words
+AskNoContest words =
+    (first second : List ℕ) (seed : ℕ) → ¬ AsksCommand (Contest first second seed) words
 
 abbrev pub AskNoHost : List (List ℕ) → Type 0
-AskNoHost words = ((node : List ℕ) → ¬ Asks (Enumerate node) words) × AskNoContest words
+AskNoHost words = ((node : List ℕ) → ¬ AsksCommand (Enumerate node) words) × AskNoContest words
 
 -- the words that ask for the soak of a number
 abbrev pub soak_words : ℕ → List (List ℕ)
@@ -44,13 +45,13 @@ abbrev pub AsksSoak : ℕ → List (List ℕ) → Type 0
 AsksSoak seed words = (seed < 2 ^ 32) × (words ≡ soak_words seed)
 
 -- the words ask for this
-abbrev pub AsksFor : Asked → List (List ℕ) → Type 0
-AsksFor (Input command) words = Asks command words
-AsksFor (Soak seed) words = AsksSoak seed words
+abbrev pub AsksInput : Asked → List (List ℕ) → Type 0
+AsksInput (Input command) words = AsksCommand command words
+AsksInput (Soak seed) words = AsksSoak seed words
 
 -- the words ask for nothing
 abbrev pub AreUnknown : List (List ℕ) → Type 0
-AreUnknown words = ((command : Command) → ¬ Asks command words)
+AreUnknown words = ((command : Command) → ¬ AsksCommand command words)
     × ((seed : ℕ) → ¬ AsksSoak seed words)
 
 -- the words that follow the program's name

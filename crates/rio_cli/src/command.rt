@@ -1,7 +1,7 @@
 //! What the words after the program's name ask for.
 ghost use Rattle.std.specs.Prelude.{◌≡◌, ◌↔◌, ◌∷◌, [], ℕ, List, IsTrue, MatchOption, map};
 ghost use Rattle.std.specs.String.{string_bytes};
-ghost use Rattle.rio_cli.specs.Words.{AreUnknown, Asks, AskNoContest, AskNoHost, AsksFor, AsksSoak};
+ghost use Rattle.rio_cli.specs.Words.{AreUnknown, AsksCommand, AskNoContest, AskNoHost, AsksInput, AsksSoak};
 ghost use Rattle.rio_cli.specs.declared.command.Command.{Command as ACommand};
 ghost use Rattle.rio_cli.specs.declared.command.Command.TheVariants as Commands;
 
@@ -41,7 +41,7 @@ pub(crate) enum Asked {
 /// What the words ask for, if the program knows them.
 pub(crate) fn asked_by(words: &[String]) -> Option<Asked>
     ensures { MatchOption result (AreUnknown (map string_bytes words.now))
-        (λ asked. AsksFor asked (map string_bytes words.now)) }
+        (λ asked. AsksInput asked (map string_bytes words.now)) }
 {
     if let Some(command) = command_of(words) {
         return Some(Asked::Input(command));
@@ -53,8 +53,8 @@ pub(crate) fn asked_by(words: &[String]) -> Option<Asked>
 /// What the words ask to be done with the input, if they ask for that.
 fn command_of(words: &[String]) -> Option<Command>
     ensures { MatchOption result
-        ((command : ACommand) → ¬ Asks command (map string_bytes words.now))
-        (λ command. Asks command (map string_bytes words.now)) }
+        ((command : ACommand) → ¬ AsksCommand command (map string_bytes words.now))
+        (λ command. AsksCommand command (map string_bytes words.now)) }
 {
     if is_one(words, "replay") {
         Some(Command::Replay)
@@ -72,7 +72,7 @@ fn command_of(words: &[String]) -> Option<Command>
 /// What the words ask nodes that they name to do, if they ask for that.
 fn command_at(words: &[String]) -> Option<Command>
     ensures { MatchOption result (AskNoHost (map string_bytes words.now))
-        (λ command. Asks command (map string_bytes words.now)) }
+        (λ command. AsksCommand command (map string_bytes words.now)) }
 {
     if let Some(node) = host_of(words) {
         return Some(Command::Enumerate(node));
@@ -83,8 +83,8 @@ fn command_at(words: &[String]) -> Option<Command>
 /// The name of the host that the words ask to number a fabric, if they ask for that.
 fn host_of(words: &[String]) -> Option<Name>
     ensures { MatchOption result
-        ((node : List ℕ) → ¬ Asks (Commands.Enumerate node) (map string_bytes words.now))
-        (λ node. Asks (Commands.Enumerate node) (map string_bytes words.now)) }
+        ((node : List ℕ) → ¬ AsksCommand (Commands.Enumerate node) (map string_bytes words.now))
+        (λ node. AsksCommand (Commands.Enumerate node) (map string_bytes words.now)) }
 {
     match words {
         [word, node] => host_in(word.as_str(), node.as_str()),
@@ -95,7 +95,7 @@ fn host_of(words: &[String]) -> Option<Name>
 /// The contest that the words ask for, if they ask for one.
 fn contest_of(words: &[String]) -> Option<Command>
     ensures { MatchOption result (AskNoContest (map string_bytes words.now))
-        (λ command. Asks command (map string_bytes words.now)) }
+        (λ command. AsksCommand command (map string_bytes words.now)) }
 {
     match words {
         [word, first, second, number] => contest_in(
@@ -112,7 +112,7 @@ fn contest_of(words: &[String]) -> Option<Command>
 fn contest_in(word: &str, first: &str, second: &str, number: &str) -> Option<Command>
     ensures { MatchOption result
         (AskNoContest (word.now ∷ first.now ∷ second.now ∷ number.now ∷ []))
-        (λ command. Asks command (word.now ∷ first.now ∷ second.now ∷ number.now ∷ [])) }
+        (λ command. AsksCommand command (word.now ∷ first.now ∷ second.now ∷ number.now ∷ [])) }
 {
     if word != "contest" {
         return None;
@@ -130,8 +130,8 @@ fn contest_in(word: &str, first: &str, second: &str, number: &str) -> Option<Com
 /// The name of the host, if these are the two words of an enumeration.
 fn host_in(word: &str, node: &str) -> Option<Name>
     ensures { MatchOption result
-        ((name : List ℕ) → ¬ Asks (Commands.Enumerate name) (word.now ∷ node.now ∷ []))
-        (λ name. Asks (Commands.Enumerate name) (word.now ∷ node.now ∷ [])) }
+        ((name : List ℕ) → ¬ AsksCommand (Commands.Enumerate name) (word.now ∷ node.now ∷ []))
+        (λ name. AsksCommand (Commands.Enumerate name) (word.now ∷ node.now ∷ [])) }
 {
     if word == "enumerate" {
         read_name(node.as_bytes())

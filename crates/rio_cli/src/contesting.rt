@@ -4,7 +4,7 @@ ghost use Rattle.std.specs.Io.KnownBytes.{Keeps};
 ghost use Rattle.fabric_contest.specs.Contests.{contest_of};
 ghost use Rattle.fabric_contest.specs.ContestTexts.{contest_text};
 ghost use Rattle.host_enumerate.specs.Devised.{IsHost, devices_of, links_of};
-ghost use Rattle.fabric_script.specs.Scripts.{Passes};
+ghost use Rattle.fabric_script.specs.Scripts.{ScriptPasses};
 ghost use Rattle.rio_cli.specs.Answers.{Answers, RefusesBytes, SaysOfBytes};
 ghost use Rattle.rio_cli.specs.Contesting.{FindsHosts};
 ghost use Rattle.rio_cli.specs.Inputs.{most_input};
@@ -75,7 +75,7 @@ fn find_hosts(
     first: &[u8],
     second: &[u8],
 ) -> Result<Result<(u8, u8), u8>, NoMemory>
-    requires passes { Passes script.now.names.items script.now.lines.items }
+    requires passes { ScriptPasses script.now.names.items script.now.lines.items }
     ensures { IfOk result (FindsHosts script.now.names.items script.now.lines.items
         first.now second.now) }
 {
@@ -98,7 +98,7 @@ fn contest<K: Sink>(
     seed: u32,
     sink: &mut K,
 ) -> Status
-    requires passes { Passes script.now.names.items script.now.lines.items }
+    requires passes { ScriptPasses script.now.names.items script.now.lines.items }
     requires first { IsHost (devices_of script.now.lines.items) (links_of script.now.lines.items)
         hosts.0 }
     requires second { IsHost (devices_of script.now.lines.items) (links_of script.now.lines.items)

@@ -3,7 +3,7 @@ ghost use Rattle.std.specs.Prelude.{◌≡◌, ◌≤◌, true, false, [], lengt
 ghost use Rattle.std.specs.Io.KnownBytes.{Appends, Keeps};
 ghost use Rattle.rio_chars.specs.Faults.{Rose};
 ghost use Rattle.rio_chars.specs.Fronts.{AppendsFront};
-ghost use Rattle.link_model.specs.Places.{start, run, place_after, at_rest};
+ghost use Rattle.link_model.specs.Places.{place_start, run, place_after, at_rest};
 ghost use Rattle.rio_cli.specs.Inputs.{most_input};
 ghost use Rattle.rio_cli.specs.Decoding.{decode_text};
 ghost use Rattle.rio_cli.specs.declared.decode.DecodeEnd.TheVariants.{NoMemory};
@@ -39,11 +39,11 @@ pub(crate) fn decode_chars<K: Sink>(
 ) -> Result<(), DecodeEnd>
     requires { length chars.now ≤ most_input }
     ensures done { OnOk result (Appends (K.written sink.old) (K.written sink.new)
-        (decode_text (run start 0 chars.now) (at_rest (place_after start chars.now)))) }
+        (decode_text (run place_start 0 chars.now) (at_rest (place_after place_start chars.now)))) }
     ensures write_fault { IsErrOf result DecodeEnd.WriteFault
         → Rose (K.faults sink.old) (K.faults sink.new)
         × AppendsFront (K.written sink.old) (K.written sink.new)
-        (decode_text (run start 0 chars.now) (at_rest (place_after start chars.now))) }
+        (decode_text (run place_start 0 chars.now) (at_rest (place_after place_start chars.now))) }
     ensures no_memory { IsErrOf result DecodeEnd.NoMemory
         → Keeps (K.written sink.old) (K.written sink.new) }
     ensures counts { ¬ IsErrOf result DecodeEnd.WriteFault
@@ -67,11 +67,11 @@ fn write_reading<K: Sink>(chars: &[Char], outbox: &mut Outbox<K>)
     ensures same { outbox.new.sink.ghost_name ≡ outbox.old.sink.ghost_name }
     ensures done { outbox.new.failed ≡ false
         → Appends (K.written outbox.old.sink.now) (K.written outbox.new.sink.now)
-        (decode_text (run start 0 chars.now) (at_rest (place_after start chars.now))) }
+        (decode_text (run place_start 0 chars.now) (at_rest (place_after place_start chars.now))) }
     ensures write_fault { outbox.new.failed ≡ true
         → Rose (K.faults outbox.old.sink.now) (K.faults outbox.new.sink.now)
         × AppendsFront (K.written outbox.old.sink.now) (K.written outbox.new.sink.now)
-        (decode_text (run start 0 chars.now) (at_rest (place_after start chars.now))) }
+        (decode_text (run place_start 0 chars.now) (at_rest (place_after place_start chars.now))) }
     ensures counts { outbox.new.failed ≡ false
         → K.faults outbox.new.sink.now ≡ K.faults outbox.old.sink.now }
     ensures never_falls { K.faults outbox.old.sink.now ≤ K.faults outbox.new.sink.now }

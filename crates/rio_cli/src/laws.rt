@@ -2,17 +2,17 @@
 ghost use Rattle.std.specs.Prelude.{◌≡◌, ℕ, List};
 ghost use Rattle.rio_chars.specs.declared.chars.Char.{Char};
 ghost use Rattle.rio_cli.specs.Decoding.{SpellsChars};
-ghost use Rattle.rio_cli.specs.Outputs.{IsAccepted, IsRefused};
+ghost use Rattle.rio_cli.specs.Outputs.{InputIsAccepted, InputIsRefused};
 ghost use Rattle.rio_cli.specs.declared.command.Command.{Command as Asked};
 
 /// An input that is refused has one line and one reason, and is not accepted; characters are
 /// spelled by words that spell no others.
 pub fn inputs_are_judged_once()
     ensures once { (command : Asked) (bytes : List ℕ) (line reason line2 reason2 : ℕ)
-        → IsRefused command bytes line reason → IsRefused command bytes line2 reason2
+        → InputIsRefused command bytes line reason → InputIsRefused command bytes line2 reason2
         → (line ≡ line2) × (reason ≡ reason2) }
     ensures apart { (command : Asked) (bytes : List ℕ) (line reason : ℕ)
-        → IsRefused command bytes line reason → ¬ IsAccepted command bytes }
+        → InputIsRefused command bytes line reason → ¬ InputIsAccepted command bytes }
     ensures one_spelling { (bytes : List ℕ) (chars others : List Char)
         → SpellsChars bytes chars → SpellsChars bytes others → others ≡ chars }
 {}

@@ -7,7 +7,7 @@ ghost use Rattle.rio_chars.specs.Written.{Writes};
 ghost use Rattle.rio_symbols.specs.Fields.{Fields};
 ghost use Rattle.link_model.specs.Reading.{placed};
 ghost use Rattle.rio_framer.specs.Giving.{listed, events_by};
-ghost use Rattle.rio_cli.specs.Decoding.{symbol_text, packet_text, bad_text, event_text, end_text};
+ghost use Rattle.rio_cli.specs.Decoding.{symbol_text, event_packet_text, bad_text, placed_text, end_text};
 
 use crate::places::{digit_and_number, number_and_digits, write_number, write_place};
 use link_model::Event;
@@ -20,7 +20,7 @@ use rio_symbols::Symbol;
 pub(crate) fn write_told<K: Sink>(outbox: &mut Outbox<K>, place: u32, told: Told, framer: &Framer)
     requires { (symbol : Fields) → told ≡ Told.Ends symbol → IsSome framer.now.ended }
     ensures { Writes K.written K.faults outbox.old outbox.new
-        (flat_map event_text (placed place (listed (events_by told framer.now.ended).first
+        (flat_map placed_text (placed place (listed (events_by told framer.now.ended).first
         (events_by told framer.now.ended).second))) }
 {
     match told {
@@ -38,7 +38,7 @@ pub(crate) fn write_told<K: Sink>(outbox: &mut Outbox<K>, place: u32, told: Told
 fn write_ended<K: Sink>(outbox: &mut Outbox<K>, place: u32, framer: &Framer)
     requires { IsSome framer.now.ended }
     ensures { Writes K.written K.faults outbox.old outbox.new
-        (flat_map event_text (placed place (listed framer.now.ended None))) }
+        (flat_map placed_text (placed place (listed framer.now.ended None))) }
 {
     match framer.ended() {
         Ok((ack, packet)) => write_packet(outbox, place, ack, packet),
@@ -70,7 +70,7 @@ fn write_fields<K: Sink>(outbox: &mut Outbox<K>, symbol: &Symbol)
 /// Tells the line of a packet.
 fn write_packet<K: Sink>(outbox: &mut Outbox<K>, place: u32, ack: u8, packet: &[u8])
     ensures { Writes K.written K.faults outbox.old outbox.new
-        (decimal place ++ packet_text ack packet.now) }
+        (decimal place ++ event_packet_text ack packet.now) }
 {
     write_place(outbox, place);
     write_form(outbox, ack, packet);
@@ -78,7 +78,7 @@ fn write_packet<K: Sink>(outbox: &mut Outbox<K>, place: u32, ack: u8, packet: &[
 
 /// Tells what stands behind the place: the word, the ackID and the bytes.
 fn write_form<K: Sink>(outbox: &mut Outbox<K>, ack: u8, packet: &[u8])
-    ensures { Writes K.written K.faults outbox.old outbox.new (packet_text ack packet.now) }
+    ensures { Writes K.written K.faults outbox.old outbox.new (event_packet_text ack packet.now) }
 {
     outbox.write_short(b" packet\n", 7);
     write_number(outbox, ack);

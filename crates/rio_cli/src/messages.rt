@@ -1,7 +1,7 @@
 //! What the program says of an answer in words.
 ghost use Rattle.std.specs.Prelude.{◌≡◌, false};
 ghost use Rattle.rio_chars.specs.Unless.{WritesUnless};
-ghost use Rattle.rio_cli.specs.Messages.{status_text as status_text_of, message_of};
+ghost use Rattle.rio_cli.specs.Messages.{status_text as status_text_of, answer_message};
 
 use crate::answer::Answer;
 use crate::status::Status;
@@ -11,7 +11,7 @@ use rio_chars::{Sink, write_unless};
 /// write failed. It takes no memory.
 pub(crate) fn write_message<M: Sink>(messages: &mut M, answer: &Answer) -> bool
     ensures { WritesUnless false (M.written messages.old) (M.faults messages.old)
-        result (M.written messages.new) (M.faults messages.new) (message_of answer.now) }
+        result (M.written messages.new) (M.faults messages.new) (answer_message answer.now) }
 {
     let text = match &answer.refusal {
         Some(refusal) => refusal.message.as_slice(),

@@ -1,6 +1,6 @@
 //! `enumerate`: a host numbers the fabric that set-up lines make, over its links.
 ghost use Rattle.std.specs.Prelude.{◌≡◌, ◌≢◌, ◌≤◌, ◌++◌, [], codes, true, false, length, IsErrOf};
-ghost use Rattle.fabric_script.specs.Scripts.{Passes};
+ghost use Rattle.fabric_script.specs.Scripts.{ScriptPasses};
 ghost use Rattle.fabric_trace.specs.Runs.{start};
 ghost use Rattle.fabric_ports.specs.Standing.{Stands};
 ghost use Rattle.host_enumerate.specs.Devised.{IsHost, devices_of, links_of};
@@ -8,7 +8,7 @@ ghost use Rattle.host_enumerate.specs.MapTexts.{map_text, locked_text};
 ghost use Rattle.host_enumerate.specs.declared.ends.EnumEnd.TheVariants as Ends;
 ghost use Rattle.rio_chars.specs.Faults.{Rose};
 ghost use Rattle.rio_cli.specs.Answers.{Answers};
-ghost use Rattle.fabric_maint.specs.Going.{names_of, IsSame};
+ghost use Rattle.fabric_maint.specs.Going.{names_of, MaintIsSame};
 ghost use Rattle.rio_cli.specs.Numbering.{IsNewHost, Maps, SaysOfHost};
 
 use crate::status::Status;
@@ -23,7 +23,7 @@ use std::alloc::Global;
 /// Lets a host number the fabric of a script, and writes the lines of its asks, then the map and
 /// `end`; or the line `locked PATH ID` of the first device that it meets and another host holds.
 pub(crate) fn number<K: Sink>(alloc: Global, script: &Script, host: u8, sink: &mut K) -> Status
-    requires passes { Passes script.now.names.items script.now.lines.items }
+    requires passes { ScriptPasses script.now.names.items script.now.lines.items }
     requires host { IsHost (devices_of script.now.lines.items) (links_of script.now.lines.items)
         host }
     ensures says { SaysOfHost script.now.names.items script.now.lines.items host result
@@ -54,7 +54,7 @@ fn ask_devices<K: Sink>(
     host: u8,
     sink: &mut K,
 ) -> Result<Map, EnumEnd>
-    requires passes { Passes script.now.names.items script.now.lines.items }
+    requires passes { ScriptPasses script.now.names.items script.now.lines.items }
     requires host { IsHost (devices_of script.now.lines.items) (links_of script.now.lines.items)
         host }
     requires stands { Stands (start script.now.lines.items) [] fabric.old }
@@ -73,7 +73,7 @@ fn ask_devices<K: Sink>(
 /// Numbers the new fabric of a host, which keeps what it was lent.
 fn number_by<K: Sink>(alloc: Global, maint: &mut FabricMaint<Quiet, K>) -> Result<Map, EnumEnd>
     requires { IsNewHost K.written K.faults maint.old }
-    ensures same { IsSame maint.old maint.new }
+    ensures same { MaintIsSame maint.old maint.new }
     ensures maps { Maps (names_of maint.old) maint.old.script.now.lines.items maint.old.host
         (K.written maint.old.sink.now) (K.written maint.new.sink.now) result }
     ensures rose { IsErrOf result Ends.WriteFault

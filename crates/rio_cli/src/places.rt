@@ -1,8 +1,8 @@
 //! Places and small numbers in decimal, by tables: most lines of `decode` are little else.
 ghost use Rattle.std.specs.Prelude.{◌≡◌, ◌≤◌, ◌<◌, ◌+◌, ◌*◌, ◌/◌, ◌%◌, ◌∷◌, ◌++◌, [], codes, take};
 ghost use Rattle.std.specs.Fmt.{decimal};
+ghost use Rattle.host_enumerate.specs.MapTexts.{spaced};
 ghost use Rattle.rio_chars.specs.Written.{Writes};
-ghost use Rattle.rio_cli.specs.Decoding.{spaced};
 
 use rio_chars::{Outbox, Sink};
 

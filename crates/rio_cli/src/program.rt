@@ -1,7 +1,7 @@
 //! The whole program, but for where its words and its streams come from.
 ghost use Rattle.std.specs.Prelude.{◌≡◌, map};
 ghost use Rattle.std.specs.String.{string_bytes};
-ghost use Rattle.rio_cli.specs.Program.{Ran};
+ghost use Rattle.rio_cli.specs.Program.{ProgramRan};
 ghost use Rattle.rio_cli.specs.Words.{after_name as after_name_of};
 
 use crate::messages::write_message;
@@ -22,7 +22,7 @@ pub fn run<S: Source, K: Sink, M: Sink>(
     sink: &mut K,
     messages: &mut M,
 ) -> u8
-    ensures { Ran (map string_bytes arguments.now) result
+    ensures { ProgramRan (map string_bytes arguments.now) result
         S.left S.faults source.old source.new
         K.written K.faults sink.old sink.new
         M.written M.faults messages.old messages.new }

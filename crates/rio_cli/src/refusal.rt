@@ -1,7 +1,7 @@
 //! The line of an input that is refused or not lawful, and what is said of it.
 ghost use Rattle.std.specs.Prelude.{◌≡◌, ◌≤◌, ◌++◌, ℕ, List, IfOk, OnOk, length, map, take};
 ghost use Rattle.rio_cli.specs.Inputs.{most_input};
-ghost use Rattle.rio_cli.specs.Messages.{line_text, excerpt_of, citation_of, shown_byte as shown_byte_of, IsExpectedBy, IsWhy, Explains};
+ghost use Rattle.rio_cli.specs.Messages.{input_line_text, excerpt_of, citation_of, shown_byte as shown_byte_of, IsExpectedBy, IsWhy, Explains};
 
 use crate::command::Command;
 use crate::hints::push_hint;
@@ -117,7 +117,7 @@ fn push_why(
 
 /// The text of a line of the input, and nothing for a line behind the last.
 fn line_at(bytes: &[u8], line: u32) -> &[u8]
-    ensures { result.now ≡ line_text bytes.now line }
+    ensures { result.now ≡ input_line_text bytes.now line }
 {
     let mut left = line;
     for text in bytes.split(|byte| *byte == b'\n') {

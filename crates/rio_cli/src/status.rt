@@ -1,6 +1,6 @@
 //! How a call of the program ended.
 ghost use Rattle.std.specs.Prelude.{◌≡◌};
-ghost use Rattle.rio_cli.specs.Statuses.{number_of};
+ghost use Rattle.rio_cli.specs.Statuses.{exit_number};
 
 /// How a call of `rio` ended.
 #[derive(Clone, Copy, Debug, PartialEq, Eq)]
@@ -29,7 +29,7 @@ pub enum Status {
 
 /// The exit status of the program.
 pub fn status_number(status: Status) -> u8
-    ensures { result ≡ number_of status }
+    ensures { result ≡ exit_number status }
 {
     match status {
         Status::Done => 0,

@@ -1,7 +1,7 @@
 //! Why a line is refused, in words.
 ghost use Rattle.std.specs.Prelude.{◌≡◌, ◌++◌, [], OnOk};
 ghost use Rattle.std.specs.Fmt.{decimal};
-ghost use Rattle.rio_cli.specs.Texts.{reason_text as reason_text_of, script_reason as script_reason_of, contest_reason as contest_reason_of, advice_text as advice_text_of, kind_text as kind_text_of};
+ghost use Rattle.rio_cli.specs.Texts.{reason_text as reason_text_of, script_reason as script_reason_of, contest_reason as contest_reason_of, advice_text as advice_text_of, word_kind_text};
 ghost use Rattle.fabric_script.specs.declared.advice.Advice.TheVariants as AnAdvice;
 ghost use Rattle.fabric_script.specs.declared.advice.WordKind.TheVariants as AWordKind;
 
@@ -136,7 +136,7 @@ fn push_word(message: &mut Vec<u8>, place: u8, kind: WordKind) -> Result<(), All
 
 /// Adds how a word is spelled.
 fn push_kind(message: &mut Vec<u8>, kind: WordKind) -> Result<(), AllocError>
-    ensures { OnOk result (message.new.items ≡ message.old.items ++ kind_text_of kind) }
+    ensures { OnOk result (message.new.items ≡ message.old.items ++ word_kind_text kind) }
 {
     match kind {
         WordKind::Name => message.extend_from_slice(b"a letter and up to seven letters or digits"),
@@ -155,7 +155,7 @@ fn push_kind(message: &mut Vec<u8>, kind: WordKind) -> Result<(), AllocError>
 /// Adds how a number of a range is spelled.
 fn push_range(message: &mut Vec<u8>, least: u32, most: u32) -> Result<(), AllocError>
     ensures { OnOk result (message.new.items
-        ≡ message.old.items ++ kind_text_of (AWordKind.Number least most)) }
+        ≡ message.old.items ++ word_kind_text (AWordKind.Number least most)) }
 {
     message.extend_from_slice(b"a number from ")?;
     push_number(message, least)?;
@@ -167,7 +167,7 @@ fn push_range(message: &mut Vec<u8>, least: u32, most: u32) -> Result<(), AllocE
 /// Adds how a number in so many digits is spelled.
 fn push_digits(message: &mut Vec<u8>, count: u8) -> Result<(), AllocError>
     ensures { OnOk result (message.new.items
-        ≡ message.old.items ++ kind_text_of (AWordKind.Digits count)) }
+        ≡ message.old.items ++ word_kind_text (AWordKind.Digits count)) }
 {
     push_number(message, u32::from(count))?;
     message.extend_from_slice(b" lower-case hexadecimal digits")

@@ -8,7 +8,7 @@ ghost use Rattle.rio_cli.specs.declared.command.Command.TheVariants.{Replay, Dec
 ghost use Rattle.rio_cli.specs.declared.status.Status.TheVariants.{Script, Unlawful};
 ghost use Rattle.rio_cli.specs.Checking.{lawful_text};
 ghost use Rattle.rio_cli.specs.Outputs.{verdict_text};
-ghost use Rattle.rio_cli.specs.Answers.{Ended, Refuses, Answers, SaysOfBytes, SaysOfInput, TellsRefusal, RefusesBytes, RefusesInput};
+ghost use Rattle.rio_cli.specs.Answers.{ProgramEnded, Refuses, Answers, SaysOfBytes, SaysOfInput, TellsRefusal, RefusesBytes, RefusesInput};
 
 use crate::accessing::io_bytes;
 use crate::answer::Answer;
@@ -54,7 +54,7 @@ pub fn rio<S: Source, K: Sink>(
     source: &mut S,
     sink: &mut K,
 ) -> Status
-    ensures { Ended (map string_bytes words.now) result S.left S.faults source.old source.new
+    ensures { ProgramEnded (map string_bytes words.now) result S.left S.faults source.old source.new
         K.written K.faults sink.old sink.new }
 {
     answer(alloc, words, source, sink).status
@@ -68,7 +68,7 @@ pub fn answer<S: Source, K: Sink>(
     source: &mut S,
     sink: &mut K,
 ) -> Answer
-    ensures ended { Ended (map string_bytes words.now) result.status
+    ensures ended { ProgramEnded (map string_bytes words.now) result.status
         S.left S.faults source.old source.new K.written K.faults sink.old sink.new }
     ensures refuses { Refuses (map string_bytes words.now) result
         (S.left source.old) (S.left source.new) (K.written sink.old) (K.written sink.new) }

@@ -1,7 +1,7 @@
 //! Characters from the words of the input.
 ghost use Rattle.std.specs.Prelude.{◌≡◌, ◌≤◌, ◌⊎◌, ◌++◌, [], ℕ, List, length, IfOk, IsErrOf, IsTrue, IsFalse};
 ghost use Rattle.rio_chars.specs.declared.chars.Char.{Char};
-ghost use Rattle.rio_cli.specs.Decoding.{word_in, words_in, AreTexts, AreSpelled, SpellsChars, BadWordAt};
+ghost use Rattle.rio_cli.specs.Decoding.{word_in, words_in_line, AreTexts, AreSpelled, SpellsChars, BadWordAt};
 ghost use Rattle.rio_cli.specs.Inputs.{most_input};
 ghost use Rattle.rio_cli.specs.declared.words.CharsEnd.TheVariants.{NoMemory};
 
@@ -90,8 +90,8 @@ fn read_lines(bytes: &[u8], chars: Vec<Char>) -> Result<Vec<Char>, CharsEnd>
 /// Appends the characters of a line, and answers whether each of its words is one.
 fn read_line(text: &[u8], chars: &mut Vec<Char>) -> Result<bool, AllocError>
     ensures good { IfOk result (λ good. IsTrue good → (more : List Char)
-        × (chars.new.items ≡ chars.old.items ++ more) × AreTexts (words_in text.now) more) }
-    ensures bad { IfOk result (λ good. IsFalse good → ¬ AreSpelled (words_in text.now)) }
+        × (chars.new.items ≡ chars.old.items ++ more) × AreTexts (words_in_line text.now) more) }
+    ensures bad { IfOk result (λ good. IsFalse good → ¬ AreSpelled (words_in_line text.now)) }
 {
     let left = read_front(text, chars)?;
     for word in left.split(|byte| *byte == b' ') {
@@ -107,7 +107,7 @@ fn read_line(text: &[u8], chars: &mut Vec<Char>) -> Result<bool, AllocError>
 fn read_front<'a>(text: &'a [u8], chars: &mut Vec<Char>) -> Result<&'a [u8], AllocError>
     ensures { IfOk result (λ left. (more : List Char) × (words : List (List ℕ))
         × (chars.new.items ≡ chars.old.items ++ more)
-        × (words_in text.now ≡ words ++ words_in left.now) × AreTexts words more) }
+        × (words_in_line text.now ≡ words ++ words_in_line left.now) × AreTexts words more) }
 {
     let mut left = text;
     while let [a, b, c, b' ', rest @ ..] = left {

@@ -1,7 +1,7 @@
 -- What a loop over characters keeps: the events so far and those of the rest are the events of all.
 use Rattle.std.proofs.Common.{◌≡◌, ℕ, ◌+◌, ◌<◌, ◌≤◌, List, ◌∷◌, ◌++◌, length, drop, get_or, refl, sym, ap, ◌∙◌, append_assoc, append-nil, subst, add-one, drop-cons}
 use Rattle.std.proofs.lemmas.List.{drop_all}
-use Rattle.link_model.specs.Prelude.{Char, placed, Place, start, step, run, place_after}
+use Rattle.link_model.specs.Prelude.{Char, placed, Place, place_start, step, run, place_after}
 use Rattle.link_model.specs.declared.event.Event.{Event}
 use Rattle.link_model.specs.Reading.{IsReading}
 use Rattle.link_model.proofs.PlacesLaws.{reading_exists, run-none, run-cons, place_after-none, place_after-cons}
@@ -53,7 +53,7 @@ stands_all from all i cs h so_far =
 
 -- from the start, the events of all are a reading
 pub events_read : (from : Place) (cs : List Char) (found : List (ℕ × Event)) → found ≡ run from 0 cs
-    → from ≡ start → IsReading cs found
+    → from ≡ place_start → IsReading cs found
 events_read from cs found is starts =
     subst (λ (es : List (ℕ × Event)). IsReading cs es)
     (sym (is ∙ ap (λ (p : Place). run p 0 cs) starts)) (reading_exists cs)

@@ -3,9 +3,9 @@ use Rattle.std.proofs.Common.{◌≡◌, ℕ, suc, ◌+◌, ◌<◌, ◌≤◌, 
 use Rattle.std.proofs.lemmas.List.{drop_all}
 use Rattle.rio_chars.specs.declared.chars.Char.{Char}
 use Rattle.link_model.specs.declared.event.Event.{Event}
-use Rattle.link_model.specs.Places.{Place, Step, step}
+use Rattle.link_model.specs.Places.{Place, ReaderStep, step}
 use Rattle.link_model.specs.Fronts.{Front, no_front, front_by, telling_front}
-use Rattle.rio_framer.specs.Giving.{told_of}
+use Rattle.rio_framer.specs.Giving.{told_of_events}
 use Rattle.rio_framer.specs.Parts.{later}
 use Rattle.rio_framer.specs.declared.events.Told.TheVariants as told
 use Rattle.rio_framer.proofs.GivingLaws.{quiet-step}
@@ -20,7 +20,7 @@ pub front-none : (from : Place) → telling_front from [] ≡ no_front from
 unfolding telling_front
 front-none from = refl
 
-later-one : (n : ℕ) (behind : Front) (first : Step)
+later-one : (n : ℕ) (behind : Front) (first : ReaderStep)
     → later n (front_by [] first behind) ≡ later (n + 1) behind
 later-one n behind first = let same : n + suc behind.count ≡ n + 1 + behind.count = omega arith in
     ap (λ (k : ℕ). record { count = k; step = behind.step }) same
@@ -28,7 +28,7 @@ later-one n behind first = let same : n + suc behind.count ≡ n + 1 + behind.co
 -- a character that tells nothing
 pub front-quiet : (from to : Place) (i : ℕ) (cs : List Char) (d : Char) (all : Front)
     → i < length cs → to ≡ (step from (get_or cs i d)).place
-    → told_of (step from (get_or cs i d)).gives ≡ told.Nothing
+    → told_of_events (step from (get_or cs i d)).gives ≡ told.Nothing
     → later i (telling_front from (drop i cs)) ≡ all
     → later (i + 1) (telling_front to (drop (i + 1) cs)) ≡ all
 front-quiet from to i cs d all h to_is none so_far =
@@ -46,7 +46,7 @@ front-quiet from to i cs d all h to_is none so_far =
 
 -- a character that tells something
 pub front-tells : (from : Place) (i : ℕ) (cs : List Char) (d : Char) (all : Front) → i < length cs
-    → (told_of (step from (get_or cs i d)).gives ≡ told.Nothing → ⊥)
+    → (told_of_events (step from (get_or cs i d)).gives ≡ told.Nothing → ⊥)
     → later i (telling_front from (drop i cs)) ≡ all
     → record { count = i + 1; step = step from (get_or cs i d) } ≡ all
 front-tells from i cs d all h tells so_far =
@@ -57,7 +57,7 @@ front-tells from i cs d all h tells so_far =
     ∙ ap (λ (xs : List Char). later i (telling_front from xs)) (sym (drop-cons cs i d h))
     ∙ so_far
   where
-    ends : (es : List Event) (behind : Front) → (told_of es ≡ told.Nothing → ⊥)
+    ends : (es : List Event) (behind : Front) → (told_of_events es ≡ told.Nothing → ⊥)
         → front_by es (step from (get_or cs i d)) behind ≡ record {
           count = 1;
           step = step from (get_or cs i d);

@@ -8,13 +8,13 @@ use Rattle.link_model.specs.declared.reading_kinds.Kind.TheVariants.{Opens}
 use Rattle.link_model.specs.declared.reading_kinds.Pending.{Pending}
 use Rattle.link_model.specs.declared.reading_kinds.Pending.TheVariants.{Nothing, Opened, One, Two}
 use Rattle.link_model.specs.Fronts.{Front, front_by}
-use Rattle.link_model.specs.Places.{Step, opened, added, taken, finished, step_by}
-use Rattle.link_model.specs.Reading.{ended, ends_packet}
+use Rattle.link_model.specs.Places.{ReaderStep, opened, byte_added, symbol_taken, finished, step_by}
+use Rattle.link_model.specs.Reading.{packet_ended, ends_packet}
 use Rattle.link_model.specs.ReadingKinds.{kind}
 use Rattle.link_model.proofs.ReadingSpeltLaws.{kind-data}
 use Rattle.link_model.proofs.ReadingSteps.{below}
 use Rattle.rio_framer.specs.Framing.{Framing, framing_at, framing_after, ended_of}
-use Rattle.rio_framer.specs.Giving.{told_of}
+use Rattle.rio_framer.specs.Giving.{told_of_events}
 use Rattle.rio_framer.specs.Parts.{later, IsPart, StartsWithSymbol, TakesBytes, with_bytes}
 use Rattle.rio_framer.specs.declared.events.Told.{Told}
 use Rattle.rio_framer.specs.declared.events.Told.TheVariants as told
@@ -41,7 +41,8 @@ one_quiet from c cs to none is =
           ∙ ap (λ (p : Place). later 1 (telling_front p cs)) (sym there),
     )
 
-tells_by : (es : List Event) (first : Step) (behind : Front) → (told_of es ≡ told.Nothing → ⊥)
+tells_by : (es : List Event) (first : ReaderStep) (behind : Front)
+    → (told_of_events es ≡ told.Nothing → ⊥)
     → front_by es first behind ≡ record {
       count = 1;
       step = first;
@@ -51,7 +52,7 @@ tells_by (e ∷ es) first behind tells = refl
 
 pub part-one : (from : Place) (c : Char) (cs chars : List Char) (outcome : Told) (to : Framing)
     → chars ≡ c ∷ cs
-    → outcome ≡ told_of (step from c).gives → to ≡ framing_after (step from c)
+    → outcome ≡ told_of_events (step from c).gives → to ≡ framing_after (step from c)
     → IsPart from chars 1 outcome to
 part-one from c cs chars outcome to is tells stands = rw is (record {
   some = omega arith;
@@ -63,7 +64,7 @@ part-one from c cs chars outcome to is tells stands = rw is (record {
       ∙ tells_by (step from c).gives (step from c) (telling_front (step from c).place cs)
       (λ none. told_some (tells ∙ none)) in (
         ap (λ (f : Front). f.count) (sym front),
-        tells ∙ ap (λ (f : Front). told_of f.step.gives) (sym front),
+        tells ∙ ap (λ (f : Front). told_of_events f.step.gives) (sym front),
         stands ∙ ap (λ (f : Front). framing_after f.step) (sym front),
       );
 })
@@ -82,7 +83,7 @@ data-step : (bytes : List ℕ) (x : ℕ) → length bytes < 276
     }
 data-step bytes x h =
     ap (step_by (Within bytes) Nothing) (kind-data x)
-    ∙ ap (added bytes x) (below (length bytes) 276 h)
+    ∙ ap (byte_added bytes x) (below (length bytes) 276 h)
 
 quiet_by : (from : Place) (c : Char) (cs : List Char) (to : Place) → step from c ≡ record {
   place = to;
@@ -93,7 +94,7 @@ quiet_by : (from : Place) (c : Char) (cs : List Char) (to : Place) → step from
       step = (telling_front to cs).step;
     }
 quiet_by from c cs to is =
-    front-cons from c cs ∙ ap (λ (s : Step). front_by s.gives s (telling_front s.place cs)) is
+    front-cons from c cs ∙ ap (λ (s : ReaderStep). front_by s.gives s (telling_front s.place cs)) is
 
 data-front : (bytes xs : List ℕ) (cs : List Char) → length bytes + length xs ≤ 276
     → telling_front (place (Within bytes) Nothing) (data_chars xs ++ cs)
@@ -163,18 +164,18 @@ TakesBytes-fewer Skipped p m n takes fewer = takes
 -- ---- a symbol
 
 told_tells : (t : Text) (s : Fields) (b : Bool)
-    → told_of ((if b then ended t else []) ++ Ctl s ∷ []) ≡ told.Nothing → ⊥
+    → told_of_events ((if b then packet_ended t else []) ++ Ctl s ∷ []) ≡ told.Nothing → ⊥
 told_tells t s false e = cc
 told_tells Plain s true e = cc
 told_tells Skipped s true e = cc
 told_tells (Within bytes) s true e = cc
 
 finished_tells : (t : Text) (d : Delimiter) (o : Option Fields)
-    → told_of (finished t d o).gives ≡ told.Nothing → ⊥
+    → told_of_events (finished t d o).gives ≡ told.Nothing → ⊥
 finished_tells t d None e = cc
 finished_tells t d (Some s) e = by_allowed (allowed d s) e
   where
-    by_allowed : (b : Bool) → told_of (taken t s b).gives ≡ told.Nothing → ⊥
+    by_allowed : (b : Bool) → told_of_events (symbol_taken t s b).gives ≡ told.Nothing → ⊥
     by_allowed true e = told_tells t s (ends_packet s.s1) e
     by_allowed false e = cc
 
@@ -197,14 +198,14 @@ symbol-front t d c x y z cs opens =
     (ap (step_by (opened t) (One d x)) (kind-data y))
     ∙ ap (λ (f : Front). record { count = suc f.count; step = f.step })
     (front-cons (place (opened t) (Two d x y)) (Data z) cs
-    ∙ ap (λ (s : Step). front_by s.gives s (telling_front s.place cs)) fourth
+    ∙ ap (λ (s : ReaderStep). front_by s.gives s (telling_front s.place cs)) fourth
     ∙ tells_by last.gives last (telling_front last.place cs)
     (finished_tells (opened t) d (spelled x y z)))))
 
 pub part-symbol : (t : Text) (p : Pending) (d : Delimiter) (x y z : ℕ) (chars : List Char)
     (outcome : Told) (to : Framing) → p ≡ Nothing
     → StartsWithSymbol d x y z chars
-    → outcome ≡ told_of (finished (opened t) d (spelled x y z)).gives
+    → outcome ≡ told_of_events (finished (opened t) d (spelled x y z)).gives
     → to ≡ framing_after (finished (opened t) d (spelled x y z))
     → IsPart (place t p) chars 4 outcome to
 part-symbol t p d x y z chars outcome to none starts tells stands =
@@ -220,7 +221,7 @@ part-symbol t p d x y z chars outcome to none starts tells stands =
       quiet = λ quiet. absurd (finished_tells (opened t) d (spelled x y z) (sym tells ∙ quiet));
       tells = λ told_some. (
         ap (λ (f : Front). f.count) (sym front),
-        tells ∙ ap (λ (f : Front). told_of f.step.gives) (sym front),
+        tells ∙ ap (λ (f : Front). told_of_events f.step.gives) (sym front),
         stands ∙ ap (λ (f : Front). framing_after f.step) (sym front),
       );
     }

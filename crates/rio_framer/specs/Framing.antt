@@ -3,7 +3,7 @@ use Rattle.std.specs.Prelude.{ℕ, List, [], ◌∷◌, Bool, true, false, Optio
 use Rattle.link_model.specs.declared.event.Event.{Event}
 use Rattle.link_model.specs.declared.reading_kinds.Pending.{Pending}
 use Rattle.link_model.specs.Events.{packet_event}
-use Rattle.link_model.specs.Places.{Place, Step, place}
+use Rattle.link_model.specs.Places.{Place, ReaderStep, place}
 use Rattle.link_model.specs.Reading.{Text, Plain, Skipped, Within}
 use Rattle.rio_framer.specs.declared.framer.Mode.{Mode}
 use Rattle.rio_framer.specs.declared.framer.Mode.TheVariants.{Outside, Skipping, InPacket}
@@ -25,7 +25,7 @@ ended_of (e ∷ []) = None
 ended_of (e ∷ x ∷ es) = Some e
 
 -- after the step of a character
-abbrev pub framing_after : Step → Framing
+abbrev pub framing_after : ReaderStep → Framing
 framing_after step = record { place = step.place; ended = ended_of step.gives }
 
 -- the text that is read, where the bytes are those of the packet in progress
@@ -35,10 +35,10 @@ text_of Skipping bytes = Skipped
 text_of InPacket bytes = Within bytes
 
 -- a packet is in progress
-abbrev pub IsWithin : Text → Type 0
-IsWithin Plain = ⊥
-IsWithin Skipped = ⊥
-IsWithin (Within bytes) = Unit {0}
+abbrev pub IsInPacket : Text → Type 0
+IsInPacket Plain = ⊥
+IsInPacket Skipped = ⊥
+IsInPacket (Within bytes) = Unit {0}
 
 -- by whether the bytes are those of a packet that ended
 abbrev pub framing_of : Mode → List ℕ → Pending → Bool → Framing

@@ -22,10 +22,10 @@ symbol_of (Pkt ack packet) = None
 symbol_of (Bad cause) = None
 
 -- at most two events, of which the second is a symbol
-abbrev pub events_of : List Event → Events
-events_of [] = record { first = None; second = None }
-events_of (e ∷ []) = record { first = Some e; second = None }
-events_of (e ∷ x ∷ es) = record { first = Some e; second = symbol_of x }
+abbrev pub events_given : List Event → Events
+events_given [] = record { first = None; second = None }
+events_given (e ∷ []) = record { first = Some e; second = None }
+events_given (e ∷ x ∷ es) = record { first = Some e; second = symbol_of x }
 
 -- A second event is the start-of-packet or end-of-packet symbol that ended the packet named by the
 -- first.
@@ -43,12 +43,12 @@ told_end (Pkt ack packet) = told.Bad General
 told_end (Bad cause) = told.Bad cause
 
 -- the outcome of events, without the packet that ended
-abbrev pub told_of : List Event → Told
-told_of [] = told.Nothing
-told_of (Ctl symbol ∷ []) = told.Ctl symbol
-told_of (Pkt ack packet ∷ []) = told.Bad General
-told_of (Bad cause ∷ []) = told.Bad cause
-told_of (e ∷ x ∷ es) = told_end x
+abbrev pub told_of_events : List Event → Told
+told_of_events [] = told.Nothing
+told_of_events (Ctl symbol ∷ []) = told.Ctl symbol
+told_of_events (Pkt ack packet ∷ []) = told.Bad General
+told_of_events (Bad cause ∷ []) = told.Bad cause
+told_of_events (e ∷ x ∷ es) = told_end x
 
 -- the events of an outcome, and of the packet that ended
 abbrev pub events_by : Told → Option Event → Events

@@ -7,7 +7,7 @@ use Rattle.link_model.specs.declared.reading_kinds.Pending.TheVariants.{Nothing,
 use Rattle.link_model.specs.declared.reading_kinds.Kind.TheVariants.{Opens}
 use Rattle.link_model.specs.ReadingKinds.{kind}
 use Rattle.rio_framer.specs.Framing.{Framing, framing_at, framing_after}
-use Rattle.rio_framer.specs.Giving.{told_of}
+use Rattle.rio_framer.specs.Giving.{told_of_events}
 use Rattle.rio_framer.specs.declared.events.Told.{Told}
 use Rattle.rio_framer.specs.declared.events.Told.TheVariants as told
 
@@ -24,7 +24,7 @@ pub record IsPart (from : Place) (chars : List Char) (count : ℕ) (outcome : To
       → (to ≡ framing_at to.place)
       × (telling_front from chars ≡ later count (telling_front to.place (drop count chars)))
   pub tells : (outcome ≡ told.Nothing → ⊥) → (count ≡ (telling_front from chars).count)
-      × (outcome ≡ told_of (telling_front from chars).step.gives)
+      × (outcome ≡ told_of_events (telling_front from chars).step.gives)
       × (to ≡ framing_after (telling_front from chars).step)
 
 -- so many bytes fit into the packet in progress, and no symbol is in progress

@@ -1,7 +1,7 @@
 //! Many characters at once.
 ghost use Rattle.std.specs.Prelude.{◌≡◌, ◌≤◌, ◌<◌, ◌++◌, [], ◌∷◌, length, IfOk, OnOk, OnErr};
 ghost use Rattle.link_model.specs.Reading.{placed, IsReading};
-ghost use Rattle.link_model.specs.Places.{start, run, place_after};
+ghost use Rattle.link_model.specs.Places.{place_start, run, place_after};
 ghost use Rattle.rio_framer.specs.Giving.{listed};
 
 use crate::{Events, Framer};
@@ -17,7 +17,7 @@ impl Framer {
     pub fn feed_all(&mut self, alloc: Global, chars: &[Char]) -> Result<Vec<(u32, Event)>, NoMemory>
         requires { length chars.now ≤ 4194304 }
         ensures events { IfOk result (λ found. found.items ≡ run self.old.place 0 chars.now) }
-        ensures reads { self.old.place ≡ start
+        ensures reads { self.old.place ≡ place_start
             → IfOk result (λ found. IsReading chars.now found.items) }
         ensures place { OnOk result (self.new.place ≡ place_after self.old.place chars.now) }
         ensures unchanged { OnErr result (self.new ≡ self.old) }

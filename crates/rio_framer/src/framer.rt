@@ -62,13 +62,13 @@ impl Model for Framer {
 
 impl Framer {
     ghost use Rattle.rio_packets.specs.LinkForm.{Passes};
-    ghost use Rattle.link_model.specs.Places.{start, step, at_rest as rests};
+    ghost use Rattle.link_model.specs.Places.{place_start, step, at_rest as rests};
     ghost use Rattle.rio_framer.specs.Framing.{framing_at, framing_after};
-    ghost use Rattle.rio_framer.specs.Giving.{listed, events_of, told_of, events_by, IsPaired};
+    ghost use Rattle.rio_framer.specs.Giving.{listed, events_given, told_of_events, events_by, IsPaired};
 
     /// Nothing is in progress.
     pub fn new() -> Framer
-        ensures { result ≡ framing_at start }
+        ensures { result ≡ framing_at place_start }
     {
         Framer {
             mode: Mode::Outside,
@@ -91,7 +91,7 @@ impl Framer {
     /// Takes the next character, and tells the events that it completes.
     pub fn feed(&mut self, c: Char) -> Events
         ensures place { self.new.place ≡ (step self.old.place c).place }
-        ensures exact { result ≡ events_of (step self.old.place c).gives }
+        ensures exact { result ≡ events_given (step self.old.place c).gives }
         ensures state { self.new ≡ framing_after (step self.old.place c) }
 
         ensures gives { listed result.first result.second ≡ (step self.old.place c).gives }
@@ -145,7 +145,7 @@ impl Framer {
     /// Takes the next character.
     fn read(&mut self, c: Char) -> Told
         ensures state { self.new ≡ framing_after (step self.old.place c) }
-        ensures told { result ≡ told_of (step self.old.place c).gives }
+        ensures told { result ≡ told_of_events (step self.old.place c).gives }
     {
         self.forget();
         self.take(char_kind(c))

@@ -18,7 +18,7 @@ impl Framer {
     ghost use Rattle.link_model.specs.Places.{opened, place as place_of, finished};
     ghost use Rattle.link_model.specs.Fronts.{telling_front};
     ghost use Rattle.rio_framer.specs.Framing.{framing_at, framing_after};
-    ghost use Rattle.rio_framer.specs.Giving.{listed, events_of, told_of, IsPaired};
+    ghost use Rattle.rio_framer.specs.Giving.{listed, events_given, told_of_events, IsPaired};
     ghost use Rattle.rio_framer.specs.Parts.{IsPart, TakesBytes, with_bytes};
 
     /// Takes characters up to and with the first that tells an event, or all where none does, and
@@ -28,7 +28,8 @@ impl Framer {
     /// `link_model::events_go_by_fronts`.
     pub fn read_run(&mut self, chars: &[Char]) -> (usize, Told)
         ensures count { result.0 ≡ (telling_front self.old.place chars.now).count }
-        ensures told { result.1 ≡ told_of (telling_front self.old.place chars.now).step.gives }
+        ensures told { result.1
+            ≡ told_of_events (telling_front self.old.place chars.now).step.gives }
         ensures state { self.new ≡ framing_after (telling_front self.old.place chars.now).step }
 
         ensures within { result.0 ≤ length chars.now }
@@ -54,7 +55,8 @@ impl Framer {
         requires least { 1 ≤ length chars.now }
         requires most { length chars.now ≤ 4096 }
         ensures count { result.0 ≡ (telling_front self.old.place chars.now).count }
-        ensures exact { result.1 ≡ events_of (telling_front self.old.place chars.now).step.gives }
+        ensures exact { result.1
+            ≡ events_given (telling_front self.old.place chars.now).step.gives }
         ensures state { self.new ≡ framing_after (telling_front self.old.place chars.now).step }
 
         ensures gives { listed result.1.first result.1.second
@@ -141,7 +143,8 @@ impl Framer {
         ensures state { self.new
             ≡ framing_after (finished (opened self.old.place.text) delimiter (spelled x y z)) }
         ensures told { result
-            ≡ told_of (finished (opened self.old.place.text) delimiter (spelled x y z)).gives }
+            ≡ told_of_events
+            (finished (opened self.old.place.text) delimiter (spelled x y z)).gives }
     {
         self.open(delimiter);
         self.finish(delimiter, [x, y, z])

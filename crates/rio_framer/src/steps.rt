@@ -10,9 +10,9 @@ use rio_symbols::{Delimiter, Symbol, from_bytes, stype1};
 impl Framer {
     ghost use Rattle.rio_symbols.specs.Spelling.{spelled_in};
     ghost use Rattle.link_model.specs.Reading.{Plain, Skipped, told};
-    ghost use Rattle.link_model.specs.Places.{place as place_of, taken, step_by, outside as outside_step, broken as broken_step, finished};
-    ghost use Rattle.rio_framer.specs.Framing.{framing_at, framing_after, IsWithin};
-    ghost use Rattle.rio_framer.specs.Giving.{told_of};
+    ghost use Rattle.link_model.specs.Places.{place as place_of, symbol_taken, step_by, outside as outside_step, broken as broken_step, finished};
+    ghost use Rattle.rio_framer.specs.Framing.{framing_at, framing_after, IsInPacket};
+    ghost use Rattle.rio_framer.specs.Giving.{told_of_events};
 
     /// Takes a character of this kind.
     pub(crate) fn take(&mut self, kind: Kind) -> Told
@@ -20,7 +20,7 @@ impl Framer {
         ensures state { self.new
             ≡ framing_after (step_by self.old.place.text self.old.place.pending kind) }
         ensures told { result
-            ≡ told_of (step_by self.old.place.text self.old.place.pending kind).gives }
+            ≡ told_of_events (step_by self.old.place.text self.old.place.pending kind).gives }
     {
         match self.pending {
             Pending::Nothing => self.outside(kind),
@@ -44,7 +44,7 @@ impl Framer {
         requires nothing { self.old.place.pending ≡ Pending.Nothing }
         requires ended { self.old.ended ≡ None }
         ensures state { self.new ≡ framing_after (outside_step self.old.place.text kind) }
-        ensures told { result ≡ told_of (outside_step self.old.place.text kind).gives }
+        ensures told { result ≡ told_of_events (outside_step self.old.place.text kind).gives }
     {
         match kind {
             Kind::Opens(delimiter) => self.open(delimiter),
@@ -74,7 +74,8 @@ impl Framer {
         requires ended { self.old.ended ≡ None }
         ensures state { self.new
             ≡ framing_after (outside_step self.old.place.text (Kind.Byte byte)) }
-        ensures told { result ≡ told_of (outside_step self.old.place.text (Kind.Byte byte)).gives }
+        ensures told { result
+            ≡ told_of_events (outside_step self.old.place.text (Kind.Byte byte)).gives }
     {
         match self.mode {
             Mode::Outside => self.skip(Cause::BadChar),
@@ -87,10 +88,11 @@ impl Framer {
     fn add(&mut self, byte: u8) -> Told
         requires nothing { self.old.place.pending ≡ Pending.Nothing }
         requires ended { self.old.ended ≡ None }
-        requires within { IsWithin self.old.place.text }
+        requires within { IsInPacket self.old.place.text }
         ensures state { self.new
             ≡ framing_after (outside_step self.old.place.text (Kind.Byte byte)) }
-        ensures told { result ≡ told_of (outside_step self.old.place.text (Kind.Byte byte)).gives }
+        ensures told { result
+            ≡ told_of_events (outside_step self.old.place.text (Kind.Byte byte)).gives }
     {
         if self.building.is_full() {
             return self.skip(Cause::General);
@@ -104,7 +106,7 @@ impl Framer {
         requires nothing { self.old.place.pending ≡ Pending.Nothing }
         requires ended { self.old.ended ≡ None }
         ensures state { self.new ≡ framing_after (outside_step self.old.place.text Kind.Idle) }
-        ensures told { result ≡ told_of (outside_step self.old.place.text Kind.Idle).gives }
+        ensures told { result ≡ told_of_events (outside_step self.old.place.text Kind.Idle).gives }
     {
         match self.mode {
             Mode::InPacket => self.restart(Pending::Nothing),
@@ -120,7 +122,7 @@ impl Framer {
         requires nothing { self.old.place.pending ≡ Pending.Nothing }
         requires ended { self.old.ended ≡ None }
         ensures state { self.new ≡ framing_after (outside_step self.old.place.text Kind.Stray) }
-        ensures told { result ≡ told_of (outside_step self.old.place.text Kind.Stray).gives }
+        ensures told { result ≡ told_of_events (outside_step self.old.place.text Kind.Stray).gives }
     {
         if let Mode::Skipping = self.mode {
             return Told::Nothing;
@@ -142,7 +144,7 @@ impl Framer {
     fn broken(&mut self, kind: Kind) -> Told
         requires { self.old.ended ≡ None }
         ensures state { self.new ≡ framing_after (broken_step kind) }
-        ensures told { result ≡ told_of (broken_step kind).gives }
+        ensures told { result ≡ told_of_events (broken_step kind).gives }
     {
         match kind {
             Kind::Opens(delimiter) => self.restart(Pending::Opened(delimiter)),
@@ -179,7 +181,7 @@ impl Framer {
         ensures state { self.new
             ≡ framing_after (finished self.old.place.text delimiter (spelled_in bytes)) }
         ensures told { result
-            ≡ told_of (finished self.old.place.text delimiter (spelled_in bytes)).gives }
+            ≡ told_of_events (finished self.old.place.text delimiter (spelled_in bytes)).gives }
     {
         match from_bytes(&bytes) {
             Ok(symbol) if symbol.may_follow(delimiter) => self.meet(symbol),
@@ -191,8 +193,8 @@ impl Framer {
     /// A symbol that may follow its delimiter, by its stype1.
     fn meet(&mut self, symbol: Symbol) -> Told
         requires { self.old.ended ≡ None }
-        ensures state { self.new ≡ framing_after (taken self.old.place.text symbol true) }
-        ensures told { result ≡ told_of (told self.old.place.text symbol) }
+        ensures state { self.new ≡ framing_after (symbol_taken self.old.place.text symbol true) }
+        ensures told { result ≡ told_of_events (told self.old.place.text symbol) }
     {
         self.pending = Pending::Nothing;
         match (self.mode, symbol.s1) {

@@ -23,9 +23,9 @@ use Rattle.rio_live.specs.declared.live.Asked.TheVariants.{Quiet, Event, Refused
 use Rattle.rio_live.specs.declared.live.Live.{Live}
 use Rattle.rio_live.specs.declared.answers.Going.{Going as Whether}
 use Rattle.rio_live.specs.declared.answers.Going.TheVariants as Goings
-use Rattle.rio_live.specs.Lines.{Taken, seen_so_far, Outcome, Passed, SetUp, Happened, Refused as IsRefusedAs, after, found_text, answer_text, IsCutOf}
-use Rattle.rio_live.specs.Holding.{StandsBy, Holds}
-use Rattle.rio_live.specs.Answers.{IsQuiet, Takes, Happens, FallsShort, Answered, BreaksOff}
+use Rattle.rio_live.specs.Lines.{Taken, seen_so_far, Outcome, Passed, SetUp, Happened, Refused as IsRefusedAs, taken_after, found_text, answer_text, IsCutOf}
+use Rattle.rio_live.specs.Holding.{StandsBy, LiveHolds}
+use Rattle.rio_live.specs.Answers.{OutcomeIsQuiet, LiveTakes, Happens, FallsShort, LineAnswered, BreaksOff}
 use Rattle.rio_live.proofs.EventLaws.{is_one}
 use Rattle.rio_live.proofs.TakenLaws.{reads_happened, trace_more}
 
@@ -35,7 +35,7 @@ module _ {K : Type 0} (written : K → Option (List ℕ)) (faults : K → ℕ) (
     (line : List ℕ) (event : Line) where
   -- it was carried out
   pub happens_on : (out next : Outbox K) (number : ℕ) (live now : Live) (fabric last : Fabric)
-      (did : Did) → Holds live taken → Spells (for_event taken.known) line event
+      (did : Did) → LiveHolds live taken → Spells (for_event taken.known) line event
       → Stands (start taken.set_up) taken.trace fabric
       → now.text.items ≡ live.text.items → now.set_up ≡ live.set_up → now.fabric ≡ Some last
       → Evented event taken.known.names written faults out next (start taken.set_up) taken.trace
@@ -61,14 +61,14 @@ module _ {K : Type 0} (written : K → Option (List ℕ)) (faults : K → ℕ) (
               trace_more taken number line event done.block fabric holds.trace
               (is_one taken.known line event spells) stands done.is;
           stands =
-              subst (λ f. StandsBy f (after taken number line (Happened event done.block)))
+              subst (λ f. StandsBy f (taken_after taken number line (Happened event done.block)))
               (sym put) (refl, done.stands);
         };
       }
 
   -- a port acted on an event that was not sent
   pub happens_unsent : (out mid next : Outbox K) (number : ℕ) (live now : Live) (fabric : Fabric)
-      (port : PortRef) (found : LinkEvent) → Holds live taken
+      (port : PortRef) (found : LinkEvent) → LiveHolds live taken
       → Spells (for_event taken.known) line event
       → Stands (start taken.set_up) taken.trace fabric
       → Exposed event taken.known.names written faults out mid (start taken.set_up) taken.trace
@@ -121,7 +121,7 @@ on_each P Q (Err e) f p = tt
 
 -- the names that are held are those of the lines that were taken
 pub names_held : (live now : Live) (read : SetUpLines) (names : List (List ℕ)) (taken : Taken)
-    → Holds live taken → names ≡ read.known.names → read ≡ now.set_up
+    → LiveHolds live taken → names ≡ read.known.names → read ≡ now.set_up
     → now.set_up ≡ live.set_up → names ≡ taken.known.names
 names_held live now read names taken holds named set_up same =
     named ∙ ap (λ (s : SetUpLines). s.known.names) (set_up ∙ same)
@@ -140,7 +140,8 @@ put_set_up live mid now fabric put set_up = ap (λ (l : Live). l.set_up) put ∙
 
 -- ---- the answer of a line
 
-quiet_text : (taken : Taken) (number : ℕ) (line : List ℕ) (outcome : Outcome) → IsQuiet outcome
+quiet_text : (taken : Taken) (number : ℕ) (line : List ℕ) (outcome : Outcome)
+    → OutcomeIsQuiet outcome
     → answer_text taken number line outcome ≡ codes "ok\n"
 quiet_text taken number line Passed quiet = refl
 quiet_text taken number line (SetUp lines known) quiet = refl
@@ -149,9 +150,9 @@ quiet_text taken number line (IsRefusedAs reason) quiet = absurd quiet
 
 module _ {K : Type 0} (written : K → Option (List ℕ)) (faults : K → ℕ) (taken : Taken)
     (number : ℕ) (line : List ℕ) where
-  pub answered_quiet : (out next : Outbox K) (live : Live) → Takes taken line Quiet live
+  pub answered_quiet : (out next : Outbox K) (live : Live) → LiveTakes taken line Quiet live
       → Writes written faults out next (codes "ok\n")
-      → Answered written faults taken number line out next live Goings.On
+      → LineAnswered written faults taken number line out next live Goings.On
   answered_quiet out next live takes told = record {
     outcome = takes.0;
     reads = takes.2;
@@ -162,10 +163,10 @@ module _ {K : Type 0} (written : K → Option (List ℕ)) (faults : K → ℕ) (
   }
 
   pub answered_refused : (out mid next : Outbox K) (live : Live) (reason : ℕ)
-      → Takes taken line (Refused reason) live
+      → LiveTakes taken line (Refused reason) live
       → Writes written faults out mid (codes "refused " ++ decimal reason ++ codes "\n")
       → Writes written faults mid next (codes "ok\n")
-      → Answered written faults taken number line out next live Goings.On
+      → LineAnswered written faults taken number line out next live Goings.On
   answered_refused out mid next live reason takes told ok = record {
     outcome = IsRefusedAs reason;
     reads = takes.1;
@@ -174,10 +175,10 @@ module _ {K : Type 0} (written : K → Option (List ℕ)) (faults : K → ℕ) (
   }
 
   pub answered_event : (out mid next : Outbox K) (live now : Live) (event : Line)
-      (going : Whether) → Takes taken line (Event event) live
+      (going : Whether) → LiveTakes taken line (Event event) live
       → Happens written faults taken number line event out mid now going
       → Writes written faults mid next (codes "ok\n")
-      → Answered written faults taken number line out next now going
+      → LineAnswered written faults taken number line out next now going
   answered_event out mid next live now event going takes happens ok = record {
     outcome = Happened event happens.block;
     reads = reads_happened taken line event happens.block takes.1 takes.2 happens.is;
@@ -186,7 +187,7 @@ module _ {K : Type 0} (written : K → Option (List ℕ)) (faults : K → ℕ) (
   }
 
   pub breaks_event : (out next : Outbox K) (live : Live) (event : Line)
-      → Takes taken line (Event event) live → FallsShort written faults taken event out next
+      → LiveTakes taken line (Event event) live → FallsShort written faults taken event out next
       → BreaksOff written faults taken number line out next
   breaks_event out next live event takes short =
       record { text = trace_text names short.front; is = by_front short.is; told = short.told }
@@ -214,7 +215,7 @@ module _ {K : Type 0} (written : K → Option (List ℕ)) (faults : K → ℕ) (
       by_front (inl none) = inl (ap (trace_text taken.known.names) none)
       by_front (inr some) =
           let found = found_text taken.known.names number
-          (seen_so_far (after taken number line (Happened event some.0))).unfaithful in
+          (seen_so_far (taken_after taken number line (Happened event some.0))).unfaithful in
           inr (
             Happened event some.0,
             (trace_text taken.known.names some.1 ++ found) ++ codes "ok\n",
@@ -224,9 +225,9 @@ module _ {K : Type 0} (written : K → Option (List ℕ)) (faults : K → ℕ) (
 
   -- and what waited was written
   pub answered_whole : (out mid next : Outbox K) (live : Live) (going : Whether)
-      → Answered written faults taken number line out mid live going
+      → LineAnswered written faults taken number line out mid live going
       → Writes written faults mid next []
-      → Answered written faults taken number line out next live going
+      → LineAnswered written faults taken number line out next live going
   answered_whole out mid next live going a flushed = record {
     outcome = a.outcome;
     reads = a.reads;

@@ -7,14 +7,14 @@ use Rattle.live_lines.specs.declared.input.LineEnd.{LineEnd}
 use Rattle.live_lines.specs.declared.input.LineEnd.TheVariants as stops_at
 use Rattle.live_lines.specs.declared.status.Status.{Status}
 use Rattle.live_lines.specs.declared.status.Status.TheVariants as ends_with
-use Rattle.live_lines.specs.Lines.{Stops}
-use Rattle.live_lines.specs.Serving.{ServesLines, status_of}
+use Rattle.live_lines.specs.Lines.{LinesStop}
+use Rattle.live_lines.specs.Serving.{ServesLines, end_status}
 use Rattle.live_lines.proofs.ServingLaws.{Going-read, Going-told, Going-stops, Going-done, Going-fault}
 use Rattle.rio_live.specs.declared.live.Live.{Live}
 use Rattle.rio_live.specs.Lines.{Taken, nothing_taken, AnswersLines}
-use Rattle.rio_live.specs.Holding.{Holds}
-use Rattle.rio_live.specs.Answers.{Stopped}
-use Rattle.rio_live.specs.Program.{Closes, Serves}
+use Rattle.rio_live.specs.Holding.{LiveHolds}
+use Rattle.rio_live.specs.Answers.{LinesStopped}
+use Rattle.rio_live.specs.Program.{Closes, LiveServes}
 use Rattle.rio_live.proofs.TakenLaws.{is_sent}
 use Rattle.rio_live.proofs.ServingLaws.{Course, with_nothing}
 
@@ -28,8 +28,8 @@ module _ {K : Type 0} (written : K → Option (List ℕ)) (faults : K → ℕ) (
       read_faults_now
       → begun.buffer.now ≡ [] → out.failed ≡ false → out.buffer.now ≡ []
       → Consumes left_now left_last taken
-      → Stops end left_last read_faults_now read_faults_last (pending ++ taken)
-      → Serves (status_of end) left left_last read_faults read_faults_last
+      → LinesStop end left_last read_faults_now read_faults_last (pending ++ taken)
+      → LiveServes (end_status end) left left_last read_faults read_faults_last
       (written begun.sink.now) (written out.sink.now) (faults begun.sink.now)
       (faults out.sink.now)
   Course-stops {out} {live} {left_now} {left_last} pending taken {count} read_faults_now
@@ -42,14 +42,14 @@ module _ {K : Type 0} (written : K → Option (List ℕ)) (faults : K → ℕ) (
         trace = h.holds.trace;
         closes = by_end end other;
         serves =
-            with_nothing written faults begun left read_faults out (status_of end) h.lines h.text
+            with_nothing written faults begun left read_faults out (end_status end) h.lines h.text
             (Going-stops written faults begun left read_faults (2 ^ 32 - 1) pending taken
             read_faults_now read_faults_last end h.lines h.text h.going clear fine empty more
             stops);
       }
     where
       by_end : (e : LineEnd) → (e ≡ stops_at.End → ⊥)
-          → Closes (status_of e) h.taken (length h.lines + 1) []
+          → Closes (end_status e) h.taken (length h.lines + 1) []
       by_end stops_at.End other = absurd (other refl)
       by_end stops_at.Fault other = (is_sent live h.taken h.holds, refl)
       by_end stops_at.TooLong other = (is_sent live h.taken h.holds, refl)
@@ -58,7 +58,7 @@ module _ {K : Type 0} (written : K → Option (List ℕ)) (faults : K → ℕ) (
   -- the last line of the trace was told
   closes_trace : {left_last : Option (List ℕ)} {read_faults_last : ℕ} (next : Outbox K)
       (live : Live) (status : Status) (lines : List (List ℕ)) (text : List ℕ) (taken : Taken)
-      → AnswersLines nothing_taken 1 lines text taken → Holds live taken
+      → AnswersLines nothing_taken 1 lines text taken → LiveHolds live taken
       → (next.failed ≡ true
       → ServesLines (2 ^ 32 - 1) ends_with.WriteFault left left_last read_faults read_faults_last
       (written begun.sink.now) (written next.sink.now) (faults begun.sink.now)
@@ -68,7 +68,7 @@ module _ {K : Type 0} (written : K → Option (List ℕ)) (faults : K → ℕ) (
       (written begun.sink.now) (written next.sink.now) (faults begun.sink.now)
       (faults next.sink.now) lines (text ++ codes "end\n"))
       → status ≡ (if next.failed then ends_with.WriteFault else ends_with.Done)
-      → Serves status left left_last read_faults read_faults_last
+      → LiveServes status left left_last read_faults read_faults_last
       (written begun.sink.now) (written next.sink.now) (faults begun.sink.now)
       (faults next.sink.now)
   closes_trace {left_last} {read_faults_last} next live status lines text taken answers holds
@@ -78,7 +78,7 @@ module _ {K : Type 0} (written : K → Option (List ℕ)) (faults : K → ℕ) (
           → ServesLines (2 ^ 32 - 1) s left left_last read_faults read_faults_last
           (written begun.sink.now) (written next.sink.now) (faults begun.sink.now)
           (faults next.sink.now) lines (text ++ codes "end\n")
-          → Serves s left left_last read_faults read_faults_last
+          → LiveServes s left left_last read_faults read_faults_last
           (written begun.sink.now) (written next.sink.now) (faults begun.sink.now)
           (faults next.sink.now)
       as_serves s closes serves = record {
@@ -93,16 +93,16 @@ module _ {K : Type 0} (written : K → Option (List ℕ)) (faults : K → ℕ) (
       }
 
       by_failed : (b : Bool) → next.failed ≡ b
-          → Serves status left left_last read_faults read_faults_last (written begun.sink.now)
+          → LiveServes status left left_last read_faults read_faults_last (written begun.sink.now)
           (written next.sink.now) (faults begun.sink.now) (faults next.sink.now)
       by_failed true failed =
-          subst (λ s. Serves s left left_last read_faults read_faults_last
+          subst (λ s. LiveServes s left left_last read_faults read_faults_last
           (written begun.sink.now) (written next.sink.now) (faults begun.sink.now)
           (faults next.sink.now))
           (sym (is ∙ ap (λ f. if f then ends_with.WriteFault else ends_with.Done) failed))
           (as_serves ends_with.WriteFault (inr (inl refl)) (fault failed))
       by_failed false fine =
-          subst (λ s. Serves s left left_last read_faults read_faults_last
+          subst (λ s. LiveServes s left left_last read_faults read_faults_last
           (written begun.sink.now) (written next.sink.now) (faults begun.sink.now)
           (faults next.sink.now))
           (sym (is ∙ ap (λ f. if f then ends_with.WriteFault else ends_with.Done) fine))
@@ -116,10 +116,10 @@ module _ {K : Type 0} (written : K → Option (List ℕ)) (faults : K → ℕ) (
       read_faults_now
       → begun.buffer.now ≡ [] → begun.failed ≡ false → next.buffer.now ≡ []
       → Consumes left_now left_last taken
-      → Stops stops_at.End left_last read_faults_now read_faults_last (pending ++ taken)
+      → LinesStop stops_at.End left_last read_faults_now read_faults_last (pending ++ taken)
       → Writes written faults out next (codes "end\n")
       → status ≡ (if next.failed then ends_with.WriteFault else ends_with.Done)
-      → Serves status left left_last read_faults read_faults_last
+      → LiveServes status left left_last read_faults read_faults_last
       (written begun.sink.now) (written next.sink.now) (faults begun.sink.now)
       (faults next.sink.now)
   Course-ends {out} {next} {live} pending taken read_faults_now read_faults_last status h clear
@@ -148,34 +148,34 @@ module _ {K : Type 0} (written : K → Option (List ℕ)) (faults : K → ℕ) (
       read_faults_now
       → begun.buffer.now ≡ [] → begun.failed ≡ false → out.failed ≡ false
       → out.buffer.now ≡ [] → Consumes left_now left_last taken
-      → Stops end left_last read_faults_now read_faults_last (pending ++ taken)
-      → Stopped end written faults out next status
-      → Serves status left left_last read_faults read_faults_last
+      → LinesStop end left_last read_faults_now read_faults_last (pending ++ taken)
+      → LinesStopped end written faults out next status
+      → LiveServes status left left_last read_faults read_faults_last
       (written begun.sink.now) (written next.sink.now) (faults begun.sink.now)
       (faults next.sink.now)
   Course-closed next {out} {live} {left_now} {left_last} pending taken {count}
       read_faults_now read_faults_last end status h clear fresh fine empty more = by_end end
     where
       other : (e : LineEnd) → (e ≡ stops_at.End → ⊥)
-          → Stops e left_last read_faults_now read_faults_last (pending ++ taken)
-          → (status ≡ status_of e) × (next ≡ out)
-          → Serves status left left_last read_faults read_faults_last
+          → LinesStop e left_last read_faults_now read_faults_last (pending ++ taken)
+          → (status ≡ end_status e) × (next ≡ out)
+          → LiveServes status left left_last read_faults read_faults_last
           (written begun.sink.now) (written next.sink.now) (faults begun.sink.now)
           (faults next.sink.now)
       other e no_end stops is =
-          subst (λ s. Serves s left left_last read_faults read_faults_last
+          subst (λ s. LiveServes s left left_last read_faults read_faults_last
           (written begun.sink.now) (written next.sink.now) (faults begun.sink.now)
           (faults next.sink.now)) (sym is.0)
-          (subst (λ (o : Outbox K). Serves (status_of e) left left_last read_faults
+          (subst (λ (o : Outbox K). LiveServes (end_status e) left left_last read_faults
           read_faults_last (written begun.sink.now) (written o.sink.now)
           (faults begun.sink.now) (faults o.sink.now)) (sym is.1)
           (Course-stops pending taken read_faults_now read_faults_last e no_end h clear fine
           empty more stops))
 
       by_end : (e : LineEnd)
-          → Stops e left_last read_faults_now read_faults_last (pending ++ taken)
-          → Stopped e written faults out next status
-          → Serves status left left_last read_faults read_faults_last
+          → LinesStop e left_last read_faults_now read_faults_last (pending ++ taken)
+          → LinesStopped e written faults out next status
+          → LiveServes status left left_last read_faults read_faults_last
           (written begun.sink.now) (written next.sink.now) (faults begun.sink.now)
           (faults next.sink.now)
       by_end stops_at.End stops stopped =
@@ -196,7 +196,7 @@ module _ {K : Type 0} (written : K → Option (List ℕ)) (faults : K → ℕ) (
       → begun.buffer.now ≡ [] → begun.failed ≡ false → next.buffer.now ≡ []
       → count ≡ 2 ^ 32 - 1 → Writes written faults out next (codes "end\n")
       → status ≡ (if next.failed then ends_with.WriteFault else ends_with.Done)
-      → Serves status left left_now read_faults read_faults_now
+      → LiveServes status left left_now read_faults read_faults_now
       (written begun.sink.now) (written next.sink.now) (faults begun.sink.now)
       (faults next.sink.now)
   Course-done {out} {next} {live} pending read_faults_now status h clear fresh empty all told is =

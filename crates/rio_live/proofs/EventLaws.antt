@@ -10,7 +10,7 @@ use Rattle.fabric_script.specs.Known.{Known, nothing, nothing_in, of_script, of_
 use Rattle.fabric_script.specs.Lines.{is_event, new_name}
 use Rattle.fabric_script.specs.Reading.{new_name_in, MayBe, IsFree, Spells}
 use Rattle.fabric_script.specs.Refusals.{exceeds, entry_is_outside, port_is_taken, id_is_taken, kind_is_wrong, not_linked}
-use Rattle.fabric_script.specs.Scripts.{is_skipped, KeptThen, SpellsFrom, PassesFrom, Passes}
+use Rattle.fabric_script.specs.Scripts.{is_skipped, KeptThen, SpellsFrom, PassesFrom, ScriptPasses}
 use Rattle.fabric_script.specs.SetUps.{for_event, NoEvents}
 use Rattle.fabric_script.proofs.ScriptLaws.{names_stay, name_kept}
 use Rattle.fabric_model.specs.Network.{Network}
@@ -247,7 +247,7 @@ set_up_more net (line ∷ lines) more event = set_up_more (set_up net line.line)
 
 -- the last line of a script that passes, if it is an event
 last_happens : (names : List (List ℕ)) (lines : List Numbered) (more : Numbered)
-    → is_event more.line ≡ true → Passes names (lines ++ more ∷ [])
+    → is_event more.line ≡ true → ScriptPasses names (lines ++ more ∷ [])
     → MayHappen names (set_up_all bare lines) more.line
 last_happens names lines more event passes =
     let all = may_happen names (lines ++ more ∷ []) passes in
@@ -273,7 +273,7 @@ is_one known text line spells = of_not (is_event line) (spells.free OutOfPlace)
 
 module _ (end : Known) (lines : List Numbered) (texts : List (List ℕ))
     (spelled : SpellsFrom 1 (nothing_in of_set_up) texts lines end) (none : NoEvents lines)
-    (passes : Passes end.names lines) where
+    (passes : ScriptPasses end.names lines) where
   -- what is known in a script behind the lines
   behind : known_behind nothing end.names lines ≡ as_script end
   behind =

@@ -11,17 +11,17 @@ use Rattle.rio_live.specs.declared.answers.BrokenOff.{BrokenOff}
 use Rattle.rio_live.specs.declared.answers.Going.{Going as Whether}
 use Rattle.rio_live.specs.declared.answers.Going.TheVariants as Goings
 use Rattle.rio_live.specs.declared.live.Live.{Live}
-use Rattle.rio_live.specs.Lines.{Taken, after, answer_text, IsCutOf}
-use Rattle.rio_live.specs.Holding.{Holds, IsTrace}
-use Rattle.rio_live.specs.Answers.{Goes, Answered, BreaksOff}
-use Rattle.rio_live.specs.Program.{IsCut, Closes, Serves}
+use Rattle.rio_live.specs.Lines.{Taken, taken_after, answer_text, IsCutOf}
+use Rattle.rio_live.specs.Holding.{LiveHolds, IsTrace}
+use Rattle.rio_live.specs.Answers.{LiveGoes, LineAnswered, BreaksOff}
+use Rattle.rio_live.specs.Program.{AnswerIsCut, Closes, LiveServes}
 use Rattle.rio_live.proofs.TakenLaws.{is_sent}
 use Rattle.rio_live.proofs.ServingLaws.{Course, with_nothing, line_told, with_answer}
 
 module _ {K : Type 0} (written : K → Option (List ℕ)) (faults : K → ℕ) (begun : Outbox K)
     (left : Option (List ℕ)) (read_faults : ℕ) where
   -- the lines that were taken are a trace, whether there may be a further one or not
-  goes_trace : (going : Whether) (live : Live) (taken : Taken) → Goes going live taken
+  goes_trace : (going : Whether) (live : Live) (taken : Taken) → LiveGoes going live taken
       → IsTrace taken
   goes_trace Goings.On live taken goes = goes.trace
   goes_trace Goings.Undetected live taken goes = goes.0
@@ -35,14 +35,14 @@ module _ {K : Type 0} (written : K → Option (List ℕ)) (faults : K → ℕ) (
       → begun.buffer.now ≡ [] → begun.failed ≡ false → next.failed ≡ true
       → Consumes left_now left_next taken → pending ++ taken ≡ with_feed line ++ pending_next
       → IsLine line → read_faults_next ≡ read_faults_now
-      → Answered written faults h.taken (count + 1) line out next live_next going
-      → Serves ends_with.WriteFault left left_next read_faults read_faults_next
+      → LineAnswered written faults h.taken (count + 1) line out next live_next going
+      → LiveServes ends_with.WriteFault left left_next read_faults read_faults_next
       (written begun.sink.now) (written next.sink.now) (faults begun.sink.now)
       (faults next.sink.now)
   Course-fault {out} {next} {live} {live_next} pending pending_next line taken {count}
       read_faults_now read_faults_next going h clear fresh failed read is good same a =
       let more = answer_text h.taken (count + 1) line a.outcome in
-      let now = after h.taken (count + 1) line a.outcome in
+      let now = taken_after h.taken (count + 1) line a.outcome in
       record {
         lines = h.lines ++ line ∷ [];
         text = h.text ++ more;
@@ -72,8 +72,8 @@ module _ {K : Type 0} (written : K → Option (List ℕ)) (faults : K → ℕ) (
       → begun.buffer.now ≡ [] → next.failed ≡ false → next.buffer.now ≡ []
       → Consumes left_now left_next taken → pending ++ taken ≡ with_feed line ++ pending_next
       → IsLine line → read_faults_next ≡ read_faults_now
-      → Answered written faults h.taken (count + 1) line out next live_next Goings.Undetected
-      → Serves ends_with.Undetected left left_next read_faults read_faults_next
+      → LineAnswered written faults h.taken (count + 1) line out next live_next Goings.Undetected
+      → LiveServes ends_with.Undetected left left_next read_faults read_faults_next
       (written begun.sink.now) (written next.sink.now) (faults begun.sink.now)
       (faults next.sink.now)
   Course-undetected {out} {next} {live} {live_next} pending pending_next line taken {count}
@@ -82,7 +82,7 @@ module _ {K : Type 0} (written : K → Option (List ℕ)) (faults : K → ℕ) (
       record {
         lines = h.lines ++ line ∷ [];
         text = h.text ++ more;
-        taken = after h.taken (count + 1) line a.outcome;
+        taken = taken_after h.taken (count + 1) line a.outcome;
         last = [];
         answers = with_answer written faults begun left read_faults pending line read_faults_now
             a.outcome h a.reads;
@@ -110,7 +110,7 @@ module _ {K : Type 0} (written : K → Option (List ℕ)) (faults : K → ℕ) (
       → ServesLines (2 ^ 32 - 1) status left left_next read_faults read_faults_next
       (written begun.sink.now) (written next.sink.now) (faults begun.sink.now)
       (faults next.sink.now) h.lines (h.text ++ b.text)
-      → Serves status left left_next read_faults read_faults_next
+      → LiveServes status left left_next read_faults read_faults_next
       (written begun.sink.now) (written next.sink.now) (faults begun.sink.now)
       (faults next.sink.now)
   breaks status pending pending_next line taken read_faults_now read_faults_next h b closes
@@ -150,7 +150,7 @@ module _ {K : Type 0} (written : K → Option (List ℕ)) (faults : K → ℕ) (
       → (h : Course written faults begun out live left left_now pending count read_faults
       read_faults_now)
       → (b : BreaksOff written faults h.taken (count + 1) line out next)
-      → IsCut h.taken (length h.lines + 1) b.text
+      → AnswerIsCut h.taken (length h.lines + 1) b.text
   cut_at {out} {next} {live} pending line read_faults_now h b = (
     is_sent live h.taken h.holds,
     (line, subst (λ n. IsCutOf h.taken n line b.text) (ap (λ n. n + 1) (sym h.going.counted)) b.is),
@@ -165,7 +165,7 @@ module _ {K : Type 0} (written : K → Option (List ℕ)) (faults : K → ℕ) (
       → Consumes left_now left_next taken → pending ++ taken ≡ with_feed line ++ pending_next
       → read_faults_next ≡ read_faults_now
       → BreaksOff written faults h.taken (count + 1) line out next
-      → Serves ends_with.NoMemory left left_next read_faults read_faults_next
+      → LiveServes ends_with.NoMemory left left_next read_faults read_faults_next
       (written begun.sink.now) (written next.sink.now) (faults begun.sink.now)
       (faults next.sink.now)
   Course-no_memory pending pending_next line taken read_faults_now read_faults_next h clear fine
@@ -187,7 +187,7 @@ module _ {K : Type 0} (written : K → Option (List ℕ)) (faults : K → ℕ) (
       → Consumes left_now left_next taken → pending ++ taken ≡ with_feed line ++ pending_next
       → read_faults_next ≡ read_faults_now
       → BreaksOff written faults h.taken (count + 1) line out next
-      → Serves ends_with.WriteFault left left_next read_faults read_faults_next
+      → LiveServes ends_with.WriteFault left left_next read_faults read_faults_next
       (written begun.sink.now) (written next.sink.now) (faults begun.sink.now)
       (faults next.sink.now)
   Course-fault_within pending pending_next line taken read_faults_now read_faults_next h clear
@@ -208,11 +208,11 @@ module _ {K : Type 0} (written : K → Option (List ℕ)) (faults : K → ℕ) (
       → begun.buffer.now ≡ [] → begun.failed ≡ false → next.failed ≡ true
       → Consumes left_now left_next taken → pending ++ taken ≡ with_feed line ++ pending_next
       → IsLine line → read_faults_next ≡ read_faults_now
-      → IfOk result (λ going. (t : Taken) → Holds live t
-      → Answered written faults t (count + 1) line out next live_next going)
-      → OnErr result ((t : Taken) → Holds live t
+      → IfOk result (λ going. (t : Taken) → LiveHolds live t
+      → LineAnswered written faults t (count + 1) line out next live_next going)
+      → OnErr result ((t : Taken) → LiveHolds live t
       → BreaksOff written faults t (count + 1) line out next)
-      → Serves ends_with.WriteFault left left_next read_faults read_faults_next
+      → LiveServes ends_with.WriteFault left left_next read_faults read_faults_next
       (written begun.sink.now) (written next.sink.now) (faults begun.sink.now)
       (faults next.sink.now)
   Course-failed next live_next pending pending_next line taken read_faults_now read_faults_next

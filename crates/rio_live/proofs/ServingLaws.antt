@@ -10,10 +10,10 @@ use Rattle.live_lines.specs.Serving.{ServesLines}
 use Rattle.live_lines.proofs.ServingLaws.{Going, Going-begin, Going-line, Going-told, served_none}
 use Rattle.rio_live.specs.declared.answers.Going.TheVariants as Goings
 use Rattle.rio_live.specs.declared.live.Live.{Live}
-use Rattle.rio_live.specs.Lines.{Taken, nothing_taken, Outcome, ReadsAs, after, answer_text, AnswersLines}
-use Rattle.rio_live.specs.Holding.{Holds}
-use Rattle.rio_live.specs.Answers.{Answered}
-use Rattle.rio_live.specs.Program.{Serves}
+use Rattle.rio_live.specs.Lines.{Taken, nothing_taken, Outcome, ReadsAs, taken_after, answer_text, AnswersLines}
+use Rattle.rio_live.specs.Holding.{LiveHolds}
+use Rattle.rio_live.specs.Answers.{LineAnswered}
+use Rattle.rio_live.specs.Program.{LiveServes}
 use Rattle.rio_live.proofs.TakenLaws.{nothing_is_trace, is_sent, answers_more}
 
 -- Lines were served so far, and these bytes were read behind the last one.
@@ -24,7 +24,7 @@ pub record Course {K : Type 0} (written : K → Option (List ℕ)) (faults : K �
   pub text : List ℕ
   pub taken : Taken
   pub answers : AnswersLines nothing_taken 1 lines text taken
-  pub holds : Holds live taken
+  pub holds : LiveHolds live taken
   pub going : Going written faults begun out left left_now pending count read_faults
       read_faults_now lines text
 
@@ -35,7 +35,7 @@ as_ok P result x y is same p = subst P same (subst (λ r. IfOk r P) is p)
 
 -- nothing was read or written, since memory was not given
 pub serves_none : (left written : Option (List ℕ)) (read_faults write_faults : ℕ)
-    → Serves ends_with.NoMemory left left read_faults read_faults written written write_faults
+    → LiveServes ends_with.NoMemory left left read_faults read_faults written written write_faults
     write_faults
 serves_none left written read_faults write_faults = record {
   lines = [];
@@ -50,7 +50,7 @@ serves_none left written read_faults write_faults = record {
 
 module _ {K : Type 0} (written : K → Option (List ℕ)) (faults : K → ℕ) (begun : Outbox K)
     (left : Option (List ℕ)) (read_faults : ℕ) where
-  pub Course-begin : (live : Live) (pending : List ℕ) → Holds live nothing_taken → pending ≡ []
+  pub Course-begin : (live : Live) (pending : List ℕ) → LiveHolds live nothing_taken → pending ≡ []
       → Course written faults begun begun live left left pending 0 read_faults read_faults
   Course-begin live pending holds none = record {
     lines = [];
@@ -88,7 +88,7 @@ module _ {K : Type 0} (written : K → Option (List ℕ)) (faults : K → ℕ) (
       → ReadsAs h.taken line outcome
       → AnswersLines nothing_taken 1 (h.lines ++ line ∷ [])
       (h.text ++ answer_text h.taken (count + 1) line outcome)
-      (after h.taken (count + 1) line outcome)
+      (taken_after h.taken (count + 1) line outcome)
   with_answer {out} {live} pending line {count} read_faults_now outcome h reads =
       let counted = h.going.counted in
       answers_more nothing_taken 1 h.lines line h.text h.taken (count + 1) outcome h.answers
@@ -101,14 +101,14 @@ module _ {K : Type 0} (written : K → Option (List ℕ)) (faults : K → ℕ) (
       read_faults_now)
       → Consumes left_now left_next taken → pending ++ taken ≡ with_feed line ++ pending_next
       → IsLine line → read_faults_next ≡ read_faults_now
-      → Answered written faults h.taken (count + 1) line out next live_next Goings.On
+      → LineAnswered written faults h.taken (count + 1) line out next live_next Goings.On
       → Course written faults begun next live_next left left_next pending_next (count + 1)
       read_faults read_faults_next
   Course-line pending pending_next line taken {count} read_faults_now read_faults_next h read is
       good same a = record {
         lines = h.lines ++ line ∷ [];
         text = h.text ++ answer_text h.taken (count + 1) line a.outcome;
-        taken = after h.taken (count + 1) line a.outcome;
+        taken = taken_after h.taken (count + 1) line a.outcome;
         answers = with_answer pending line read_faults_now a.outcome h a.reads;
         holds = a.goes;
         going =

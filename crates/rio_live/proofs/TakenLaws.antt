@@ -24,9 +24,9 @@ use Rattle.fabric_replay.proofs.Naming.{names_suffice, names_few, found_named}
 use Rattle.live_lines.specs.Lines.{with_feed}
 use Rattle.rio_live.specs.declared.live.Asked.TheVariants.{Quiet}
 use Rattle.rio_live.specs.declared.live.Live.{Live}
-use Rattle.rio_live.specs.Lines.{Taken, nothing_taken, seen_so_far, Outcome, SetUp, Happened, most_set_up, with_line, RefusesSetUp, ReadsFirst, ReadsBehind, ReadsAs, after, answer_text, IsSent, AnswersLines}
-use Rattle.rio_live.specs.Holding.{AreEvents, IsTrace, IsSpelled, StandsBy, Holds}
-use Rattle.rio_live.specs.Answers.{TakesSetUp, MayCome, Takes}
+use Rattle.rio_live.specs.Lines.{Taken, nothing_taken, seen_so_far, Outcome, SetUp, Happened, most_set_up, with_line, RefusesSetUp, ReadsFirst, ReadsBehindEvent, ReadsAs, taken_after, answer_text, IsSent, AnswersLines}
+use Rattle.rio_live.specs.Holding.{AreEvents, IsTrace, SetUpIsSpelled, StandsBy, LiveHolds}
+use Rattle.rio_live.specs.Answers.{TakesSetUp, MayCome, LiveTakes}
 use Rattle.rio_live.proofs.EventLaws.{is_one, event_happens}
 
 -- ---- before the first line
@@ -38,7 +38,7 @@ nothing_is_trace = record { passes = refl; no_events = tt; events = tt; blocks =
 pub made_of : (bytes text : List ℕ) (names : List (List ℕ)) (lines : List Numbered)
     (result : Result Fabric NoMemory) → bytes ≡ text → IsScriptIn of_set_up bytes names lines
     → IfOk result (λ fabric. Stands (start lines) [] fabric)
-    → IfOk result (λ fabric. (taken : Taken) → IsSpelled text taken
+    → IfOk result (λ fabric. (taken : Taken) → SetUpIsSpelled text taken
     → Stands (start taken.set_up) [] fabric)
 made_of bytes text names lines (Ok fabric) is script stands = λ taken spelled.
     let here = subst (λ l. IsScriptIn of_set_up l names lines) is script in
@@ -57,18 +57,18 @@ first_stage fabric taken none stands = subst (λ f. StandsBy f taken) none stand
 reads_first : (taken : Taken) (line : List ℕ) (outcome : Outcome) → taken.begun ≡ false
     → ReadsFirst taken line outcome → ReadsAs taken line outcome
 reads_first taken line outcome begun reads =
-    subst (λ b. MatchBool b (ReadsBehind taken line outcome) (ReadsFirst taken line outcome))
+    subst (λ b. MatchBool b (ReadsBehindEvent taken line outcome) (ReadsFirst taken line outcome))
     (sym begun) reads
 
 reads_behind : (taken : Taken) (line : List ℕ) (outcome : Outcome) → taken.begun ≡ true
-    → ReadsBehind taken line outcome → ReadsAs taken line outcome
+    → ReadsBehindEvent taken line outcome → ReadsAs taken line outcome
 reads_behind taken line outcome begun reads =
-    subst (λ b. MatchBool b (ReadsBehind taken line outcome) (ReadsFirst taken line outcome))
+    subst (λ b. MatchBool b (ReadsBehindEvent taken line outcome) (ReadsFirst taken line outcome))
     (sym begun) reads
 
 -- a line of set-up is taken
-pub takes_set_up : (old new : Live) (line : List ℕ) (taken : Taken) → Holds old taken
-    → old.fabric ≡ None → TakesSetUp old line new → Takes taken line Quiet new
+pub takes_set_up : (old new : Live) (line : List ℕ) (taken : Taken) → LiveHolds old taken
+    → old.fabric ≡ None → TakesSetUp old line new → LiveTakes taken line Quiet new
 takes_set_up old new line taken holds none takes =
     let stage = first_stage old.fabric taken none holds.stands in
     let text : old.text.items ++ with_feed line ≡ with_line taken line =
@@ -93,7 +93,7 @@ takes_set_up old new line taken holds none takes =
               subst (λ l. BlocksFrom (start are.lines) l taken.trace) (sym stage.1) stage.2;
         };
         stands =
-            subst (λ f. StandsBy f (after taken number line (SetUp are.lines are.known)))
+            subst (λ f. StandsBy f (taken_after taken number line (SetUp are.lines are.known)))
             (sym (takes.fabric ∙ none)) (stage.0, stage.1, stage.2);
       },
     )
@@ -115,7 +115,7 @@ reads_happened taken line event block may spells is = by_stage taken.begun refl 
 -- ---- an event is carried out
 
 pub may_follow : (live : Live) (taken : Taken) (line : List ℕ) (event : Line) (fabric : Fabric)
-    → Holds live taken → Spells (for_event taken.known) line event
+    → LiveHolds live taken → Spells (for_event taken.known) line event
     → Stands (start taken.set_up) taken.trace fabric
     → MayFollow fabric taken.known.names event
 may_follow live taken line event fabric holds spells stands =
@@ -155,7 +155,7 @@ events_more (line ∷ lines) more are is = (are.0, events_more lines more are.1 
 pub trace_more : (taken : Taken) (number : ℕ) (line : List ℕ) (event : Line)
     (block : List TraceLine) (fabric : Fabric) → IsTrace taken → is_event event ≡ true
     → Stands (start taken.set_up) taken.trace fabric → IsBlock (seen_so_far taken) event block
-    → IsTrace (after taken number line (Happened event block))
+    → IsTrace (taken_after taken number line (Happened event block))
 trace_more taken number line event block fabric trace is stands block_is =
     let item : Numbered = record { number = number; line = event } in
     record {
@@ -169,7 +169,7 @@ trace_more taken number line event block fabric trace is stands block_is =
     }
 
 -- every event that was acted on was sent
-pub is_sent : (live : Live) (taken : Taken) → Holds live taken → IsSent taken
+pub is_sent : (live : Live) (taken : Taken) → LiveHolds live taken → IsSent taken
 is_sent live taken holds = by_fabric live.fabric holds.stands
   where
     by_fabric : (fabric : Option Fabric) → StandsBy fabric taken → IsSent taken
@@ -183,7 +183,7 @@ pub answers_more : (taken : Taken) (number : ℕ) (lines : List (List ℕ)) (lin
     (mid : Taken) (n : ℕ) (outcome : Outcome) → AnswersLines taken number lines text mid
     → n ≡ number + length lines → IsSent mid → ReadsAs mid line outcome
     → AnswersLines taken number (lines ++ line ∷ []) (text ++ answer_text mid n line outcome)
-    (after mid n line outcome)
+    (taken_after mid n line outcome)
 answers_more taken number [] line text mid n outcome answers at sent reads =
     let is = answers.1 in
     let here : n ≡ number = at ∙ omega arith in
@@ -195,7 +195,7 @@ answers_more taken number [] line text mid n outcome answers at sent reads =
       subst (λ t. ReadsAs t line outcome) is reads,
       (
         refl,
-        ap (λ t. after t n line outcome) is ∙ ap (λ k. after taken k line outcome) here,
+        ap (λ t. taken_after t n line outcome) is ∙ ap (λ k. taken_after taken k line outcome) here,
       ),
       ap (λ l. l ++ answer_text mid n line outcome) answers.0 ∙ same
           ∙ sym (append-nil (answer_text taken number line outcome)),
@@ -209,7 +209,7 @@ answers_more taken number (other ∷ lines) line text mid n outcome answers at s
       rest ++ more,
       answers.2,
       answers.3,
-      answers_more (after taken number other first) (suc number) lines line rest mid n outcome
+      answers_more (taken_after taken number other first) (suc number) lines line rest mid n outcome
           answers.4 behind sent reads,
       ap (λ l. l ++ more) answers.5
           ∙ append_assoc (answer_text taken number other first) rest more,

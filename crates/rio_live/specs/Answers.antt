@@ -6,7 +6,7 @@ use Rattle.fabric_script.specs.declared.lines.Line.{Line}
 use Rattle.fabric_script.specs.declared.lines.Numbered.{Numbered}
 use Rattle.fabric_script.specs.Known.{Known, nothing_in, of_set_up}
 use Rattle.fabric_script.specs.Reading.{Spells}
-use Rattle.fabric_script.specs.Scripts.{pieces_of, is_skipped, SpellsFrom, RefusedIn, Passes}
+use Rattle.fabric_script.specs.Scripts.{pieces_of, is_skipped, SpellsFrom, RefusedIn, ScriptPasses}
 use Rattle.fabric_script.specs.SetUps.{for_event, IsRefused, NoEvents}
 use Rattle.fabric_trace.specs.Blocks.{IsBlock}
 use Rattle.fabric_trace.specs.Known.{Found}
@@ -22,8 +22,8 @@ use Rattle.rio_live.specs.declared.live.Asked.TheVariants.{Quiet, Event, Refused
 use Rattle.rio_live.specs.declared.live.Live.{Live}
 use Rattle.rio_live.specs.declared.answers.Going.{Going}
 use Rattle.rio_live.specs.declared.answers.Going.TheVariants.{On, Undetected}
-use Rattle.rio_live.specs.Lines.{Taken, Outcome, Passed, SetUp, Happened, Refused as IsRefusedAs, ReadsAs, RefusesSetUp, IsCutOf, after, answer_text, found_text, seen_so_far, most_set_up}
-use Rattle.rio_live.specs.Holding.{Holds, IsTrace}
+use Rattle.rio_live.specs.Lines.{Taken, Outcome, Passed, SetUp, Happened, Refused as IsRefusedAs, ReadsAs, RefusesSetUp, IsCutOf, taken_after, answer_text, found_text, seen_so_far, most_set_up}
+use Rattle.rio_live.specs.Holding.{LiveHolds, IsTrace}
 
 -- ---- reading
 
@@ -38,7 +38,7 @@ pub record AreSetUp (bytes : List ℕ) (live : Live) : Type 0 where
   pub lines : List Numbered
   pub known : Known
   pub spelled : SpellsFrom 1 (nothing_in of_set_up) (pieces_of bytes) lines known
-  pub passes : Passes known.names lines
+  pub passes : ScriptPasses known.names lines
   pub no_events : NoEvents lines
   pub is : live.set_up.known ≡ for_event known
 
@@ -47,7 +47,7 @@ abbrev pub AreNoSetUp : List ℕ → ℕ → Type 0
 AreNoSetUp bytes reason = (place : ℕ) × RefusedIn of_set_up bytes place reason
 
 -- the same lines and the same fabric are held
-pub record IsSame (old new : Live) : Type 0 where
+pub record LiveIsSame (old new : Live) : Type 0 where
   pub text : new.text.items ≡ old.text.items
   pub set_up : new.set_up ≡ old.set_up
   pub fabric : new.fabric ≡ old.fabric
@@ -64,7 +64,7 @@ pub record LeavesSetUp (old : Live) (line : List ℕ) (reason : ℕ) (new : Live
   pub why : ((most_set_up < length (old.text.items ++ with_feed line)) × (reason ≡ 14))
       ⊎ ((length (old.text.items ++ with_feed line) ≤ most_set_up)
       × AreNoSetUp (old.text.items ++ with_feed line) reason)
-  pub same : IsSame old new
+  pub same : LiveIsSame old new
 
 -- a line may be an event: it is no line of set-up
 abbrev pub MayCome : Taken → List ℕ → Type 0
@@ -72,27 +72,28 @@ MayCome taken line =
     MatchBool taken.begun (is_skipped line ≡ false) (RefusesSetUp taken line 12)
 
 -- nothing is written of it
-abbrev pub IsQuiet : Outcome → Type 0
-IsQuiet Passed = Unit {0}
-IsQuiet (SetUp lines known) = Unit {0}
-IsQuiet (Happened event block) = ⊥
-IsQuiet (IsRefusedAs reason) = ⊥
+abbrev pub OutcomeIsQuiet : Outcome → Type 0
+OutcomeIsQuiet Passed = Unit {0}
+OutcomeIsQuiet (SetUp lines known) = Unit {0}
+OutcomeIsQuiet (Happened event block) = ⊥
+OutcomeIsQuiet (IsRefusedAs reason) = ⊥
 
 -- what was done with a line of which this was read
-abbrev pub Takes : Taken → List ℕ → Asked → Live → Type 0
-Takes taken line Quiet live = (outcome : Outcome) × IsQuiet outcome × ReadsAs taken line outcome
-    × ((number : ℕ) → Holds live (after taken number line outcome))
-Takes taken line (Event event) live =
-    Holds live taken × MayCome taken line × Spells (for_event taken.known) line event
-Takes taken line (Refused reason) live =
-    Holds live taken × ReadsAs taken line (IsRefusedAs reason)
+abbrev pub LiveTakes : Taken → List ℕ → Asked → Live → Type 0
+LiveTakes taken line Quiet live =
+    (outcome : Outcome) × OutcomeIsQuiet outcome × ReadsAs taken line outcome
+    × ((number : ℕ) → LiveHolds live (taken_after taken number line outcome))
+LiveTakes taken line (Event event) live =
+    LiveHolds live taken × MayCome taken line × Spells (for_event taken.known) line event
+LiveTakes taken line (Refused reason) live =
+    LiveHolds live taken × ReadsAs taken line (IsRefusedAs reason)
 
 -- ---- answering
 
 -- these lines were taken, and there may be a further one, or the last event was not sent
-abbrev pub Goes : Going → Live → Taken → Type 0
-Goes On live taken = Holds live taken
-Goes Undetected live taken =
+abbrev pub LiveGoes : Going → Live → Taken → Type 0
+LiveGoes On live taken = LiveHolds live taken
+LiveGoes Undetected live taken =
     IsTrace taken × ((found : Found) × ((seen_so_far taken).unfaithful ≡ Some found))
 
 -- an event was carried out, and its block was written
@@ -103,8 +104,8 @@ pub record Happens {K : Type 0} (written : K → Option (List ℕ)) (faults : K 
   pub is : IsBlock (seen_so_far taken) event block
   pub told : Writes written faults old new (trace_text taken.known.names (Begun event ∷ block)
       ++ found_text taken.known.names number
-      (seen_so_far (after taken number line (Happened event block))).unfaithful)
-  pub goes : Goes going live (after taken number line (Happened event block))
+      (seen_so_far (taken_after taken number line (Happened event block))).unfaithful)
+  pub goes : LiveGoes going live (taken_after taken number line (Happened event block))
 
 -- a front of the block was written, or nothing
 pub record FallsShort {K : Type 0} (written : K → Option (List ℕ)) (faults : K → ℕ)
@@ -115,12 +116,13 @@ pub record FallsShort {K : Type 0} (written : K → Option (List ℕ)) (faults :
   pub told : Writes written faults old new (trace_text taken.known.names front)
 
 -- a line was answered
-pub record Answered {K : Type 0} (written : K → Option (List ℕ)) (faults : K → ℕ) (taken : Taken)
+pub record LineAnswered {K : Type 0} (written : K → Option (List ℕ)) (faults : K
+    → ℕ) (taken : Taken)
     (number : ℕ) (line : List ℕ) (old new : Outbox K) (live : Live) (going : Going) : Type 0 where
   pub outcome : Outcome
   pub reads : ReadsAs taken line outcome
   pub told : Writes written faults old new (answer_text taken number line outcome)
-  pub goes : Goes going live (after taken number line outcome)
+  pub goes : LiveGoes going live (taken_after taken number line outcome)
 
 -- the answer broke off, and a front of it was written
 pub record BreaksOff {K : Type 0} (written : K → Option (List ℕ)) (faults : K → ℕ)
@@ -132,11 +134,11 @@ pub record BreaksOff {K : Type 0} (written : K → Option (List ℕ)) (faults : 
 -- ---- ending
 
 -- there is no further line, and the last line of the trace was written if the input ended
-abbrev pub Stopped : LineEnd → {K : Type 0} → (K → Option (List ℕ)) → (K → ℕ) → Outbox K
+abbrev pub LinesStopped : LineEnd → {K : Type 0} → (K → Option (List ℕ)) → (K → ℕ) → Outbox K
     → Outbox K → Status → Type 0
-Stopped End written faults old new status = Writes written faults old new (codes "end\n")
+LinesStopped End written faults old new status = Writes written faults old new (codes "end\n")
     × (new.buffer.now ≡ [])
     × (status ≡ (if new.failed then ends_with.WriteFault else ends_with.Done))
-Stopped Fault written faults old new status = (status ≡ ends_with.ReadFault) × (new ≡ old)
-Stopped TooLong written faults old new status = (status ≡ ends_with.TooLong) × (new ≡ old)
-Stopped NoMemory written faults old new status = (status ≡ ends_with.NoMemory) × (new ≡ old)
+LinesStopped Fault written faults old new status = (status ≡ ends_with.ReadFault) × (new ≡ old)
+LinesStopped TooLong written faults old new status = (status ≡ ends_with.TooLong) × (new ≡ old)
+LinesStopped NoMemory written faults old new status = (status ≡ ends_with.NoMemory) × (new ≡ old)

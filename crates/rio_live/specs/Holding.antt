@@ -4,7 +4,7 @@ use Rattle.std.specs.List.{AllByRecursion}
 use Rattle.fabric_script.specs.declared.lines.Numbered.{Numbered}
 use Rattle.fabric_script.specs.Known.{nothing_in, of_set_up}
 use Rattle.fabric_script.specs.Lines.{is_event}
-use Rattle.fabric_script.specs.Scripts.{pieces_of, SpellsFrom, Passes}
+use Rattle.fabric_script.specs.Scripts.{pieces_of, SpellsFrom, ScriptPasses}
 use Rattle.fabric_script.specs.SetUps.{for_event, NoEvents}
 use Rattle.fabric_trace.specs.Runs.{start, BlocksFrom}
 use Rattle.fabric_ports.specs.declared.fabric.Fabric.{Fabric}
@@ -18,7 +18,7 @@ AreEvents lines = AllByRecursion (λ (line : Numbered). is_event line.line ≡ t
 
 -- The set-up lines pass as a script, and the trace is the blocks of the events behind them.
 pub record IsTrace (taken : Taken) : Type 0 where
-  pub passes : Passes taken.known.names taken.set_up
+  pub passes : ScriptPasses taken.known.names taken.set_up
   pub no_events : NoEvents taken.set_up
   pub events : AreEvents taken.events
   pub blocks : BlocksFrom (start taken.set_up) taken.events taken.trace
@@ -30,15 +30,15 @@ StandsBy (Some fabric) taken =
     (taken.begun ≡ true) × Stands (start taken.set_up) taken.trace fabric
 
 -- these bytes spell the set-up lines that were taken
-abbrev pub IsSpelled : List ℕ → Taken → Type 0
-IsSpelled bytes taken =
+abbrev pub SetUpIsSpelled : List ℕ → Taken → Type 0
+SetUpIsSpelled bytes taken =
     SpellsFrom 1 (nothing_in of_set_up) (pieces_of bytes) taken.set_up taken.known
 
 -- It holds the lines that were taken, and its fabric is what they make.
-pub record Holds (live : Live) (taken : Taken) : Type 0 where
+pub record LiveHolds (live : Live) (taken : Taken) : Type 0 where
   pub text : live.text.items ≡ taken.text
   pub few : length taken.text ≤ most_set_up
-  pub spelled : IsSpelled taken.text taken
+  pub spelled : SetUpIsSpelled taken.text taken
   pub known : live.set_up.known ≡ for_event taken.known
   pub trace : IsTrace taken
   pub stands : StandsBy live.fabric taken

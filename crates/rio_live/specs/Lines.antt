@@ -91,23 +91,23 @@ ReadsFirst taken line (Refused reason) =
     ⊎ (RefusesSetUp taken line 12 × ReadsEvent taken line (Refused reason)))
 
 -- Behind an event a line is to be an event, unless it is empty or a comment.
-abbrev pub ReadsBehind : Taken → List ℕ → Outcome → Type 0
-ReadsBehind taken line Passed = is_skipped line ≡ true
-ReadsBehind taken line outcome = (is_skipped line ≡ false) × ReadsEvent taken line outcome
+abbrev pub ReadsBehindEvent : Taken → List ℕ → Outcome → Type 0
+ReadsBehindEvent taken line Passed = is_skipped line ≡ true
+ReadsBehindEvent taken line outcome = (is_skipped line ≡ false) × ReadsEvent taken line outcome
 
 abbrev pub ReadsAs : Taken → List ℕ → Outcome → Type 0
 ReadsAs taken line outcome =
-    MatchBool taken.begun (ReadsBehind taken line outcome) (ReadsFirst taken line outcome)
+    MatchBool taken.begun (ReadsBehindEvent taken line outcome) (ReadsFirst taken line outcome)
 
 -- ---- what comes of it
 
 -- what was taken behind the line of this number: a line that is refused changes nothing
-abbrev pub after : Taken → ℕ → List ℕ → Outcome → Taken
-after taken number line Passed = taken
-after taken number line (Refused reason) = taken
-after taken number line (SetUp lines known) =
+abbrev pub taken_after : Taken → ℕ → List ℕ → Outcome → Taken
+taken_after taken number line Passed = taken
+taken_after taken number line (Refused reason) = taken
+taken_after taken number line (SetUp lines known) =
     record taken { text = with_line taken line; set_up = lines; known = known }
-after taken number line (Happened event block) = record taken {
+taken_after taken number line (Happened event block) = record taken {
   begun = true;
   events = taken.events ++ record { number = number; line = event } ∷ [];
   trace = taken.trace ++ Begun event ∷ block;
@@ -127,7 +127,7 @@ answer_text taken number line (Refused reason) =
     (codes "refused " ++ decimal reason ++ codes "\n") ++ codes "ok\n"
 answer_text taken number line (Happened event block) =
     (trace_text taken.known.names (Begun event ∷ block) ++ found_text taken.known.names number
-    (seen_so_far (after taken number line (Happened event block))).unfaithful) ++ codes "ok\n"
+    (seen_so_far (taken_after taken number line (Happened event block))).unfaithful) ++ codes "ok\n"
 
 -- every event that was acted on was sent
 abbrev pub IsSent : Taken → Type 0
@@ -139,7 +139,7 @@ abbrev pub AnswersLines : Taken → ℕ → List (List ℕ) → List ℕ → Tak
 AnswersLines taken number [] text end = (text ≡ []) × (end ≡ taken)
 AnswersLines taken number (line ∷ lines) text end = (outcome : Outcome) × (rest : List ℕ)
     × IsSent taken × ReadsAs taken line outcome
-    × AnswersLines (after taken number line outcome) (suc number) lines rest end
+    × AnswersLines (taken_after taken number line outcome) (suc number) lines rest end
     × (text ≡ answer_text taken number line outcome ++ rest)
 
 -- the text is a front of the answer of this line, or nothing

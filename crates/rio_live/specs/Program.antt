@@ -6,13 +6,13 @@ use Rattle.fabric_trace.specs.Known.{Found}
 use Rattle.live_lines.specs.declared.status.Status.{Status}
 use Rattle.live_lines.specs.declared.status.Status.TheVariants.{Done, Words, ReadFault, WriteFault, NoMemory, Undetected, TooLong}
 use Rattle.live_lines.specs.Serving.{ServesLines}
-use Rattle.live_lines.specs.Statuses.{number_of, message_of}
+use Rattle.live_lines.specs.Statuses.{status_value, message_of}
 use Rattle.rio_live.specs.Lines.{Taken, nothing_taken, seen_so_far, IsSent, AnswersLines, IsCutOf}
 use Rattle.rio_live.specs.Holding.{IsTrace}
 
 -- the text is a front of the answer of a further line, which has this number, or nothing
-abbrev pub IsCut : Taken → ℕ → List ℕ → Type 0
-IsCut taken number text = IsSent taken × ((line : List ℕ) × IsCutOf taken number line text)
+abbrev pub AnswerIsCut : Taken → ℕ → List ℕ → Type 0
+AnswerIsCut taken number text = IsSent taken × ((line : List ℕ) × IsCutOf taken number line text)
 
 -- What is written behind the answers, by how it ended: `end` if the input ended, and if memory ran
 -- out within an event, a front of its answer. It ends with `Undetected` exactly behind an event
@@ -25,14 +25,14 @@ Closes ReadFault taken number text = IsSent taken × (text ≡ [])
 Closes TooLong taken number text = IsSent taken × (text ≡ [])
 Closes Undetected taken number text =
     ((found : Found) × ((seen_so_far taken).unfaithful ≡ Some found)) × (text ≡ [])
-Closes NoMemory taken number text = IsCut taken number text
+Closes NoMemory taken number text = AnswerIsCut taken number text
 Closes WriteFault taken number text =
-    (text ≡ []) ⊎ ((text ≡ codes "end\n") ⊎ IsCut taken number text)
+    (text ≡ []) ⊎ ((text ≡ codes "end\n") ⊎ AnswerIsCut taken number text)
 
 -- Lines were served: those that were read, each behind the one before it, up to where it ended.
 -- What was written is their answers, and what is written behind them. The blocks in the answers are
 -- the trace of the lines that were taken.
-pub record Serves (status : Status) (left left_after : Option (List ℕ))
+pub record LiveServes (status : Status) (left left_after : Option (List ℕ))
     (read_faults read_faults_after : ℕ) (written written_after : Option (List ℕ))
     (write_faults write_faults_after : ℕ) : Type 0 where
   pub lines : List (List ℕ)
@@ -52,15 +52,15 @@ AskNothing (name ∷ []) = Unit {0}
 AskNothing (name ∷ word ∷ words) = ⊥
 
 -- how the program is used
-abbrev pub usage : List ℕ
-usage = codes "usage: rio_live, with no words\n"
+abbrev pub live_usage : List ℕ
+live_usage = codes "usage: rio_live, with no words\n"
 
 -- There are words, and nothing is read or written; or lines were served.
-abbrev pub Did : List (List ℕ) → Status → Option (List ℕ) → Option (List ℕ) → ℕ → ℕ
+abbrev pub LiveDid : List (List ℕ) → Status → Option (List ℕ) → Option (List ℕ) → ℕ → ℕ
     → Option (List ℕ) → Option (List ℕ) → ℕ → ℕ → Type 0
-Did arguments status left left_after read_faults read_faults_after written written_after
+LiveDid arguments status left left_after read_faults read_faults_after written written_after
     write_faults write_faults_after =
-    (AskNothing arguments × Serves status left left_after read_faults read_faults_after written
+    (AskNothing arguments × LiveServes status left left_after read_faults read_faults_after written
     written_after write_faults write_faults_after)
     ⊎ ((¬ AskNothing arguments) × (status ≡ Words)
     × Keeps left left_after × Keeps written written_after
@@ -68,15 +68,15 @@ Did arguments status left left_after read_faults read_faults_after written writt
 
 -- It ends with the number of a status, and said of it what there is to say, or a front of that
 -- where a write of it failed.
-pub record Ran {S : Type 0} {K : Type 0} {M : Type 0} (arguments : List (List ℕ)) (number : ℕ)
+pub record LiveRan {S : Type 0} {K : Type 0} {M : Type 0} (arguments : List (List ℕ)) (number : ℕ)
     (left : S → Option (List ℕ)) (read_faults : S → ℕ) (source source_after : S)
     (written : K → Option (List ℕ)) (write_faults : K → ℕ) (sink sink_after : K)
     (said : M → Option (List ℕ)) (say_faults : M → ℕ) (messages messages_after : M) : Type 0 where
   pub status : Status
-  pub did : Did arguments status (left source) (left source_after) (read_faults source)
+  pub did : LiveDid arguments status (left source) (left source_after) (read_faults source)
       (read_faults source_after) (written sink) (written sink_after) (write_faults sink)
       (write_faults sink_after)
-  pub number_is : number ≡ number_of status
+  pub number_is : number ≡ status_value status
   pub failed : Bool
   pub says : WritesUnless false (said messages) (say_faults messages) failed (said messages_after)
-      (say_faults messages_after) (message_of (codes "rio_live: ") usage status)
+      (say_faults messages_after) (message_of (codes "rio_live: ") live_usage status)

@@ -5,8 +5,8 @@ ghost use Rattle.rio_chars.specs.Written.{Writes};
 ghost use Rattle.fabric_script.specs.Reading.{Spells};
 ghost use Rattle.fabric_script.specs.SetUps.{for_event};
 ghost use Rattle.rio_live.specs.Lines.{Taken};
-ghost use Rattle.rio_live.specs.Holding.{Holds};
-ghost use Rattle.rio_live.specs.Answers.{Happens, FallsShort, Answered, BreaksOff};
+ghost use Rattle.rio_live.specs.Holding.{LiveHolds};
+ghost use Rattle.rio_live.specs.Answers.{Happens, FallsShort, LineAnswered, BreaksOff};
 
 use crate::live::{Asked, Live};
 use fabric_ports::EventEnd;
@@ -43,11 +43,11 @@ pub(crate) fn answer<K: Sink>(
     line: &[u8],
     outbox: &mut Outbox<K>,
 ) -> Result<Going, BrokenOff>
-    requires { (taken : Taken) × Holds live.old taken }
-    ensures answered { IfOk result (λ going. (taken : Taken) → Holds live.old taken
-        → Answered K.written K.faults taken number line.now outbox.old outbox.new live.new
+    requires { (taken : Taken) × LiveHolds live.old taken }
+    ensures answered { IfOk result (λ going. (taken : Taken) → LiveHolds live.old taken
+        → LineAnswered K.written K.faults taken number line.now outbox.old outbox.new live.new
         going) }
-    ensures breaks { OnErr result ((taken : Taken) → Holds live.old taken
+    ensures breaks { OnErr result ((taken : Taken) → LiveHolds live.old taken
         → BreaksOff K.written K.faults taken number line.now outbox.old outbox.new) }
 {
     let going = match live.take(alloc, line)? {
@@ -70,13 +70,14 @@ fn happen<K: Sink>(
     event: &Line,
     outbox: &mut Outbox<K>,
 ) -> Result<Going, BrokenOff>
-    requires { (taken : Taken) × Holds live.old taken
+    requires { (taken : Taken) × LiveHolds live.old taken
         × ((line : List ℕ) × Spells (for_event taken.known) line event.now) }
-    ensures happens { IfOk result (λ going. (taken : Taken) (line : List ℕ) → Holds live.old taken
+    ensures happens { IfOk result (λ going. (taken : Taken) (line : List ℕ)
+        → LiveHolds live.old taken
         → Spells (for_event taken.known) line event.now
         → Happens K.written K.faults taken number line event.now outbox.old outbox.new live.new
         going) }
-    ensures short { OnErr result ((taken : Taken) (line : List ℕ) → Holds live.old taken
+    ensures short { OnErr result ((taken : Taken) (line : List ℕ) → LiveHolds live.old taken
         → Spells (for_event taken.known) line event.now
         → FallsShort K.written K.faults taken event.now outbox.old outbox.new) }
 {

@@ -5,8 +5,8 @@ ghost use Rattle.fabric_trace.specs.Runs.{start};
 ghost use Rattle.fabric_ports.specs.Standing.{Stands};
 ghost use Rattle.live_lines.specs.Lines.{with_feed};
 ghost use Rattle.rio_live.specs.Lines.{Taken, nothing_taken};
-ghost use Rattle.rio_live.specs.Holding.{Holds, IsSpelled};
-ghost use Rattle.rio_live.specs.Answers.{Takes, TakesSetUp, LeavesSetUp, AreSetUp, AreNoSetUp, ReadsBy};
+ghost use Rattle.rio_live.specs.Holding.{LiveHolds, SetUpIsSpelled};
+ghost use Rattle.rio_live.specs.Answers.{LiveTakes, TakesSetUp, LeavesSetUp, AreSetUp, AreNoSetUp, ReadsBy};
 
 use fabric_ports::Fabric;
 use fabric_script::{EventEnd, Line, ScriptEnd, SetUp, parse_set_up, read_set_up};
@@ -44,7 +44,7 @@ pub(crate) enum Asked {
 impl Live {
     /// Before the first line.
     pub(crate) fn new(alloc: Global) -> Result<Live, NoMemory>
-        ensures { IfOk result (λ live. Holds live nothing_taken) }
+        ensures { IfOk result (λ live. LiveHolds live nothing_taken) }
     {
         match read_set_up(alloc, b"") {
             Ok(set_up) => Ok(Live {
@@ -65,8 +65,8 @@ impl Live {
 
     /// Reads a line, and takes it if it is one of set-up.
     pub(crate) fn take(&mut self, alloc: Global, line: &[u8]) -> Result<Asked, NoMemory>
-        ensures { IfOk result (λ asked. (taken : Taken) → Holds self.old taken
-            → Takes taken line.now asked self.new) }
+        ensures { IfOk result (λ asked. (taken : Taken) → LiveHolds self.old taken
+            → LiveTakes taken line.now asked self.new) }
     {
         if self.fabric.is_none() {
             return self.take_first(alloc, line);
@@ -80,8 +80,8 @@ impl Live {
     /// Reads a line before the first event, and takes it if it is one of set-up.
     fn take_first(&mut self, alloc: Global, line: &[u8]) -> Result<Asked, NoMemory>
         requires { self.old.fabric ≡ None }
-        ensures { IfOk result (λ asked. (taken : Taken) → Holds self.old taken
-            → Takes taken line.now asked self.new) }
+        ensures { IfOk result (λ asked. (taken : Taken) → LiveHolds self.old taken
+            → LiveTakes taken line.now asked self.new) }
     {
         match self.take_set_up(alloc, line)? {
             None => Ok(Asked::Quiet),
@@ -155,8 +155,8 @@ impl Live {
 
     /// Takes the fabric out, which is made now if no event has come yet.
     pub(crate) fn take_fabric(&mut self, alloc: Global) -> Result<Fabric, NoMemory>
-        requires { (taken : Taken) × Holds self.old taken }
-        ensures stands { IfOk result (λ fabric. (taken : Taken) → Holds self.old taken
+        requires { (taken : Taken) × LiveHolds self.old taken }
+        ensures stands { IfOk result (λ fabric. (taken : Taken) → LiveHolds self.old taken
             → Stands (start taken.set_up) taken.trace fabric) }
         ensures text { self.new.text ≡ self.old.text }
         ensures set_up { self.new.set_up ≡ self.old.set_up }
@@ -178,7 +178,7 @@ impl Live {
     fn make_fabric(&self, alloc: Global) -> Result<Fabric, NoMemory>
         requires { length self.now.text.items ≤ 16777216 }
         ensures { IfOk result (λ fabric. (taken : Taken)
-            → IsSpelled self.now.text.items taken
+            → SetUpIsSpelled self.now.text.items taken
             → Stands (start taken.set_up) [] fabric) }
     {
         match parse_set_up(alloc, self.text.as_slice()) {

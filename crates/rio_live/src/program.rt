@@ -1,7 +1,7 @@
 //! The whole program, but for where its words and its streams come from.
 ghost use Rattle.std.specs.Prelude.{map};
 ghost use Rattle.std.specs.String.{string_bytes};
-ghost use Rattle.rio_live.specs.Program.{Ran, Did};
+ghost use Rattle.rio_live.specs.Program.{LiveRan, LiveDid};
 
 use crate::serving::serve;
 use live_lines::{Status, say, status_number};
@@ -21,7 +21,7 @@ pub fn run<S: Source, K: Sink, M: Sink>(
     sink: &mut K,
     messages: &mut M,
 ) -> u8
-    ensures { Ran (map string_bytes arguments.now) result
+    ensures { LiveRan (map string_bytes arguments.now) result
         S.left S.faults source.old source.new
         K.written K.faults sink.old sink.new
         M.written M.faults messages.old messages.new }
@@ -38,7 +38,8 @@ fn serve_words<S: Source, K: Sink>(
     source: &mut S,
     sink: &mut K,
 ) -> Status
-    ensures { Did (map string_bytes arguments.now) result (S.left source.old) (S.left source.new)
+    ensures { LiveDid (map string_bytes arguments.now) result (S.left source.old)
+        (S.left source.new)
         (S.faults source.old) (S.faults source.new) (K.written sink.old) (K.written sink.new)
         (K.faults sink.old) (K.faults sink.new) }
 {

@@ -3,9 +3,9 @@ ghost use Rattle.std.specs.Prelude.{◌≡◌, [], false, IfOk, OnErr, codes, if
 ghost use Rattle.rio_chars.specs.Written.{Writes};
 ghost use Rattle.live_lines.specs.declared.status.Status.TheVariants as ends_with;
 ghost use Rattle.rio_live.specs.Lines.{Taken, nothing_taken};
-ghost use Rattle.rio_live.specs.Holding.{Holds};
-ghost use Rattle.rio_live.specs.Answers.{Answered, BreaksOff, Stopped};
-ghost use Rattle.rio_live.specs.Program.{Serves};
+ghost use Rattle.rio_live.specs.Holding.{LiveHolds};
+ghost use Rattle.rio_live.specs.Answers.{LineAnswered, BreaksOff, LinesStopped};
+ghost use Rattle.rio_live.specs.Program.{LiveServes};
 
 use crate::answers::{BrokenOff, Going, answer};
 use crate::live::Live;
@@ -17,7 +17,7 @@ use trace_lines::write_end;
 /// Reads lines, and answers each before the next is asked for. At the end of input the last line of
 /// the trace is written.
 pub fn serve<S: Source, K: Sink>(alloc: Global, source: &mut S, sink: &mut K) -> Status
-    ensures { Serves result (S.left source.old) (S.left source.new) (S.faults source.old)
+    ensures { LiveServes result (S.left source.old) (S.left source.new) (S.faults source.old)
         (S.faults source.new) (K.written sink.old) (K.written sink.new) (K.faults sink.old)
         (K.faults sink.new) }
 {
@@ -42,12 +42,12 @@ fn serve_lines<S: Source, K: Sink>(
     source: &mut S,
     outbox: &mut Outbox<K>,
 ) -> Status
-    requires holds { Holds live.old nothing_taken }
+    requires holds { LiveHolds live.old nothing_taken }
     requires input { input.old ≡ [] }
     requires fine { outbox.old.failed ≡ false }
     requires empty { outbox.old.buffer.now ≡ [] }
     ensures same { outbox.new.sink.ghost_name ≡ outbox.old.sink.ghost_name }
-    ensures serves { Serves result (S.left source.old) (S.left source.new) (S.faults source.old)
+    ensures serves { LiveServes result (S.left source.old) (S.left source.new) (S.faults source.old)
         (S.faults source.new) (K.written outbox.old.sink.now) (K.written outbox.new.sink.now)
         (K.faults outbox.old.sink.now) (K.faults outbox.new.sink.now) }
 {
@@ -80,11 +80,11 @@ fn answer_line<K: Sink>(
     line: &[u8],
     outbox: &mut Outbox<K>,
 ) -> Result<Going, BrokenOff>
-    requires { (taken : Taken) × Holds live.old taken }
-    ensures answered { IfOk result (λ going. (taken : Taken) → Holds live.old taken
-        → Answered K.written K.faults taken number line.now outbox.old outbox.new live.new
+    requires { (taken : Taken) × LiveHolds live.old taken }
+    ensures answered { IfOk result (λ going. (taken : Taken) → LiveHolds live.old taken
+        → LineAnswered K.written K.faults taken number line.now outbox.old outbox.new live.new
         going) }
-    ensures breaks { OnErr result ((taken : Taken) → Holds live.old taken
+    ensures breaks { OnErr result ((taken : Taken) → LiveHolds live.old taken
         → BreaksOff K.written K.faults taken number line.now outbox.old outbox.new) }
     ensures empty { outbox.new.buffer.now ≡ [] }
     ensures same { outbox.new.sink.ghost_name ≡ outbox.old.sink.ghost_name }
@@ -96,7 +96,7 @@ fn answer_line<K: Sink>(
 
 /// Ends where there is no further line: the last line of the trace is written if the input ended.
 fn end_lines<K: Sink>(end: LineEnd, outbox: &mut Outbox<K>) -> Status
-    ensures stopped { Stopped end K.written K.faults outbox.old outbox.new result }
+    ensures stopped { LinesStopped end K.written K.faults outbox.old outbox.new result }
     ensures same { outbox.new.sink.ghost_name ≡ outbox.old.sink.ghost_name }
 {
     match end {

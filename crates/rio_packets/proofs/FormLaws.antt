@@ -4,7 +4,7 @@ use Rattle.std.proofs.lemmas.Bool.{cases_lt}
 use Rattle.std.proofs.lemmas.List.{take_all, drop_all, take_at, get_or_append_left, get_or-take, length-take-le}
 use Rattle.std.proofs.lemmas.List.Elements.{All-take, All-drop}
 use Rattle.rio_packets.specs.Register.{running}
-use Rattle.rio_packets.specs.LinkForm.{AreBytes, IsBody, IsCrc, padded, Short, Long, split_by, LinkForm, Passes}
+use Rattle.rio_packets.specs.LinkForm.{AreBytes, IsBody, IsCrc, padded, ShortForm, LongForm, split_by, LinkForm, Passes}
 use Rattle.rio_packets.specs.Making.{with_crc, with_more, made}
 use Rattle.rio_packets.proofs.CrcLaws.{running-crc, IsCrc-halves, IsCrc-one}
 use Rattle.rio_packets.proofs.StepLaws.{with_crc-is, with_more-none, with_more-some}
@@ -39,7 +39,7 @@ AreBytes-split_by body x y range high low =
     (AreBytes-two x y high low))
     (AreBytes-drop 80 body range))
 
-Short-passes : (body bytes : List ℕ) → IsBody body → Short body bytes → Passes bytes
+Short-passes : (body bytes : List ℕ) → IsBody body → ShortForm body bytes → Passes bytes
 Short-passes body bytes b s =
     let m = body ++ s.x ∷ s.y ∷ [] in
     let size : length m ≡ length body + 2 = length-append body (s.x ∷ s.y ∷ []) in
@@ -52,7 +52,7 @@ Short-passes body bytes b s =
     ends
     (λ h. ap running (take_all 82 m (omega arith)) ∙ ends))
 
-Long-passes : (body bytes : List ℕ) → IsBody body → Long body bytes → Passes bytes
+Long-passes : (body bytes : List ℕ) → IsBody body → LongForm body bytes → Passes bytes
 Long-passes body bytes b l =
     let s = split_by body l.x l.y in
     let m = s ++ l.u ∷ l.v ∷ [] in
@@ -106,7 +106,7 @@ LinkForm-one body p q f g =
       ]
     ]
   where
-    Long-one : Long body p → Long body q → p ≡ q
+    Long-one : LongForm body p → LongForm body q → p ≡ q
     Long-one l k =
         let first = IsCrc-one (take 80 body) l.x l.y k.x k.y l.first k.first in
         let same : split_by body l.x l.y ≡ split_by body k.x k.y =
@@ -118,7 +118,7 @@ LinkForm-one body p q f g =
         ∙ ap (λ u. padded (split_by body k.x k.y ++ u ∷ l.v ∷ [])) second.0
         ∙ ap (λ v. padded (split_by body k.x k.y ++ k.u ∷ v ∷ [])) second.1 ∙ sym k.is
 
-made-short : (body : List ℕ) → IsBody body → length body ≤ 80 → Short body (made body)
+made-short : (body : List ℕ) → IsBody body → length body ≤ 80 → ShortForm body (made body)
 made-short body b h =
     let least = b.least in
     record {
@@ -132,7 +132,7 @@ made-short body b h =
           ∙ with_crc-is body);
     }
 
-made-long : (body : List ℕ) → IsBody body → 80 < length body → Long body (made body)
+made-long : (body : List ℕ) → IsBody body → 80 < length body → LongForm body (made body)
 made-long body b h =
     let front = take 80 body in
     let x = running front / 256 in

@@ -5,7 +5,7 @@ use Rattle.std.proofs.lemmas.List.{get_or_append_left, get_or_at}
 use Rattle.std.proofs.lemmas.List.Elements.{All-take, All-set}
 use Rattle.rio_packets.specs.Register.{running}
 use Rattle.rio_packets.specs.LinkForm.{AreBytes, IsCrc, Passes, padded}
-use Rattle.rio_packets.specs.Hops.{ended, is_large, lowered}
+use Rattle.rio_packets.specs.Hops.{message_ended, is_large, lowered}
 use Rattle.rio_packets.specs.Fields.{tt_of, is_maintenance, hop_of, hop_place, crc_place, Lowered}
 use Rattle.rio_packets.proofs.CrcLaws.{IsCrc-halves, IsCrc-one}
 use Rattle.rio_packets.proofs.StepLaws.{closed-is}
@@ -48,7 +48,7 @@ pad-zeros true (suc zero) = refl
 pad-zeros true (suc (suc k)) = refl
 
 ended-is : (large : Bool) (m : List ℕ)
-    → ended large m ≡ m ++ running m / 256 ∷ running m % 256 ∷ pad_of large
+    → message_ended large m ≡ m ++ running m / 256 ∷ running m % 256 ∷ pad_of large
 ended-is false m = closed-is m
 ended-is true m =
     ap (λ (t : List ℕ). t ++ 0 ∷ 0 ∷ []) (closed-is m)

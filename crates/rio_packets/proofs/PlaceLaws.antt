@@ -4,7 +4,7 @@ use Rattle.std.proofs.lemmas.Bool.{and_parts, cases_eq, false≢true}
 use Rattle.std.proofs.lemmas.List.{get_or_past}
 use Rattle.rio_packets.specs.Register.{running}
 use Rattle.rio_packets.specs.LinkForm.{padded}
-use Rattle.rio_packets.specs.Hops.{closed, ended, is_large}
+use Rattle.rio_packets.specs.Hops.{closed, message_ended, is_large}
 use Rattle.rio_packets.specs.Fields.{ftype_of, tt_of, is_maintenance, is_maintenance_length, has_maintenance_form, is_padded_form, hop_place, crc_place}
 use Rattle.rio_packets.proofs.StepLaws.{closed-is}
 use Rattle.rio_packets.proofs.PadLaws.{padded-fours, padded-other}
@@ -59,8 +59,8 @@ pub record Places (large : Bool) (bytes : List ℕ) (hop crc : ℕ) : Type 0 whe
   pub most : crc ≤ 76
   pub behind : crc + 2 ≤ length bytes
   pub zeros : (k : ℕ) → crc + 2 ≤ k → get_or bytes k 0 ≡ 0
-  pub total : (m : List ℕ) → length m ≡ crc → length (ended large m) ≡ length bytes
-  pub whole : (m : List ℕ) → length m ≡ crc → ended large m ≡ padded (closed m)
+  pub total : (m : List ℕ) → length m ≡ crc → length (message_ended large m) ≡ length bytes
+  pub whole : (m : List ℕ) → length m ≡ crc → message_ended large m ≡ padded (closed m)
 
 length-closed : (m : List ℕ) → length (closed m) ≡ length m + 2
 length-closed m =

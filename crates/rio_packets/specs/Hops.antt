@@ -9,9 +9,9 @@ unfoldable pub closed : List ℕ → List ℕ
 closed message = message ++ running message / 256 ∷ running message % 256 ∷ []
 
 -- a message, its CRC, and the pad of a maintenance packet with two-byte IDs
-abbrev pub ended : Bool → List ℕ → List ℕ
-ended false message = closed message
-ended true message = closed message ++ 0 ∷ 0 ∷ []
+abbrev pub message_ended : Bool → List ℕ → List ℕ
+message_ended false message = closed message
+message_ended true message = closed message ++ 0 ∷ 0 ∷ []
 
 -- whether the IDs have two bytes each
 abbrev pub is_large : List ℕ → Bool
@@ -19,5 +19,5 @@ is_large bytes = tt_of bytes == 1
 
 -- the hop count is one less, and the CRC is made of all before it
 abbrev pub lowered : List ℕ → List ℕ
-lowered bytes = ended (is_large bytes) (take (crc_place bytes)
+lowered bytes = message_ended (is_large bytes) (take (crc_place bytes)
     (slice_set bytes (hop_place bytes) (slice_index bytes (hop_place bytes) - 1)))

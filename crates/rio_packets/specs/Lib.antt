@@ -8,3 +8,4 @@ pub mod Tables
 pub mod Building
 pub mod CauseNumbers
 pub mod Hops
+pub mod Words

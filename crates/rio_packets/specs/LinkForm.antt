@@ -34,7 +34,7 @@ abbrev pub padded : List ℕ → List ℕ
 padded bytes = if length bytes % 4 == 0 then bytes else (bytes ++ 0 ∷ 0 ∷ [])
 
 -- A body of at most 80 bytes is followed by its CRC and the pad.
-pub record Short (body bytes : List ℕ) : Type 0 where
+pub record ShortForm (body bytes : List ℕ) : Type 0 where
   pub within : length body ≤ 80
   pub x : ℕ
   pub y : ℕ
@@ -47,7 +47,7 @@ split_by body x y = take 80 body ++ x ∷ y ∷ drop 80 body
 
 -- A longer body has a CRC of its first 80 bytes behind these, and at its end a CRC of all before
 -- it, the first CRC too.
-pub record Long (body bytes : List ℕ) : Type 0 where
+pub record LongForm (body bytes : List ℕ) : Type 0 where
   pub beyond : 80 < length body
   pub x : ℕ
   pub y : ℕ
@@ -60,7 +60,7 @@ pub record Long (body bytes : List ℕ) : Type 0 where
 -- the bytes are the link form of the body
 pub record LinkForm (body bytes : List ℕ) : Type 0 where
   pub is_body : IsBody body
-  pub form : Short body bytes ⊎ Long body bytes
+  pub form : ShortForm body bytes ⊎ LongForm body bytes
 
 -- Bytes that are the link form of some body, told by the running register: it is 0 at the end, and
 -- from 84 bytes on also after byte 82.

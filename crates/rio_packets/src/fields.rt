@@ -1,7 +1,7 @@
 //! The fields at the front of a packet.
 ghost use Rattle.std.specs.Prelude.{◌≡◌, ◌+◌, ◌-◌, ◌*◌, ◌<◌, ◌≤◌, IsSomeAnd, take, if◌then◌else◌};
 ghost use Rattle.rio_packets.specs.Fields.{prio_of, tt_of, ftype_of, dest_of, source_of, hop_of, hop_place, crc_place, has_maintenance_form, is_maintenance, is_maintenance_length, Lowered};
-ghost use Rattle.rio_packets.specs.Hops.{closed, ended, lowered};
+ghost use Rattle.rio_packets.specs.Hops.{closed, message_ended, lowered};
 ghost use Rattle.arrayvec.specs.ArrayVec.{array_vec_len};
 
 use crate::crc::{PRESET, run};
@@ -144,7 +144,7 @@ fn is_maintenance_length(length: usize) -> bool
 /// Makes the CRC of a maintenance packet again, which stands at this place, and its pad.
 fn renew_crc(form: &mut ArrayVec<u8, MAX_BYTES>, place: usize, large: bool)
     requires { place ≤ 272 }
-    ensures { form.new.items ≡ ended large (take place form.old.items) }
+    ensures { form.new.items ≡ message_ended large (take place form.old.items) }
 {
     form.truncate(place);
     append_crc(form);

@@ -9,7 +9,7 @@ use Rattle.link_port.specs.Ports.{PortState}
 use Rattle.link_port.specs.Steps.{takes}
 use Rattle.link_port.specs.Turns.{turns_to, turn_sends}
 use Rattle.rio_port.specs.Texts.{acted_text, burst_text}
-use Rattle.rio_port.specs.Answers.{Answer, saying, after_text, answers_chars, answers_turns}
+use Rattle.rio_port.specs.Answers.{PortAnswer, saying, after_text, answers_chars, answers_turns}
 
 -- a test that says whether a number is more than 0
 pub is_some_test : (b : Bool) (n : ℕ) → IsTrue b ↔ (0 < n) → b ≡ nat_lt 0 n
@@ -21,13 +21,14 @@ is_some_test false (suc n) same =
 
 -- Of an answer this much was told, and what is left is the answer of a port that stands here.
 pub record IsTold {K : Type 0} (written : K → Option (List ℕ)) (faults : K → ℕ)
-    (begun out : Outbox K) (whole rest : Answer) : Type 0 where
+    (begun out : Outbox K) (whole rest : PortAnswer) : Type 0 where
   pub text : List ℕ
   pub told : Writes written faults begun out text
   pub is : whole ≡ after_text text rest
 
 module _ {K : Type 0} {written : K → Option (List ℕ)} {faults : K → ℕ} {begun out : Outbox K} where
-  pub IsTold-begin : (whole : Answer) → begun ≡ out → IsTold written faults begun out whole whole
+  pub IsTold-begin : (whole : PortAnswer) → begun ≡ out
+      → IsTold written faults begun out whole whole
   IsTold-begin whole same = record {
     text = [];
     told = subst (λ o. Writes written faults begun o []) same (Writes-nil written faults begun);
@@ -35,7 +36,7 @@ module _ {K : Type 0} {written : K → Option (List ℕ)} {faults : K → ℕ} {
   }
 
   -- more is told of what is left
-  pub IsTold-more : {next : Outbox K} {whole rest : Answer} (text : List ℕ) (left : Answer)
+  pub IsTold-more : {next : Outbox K} {whole rest : PortAnswer} (text : List ℕ) (left : PortAnswer)
       → IsTold written faults begun out whole rest → rest ≡ after_text text left
       → Writes written faults out next text → IsTold written faults begun next whole left
   IsTold-more {next} {whole} {rest} text left h is told = record {
@@ -47,14 +48,14 @@ module _ {K : Type 0} {written : K → Option (List ℕ)} {faults : K → ℕ} {
   }
 
   -- nothing is left
-  pub IsTold-end : {whole rest : Answer} (port : PortState)
+  pub IsTold-end : {whole rest : PortAnswer} (port : PortState)
       → IsTold written faults begun out whole rest → rest ≡ saying port []
       → (whole.port ≡ port) × Writes written faults begun out whole.text
   IsTold-end {whole} {rest} port h none =
       let all : whole ≡ saying port h.text =
       h.is ∙ ap (after_text h.text) none ∙ ap (saying port) (append-nil h.text) in (
-        ap (λ (a : Answer). a.port) all,
-        subst (Writes written faults begun out) (sym (ap (λ (a : Answer). a.text) all)) h.told,
+        ap (λ (a : PortAnswer). a.port) all,
+        subst (Writes written faults begun out) (sym (ap (λ (a : PortAnswer). a.text) all)) h.told,
       )
 
 -- ---- the two answers that go piece by piece

@@ -6,28 +6,29 @@ use Rattle.rio_chars.specs.declared.outbox.Outbox.{Outbox}
 use Rattle.link_port.specs.Ports.{PortState}
 use Rattle.live_lines.specs.Lines.{IsLine, with_feed}
 use Rattle.live_lines.proofs.ServingLaws.{Going, Going-begin, Going-line, Going-told, Going-read}
-use Rattle.rio_port.specs.Answers.{Answer, saying, after_text}
-use Rattle.rio_port.specs.Lines.{AnswersLine, AnswersLines}
+use Rattle.rio_port.specs.Answers.{PortAnswer, saying, after_text}
+use Rattle.rio_port.specs.Lines.{AnswersLine, PortAnswersLines}
 
 -- a line more is answered
 pub AnswersLines-more : (port : PortState) (lines : List (List ℕ)) (line : List ℕ)
-    (so_far next : Answer) → AnswersLines port lines so_far → AnswersLine so_far.port line next
-    → AnswersLines port (lines ++ line ∷ []) (after_text so_far.text next)
+    (so_far next : PortAnswer) → PortAnswersLines port lines so_far
+    → AnswersLine so_far.port line next
+    → PortAnswersLines port (lines ++ line ∷ []) (after_text so_far.text next)
 AnswersLines-more port [] line so_far next h k = (
   next,
   saying next.port [],
-  subst (λ p. AnswersLine p line next) (ap (λ (a : Answer). a.port) h) k,
+  subst (λ p. AnswersLine p line next) (ap (λ (a : PortAnswer). a.port) h) k,
   refl,
   ap (saying next.port)
-      (ap (λ (a : Answer). a.text ++ next.text) h ∙ sym (append-nil next.text)),
+      (ap (λ (a : PortAnswer). a.text ++ next.text) h ∙ sym (append-nil next.text)),
 )
 AnswersLines-more port (other ∷ lines) line so_far next h k = (
   h.0,
   after_text h.1.text next,
   h.2,
   AnswersLines-more h.0.port lines line h.1 next h.3
-      (subst (λ p. AnswersLine p line next) (ap (λ (a : Answer). a.port) h.4) k),
-  ap (λ (a : Answer). saying next.port (a.text ++ next.text)) h.4
+      (subst (λ p. AnswersLine p line next) (ap (λ (a : PortAnswer). a.port) h.4) k),
+  ap (λ (a : PortAnswer). saying next.port (a.text ++ next.text)) h.4
       ∙ ap (saying next.port) (append_assoc h.0.text h.1.text next.text),
 )
 
@@ -36,8 +37,8 @@ pub record Served {K : Type 0} (written : K → Option (List ℕ)) (faults : K �
     (begun out : Outbox K) (port now : PortState) (left left_now : Option (List ℕ))
     (pending : List ℕ) (count : ℕ) (read_faults read_faults_now : ℕ) : Type 0 where
   pub lines : List (List ℕ)
-  pub answer : Answer
-  pub answers : AnswersLines port lines answer
+  pub answer : PortAnswer
+  pub answers : PortAnswersLines port lines answer
   pub stands : now ≡ answer.port
   pub going : Going written faults begun out left left_now pending count read_faults
       read_faults_now lines answer.text
@@ -57,7 +58,7 @@ module _ {K : Type 0} (written : K → Option (List ℕ)) (faults : K → ℕ) (
   -- a line more was read and answered
   pub Served-line : {out next : Outbox K} {now after : PortState}
       {left_now left_next : Option (List ℕ)} (pending pending_next line taken : List ℕ)
-      {count : ℕ} (read_faults_now read_faults_next : ℕ) (answer : Answer)
+      {count : ℕ} (read_faults_now read_faults_next : ℕ) (answer : PortAnswer)
       → Served written faults begun out port now left left_now pending count read_faults
       read_faults_now
       → Consumes left_now left_next taken → pending ++ taken ≡ with_feed line ++ pending_next

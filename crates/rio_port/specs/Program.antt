@@ -7,9 +7,9 @@ use Rattle.link_port.specs.Prelude.{PortState, new_port}
 use Rattle.live_lines.specs.declared.status.Status.{Status}
 use Rattle.live_lines.specs.declared.status.Status.TheVariants.{Words}
 use Rattle.live_lines.specs.Serving.{ServesLines}
-use Rattle.live_lines.specs.Statuses.{number_of, message_of}
-use Rattle.rio_port.specs.Answers.{Answer}
-use Rattle.rio_port.specs.Lines.{AnswersLines}
+use Rattle.live_lines.specs.Statuses.{status_value, message_of}
+use Rattle.rio_port.specs.Answers.{PortAnswer}
+use Rattle.rio_port.specs.Lines.{PortAnswersLines}
 
 -- the words after the program's name ask for a port of so many buffers
 abbrev pub AskBuffers : List (List ℕ) → ℕ → Type 0
@@ -24,20 +24,20 @@ pub record ServesFrom (port : PortState) (status : Status) (left left_after : Op
     (read_faults read_faults_after : ℕ) (written written_after : Option (List ℕ))
     (write_faults write_faults_after : ℕ) : Type 0 where
   pub lines : List (List ℕ)
-  pub answer : Answer
-  pub answers : AnswersLines port lines answer
+  pub answer : PortAnswer
+  pub answers : PortAnswersLines port lines answer
   pub serves : ServesLines (2 ^ 64 - 1) status left left_after read_faults read_faults_after
       written written_after write_faults write_faults_after lines answer.text
 
 -- how the program is used
-abbrev pub usage : List ℕ
-usage = codes "usage: rio_port [BUFFERS], with 4 to 30 buffers\n"
+abbrev pub port_usage : List ℕ
+port_usage = codes "usage: rio_port [BUFFERS], with 4 to 30 buffers\n"
 
 -- The words ask for no port, and nothing is read or written; or a port of so many buffers served
 -- lines.
-abbrev pub Did : List (List ℕ) → Status → Option (List ℕ) → Option (List ℕ) → ℕ → ℕ
+abbrev pub PortDid : List (List ℕ) → Status → Option (List ℕ) → Option (List ℕ) → ℕ → ℕ
     → Option (List ℕ) → Option (List ℕ) → ℕ → ℕ → Type 0
-Did arguments status left left_after read_faults read_faults_after written written_after
+PortDid arguments status left left_after read_faults read_faults_after written written_after
     write_faults write_faults_after =
     ((buffers : ℕ) × AskBuffers arguments buffers × ServesFrom (new_port false buffers) status left
     left_after read_faults read_faults_after written written_after write_faults write_faults_after)
@@ -47,15 +47,15 @@ Did arguments status left left_after read_faults read_faults_after written writt
 
 -- It ends with the number of a status, and said of it what there is to say, or a front of that
 -- where a write of it failed.
-pub record Ran {S : Type 0} {K : Type 0} {M : Type 0} (arguments : List (List ℕ)) (number : ℕ)
+pub record PortRan {S : Type 0} {K : Type 0} {M : Type 0} (arguments : List (List ℕ)) (number : ℕ)
     (left : S → Option (List ℕ)) (read_faults : S → ℕ) (source source_after : S)
     (written : K → Option (List ℕ)) (write_faults : K → ℕ) (sink sink_after : K)
     (said : M → Option (List ℕ)) (say_faults : M → ℕ) (messages messages_after : M) : Type 0 where
   pub status : Status
-  pub did : Did arguments status (left source) (left source_after) (read_faults source)
+  pub did : PortDid arguments status (left source) (left source_after) (read_faults source)
       (read_faults source_after) (written sink) (written sink_after) (write_faults sink)
       (write_faults sink_after)
-  pub number_is : number ≡ number_of status
+  pub number_is : number ≡ status_value status
   pub failed : Bool
   pub says : WritesUnless false (said messages) (say_faults messages) failed (said messages_after)
-      (say_faults messages_after) (message_of (codes "rio_port: ") usage status)
+      (say_faults messages_after) (message_of (codes "rio_port: ") port_usage status)

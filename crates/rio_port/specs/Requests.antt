@@ -51,18 +51,18 @@ abbrev pub SpellsTurns : List (List ℕ) → ℕ → Type 0
 SpellsTurns words count = (1 ≤ count) × (count ≤ 100000) × (words ≡ decimal count ∷ [])
 
 -- words that ask for this: a row for each kind of line
-abbrev pub AsksFor : Request → List (List ℕ) → Type 0
-AsksFor (Got chars) words =
+abbrev pub AsksRequest : Request → List (List ℕ) → Type 0
+AsksRequest (Got chars) words =
     (behind : List (List ℕ)) × (words ≡ codes "got" ∷ behind) × SpellsGot behind chars
-AsksFor (Turn count) words =
+AsksRequest (Turn count) words =
     (behind : List (List ℕ)) × (words ≡ codes "turn" ∷ behind) × SpellsTurns behind count
-AsksFor (Send packet) words = (large : Bool) × (behind : List (List ℕ))
+AsksRequest (Send packet) words = (large : Bool) × (behind : List (List ℕ))
     × (words ≡ send_word large ∷ behind) × SpellsPacket large behind packet
-AsksFor TimeOut words = words ≡ codes "timeout" ∷ []
-AsksFor Take words = words ≡ codes "take" ∷ []
-AsksFor State words = words ≡ codes "state" ∷ []
+AsksRequest TimeOut words = words ≡ codes "timeout" ∷ []
+AsksRequest Take words = words ≡ codes "take" ∷ []
+AsksRequest State words = words ≡ codes "state" ∷ []
 
 -- what was read of words: what they ask for, or that they ask for nothing
 abbrev pub ReadsWords : List (List ℕ) → Result Request Reason → Type 0
-ReadsWords words (Ok request) = AsksFor request words
-ReadsWords words (Err reason) = (request : Request) → ¬ AsksFor request words
+ReadsWords words (Ok request) = AsksRequest request words
+ReadsWords words (Err reason) = (request : Request) → ¬ AsksRequest request words

@@ -6,7 +6,7 @@ ghost use Rattle.link_port.specs.Steps.{takes};
 ghost use Rattle.link_port.specs.Turns.{turns_to, turn_sends};
 ghost use Rattle.rio_packets.specs.Fields.{prio_of};
 ghost use Rattle.rio_port.specs.Texts.{acted_text, freed_text, burst_text};
-ghost use Rattle.rio_port.specs.Answers.{answers_chars, answers_turns, answers_packet, answers_held, answer_of, has_room};
+ghost use Rattle.rio_port.specs.Answers.{answers_chars, answers_turns, answers_packet, answers_held, request_answer, port_has_room};
 ghost use Rattle.rio_port.specs.Lines.{asked_answer};
 
 use crate::requests::{Reason, Request};
@@ -36,9 +36,9 @@ pub(crate) fn answer<K: Sink>(
 
 /// Does what is asked for, and tells what came of it.
 fn answer_request<K: Sink>(port: &mut Port, request: Request, outbox: &mut Outbox<K>)
-    ensures port { port.new ≡ (answer_of port.old request).port }
+    ensures port { port.new ≡ (request_answer port.old request).port }
     ensures text { Writes K.written K.faults outbox.old outbox.new
-        (answer_of port.old request).text }
+        (request_answer port.old request).text }
 {
     match request {
         Request::Got(chars) => take_chars(port, chars.as_slice(), outbox),
@@ -123,9 +123,10 @@ fn take_turn<K: Sink>(port: &mut Port, outbox: &mut Outbox<K>)
 
 /// Puts a packet to those to be sent, if there is room.
 fn send<K: Sink>(port: &mut Port, packet: Packet, outbox: &mut Outbox<K>)
-    ensures port { port.new ≡ (answers_packet (has_room port.old (prio_of packet)) port.old packet).port }
+    ensures port { port.new
+        ≡ (answers_packet (port_has_room port.old (prio_of packet)) port.old packet).port }
     ensures text { Writes K.written K.faults outbox.old outbox.new
-        (answers_packet (has_room port.old (prio_of packet)) port.old packet).text }
+        (answers_packet (port_has_room port.old (prio_of packet)) port.old packet).text }
 {
     if port.out_room(packet.prio()) {
         write_packet(outbox, b"queued ", &packet);

@@ -2,7 +2,7 @@
 ghost use Rattle.std.specs.Prelude.{◌≡◌, ◌≢◌, ◌≤◌, map, MatchOption, IfSome, ℕ};
 ghost use Rattle.std.specs.Fmt.{decimal};
 ghost use Rattle.std.specs.String.{string_bytes};
-ghost use Rattle.rio_port.specs.Program.{Ran, Did, AskBuffers};
+ghost use Rattle.rio_port.specs.Program.{PortRan, PortDid, AskBuffers};
 
 use crate::serving::serve;
 use fabric_script::read_number;
@@ -26,7 +26,7 @@ pub fn run<S: Source, K: Sink, M: Sink>(
     sink: &mut K,
     messages: &mut M,
 ) -> u8
-    ensures { Ran (map string_bytes arguments.now) result
+    ensures { PortRan (map string_bytes arguments.now) result
         S.left S.faults source.old source.new
         K.written K.faults sink.old sink.new
         M.written M.faults messages.old messages.new }
@@ -43,7 +43,8 @@ fn serve_words<S: Source, K: Sink>(
     source: &mut S,
     sink: &mut K,
 ) -> Status
-    ensures { Did (map string_bytes arguments.now) result (S.left source.old) (S.left source.new)
+    ensures { PortDid (map string_bytes arguments.now) result (S.left source.old)
+        (S.left source.new)
         (S.faults source.old) (S.faults source.new) (K.written sink.old) (K.written sink.new)
         (K.faults sink.old) (K.faults sink.new) }
 {

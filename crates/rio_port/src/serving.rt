@@ -3,7 +3,7 @@ ghost use Rattle.std.specs.Prelude.{◌≡◌, ◌≤◌, [], false, OnOk, OnErr
 ghost use Rattle.rio_chars.specs.Written.{Writes};
 ghost use Rattle.link_port.specs.Ports.{new_port};
 ghost use Rattle.rio_port.specs.Lines.{AnswersLine};
-ghost use Rattle.rio_port.specs.Answers.{Answer as AnAnswer};
+ghost use Rattle.rio_port.specs.Answers.{PortAnswer};
 ghost use Rattle.rio_port.specs.Program.{ServesFrom};
 
 use crate::answers::answer;
@@ -77,7 +77,7 @@ fn answer_line<K: Sink>(
     line: &[u8],
     outbox: &mut Outbox<K>,
 ) -> Result<(), AllocError>
-    ensures answer { OnOk result ((answer : AnAnswer) × AnswersLine port.old line.now answer
+    ensures answer { OnOk result ((answer : PortAnswer) × AnswersLine port.old line.now answer
         × (port.new ≡ answer.port)
         × Writes K.written K.faults outbox.old outbox.new answer.text) }
     ensures written { OnOk result (outbox.new.buffer.now ≡ []) }

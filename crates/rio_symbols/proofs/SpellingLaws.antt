@@ -10,7 +10,7 @@ use Rattle.std.proofs.lemmas.Nat.{and_mask, or_shifted, shl_whole}
 use Rattle.crc_division.specs.Bits.{bits}
 use Rattle.rio_symbols.specs.Crc5.{field_bits, crc5_of, crc5_value}
 use Rattle.rio_symbols.specs.Fields.{Fields, InRange}
-use Rattle.rio_symbols.specs.Spelling.{Spells, symbol_bytes, fields_at, is_spelling, spelled, spelled_in}
+use Rattle.rio_symbols.specs.Spelling.{SpellsSymbol, symbol_bytes, fields_at, is_spelling, spelled, spelled_in}
 use Rattle.crc_division.proofs.BitsLaws.{bits_cat, same_by_bits}
 use Rattle.rio_symbols.proofs.BitLaws.{halves, bits-cancel}
 use Rattle.rio_symbols.proofs.CrcLaws.{crc5_value-lt, bits-crc5_value}
@@ -38,7 +38,7 @@ three_bytes x y z p q r =
     (All-cons (λ b. b < 256) y (z ∷ []) q (All-cons (λ b. b < 256) z [] r (All-nil (λ b. b < 256))))
 
 -- a symbol in range is spelled by its own bytes
-pub spells_own : (symbol : Fields) → InRange symbol → Spells symbol (symbol_bytes symbol)
+pub spells_own : (symbol : Fields) → InRange symbol → SpellsSymbol symbol (symbol_bytes symbol)
 unfolding symbol_bytes field_bits
 spells_own symbol range = record {
   in_range = range;
@@ -62,7 +62,7 @@ spells_own symbol range = record {
 }
 
 -- and by no others
-pub spelling_only : (symbol : Fields) (bytes : List ℕ) → Spells symbol bytes
+pub spelling_only : (symbol : Fields) (bytes : List ℕ) → SpellsSymbol symbol bytes
     → bytes ≡ symbol_bytes symbol
 spelling_only symbol bytes s =
     let own = spells_own symbol s.in_range in
@@ -127,15 +127,15 @@ fields_at-in_range x y z s = record {
 
 -- what the decision finds is spelled
 pub spelled_some : (x y z : ℕ) (symbol : Fields) → spelled x y z ≡ Some symbol
-    → Spells symbol (x ∷ y ∷ z ∷ [])
+    → SpellsSymbol symbol (x ∷ y ∷ z ∷ [])
 unfolding spelled
 spelled_some x y z symbol e =
     let found = chosen (is_spelling x y z) (fields_at x y z) symbol e in
     let holds = spelling_from_test x y z found.0 in
     let here = spells_own (fields_at x y z) (fields_at-in_range x y z holds) in
-    let there : Spells (fields_at x y z) (x ∷ y ∷ z ∷ []) =
-    subst (Spells (fields_at x y z)) (own_bytes x y z holds.crc) here in
-    subst (λ f. Spells f (x ∷ y ∷ z ∷ [])) found.1 there
+    let there : SpellsSymbol (fields_at x y z) (x ∷ y ∷ z ∷ []) =
+    subst (SpellsSymbol (fields_at x y z)) (own_bytes x y z holds.crc) here in
+    subst (λ f. SpellsSymbol f (x ∷ y ∷ z ∷ [])) found.1 there
 
 -- the fields are read back from the bytes
 pub fields_at-own : (x y z : ℕ) (symbol : Fields) → InRange symbol
@@ -155,7 +155,7 @@ fields_at-own x y z symbol range e =
     ((λ i. record { s0 = s0 i; p0 = p0 i; p1 = p1 i; s1 = s1 i; cmd = cmd i }), crc)
 
 -- what is spelled is found
-pub spelled_back : (x y z : ℕ) (symbol : Fields) → Spells symbol (x ∷ y ∷ z ∷ [])
+pub spelled_back : (x y z : ℕ) (symbol : Fields) → SpellsSymbol symbol (x ∷ y ∷ z ∷ [])
     → spelled x y z ≡ Some symbol
 unfolding spelled
 spelled_back x y z symbol s =
@@ -175,18 +175,18 @@ spelled_back x y z symbol s =
 
 -- where nothing is found, nothing is spelled
 pub spelled_none : (x y z : ℕ) (symbol : Fields) → spelled x y z ≡ None
-    → Spells symbol (x ∷ y ∷ z ∷ []) → ⊥
+    → SpellsSymbol symbol (x ∷ y ∷ z ∷ []) → ⊥
 spelled_none x y z symbol e s =
     let found : spelled x y z ≡ Some symbol = spelled_back x y z symbol s in cc
 
 -- one list of bytes spells one symbol
-pub same_symbol : (symbol other : Fields) (bytes : List ℕ) → Spells symbol bytes
-    → Spells other bytes → symbol ≡ other
+pub same_symbol : (symbol other : Fields) (bytes : List ℕ) → SpellsSymbol symbol bytes
+    → SpellsSymbol other bytes → symbol ≡ other
 unfolding symbol_bytes
 same_symbol symbol other bytes s o =
     let own = spelling_only symbol bytes s in
     let here = spelled_back _ _ _ symbol (spells_own symbol s.in_range) in
-    let there = spelled_back _ _ _ other (subst (Spells other) own o) in
+    let there = spelled_back _ _ _ other (subst (SpellsSymbol other) own o) in
     cc (here, there)
 
 -- a symbol in range is found in its own bytes
@@ -210,16 +210,16 @@ three_places (x ∷ y ∷ z ∷ w ∷ bytes) e = absurd (omega arith)
 -- the decision at the places of a list
 pub list_some : (bytes : List ℕ) (symbol : Fields) → length bytes ≡ 3
     → spelled (get_or bytes 0 0) (get_or bytes 1 0) (get_or bytes 2 0) ≡ Some symbol
-    → Spells symbol bytes
+    → SpellsSymbol symbol bytes
 list_some bytes symbol three e =
-    subst (Spells symbol) (three_places bytes three)
+    subst (SpellsSymbol symbol) (three_places bytes three)
     (spelled_some (get_or bytes 0 0) (get_or bytes 1 0) (get_or bytes 2 0) symbol e)
 
-pub list_back : (bytes : List ℕ) (symbol : Fields) → length bytes ≡ 3 → Spells symbol bytes
+pub list_back : (bytes : List ℕ) (symbol : Fields) → length bytes ≡ 3 → SpellsSymbol symbol bytes
     → spelled (get_or bytes 0 0) (get_or bytes 1 0) (get_or bytes 2 0) ≡ Some symbol
 list_back bytes symbol three s =
     spelled_back (get_or bytes 0 0) (get_or bytes 1 0) (get_or bytes 2 0) symbol
-    (subst (Spells symbol) (sym (three_places bytes three)) s)
+    (subst (SpellsSymbol symbol) (sym (three_places bytes three)) s)
 
 -- the fields as the code cuts them out
 abbrev pub cut_fields : ℕ → ℕ → ℕ → Fields

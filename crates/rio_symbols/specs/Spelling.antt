@@ -6,7 +6,7 @@ use Rattle.rio_symbols.specs.Crc5.{field_bits, crc5_of, crc5_value}
 use Rattle.rio_symbols.specs.Fields.{Fields, InRange}
 
 -- the bits of the bytes are those of the fields and then those of the CRC; it names no direction
-pub record Spells (symbol : Fields) (bytes : List ℕ) : Type 0 where
+pub record SpellsSymbol (symbol : Fields) (bytes : List ℕ) : Type 0 where
   pub in_range : InRange symbol
   pub are_bytes : All (λ b. b < 256) bytes
   pub same_bits : flat_map (bits 8) bytes ≡ field_bits symbol ++ crc5_of symbol

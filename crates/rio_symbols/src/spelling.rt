@@ -5,7 +5,7 @@ ghost use Rattle.std.specs.Result.{result_ok};
 ghost use Rattle.crc_division.specs.Bits.{bits};
 ghost use Rattle.rio_symbols.specs.Crc5.{field_bits};
 ghost use Rattle.rio_symbols.specs.Fields.{Fields, InRange};
-ghost use Rattle.rio_symbols.specs.Spelling.{Spells, symbol_bytes, fields_at, found_crc, computed_crc, spelled, spelled_in};
+ghost use Rattle.rio_symbols.specs.Spelling.{SpellsSymbol, symbol_bytes, fields_at, found_crc, computed_crc, spelled, spelled_in};
 
 use crate::crc::crc5;
 use crate::symbol::Symbol;
@@ -23,7 +23,7 @@ pub struct BadCrc {
 /// parameter0, parameter1, stype1, cmd and CRC, the first bit of each the most significant.
 pub fn to_bytes(symbol: &Symbol) -> [u8; 3]
     ensures exact { result ≡ symbol_bytes symbol.now }
-    ensures spells { Spells symbol.now result }
+    ensures spells { SpellsSymbol symbol.now result }
     ensures reads_back { spelled_in result ≡ Some symbol.now }
 {
     [
@@ -36,8 +36,8 @@ pub fn to_bytes(symbol: &Symbol) -> [u8; 3]
 /// The symbol that three bytes spell. `BadCrc` comes exactly where their last five bits are not the
 /// CRC of the first nineteen, and has both.
 pub fn from_bytes(bytes: &[u8; 3]) -> Result<Symbol, BadCrc>
-    ensures ok { IfOk result (λ s. Spells s bytes.now) }
-    ensures all_spelled { (s : Fields) → Spells s bytes.now → result ≡ Ok s }
+    ensures ok { IfOk result (λ s. SpellsSymbol s bytes.now) }
+    ensures all_spelled { (s : Fields) → SpellsSymbol s bytes.now → result ≡ Ok s }
     ensures reads_back { (s : Fields) → InRange s → bytes.now ≡ symbol_bytes s → result ≡ Ok s }
 
     ensures bad { IsErr result ↔ (found_crc bytes.now ≢ computed_crc bytes.now) }
@@ -68,13 +68,18 @@ pub fn from_bytes(bytes: &[u8; 3]) -> Result<Symbol, BadCrc>
 /// symbol has one spelling, and bytes spell one symbol at most. For proofs above; the call does
 /// nothing.
 pub fn spelling_laws()
-    ensures some { (x y z : ℕ) (s : Fields) → spelled x y z ≡ Some s → Spells s (x ∷ y ∷ z ∷ []) }
-    ensures back { (x y z : ℕ) (s : Fields) → Spells s (x ∷ y ∷ z ∷ []) → spelled x y z ≡ Some s }
-    ensures none { (x y z : ℕ) (s : Fields) → spelled x y z ≡ None → Spells s (x ∷ y ∷ z ∷ []) → ⊥ }
+    ensures some { (x y z : ℕ) (s : Fields) → spelled x y z ≡ Some s
+        → SpellsSymbol s (x ∷ y ∷ z ∷ []) }
+    ensures back { (x y z : ℕ) (s : Fields) → SpellsSymbol s (x ∷ y ∷ z ∷ [])
+        → spelled x y z ≡ Some s }
+    ensures none { (x y z : ℕ) (s : Fields) → spelled x y z ≡ None
+        → SpellsSymbol s (x ∷ y ∷ z ∷ []) → ⊥ }
 
-    ensures own { (s : Fields) → InRange s → Spells s (symbol_bytes s) }
-    ensures one_spelling { (s : Fields) (bytes : List ℕ) → Spells s bytes → bytes ≡ symbol_bytes s }
-    ensures one_symbol { (s t : Fields) (bytes : List ℕ) → Spells s bytes → Spells t bytes → s ≡ t }
+    ensures own { (s : Fields) → InRange s → SpellsSymbol s (symbol_bytes s) }
+    ensures one_spelling { (s : Fields) (bytes : List ℕ) → SpellsSymbol s bytes
+        → bytes ≡ symbol_bytes s }
+    ensures one_symbol { (s t : Fields) (bytes : List ℕ) → SpellsSymbol s bytes
+        → SpellsSymbol t bytes → s ≡ t }
 
     // What the error tells: the fields that were read stand in the first nineteen bits, and the
     // number that was found in the last five.

@@ -12,12 +12,12 @@ use Rattle.link_model.proofs.PlacesLaws.{place_after-append}
 use Rattle.rio_framer.specs.declared.events.Events.{Events}
 use Rattle.rio_framer.specs.declared.events.Told.{Told}
 use Rattle.rio_framer.specs.Framing.{Framing, framing_after}
-use Rattle.rio_framer.specs.Giving.{listed, told_of, events_by}
+use Rattle.rio_framer.specs.Giving.{listed, told_of_events, events_by}
 use Rattle.rio_framer.proofs.GivingLaws.{events_by-front, listed-front}
 use Rattle.trace_check.specs.declared.lines.TraceLine.{TraceLine}
 use Rattle.rio_view.specs.declared.sums.Sums.{Sums}
 use Rattle.rio_view.specs.Sums.{PortCounts, noted, noted_all, nothing_done}
-use Rattle.rio_view.specs.Counts.{counted, counted_all, counts_of}
+use Rattle.rio_view.specs.Counts.{line_counted, counted_all, counts_of_lines}
 
 pub noted_all-append : (s : Sums) (es fs : List Event)
     → noted_all s (es ++ fs) ≡ noted_all (noted_all s es) fs
@@ -27,7 +27,7 @@ noted_all-append s (e ∷ es) fs = noted_all-append (noted s e) es fs
 pub counted_all-append : (all : List PortCounts) (ls ms : List TraceLine)
     → counted_all all (ls ++ ms) ≡ counted_all (counted_all all ls) ms
 counted_all-append all [] ms = refl
-counted_all-append all (l ∷ ls) ms = counted_all-append (counted all l) ls ms
+counted_all-append all (l ∷ ls) ms = counted_all-append (line_counted all l) ls ms
 
 placed_away : (at : ℕ) (es : List Event) → map (λ (p : ℕ × Event). p.1) (placed at es) ≡ es
 placed_away at [] = refl
@@ -71,22 +71,22 @@ stands-front from cs =
 
 -- what a run of characters gives is what it tells, with the packet that ended
 given_events : (from : Place) (cs : List Char) (told : Told) (new : Framing)
-    → told ≡ told_of (telling_front from cs).step.gives
+    → told ≡ told_of_events (telling_front from cs).step.gives
     → new ≡ framing_after (telling_front from cs).step
     → listed (events_by told new.ended).first (events_by told new.ended).second
     ≡ (telling_front from cs).step.gives
 given_events from cs told new told_is new_is =
     ap (λ t. listed (events_by t new.ended).first (events_by t new.ended).second) told_is
     ∙ ap (λ (f : Framing). listed
-    (events_by (told_of (telling_front from cs).step.gives) f.ended).first
-    (events_by (told_of (telling_front from cs).step.gives) f.ended).second) new_is
+    (events_by (told_of_events (telling_front from cs).step.gives) f.ended).first
+    (events_by (told_of_events (telling_front from cs).step.gives) f.ended).second) new_is
     ∙ ap (λ (e : Events). listed e.first e.second) (events_by-front from cs)
     ∙ listed-front from cs
 
 -- the sums of characters are those of their first run, and then those of the rest
 pub sums-front : (s s2 : Sums) (from : Place) (cs rest : List Char) (count : ℕ) (told : Told)
     (new : Framing) → 0 < count → count ≡ (telling_front from cs).count
-    → told ≡ told_of (telling_front from cs).step.gives
+    → told ≡ told_of_events (telling_front from cs).step.gives
     → new ≡ framing_after (telling_front from cs).step → rest ≡ drop count cs
     → s2 ≡ noted_all s
     (listed (events_by told new.ended).first (events_by told new.ended).second)
@@ -141,14 +141,15 @@ ports-more n items more one are is more_is =
 
 -- all ports
 pub ports-all : (n end nodes : ℕ) (items : List PortCounts) → n ≤ 16 * end → 16 * end ≤ n
-    → end ≡ nodes → items ≡ replicate n nothing_done → items ≡ counts_of nodes []
+    → end ≡ nodes → items ≡ replicate n nothing_done → items ≡ counts_of_lines nodes []
 ports-all n end nodes items most least is are =
     let same : n ≡ nodes * 16 = omega (arith, is, least, most) in
     are ∙ ap (λ k. replicate k nothing_done) same
 
 -- the counts behind one line more
 pub counts-more : (nodes : ℕ) (ls : List TraceLine) (l : TraceLine) (old new : List PortCounts)
-    → new ≡ counted old l → old ≡ counts_of nodes ls → new ≡ counts_of nodes (ls ++ l ∷ [])
+    → new ≡ line_counted old l → old ≡ counts_of_lines nodes ls
+    → new ≡ counts_of_lines nodes (ls ++ l ∷ [])
 counts-more nodes ls l old new new_is old_is =
-    new_is ∙ ap (λ (all : List PortCounts). counted all l) old_is
+    new_is ∙ ap (λ (all : List PortCounts). line_counted all l) old_is
     ∙ sym (counted_all-append (replicate (nodes * 16) nothing_done) ls (l ∷ []))

@@ -8,21 +8,21 @@ use Rattle.trace_check.specs.declared.lines.Step.{Step}
 use Rattle.trace_check.specs.declared.lines.Step.TheVariants as S
 use Rattle.rio_view.specs.declared.sums.LineKind.{LineKind}
 use Rattle.rio_view.specs.declared.sums.LineKind.TheVariants as K
-use Rattle.rio_view.specs.Sums.{PortCounts, sent, raised, nothing_done}
+use Rattle.rio_view.specs.Sums.{PortCounts, sent, kind_raised, nothing_done}
 
 -- the place of a port in a list of 16 ports for each node
-abbrev pub place_of : PortRef → ℕ
-place_of p = p.node * 16 + p.port
+abbrev pub count_place : PortRef → ℕ
+count_place p = p.node * 16 + p.port
 
 -- the counts with those of one port changed
 abbrev pub at_port : List PortCounts → PortRef → (PortCounts → PortCounts) → List PortCounts
-at_port all p change = if nat_lt (place_of p) (length all)
-    then slice_set all (place_of p) (change (slice_index_or all (place_of p) nothing_done))
+at_port all p change = if nat_lt (count_place p) (length all)
+    then slice_set all (count_place p) (change (slice_index_or all (count_place p) nothing_done))
     else all
 
 -- a line of this kind names a port
-abbrev pub with_line : LineKind → PortCounts → PortCounts
-with_line kind c = record c { sums = record c.sums { lines = raised c.sums.lines kind } }
+abbrev pub with_line_kind : LineKind → PortCounts → PortCounts
+with_line_kind kind c = record c { sums = record c.sums { lines = kind_raised c.sums.lines kind } }
 
 -- the port of an endpoint
 abbrev pub endpoint_port : ℕ → PortRef
@@ -30,30 +30,30 @@ endpoint_port node = record { node = node; port = 0 }
 
 -- a step of a packet
 abbrev pub with_step : List PortCounts → Step → List PortCounts
-with_step all (S.Hold p packet) = at_port all p (with_line K.Hold)
-with_step all (S.Free p packet) = at_port all p (with_line K.Free)
-with_step all (S.Take n packet) = at_port all (endpoint_port n) (with_line K.Take)
-with_step all (S.Leave n packet) = at_port all (endpoint_port n) (with_line K.Leave)
-with_step all (S.Drop p packet) = at_port all p (with_line K.Drop)
-with_step all (S.Answer p request response) = at_port all p (with_line K.Answer)
+with_step all (S.Hold p packet) = at_port all p (with_line_kind K.Hold)
+with_step all (S.Free p packet) = at_port all p (with_line_kind K.Free)
+with_step all (S.Take n packet) = at_port all (endpoint_port n) (with_line_kind K.Take)
+with_step all (S.Leave n packet) = at_port all (endpoint_port n) (with_line_kind K.Leave)
+with_step all (S.Drop p packet) = at_port all p (with_line_kind K.Drop)
+with_step all (S.Answer p request response) = at_port all p (with_line_kind K.Answer)
 with_step all (S.Move p q packet) =
-    at_port (at_port all p (with_line K.MoveOut)) q (with_line K.MoveIn)
+    at_port (at_port all p (with_line_kind K.MoveOut)) q (with_line_kind K.MoveIn)
 
 -- a line of a trace
-abbrev pub counted : List PortCounts → TraceLine → List PortCounts
-counted all (L.Sent p chars) = at_port all p (λ c. sent c chars.items)
-counted all (L.Fired p) = at_port all p (with_line K.Fire)
-counted all (L.Stepped step) = with_step all step
-counted all (L.Begun line) = all
-counted all (L.Got p chars) = all
-counted all (L.Lacked lack) = all
-counted all L.Ended = all
-counted all (L.Undetected number p event) = all
+abbrev pub line_counted : List PortCounts → TraceLine → List PortCounts
+line_counted all (L.Sent p chars) = at_port all p (λ c. sent c chars.items)
+line_counted all (L.Fired p) = at_port all p (with_line_kind K.Fire)
+line_counted all (L.Stepped step) = with_step all step
+line_counted all (L.Begun line) = all
+line_counted all (L.Got p chars) = all
+line_counted all (L.Lacked lack) = all
+line_counted all L.Ended = all
+line_counted all (L.Undetected number p event) = all
 
 abbrev pub counted_all : List PortCounts → List TraceLine → List PortCounts
 counted_all all [] = all
-counted_all all (l ∷ ls) = counted_all (counted all l) ls
+counted_all all (l ∷ ls) = counted_all (line_counted all l) ls
 
 -- what the ports of so many nodes did in these lines
-abbrev pub counts_of : ℕ → List TraceLine → List PortCounts
-counts_of nodes lines = counted_all (replicate (nodes * 16) nothing_done) lines
+abbrev pub counts_of_lines : ℕ → List TraceLine → List PortCounts
+counts_of_lines nodes lines = counted_all (replicate (nodes * 16) nothing_done) lines

@@ -5,7 +5,7 @@ use Rattle.rio_symbols.specs.declared.stype0.TheConstants.{PACKET_NOT_ACCEPTED}
 use Rattle.rio_symbols.specs.Fields.{Fields}
 use Rattle.link_model.specs.declared.event.Event.{Event}
 use Rattle.link_model.specs.declared.event.Event.TheVariants.{Ctl, Pkt, Bad}
-use Rattle.link_model.specs.Places.{Place, start, place_after}
+use Rattle.link_model.specs.Places.{Place, place_start, place_after}
 use Rattle.link_model.specs.Said.{said}
 use Rattle.rio_view.specs.declared.sums.Sums.{Sums}
 use Rattle.rio_view.specs.declared.sums.LineCounts.{LineCounts}
@@ -13,16 +13,16 @@ use Rattle.rio_view.specs.declared.sums.LineKind.{LineKind}
 use Rattle.rio_view.specs.declared.sums.LineKind.TheVariants.{Take, MoveIn, MoveOut, Hold, Free, Drop, Answer, Leave, Fire}
 
 -- a line of this kind more
-abbrev pub raised : LineCounts → LineKind → LineCounts
-raised c Take = record c { takes = c.takes + 1 }
-raised c MoveIn = record c { moves_in = c.moves_in + 1 }
-raised c MoveOut = record c { moves_out = c.moves_out + 1 }
-raised c Hold = record c { holds = c.holds + 1 }
-raised c Free = record c { frees = c.frees + 1 }
-raised c Drop = record c { drops = c.drops + 1 }
-raised c Answer = record c { answers = c.answers + 1 }
-raised c Leave = record c { leaves = c.leaves + 1 }
-raised c Fire = record c { fires = c.fires + 1 }
+abbrev pub kind_raised : LineCounts → LineKind → LineCounts
+kind_raised c Take = record c { takes = c.takes + 1 }
+kind_raised c MoveIn = record c { moves_in = c.moves_in + 1 }
+kind_raised c MoveOut = record c { moves_out = c.moves_out + 1 }
+kind_raised c Hold = record c { holds = c.holds + 1 }
+kind_raised c Free = record c { frees = c.frees + 1 }
+kind_raised c Drop = record c { drops = c.drops + 1 }
+kind_raised c Answer = record c { answers = c.answers + 1 }
+kind_raised c Leave = record c { leaves = c.leaves + 1 }
+kind_raised c Fire = record c { fires = c.fires + 1 }
 
 -- one more of the kind with this number
 abbrev pub one_more : List ℕ → ℕ → List ℕ
@@ -37,8 +37,8 @@ abbrev pub outstanding : ℕ → ℕ → ℕ
 outstanding frees ack = (ack % 32 + 32 - frees % 32) % 32 + 1
 
 -- a packet more
-abbrev pub with_packet : Sums → ℕ → Sums
-with_packet c ack = record c {
+abbrev pub packet_counted : Sums → ℕ → Sums
+packet_counted c ack = record c {
   packets = c.packets + 1;
   used = greater c.used (c.lines.frees + outstanding c.lines.frees ack);
   most = greater c.most (outstanding c.lines.frees ack);
@@ -55,7 +55,7 @@ with_symbol c s = record c {
 -- an event more
 abbrev pub noted : Sums → Event → Sums
 noted c (Ctl s) = with_symbol c s
-noted c (Pkt ack packet) = with_packet c ack
+noted c (Pkt ack packet) = packet_counted c ack
 noted c (Bad cause) = record c { bad = c.bad + 1 }
 
 abbrev pub noted_all : Sums → List Event → Sums
@@ -75,8 +75,8 @@ sent c chars = record {
       (said c.place chars);
 }
 
-abbrev pub no_lines : LineCounts
-no_lines = record {
+abbrev pub no_counts : LineCounts
+no_counts = record {
   takes = 0;
   moves_in = 0;
   moves_out = 0;
@@ -98,8 +98,8 @@ no_sums = record {
   causes = replicate 32 0;
   used = 0;
   most = 0;
-  lines = no_lines;
+  lines = no_counts;
 }
 
 abbrev pub nothing_done : PortCounts
-nothing_done = record { place = start; sums = no_sums }
+nothing_done = record { place = place_start; sums = no_sums }

@@ -1,6 +1,6 @@
 //! A trace is read line by line, and shown by a view.
 ghost use Rattle.std.specs.Prelude.{IfOk};
-ghost use Rattle.fabric_script.specs.SetUps.{IsReady};
+ghost use Rattle.fabric_script.specs.SetUps.{KnownIsReady};
 
 use crate::lines::{Lines, MOST_LINE};
 use crate::status::Status;
@@ -109,7 +109,7 @@ fn show_trace<S: Source, K: Sink, V: View>(
     out: &mut Text,
     sink: &mut K,
 ) -> Result<(), ViewEnd>
-    requires { IsReady set_up.now.known }
+    requires { KnownIsReady set_up.now.known }
 {
     view.begin(set_up, out)?;
     show_lines(alloc, set_up, first, lines, source, view, out, sink)?;
@@ -123,7 +123,7 @@ fn read_front<S: Source>(
     lines: &mut Lines,
     source: &mut S,
 ) -> Result<(SetUp, u32), ViewEnd>
-    ensures { IfOk result (λ front. IsReady front.0.known) }
+    ensures { IfOk result (λ front. KnownIsReady front.0.known) }
 {
     let mut script = Vec::new(alloc);
     let (number, is_between) = read_script(&mut script, lines, source)?;
@@ -166,7 +166,7 @@ fn add_line(script: &mut Vec<u8>, text: &[u8]) -> Result<(), ViewEnd> {
 
 /// What set-up lines say.
 fn set_up_of(alloc: Global, script: &[u8]) -> Result<SetUp, ViewEnd>
-    ensures { IfOk result (λ set_up. IsReady set_up.known) }
+    ensures { IfOk result (λ set_up. KnownIsReady set_up.known) }
 {
     if script.len() > MOST_LINE {
         return Err(ViewEnd::Ended(Status::TooLong));
@@ -189,7 +189,7 @@ fn show_lines<S: Source, K: Sink, V: View>(
     out: &mut Text,
     sink: &mut K,
 ) -> Result<(), ViewEnd>
-    requires { IsReady set_up.now.known }
+    requires { KnownIsReady set_up.now.known }
 {
     let mut is_done = false;
     for number in first..u32::MAX {
@@ -223,7 +223,7 @@ fn show_line<V: View>(
     view: &mut V,
     out: &mut Text,
 ) -> Result<bool, ViewEnd>
-    requires { IsReady set_up.now.known }
+    requires { KnownIsReady set_up.now.known }
 {
     let line = match read_trace_line(alloc, set_up, text) {
         Ok(line) => line,

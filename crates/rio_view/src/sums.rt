@@ -3,7 +3,7 @@ ghost use Rattle.std.specs.Prelude.{◌≡◌, ◌+◌, ℕ, suc, IsSome, IfOk, 
 ghost use Rattle.rio_symbols.specs.Fields.{Fields};
 ghost use Rattle.link_model.specs.declared.event.Event.TheVariants.{Ctl, Pkt, Bad};
 ghost use Rattle.rio_framer.specs.Giving.{listed, events_by};
-ghost use Rattle.rio_view.specs.Sums.{raised, noted, noted_all, with_packet, no_sums};
+ghost use Rattle.rio_view.specs.Sums.{kind_raised, noted, noted_all, packet_counted, no_sums};
 
 use crate::reading::ViewEnd;
 use crate::status::Status;
@@ -93,7 +93,7 @@ fn raise(count: &mut u64) -> Result<(), TooMany>
 impl LineCounts {
     /// A line is counted.
     pub(crate) fn raise(&mut self, kind: LineKind) -> Result<(), TooMany>
-        ensures { OnOk result (self.new ≡ raised self.old kind) }
+        ensures { OnOk result (self.new ≡ kind_raised self.old kind) }
     {
         match kind {
             LineKind::Take => raise(&mut self.takes),
@@ -177,7 +177,7 @@ impl Sums {
     /// A packet: it is as many behind the oldest one that is not freed as its ackID is behind that
     /// one's.
     fn note_packet(&mut self, ack: u8) -> Result<(), TooMany>
-        ensures { OnOk result (self.new ≡ with_packet self.old ack) }
+        ensures { OnOk result (self.new ≡ packet_counted self.old ack) }
     {
         raise(&mut self.packets)?;
         let oldest = (self.lines.frees % 32) as u8;

@@ -3,7 +3,7 @@ ghost use Rattle.std.specs.Prelude.{◌≡◌, ◌*◌, ◌<◌, IfOk, IfSome, I
 ghost use Rattle.fabric_script.specs.Known.{Known as AKnown};
 ghost use Rattle.trace_check.specs.declared.lines.TraceLine.{TraceLine as ALine};
 ghost use Rattle.rio_view.specs.Sums.{nothing_done, sent, PortCounts};
-ghost use Rattle.rio_view.specs.Counts.{place_of as place_in, at_port, with_line, with_step, counted, counts_of, endpoint_port};
+ghost use Rattle.rio_view.specs.Counts.{count_place, at_port, with_line_kind, with_step, line_counted, counts_of_lines, endpoint_port};
 
 use crate::sums::{LineKind, Sums, TooMany};
 use fabric_script::PortRef;
@@ -48,7 +48,7 @@ impl Tally {
 
     /// A line of the port is counted.
     fn raise(&mut self, kind: LineKind) -> Result<(), TooMany>
-        ensures { OnOk result (self.new ≡ with_line kind self.old) }
+        ensures { OnOk result (self.new ≡ with_line_kind kind self.old) }
     {
         self.sums.lines.raise(kind)
     }
@@ -86,7 +86,7 @@ impl Model for Tallies {
 impl Tallies {
     /// Nothing was done at the ports of so many nodes.
     pub fn new(alloc: Global, nodes: u8) -> Result<Tallies, AllocError>
-        ensures { IfOk result (λ tallies. tallies ≡ counts_of nodes []) }
+        ensures { IfOk result (λ tallies. tallies ≡ counts_of_lines nodes []) }
     {
         let mut items = Vec::new(alloc);
         for _ in 0..16 * usize::from(nodes) {
@@ -97,16 +97,16 @@ impl Tallies {
 
     /// What a port did, if it is one of these.
     pub fn get(&self, port: PortRef) -> Option<&Tally>
-        ensures { option_copied result ≡ slice_get self.now (place_in port) }
+        ensures { option_copied result ≡ slice_get self.now (count_place port) }
     {
         self.items.get(place_of(port))
     }
 
     /// Counts a line of a trace. `TooMany` comes only if a sum would be 2^64 or more.
     pub fn count(&mut self, line: &TraceLine) -> Result<(), TooMany>
-        ensures line { OnOk result (self.new ≡ counted self.old line.now) }
-        ensures sums { (nodes : ℕ) (lines : List ALine) → self.old ≡ counts_of nodes lines
-            → OnOk result (self.new ≡ counts_of nodes (lines ++ line.now ∷ [])) }
+        ensures line { OnOk result (self.new ≡ line_counted self.old line.now) }
+        ensures sums { (nodes : ℕ) (lines : List ALine) → self.old ≡ counts_of_lines nodes lines
+            → OnOk result (self.new ≡ counts_of_lines nodes (lines ++ line.now ∷ [])) }
     {
         self.add(line)?;
         Ok(())
@@ -114,7 +114,7 @@ impl Tallies {
 
     /// Counts a line of a trace.
     fn add(&mut self, line: &TraceLine) -> Result<(), TooMany>
-        ensures { OnOk result (self.new ≡ counted self.old line.now) }
+        ensures { OnOk result (self.new ≡ line_counted self.old line.now) }
     {
         match line {
             TraceLine::Sent(port, chars) => self.send(*port, chars.as_slice()),
@@ -148,7 +148,7 @@ impl Tallies {
 
     /// A line of a port.
     fn raise(&mut self, port: PortRef, kind: LineKind) -> Result<(), TooMany>
-        ensures { OnOk result (self.new ≡ at_port self.old port (with_line kind)) }
+        ensures { OnOk result (self.new ≡ at_port self.old port (with_line_kind kind)) }
     {
         let place = place_of(port);
         if place < self.items.len() {
@@ -171,7 +171,7 @@ impl Tallies {
 
 /// Where the tally of a port is.
 fn place_of(port: PortRef) -> usize
-    ensures { result ≡ place_in port }
+    ensures { result ≡ count_place port }
 {
     usize::from(port.node) * 16 + usize::from(port.port)
 }

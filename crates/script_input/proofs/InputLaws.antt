@@ -6,7 +6,7 @@ use Rattle.fabric_script.specs.declared.lines.Numbered.{Numbered}
 use Rattle.fabric_script.specs.Known.{Known, nothing_in, of_set_up}
 use Rattle.fabric_script.specs.Scripts.{pieces_of, SpellsFrom}
 use Rattle.fabric_script.specs.SetUps.{for_event}
-use Rattle.script_input.specs.Inputs.{fed, is_between, IsAccepted, set_up_bytes, set_up_texts, texts_of, texts_behind, without_empty_end}
+use Rattle.script_input.specs.Inputs.{lines_fed, is_between, IsAccepted, set_up_bytes, set_up_texts, texts_of, texts_behind, without_empty_end}
 
 -- ---- the first line
 
@@ -39,14 +39,14 @@ pub record IsBehind (bytes left : List ℕ) (lines : ℕ) : Type 0 where
   pub behind : texts_behind (texts_of bytes) ≡ texts_behind (texts_of left)
   pub count : lines ≡ length before
   pub few : lines + length left ≤ length bytes
-  pub joined : 0 < length left → bytes ≡ fed before ++ left
+  pub joined : 0 < length left → bytes ≡ lines_fed before ++ left
 
 fed-append : (texts : List (List ℕ)) (text : List ℕ)
-    → fed (texts ++ text ∷ []) ≡ fed texts ++ (text ++ 10 ∷ [])
+    → lines_fed (texts ++ text ∷ []) ≡ lines_fed texts ++ (text ++ 10 ∷ [])
 fed-append [] text = append-nil (text ++ 10 ∷ [])
 fed-append (x ∷ texts) text =
     ap (λ (l : List ℕ). (x ++ 10 ∷ []) ++ l) (fed-append texts text)
-    ∙ sym (append_assoc (x ++ 10 ∷ []) (fed texts) (text ++ 10 ∷ []))
+    ∙ sym (append_assoc (x ++ 10 ∷ []) (lines_fed texts) (text ++ 10 ∷ []))
 
 -- one more line that is not the line between
 pub one_before : (bytes left text behind : List ℕ) (lines : ℕ) → IsBehind bytes left lines
@@ -69,9 +69,9 @@ one_before bytes left text behind lines is texts other less joined =
       few = omega (arith, few, less);
       joined = λ some.
           is.joined (omega (arith, less, some))
-          ∙ ap (λ (l : List ℕ). fed is.before ++ l) (joined some)
-          ∙ ap (λ (l : List ℕ). fed is.before ++ l) (sym (append_assoc text (10 ∷ []) behind))
-          ∙ sym (append_assoc (fed is.before) (text ++ 10 ∷ []) behind)
+          ∙ ap (λ (l : List ℕ). lines_fed is.before ++ l) (joined some)
+          ∙ ap (λ (l : List ℕ). lines_fed is.before ++ l) (sym (append_assoc text (10 ∷ []) behind))
+          ∙ sym (append_assoc (lines_fed is.before) (text ++ 10 ∷ []) behind)
           ∙ ap (λ (l : List ℕ). l ++ behind) (sym (fed-append is.before text));
     }
 

@@ -39,12 +39,12 @@ texts_behind [] = None
 texts_behind (text ∷ texts) = if is_between text then Some texts else texts_behind texts
 
 -- lines as bytes, each with a line feed
-abbrev pub fed : List (List ℕ) → List ℕ
-fed texts = flat_map (λ text. text ++ 10 ∷ []) texts
+abbrev pub lines_fed : List (List ℕ) → List ℕ
+lines_fed texts = flat_map (λ text. text ++ 10 ∷ []) texts
 
 abbrev pub set_up_by : Option (List (List ℕ)) → List ℕ → List ℕ
 set_up_by None bytes = bytes
-set_up_by (Some texts) bytes = fed (set_up_texts (texts_of bytes))
+set_up_by (Some texts) bytes = lines_fed (set_up_texts (texts_of bytes))
 
 -- the bytes of the set-up lines: all, if there is no line between
 abbrev pub set_up_bytes : List ℕ → List ℕ

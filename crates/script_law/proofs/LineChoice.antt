@@ -8,7 +8,7 @@ use Rattle.fabric_script.specs.Lines.{form_of, words_of}
 use Rattle.fabric_script.specs.Known.{Known, IsOrderly}
 use Rattle.fabric_script.specs.Refusals.{refuses}
 use Rattle.fabric_script.specs.Reading.{Spells, LeastHit}
-use Rattle.fabric_script.specs.Words.{Left, end_of, first_word, after_word}
+use Rattle.fabric_script.specs.Words.{Left, reason_at_end, first_word, after_word}
 use Rattle.fabric_script.proofs.ReadLaws.{Behind, behind_first, reads_no_form, reads_hit, reads_none, reads_refused}
 use Rattle.script_law.proofs.TakingLines.{LineTaken, take_line}
 use Rattle.script_law.proofs.FormChoice.{sample_or_none}
@@ -25,7 +25,7 @@ all_words text = record { words = words_of text; hit = None }
 
 of_form : (known : Known) (text : List ℕ) (sample : Line) → IsOrderly known
     → keyword_of (form_of sample) ≡ first_word (words_of text) → SpelledOrHit known text
-of_form known text sample orderly is = by_end (end_of t.next) refl
+of_form known text sample orderly is = by_end (reason_at_end t.next) refl
   where
     left : Left
     left = after_word (all_words text)
@@ -37,7 +37,7 @@ of_form known text sample orderly is = by_end (end_of t.next) refl
     t : LineTaken known sample left
     t = take_line known sample left
 
-    by_end : (end : Option Reason) → end_of t.next ≡ end → SpelledOrHit known text
+    by_end : (end : Option Reason) → reason_at_end t.next ≡ end → SpelledOrHit known text
     by_end (Some reason) ended =
         inr (
           reason,

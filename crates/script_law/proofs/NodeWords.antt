@@ -5,9 +5,9 @@ use Rattle.fabric_script.specs.declared.reasons.Reason.{Reason}
 use Rattle.fabric_script.specs.declared.reasons.Reason.TheVariants.{BadName, NameTaken, UnknownNode}
 use Rattle.fabric_script.specs.Names.{is_name, name_of}
 use Rattle.fabric_script.specs.Forms.{NewName, Node}
-use Rattle.fabric_script.specs.Texts.{Named, AtNode}
+use Rattle.fabric_script.specs.Texts.{Named, NodeValue}
 use Rattle.fabric_script.specs.Known.{Known}
-use Rattle.fabric_script.specs.Hits.{Fits, Hits, NewNameIsBad, NodeIsBad, NameIsTaken, NodeIsUnknown}
+use Rattle.fabric_script.specs.Hits.{FitsField, Hits, NewNameIsBad, NodeIsBad, NameIsTaken, NodeIsUnknown}
 use Rattle.fabric_script.proofs.Exclusion.{named_is_there, there_is_named}
 use Rattle.script_law.proofs.Choosing.{same_or_not, first_or_none}
 use Rattle.script_law.proofs.NumberWords.{SaysOrHit}
@@ -24,7 +24,7 @@ node_or_none names name = elim (first_or_none (λ n. name_of names n ≡ name)
     ]
 
 pub new_name_or_hit : (known : Known) (word : List ℕ)
-    → Fits known NewName (Named word) ⊎ ((reason : Reason) × Hits known reason NewName word)
+    → FitsField known NewName (Named word) ⊎ ((reason : Reason) × Hits known reason NewName word)
 new_name_or_hit known word = elim (cases_Bool (is_name word)) [
   | inl named ↦ elim (node_or_none known.names word) [
     | inl node ↦
@@ -35,7 +35,7 @@ new_name_or_hit known word = elim (cases_Bool (is_name word)) [
   | inr other ↦ inr (BadName, NewNameIsBad other)
 ]
 
-pub node_or_hit : (known : Known) (word : List ℕ) → SaysOrHit known Node (λ n. AtNode n) word
+pub node_or_hit : (known : Known) (word : List ℕ) → SaysOrHit known Node (λ n. NodeValue n) word
 node_or_hit known word = elim (cases_Bool (is_name word)) [
   | inl named ↦ elim (node_or_none known.names word) [
     | inl node ↦ inl (node.0, node.1, sym node.2)

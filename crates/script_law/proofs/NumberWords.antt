@@ -7,13 +7,13 @@ use Rattle.fabric_script.specs.declared.reasons.Reason.TheVariants.{BadNumber, B
 use Rattle.fabric_script.specs.Forms.{Field, Number, Digits}
 use Rattle.fabric_script.specs.Texts.{Value, Counted, InDigits, value_text, digits_text}
 use Rattle.fabric_script.specs.Known.{Known}
-use Rattle.fabric_script.specs.Hits.{Fits, Hits, NumberIsBad, DigitsAreBad}
+use Rattle.fabric_script.specs.Hits.{FitsField, Hits, NumberIsBad, DigitsAreBad}
 use Rattle.script_law.proofs.Choosing.{Decided, both_or_not, same_or_not, first_or_none}
 
 -- a word says a value of its kind, or a reason hits it
 abbrev pub SaysOrHit : {T : Type 0} → Known → Field → (T → Value) → List ℕ → Type 0
 SaysOrHit {T} known field value word =
-    ((v : T) × Fits known field (value v) × (word ≡ value_text known.names (value v)))
+    ((v : T) × FitsField known field (value v) × (word ≡ value_text known.names (value v)))
     ⊎ ((reason : Reason) × Hits known reason field word)
 
 at_most_or_not : (m n : ℕ) → Decided (m ≤ n)

@@ -7,7 +7,7 @@ use Rattle.fabric_script.specs.declared.ports.PortRef.{PortRef}
 use Rattle.fabric_script.specs.declared.reasons.Reason.TheVariants.{BadName, UnknownNode, PortOutside}
 use Rattle.fabric_script.specs.Names.{is_name}
 use Rattle.fabric_script.specs.Forms.{Port}
-use Rattle.fabric_script.specs.Texts.{AtPort, port_text}
+use Rattle.fabric_script.specs.Texts.{PortValue, port_text}
 use Rattle.fabric_script.specs.Known.{Known, ports_of}
 use Rattle.fabric_script.specs.Hits.{PortIsBad, PortIsUnknown, PortIsOutside, point_text}
 use Rattle.fabric_script.proofs.Points.{point_text-parts}
@@ -51,7 +51,7 @@ cuts_there word name port named e =
       (rw front named, e ∙ ap (λ w. point_text w port) (sym front)),
     )
 
-pub port_or_hit : (known : Known) (word : List ℕ) → SaysOrHit known Port (λ p. AtPort p) word
+pub port_or_hit : (known : Known) (word : List ℕ) → SaysOrHit known Port (λ p. PortValue p) word
 port_or_hit known word = elim (first_or_none (Cuts word) (cuts_or_not word) 16) [
   | inl found ↦ by_node (take found.is.0 word) found.n found.below found.is.2.0
       found.is.2.1
@@ -63,7 +63,7 @@ port_or_hit known word = elim (first_or_none (Cuts word) (cuts_or_not word) 16) 
 ]
   where
     by_node : (name : List ℕ) (port : ℕ) → port < 16 → is_name name ≡ true
-        → word ≡ point_text name port → SaysOrHit known Port (λ p. AtPort p) word
+        → word ≡ point_text name port → SaysOrHit known Port (λ p. PortValue p) word
     by_node name port below named e = elim (node_or_none known.names name) [
       | inl node ↦
           let p : PortRef = record { node = node.0; port = port } in

@@ -4,7 +4,7 @@ use Rattle.rio_chars.specs.declared.chars.Char.TheVariants.{Invalid}
 use Rattle.fabric_script.specs.declared.reasons.Reason.{Reason}
 use Rattle.fabric_script.specs.declared.reasons.Reason.TheVariants.{UnknownLine}
 use Rattle.fabric_script.specs.Forms.{Field, NewName, Node, Port, Number, Hex, Digits, Character}
-use Rattle.fabric_script.specs.Texts.{Value, Named, AtNode, AtPort, Counted, Bytes, InDigits, Code}
+use Rattle.fabric_script.specs.Texts.{Value, Named, NodeValue, PortValue, Counted, Bytes, InDigits, Code}
 use Rattle.fabric_script.specs.Known.{Known}
 use Rattle.fabric_script.specs.Words.{Left, with_reason, first_word, Takes}
 use Rattle.script_law.proofs.NumberWords.{SaysOrHit, number_or_hit, digits_or_hit}
@@ -45,12 +45,12 @@ take_word {T} known field value stand_in says left = by_words left.words left.hi
       }
     ]
 
-pub take_node : (known : Known) (left : Left) → Taken known Node (λ n. AtNode n) left
-take_node known = take_word known Node (λ n. AtNode n) 0 (node_or_hit known)
+pub take_node : (known : Known) (left : Left) → Taken known Node (λ n. NodeValue n) left
+take_node known = take_word known Node (λ n. NodeValue n) 0 (node_or_hit known)
 
-pub take_port : (known : Known) (left : Left) → Taken known Port (λ p. AtPort p) left
+pub take_port : (known : Known) (left : Left) → Taken known Port (λ p. PortValue p) left
 take_port known =
-    take_word known Port (λ p. AtPort p) record { node = 0; port = 0 } (port_or_hit known)
+    take_word known Port (λ p. PortValue p) record { node = 0; port = 0 } (port_or_hit known)
 
 pub take_number : (known : Known) (least most : ℕ) (left : Left)
     → Taken known (Number least most) (λ n. Counted n) left

@@ -8,7 +8,7 @@ use Rattle.fabric_script.specs.Known.{Known, IsOrderly, nothing_in, known_after}
 use Rattle.fabric_script.specs.Reasons.{reason_number}
 use Rattle.fabric_script.specs.Reading.{new_name_in, Spells, LeastHit}
 use Rattle.fabric_script.specs.Scripts.{pieces_of, is_skipped, SpellsFrom, IsScriptIn, RefusedIn}
-use Rattle.fabric_script.specs.SetUps.{IsReady, IsRefused}
+use Rattle.fabric_script.specs.SetUps.{KnownIsReady, IsRefused}
 use Rattle.fabric_script.proofs.KnownLaws.{nothing-orderly}
 use Rattle.fabric_script.proofs.ScriptLaws.{orderly-spelled}
 use Rattle.script_law.proofs.LineChoice.{spelled_or_hit}
@@ -131,7 +131,7 @@ script_or_refused mode bytes =
       )
     ]
 
-pub event_or_refused : (known : Known) (text : List ℕ) → IsReady known
+pub event_or_refused : (known : Known) (text : List ℕ) → KnownIsReady known
     → ((line : Line) × Spells known text line) ⊎ ((number : ℕ) × IsRefused known text number)
 event_or_refused known text ready = elim (spelled_or_hit known text ready.orderly) [
   | inl is ↦ inl is

@@ -7,7 +7,7 @@ ghost use Rattle.fabric_script.specs.declared.reasons.Reason.{Reason};
 ghost use Rattle.fabric_script.specs.Known.{Known, IsOrderly};
 ghost use Rattle.fabric_script.specs.Reading.{Spells, LeastHit};
 ghost use Rattle.fabric_script.specs.Scripts.{IsScript, IsScriptIn, RefusedAt, RefusedIn};
-ghost use Rattle.fabric_script.specs.SetUps.{IsReady, IsRefused};
+ghost use Rattle.fabric_script.specs.SetUps.{KnownIsReady, IsRefused};
 
 /// Bytes spell a script, or are refused at a line for a reason. So they do in each mode: also among
 /// set-up lines alone.
@@ -26,7 +26,7 @@ pub fn every_line_is_spelled_or_refused()
     ensures line { (known : Known) (text : List ℕ) → IsOrderly known
         → ((line : Line) × Spells known text line)
         ⊎ ((reason : Reason) × LeastHit known text reason) }
-    ensures event { (known : Known) (text : List ℕ) → IsReady known
+    ensures event { (known : Known) (text : List ℕ) → KnownIsReady known
         → ((line : Line) × Spells known text line)
         ⊎ ((number : ℕ) × IsRefused known text number) }
 {}

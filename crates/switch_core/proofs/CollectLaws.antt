@@ -4,7 +4,7 @@ use Rattle.maint_registers.specs.Devices.{Device}
 use Rattle.maint_packets.specs.declared.request.Request.{Request}
 use Rattle.maint_packets.specs.Requests.{request_of}
 use Rattle.maint_packets.specs.Responses.{response_bytes}
-use Rattle.maint_packets.specs.Answers.{answered}
+use Rattle.maint_packets.specs.Answers.{request_answered}
 use Rattle.switch_core.specs.declared.endpoint.Collected.TheVariants.{Answered, Full}
 use Rattle.switch_core.specs.Faces.{Face, has_room}
 use Rattle.switch_core.specs.EndpointSteps.{first_held, collected_of, collected_head, collected}
@@ -14,23 +14,25 @@ module _ (device : Device) (face : Face) (packet : List ℕ) (request : Request)
     (held : first_held face ≡ Some packet) (asks : request_of packet ≡ Some request) where
   collected-is : collected device face
       ≡ (if has_room face (min (request.prio + 1) 3) then Answered packet
-      (response_bytes (answered device request 0).response) else Full)
+      (response_bytes (request_answered device request 0).response) else Full)
   collected-is =
       ap (collected_head device face) held ∙ ap (collected_of device face packet) asks
       ∙ ap (λ prio. if has_room face prio then Answered packet
-      (response_bytes (answered device request 0).response) else Full)
+      (response_bytes (request_answered device request 0).response) else Full)
       (answer_prio device request 0)
 
   pub full : has_room face (min (request.prio + 1) 3) ≡ false → Full ≡ collected device face
   full none =
       sym (collected-is
-      ∙ ap (λ b. if b then Answered packet (response_bytes (answered device request 0).response)
+      ∙ ap (λ b. if b
+      then Answered packet (response_bytes (request_answered device request 0).response)
       else Full) none)
 
   pub answers : has_room face (min (request.prio + 1) 3) ≡ true
-      → Answered packet (response_bytes (answered device request 0).response)
+      → Answered packet (response_bytes (request_answered device request 0).response)
       ≡ collected device face
   answers room =
       sym (collected-is
-      ∙ ap (λ b. if b then Answered packet (response_bytes (answered device request 0).response)
+      ∙ ap (λ b. if b
+      then Answered packet (response_bytes (request_answered device request 0).response)
       else Full) room)

@@ -2,7 +2,7 @@
 use Rattle.std.proofs.Common.{◌≡◌, ℕ, zero, suc, ◌<◌, List, [], ◌∷◌, length, set, get_or, slice_get, Option, ap, sym, ◌∙◌}
 use Rattle.std.proofs.lemmas.List.{map-set, get_or-map}
 use Rattle.link_buffers.specs.Queues.{list_at, no_packets}
-use Rattle.switch_core.specs.Faces.{Face, face_of, faces_of, face_at, head_of, AreAlike}
+use Rattle.switch_core.specs.Faces.{Face, face_of, faces_of, face_at, head_of, AllAlike}
 
 module _ {P : Type 0} (received queued : P → List (List (List ℕ))) where
   -- the lists at a place are those of the port there
@@ -30,20 +30,20 @@ module _ {P : Type 0} (received queued : P → List (List (List ℕ))) where
       map-set (face_of received queued) ports n next ∙ ap (set (faces_of received queued ports) n) e
 
 module _ {P : Type 0} (alike : P → P → Type 0) (same : (p : P) → alike p p) where
-  pub AreAlike-same : (ports : List P) → AreAlike alike ports ports
+  pub AreAlike-same : (ports : List P) → AllAlike alike ports ports
   AreAlike-same [] = tt
   AreAlike-same (p ∷ ports) = (same p, AreAlike-same ports)
 
   -- one port is alike to what it was
   pub AreAlike-set : (ports : List P) (n : ℕ) (d next : P) → alike (get_or ports n d) next
-      → AreAlike alike ports (set ports n next)
+      → AllAlike alike ports (set ports n next)
   AreAlike-set [] n d next h = tt
   AreAlike-set (q ∷ ports) zero d next h = (h, AreAlike-same ports)
   AreAlike-set (q ∷ ports) (suc n) d next h = (same q, AreAlike-set ports n d next h)
 
   module _ (on : (p q r : P) → alike p q → alike q r → alike p r) where
-    pub AreAlike-on : (first second third : List P) → AreAlike alike first second
-        → AreAlike alike second third → AreAlike alike first third
+    pub AreAlike-on : (first second third : List P) → AllAlike alike first second
+        → AllAlike alike second third → AllAlike alike first third
     AreAlike-on [] [] [] h k = tt
     AreAlike-on (p ∷ ps) (q ∷ qs) (r ∷ rs) h k = (on p q r h.0 k.0, AreAlike-on ps qs rs h.1 k.1)
     AreAlike-on [] (q ∷ qs) third h k = absurd h

@@ -8,7 +8,7 @@ use Rattle.maint_packets.specs.declared.request.Request.{Request}
 use Rattle.maint_packets.specs.NextHops.{is_foreign, is_at_end, next_of}
 use Rattle.maint_packets.specs.Requests.{request_of}
 use Rattle.maint_packets.specs.Responses.{response_bytes}
-use Rattle.maint_packets.specs.Answers.{answered}
+use Rattle.maint_packets.specs.Answers.{request_answered}
 use Rattle.switch_core.specs.declared.going.Going.{Going}
 use Rattle.switch_core.specs.declared.switch.Step.{Step}
 use Rattle.switch_core.specs.declared.switch.Step.TheVariants.{Moved, Dropped, Answered, Nothing}
@@ -68,7 +68,7 @@ under true x y e = (cc, refl)
 under false x y e = absurd cc
 
 abbrev response_to : Device → ℕ → Request → List ℕ
-response_to device port request = response_bytes (answered device request port).response
+response_to device port request = response_bytes (request_answered device request port).response
 
 module _ (device : Device) (faces : List Face) (going : Going) (goes : Goes device faces going)
     (packet : List ℕ) (held : head_of (face_at faces going.port) going.prio ≡ Some packet) where

@@ -1,6 +1,6 @@
 -- Requests at the front of a list, and the priority of their responses.
 use Rattle.std.proofs.Common.{◌≡◌, ℕ, ◌+◌, ◌<◌, min, true, false, Bool, Option, Some, None, unwrap_or, IsSome, List, [], ◌∷◌, slice_get, get_or, All, refl, sym, ap, ◌∙◌, arith, if◌then◌else◌}
-use Rattle.rio_packets.specs.Hops.{closed, ended, is_large}
+use Rattle.rio_packets.specs.Hops.{closed, message_ended, is_large}
 use Rattle.rio_packets.specs.Fields.{prio_of, dest_of, source_of, hop_place, is_request, body_of}
 use Rattle.maint_registers.specs.Devices.{Device}
 use Rattle.maint_registers.specs.Access.{value_at, written_at}
@@ -11,7 +11,7 @@ use Rattle.maint_packets.specs.declared.response.Response.{Response}
 use Rattle.maint_packets.specs.Requests.{op_of, request_of}
 use Rattle.maint_packets.specs.Layout.{offset_of, tid_of, behind_ids}
 use Rattle.maint_packets.specs.Responses.{response_bytes}
-use Rattle.maint_packets.specs.Answers.{answered, answered_to, after_read, after_write}
+use Rattle.maint_packets.specs.Answers.{request_answered, answered_to, request_read, request_written}
 use Rattle.link_buffers.specs.Queues.{list_at}
 use Rattle.link_port.specs.Faces.{AreLists}
 
@@ -60,7 +60,7 @@ request_there packet is = (
 )
 
 ended_prio : (large : Bool) (prio dest source : ℕ) (rest : List ℕ)
-    → prio_of (ended large (body_of prio 8 large dest source rest)) ≡ prio
+    → prio_of (message_ended large (body_of prio 8 large dest source rest)) ≡ prio
 unfolding closed
 ended_prio false prio dest source rest = omega arith
 ended_prio true prio dest source rest = omega arith
@@ -75,14 +75,14 @@ answered_to-prio : (device : Device) (request : Request) (port : ℕ) (op : Op)
     → (answered_to device request port op).response.prio ≡ min (request.prio + 1) 3
 answered_to-prio device request port Read = read (value_at device request.offset port)
   where
-    read : (value : Option ℕ) → (after_read device request value).response.prio
+    read : (value : Option ℕ) → (request_read device request value).response.prio
         ≡ min (request.prio + 1) 3
     read (Some value) = refl
     read None = refl
 answered_to-prio device request port (Write value) =
     written (written_at device request.offset value)
   where
-    written : (next : Option Device) → (after_write device request next).response.prio
+    written : (next : Option Device) → (request_written device request next).response.prio
         ≡ min (request.prio + 1) 3
     written (Some next) = refl
     written None = refl
@@ -91,9 +91,11 @@ answered_to-prio device request port BadWrite = refl
 
 -- the priority of the response to a request
 pub answer_prio : (device : Device) (request : Request) (port : ℕ)
-    → prio_of (response_bytes (answered device request port).response) ≡ min (request.prio + 1) 3
+    → prio_of (response_bytes (request_answered device request port).response)
+    ≡ min (request.prio + 1) 3
 answer_prio device request port =
-    response_bytes-prio (answered device request port).response ∙ answered_to-prio device request
+    response_bytes-prio (request_answered device request port).response
+    ∙ answered_to-prio device request
     port request.op
 
 -- what is there

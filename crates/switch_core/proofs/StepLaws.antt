@@ -8,7 +8,7 @@ use Rattle.maint_packets.specs.declared.request.Request.{Request}
 use Rattle.maint_packets.specs.NextHops.{next_of}
 use Rattle.maint_packets.specs.Requests.{request_of}
 use Rattle.maint_packets.specs.Responses.{response_bytes}
-use Rattle.maint_packets.specs.Answers.{answered}
+use Rattle.maint_packets.specs.Answers.{request_answered}
 use Rattle.switch_core.specs.declared.switch.Step.TheVariants.{Moved, Answered}
 use Rattle.switch_core.specs.Faces.{Face, face_at, head_of, has_room}
 use Rattle.switch_core.specs.SwitchSteps.{answer_step, step_to, step_of_head, step_at}
@@ -40,9 +40,10 @@ module _ (device : Device) (faces : List Face) (prio port : ℕ) (packet : List 
       → request_of packet ≡ Some request
       → step_at device faces prio port
       ≡ (if has_room (face_at faces port) (min (prio + 1) 3) then Some
-      (Answered port packet (response_bytes (answered device request port).response)) else None)
+      (Answered port packet (response_bytes (request_answered device request port).response))
+      else None)
   step_at-answer request next is =
-      let response = response_bytes (answered device request port).response in
+      let response = response_bytes (request_answered device request port).response in
       let its : prio_of response ≡ min (prio + 1) 3 =
       answer_prio device request port
       ∙ ap (λ n. min (n + 1) 3) (request_prio packet request is ∙ same) in
@@ -58,5 +59,5 @@ module _ (device : Device) (faces : List Face) (prio port : ℕ) (packet : List 
       let found = request_there packet asks in
       let request = found.0 in
       is ∙ is_some-if (has_room (face_at faces port) (min (prio + 1) 3))
-      (Answered port packet (response_bytes (answered device request port).response))
+      (Answered port packet (response_bytes (request_answered device request port).response))
       ∙ ap is_some (sym (step_at-answer request next found.1))

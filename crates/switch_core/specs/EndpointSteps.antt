@@ -5,7 +5,7 @@ use Rattle.maint_registers.specs.Devices.{Device}
 use Rattle.maint_packets.specs.declared.request.Request.{Request}
 use Rattle.maint_packets.specs.Requests.{request_of}
 use Rattle.maint_packets.specs.Responses.{response_bytes}
-use Rattle.maint_packets.specs.Answers.{answered}
+use Rattle.maint_packets.specs.Answers.{request_answered}
 use Rattle.switch_core.specs.declared.endpoint.Sent.{Sent}
 use Rattle.switch_core.specs.declared.endpoint.Sent.TheVariants.{Taken, Full as NoPlace}
 use Rattle.switch_core.specs.declared.endpoint.Collected.{Collected}
@@ -28,7 +28,7 @@ first_held face = greatest_first (head_of face) 4
 abbrev pub collected_of : Device → Face → List ℕ → Option Request → Collected
 collected_of device face packet None = Left packet
 collected_of device face packet (Some request) =
-    let response = response_bytes (answered device request 0).response in
+    let response = response_bytes (request_answered device request 0).response in
     if has_room face (prio_of response) then Answered packet response else Full
 
 abbrev pub collected_head : Device → Face → Option (List ℕ) → Collected
@@ -49,11 +49,11 @@ face_after face Full = face
 
 abbrev pub answered_on_0 : Device → Option Request → Device
 answered_on_0 device None = device
-answered_on_0 device (Some request) = (answered device request 0).device
+answered_on_0 device (Some request) = (request_answered device request 0).device
 
 -- the registers after it, which only an answer can change
-abbrev pub device_after : Device → Collected → Device
-device_after device (Answered request response) = answered_on_0 device (request_of request)
-device_after device (Left packet) = device
-device_after device Empty = device
-device_after device Full = device
+abbrev pub endpoint_after : Device → Collected → Device
+endpoint_after device (Answered request response) = answered_on_0 device (request_of request)
+endpoint_after device (Left packet) = device
+endpoint_after device Empty = device
+endpoint_after device Full = device

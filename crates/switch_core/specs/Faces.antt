@@ -48,8 +48,8 @@ abbrev pub put_at : List Face → ℕ → List ℕ → List Face
 put_at faces n packet = slice_set faces n (with_packet (face_at faces n) packet)
 
 -- each port is alike to what it was
-abbrev pub AreAlike : {P : Type 0} → (P → P → Type 0) → List P → List P → Type 0
-AreAlike alike [] [] = Unit {0}
-AreAlike alike (p ∷ ps) (q ∷ qs) = alike p q × AreAlike alike ps qs
-AreAlike alike [] (q ∷ qs) = ⊥
-AreAlike alike (p ∷ ps) [] = ⊥
+abbrev pub AllAlike : {P : Type 0} → (P → P → Type 0) → List P → List P → Type 0
+AllAlike alike [] [] = Unit {0}
+AllAlike alike (p ∷ ps) (q ∷ qs) = alike p q × AllAlike alike ps qs
+AllAlike alike [] (q ∷ qs) = ⊥
+AllAlike alike (p ∷ ps) [] = ⊥

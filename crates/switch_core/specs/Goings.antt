@@ -31,7 +31,7 @@ abbrev pub has_place : List Face → Going → Bool
 has_place faces going = has_place_by faces going.port going.prio going.next
 
 -- the first packet of its priority at its port goes there
-pub record Stands (device : Device) (faces : List Face) (going : Going) : Type 0 where
+pub record GoingStands (device : Device) (faces : List Face) (going : Going) : Type 0 where
   pub packet : List ℕ
   pub port : going.port < length faces
   pub prio : going.prio < 4
@@ -42,5 +42,5 @@ pub record Stands (device : Device) (faces : List Face) (going : Going) : Type 0
 
 -- it makes the step of the switch
 pub record Goes (device : Device) (faces : List Face) (going : Going) : Type 0 where
-  pub stands : Stands device faces going
+  pub stands : GoingStands device faces going
   pub step : step_at device faces going.prio going.port ≡ Some (step_of device faces)

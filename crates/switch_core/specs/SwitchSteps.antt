@@ -10,7 +10,7 @@ use Rattle.maint_packets.specs.declared.request.Request.{Request}
 use Rattle.maint_packets.specs.NextHops.{next_of, moved}
 use Rattle.maint_packets.specs.Requests.{request_of}
 use Rattle.maint_packets.specs.Responses.{response_bytes}
-use Rattle.maint_packets.specs.Answers.{answered}
+use Rattle.maint_packets.specs.Answers.{request_answered}
 use Rattle.switch_core.specs.declared.switch.Step.{Step}
 use Rattle.switch_core.specs.declared.switch.Step.TheVariants.{Moved, Dropped, Answered, Nothing}
 use Rattle.switch_core.specs.Faces.{Face, face_at, head_of, has_room, taken_at, put_at}
@@ -20,7 +20,7 @@ use Rattle.switch_core.specs.Order.{least_first, greatest_first}
 abbrev pub answer_step : Device → List Face → ℕ → List ℕ → Option Request → Option Step
 answer_step device faces port packet None = None
 answer_step device faces port packet (Some request) =
-    let response = response_bytes (answered device request port).response in
+    let response = response_bytes (request_answered device request port).response in
     if has_room (face_at faces port) (prio_of response)
     then Some (Answered port packet response) else None
 
@@ -60,11 +60,11 @@ faces_after faces Nothing = faces
 
 abbrev pub answered_by : Device → ℕ → Option Request → Device
 answered_by device port None = device
-answered_by device port (Some request) = (answered device request port).device
+answered_by device port (Some request) = (request_answered device request port).device
 
 -- the registers after a step, which only an answer can change
-abbrev pub device_after : Device → Step → Device
-device_after device (Answered port request response) = answered_by device port (request_of request)
-device_after device (Moved from to packet) = device
-device_after device (Dropped from packet) = device
-device_after device Nothing = device
+abbrev pub switch_after : Device → Step → Device
+switch_after device (Answered port request response) = answered_by device port (request_of request)
+switch_after device (Moved from to packet) = device
+switch_after device (Dropped from packet) = device
+switch_after device Nothing = device

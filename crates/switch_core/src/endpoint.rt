@@ -3,11 +3,11 @@ ghost use Rattle.std.specs.Prelude.{◌≡◌, ◌+◌, ◌<◌, ℕ, List, true
 ghost use Rattle.std.specs.Option.{option_and_then};
 ghost use Rattle.maint_packets.specs.Requests.{request_of};
 ghost use Rattle.maint_packets.specs.Responses.{response_bytes};
-ghost use Rattle.maint_packets.specs.Answers.{answered};
+ghost use Rattle.maint_packets.specs.Answers.{request_answered};
 ghost use Rattle.maint_registers.specs.Devices.{is_switch, IsSameDevice};
 ghost use Rattle.link_port.specs.Faces.{AreLists};
 ghost use Rattle.switch_core.specs.Faces.{face_of, head_of, has_room, without_head, with_packet};
-ghost use Rattle.switch_core.specs.EndpointSteps.{sent_by, after_sent, first_held, collected, face_after, device_after};
+ghost use Rattle.switch_core.specs.EndpointSteps.{sent_by, after_sent, first_held, collected, face_after, endpoint_after};
 
 use crate::ports::has_room;
 use link_port::PortFace;
@@ -66,7 +66,7 @@ pub fn endpoint_collect<P: PortFace>(port: &mut P, registers: &mut Registers) ->
         ≡ collected registers.old (face_of P.received P.queued port.old) }
     ensures face { face_of P.received P.queued port.new
         ≡ face_after (face_of P.received P.queued port.old) result }
-    ensures registers { registers.new ≡ device_after registers.old result }
+    ensures registers { registers.new ≡ endpoint_after registers.old result }
     ensures device { IsSameDevice registers.old registers.new }
     ensures alike { P.alike port.old port.new }
 {
@@ -155,11 +155,11 @@ fn answer_first<P: PortFace>(
     ensures value { (packet : List ℕ)
         → head_of (face_of P.received P.queued port.old) prio ≡ Some packet
         → result ≡ Collected.Answered packet
-        (response_bytes (answered registers.old request.now 0).response) }
+        (response_bytes (request_answered registers.old request.now 0).response) }
     ensures face { face_of P.received P.queued port.new
         ≡ with_packet (without_head (face_of P.received P.queued port.old) prio)
-        (response_bytes (answered registers.old request.now 0).response) }
-    ensures registers { registers.new ≡ (answered registers.old request.now 0).device }
+        (response_bytes (request_answered registers.old request.now 0).response) }
+    ensures registers { registers.new ≡ (request_answered registers.old request.now 0).device }
     ensures device { IsSameDevice registers.old registers.new }
     ensures alike { P.alike port.old port.new }
 {

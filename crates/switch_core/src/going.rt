@@ -4,7 +4,7 @@ ghost use Rattle.std.specs.Option.{option_and_then};
 ghost use Rattle.switch_core.specs.Faces.{faces_of};
 ghost use Rattle.switch_core.specs.Order.{least_first};
 ghost use Rattle.switch_core.specs.SwitchSteps.{step_at, step_of};
-ghost use Rattle.switch_core.specs.Goings.{has_place, going_of, Stands, Goes};
+ghost use Rattle.switch_core.specs.Goings.{has_place, going_of, GoingStands, Goes};
 
 use crate::ports::{has_room_at, put_at, take_at};
 use link_port::PortFace;
@@ -54,7 +54,7 @@ fn first_at<P: PortFace>(ports: &[P], registers: &Registers, prio: u8) -> Option
         (faces_of P.received P.queued ports.now) prio going.port)) }
     ensures prio { IfSome result (λ going. going.prio ≡ prio) }
     ensures stands { IfSome result
-        (Stands registers.now (faces_of P.received P.queued ports.now)) }
+        (GoingStands registers.now (faces_of P.received P.queued ports.now)) }
 {
     for port in 0..registers.ports() {
         if let Some(next) = next_at(ports, registers, prio, port) {
@@ -71,7 +71,7 @@ fn next_at<P: PortFace>(ports: &[P], registers: &Registers, prio: u8, port: u8) 
     requires port { port < length ports.now }
     ensures exact { is_some result ≡ is_some (step_at registers.now
         (faces_of P.received P.queued ports.now) prio port) }
-    ensures stands { IfSome result (λ next. Stands registers.now
+    ensures stands { IfSome result (λ next. GoingStands registers.now
         (faces_of P.received P.queued ports.now)
         record { port = port; prio = prio; next = next }) }
 {
@@ -101,8 +101,8 @@ fn has_place<P: PortFace>(ports: &[P], going: Going) -> bool
 impl Going {
     ghost use Rattle.std.specs.Prelude.{◌≡◌, ◌≢◌, List, ℕ, Some};
     ghost use Rattle.maint_registers.specs.Devices.{Device, IsSameDevice};
-    ghost use Rattle.switch_core.specs.Faces.{faces_of, face_at, head_of, AreAlike};
-    ghost use Rattle.switch_core.specs.SwitchSteps.{step_of, faces_after, device_after};
+    ghost use Rattle.switch_core.specs.Faces.{faces_of, face_at, head_of, AllAlike};
+    ghost use Rattle.switch_core.specs.SwitchSteps.{step_of, faces_after, switch_after};
     ghost use Rattle.switch_core.specs.Goings.{Goes};
     ghost use Rattle.switch_core.specs.declared.switch.Step.TheVariants.{Answered};
 
@@ -130,7 +130,7 @@ impl Going {
             → faces_of P.received P.queued ports.new
             ≡ faces_after (faces_of P.received P.queued ports.old)
             (step_of device (faces_of P.received P.queued ports.old)) }
-        ensures alike { AreAlike P.alike ports.old ports.new }
+        ensures alike { AllAlike P.alike ports.old ports.new }
     {
         let Some(mut packet) = take_at(ports, self.port, self.prio) else {
             unreachable!();
@@ -154,10 +154,10 @@ impl Going {
         ensures faces { faces_of P.received P.queued ports.new
             ≡ faces_after (faces_of P.received P.queued ports.old)
             (step_of registers.old (faces_of P.received P.queued ports.old)) }
-        ensures registers { registers.new ≡ device_after registers.old
+        ensures registers { registers.new ≡ switch_after registers.old
             (step_of registers.old (faces_of P.received P.queued ports.old)) }
         ensures device { IsSameDevice registers.old registers.new }
-        ensures alike { AreAlike P.alike ports.old ports.new }
+        ensures alike { AllAlike P.alike ports.old ports.new }
     {
         let Some(packet) = take_at(ports, self.port, self.prio) else {
             unreachable!();

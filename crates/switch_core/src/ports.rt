@@ -1,7 +1,7 @@
 //! Single ports of several.
 ghost use Rattle.std.specs.Prelude.{◌≡◌, ◌<◌, length, IsTrue};
 ghost use Rattle.rio_packets.specs.Fields.{prio_of};
-ghost use Rattle.switch_core.specs.Faces.{face_of, faces_of, face_at, head_of, has_room, taken_at, put_at, AreAlike};
+ghost use Rattle.switch_core.specs.Faces.{face_of, faces_of, face_at, head_of, has_room, taken_at, put_at, AllAlike};
 
 use link_port::PortFace;
 use rio_packets::Packet;
@@ -13,7 +13,7 @@ pub(crate) fn take_at<P: PortFace>(ports: &mut [P], port: u8, prio: u8) -> Optio
     ensures value { result ≡ head_of (face_at (faces_of P.received P.queued ports.old) port) prio }
     ensures faces { faces_of P.received P.queued ports.new
         ≡ taken_at (faces_of P.received P.queued ports.old) port prio }
-    ensures alike { AreAlike P.alike ports.old ports.new }
+    ensures alike { AllAlike P.alike ports.old ports.new }
 {
     let port = &mut ports[port as usize];
     port.in_pop(prio)
@@ -26,7 +26,7 @@ pub(crate) fn put_at<P: PortFace>(ports: &mut [P], port: u8, packet: Packet)
         (has_room (face_at (faces_of P.received P.queued ports.old) port) (prio_of packet)) }
     ensures faces { faces_of P.received P.queued ports.new
         ≡ put_at (faces_of P.received P.queued ports.old) port packet }
-    ensures alike { AreAlike P.alike ports.old ports.new }
+    ensures alike { AllAlike P.alike ports.old ports.new }
 {
     let port = &mut ports[port as usize];
     port.out_put(packet);

@@ -1,8 +1,8 @@
 //! The step of a switch.
 ghost use Rattle.std.specs.Prelude.{◌≡◌, length, IsTrue};
 ghost use Rattle.maint_registers.specs.Devices.{is_switch, IsSameDevice};
-ghost use Rattle.switch_core.specs.Faces.{faces_of, AreAlike};
-ghost use Rattle.switch_core.specs.SwitchSteps.{step_of, faces_after, device_after};
+ghost use Rattle.switch_core.specs.Faces.{faces_of, AllAlike};
+ghost use Rattle.switch_core.specs.SwitchSteps.{step_of, faces_after, switch_after};
 ghost use Rattle.switch_core.specs.Goings.{Goes};
 
 use crate::going::{Going, first_going};
@@ -56,9 +56,9 @@ pub fn switch_step<P: PortFace>(ports: &mut [P], registers: &mut Registers) -> S
     ensures step { result ≡ step_of registers.old (faces_of P.received P.queued ports.old) }
     ensures faces { faces_of P.received P.queued ports.new
         ≡ faces_after (faces_of P.received P.queued ports.old) result }
-    ensures registers { registers.new ≡ device_after registers.old result }
+    ensures registers { registers.new ≡ switch_after registers.old result }
     ensures device { IsSameDevice registers.old registers.new }
-    ensures alike { AreAlike P.alike ports.old ports.new }
+    ensures alike { AllAlike P.alike ports.old ports.new }
 {
     match first_going(ports, registers) {
         Some(going) => step_from(ports, registers, going),
@@ -72,9 +72,9 @@ fn step_from<P: PortFace>(ports: &mut [P], registers: &mut Registers, going: Goi
     ensures step { result ≡ step_of registers.old (faces_of P.received P.queued ports.old) }
     ensures faces { faces_of P.received P.queued ports.new
         ≡ faces_after (faces_of P.received P.queued ports.old) result }
-    ensures registers { registers.new ≡ device_after registers.old result }
+    ensures registers { registers.new ≡ switch_after registers.old result }
     ensures device { IsSameDevice registers.old registers.new }
-    ensures alike { AreAlike P.alike ports.old ports.new }
+    ensures alike { AllAlike P.alike ports.old ports.new }
 {
     let packet = going.packet(ports).copy();
     let from = going.port;

@@ -6,7 +6,7 @@ use Rattle.fabric_script.specs.Known.{Known, IsOrderly}
 use Rattle.fabric_model.specs.Network.{Network}
 use Rattle.fabric_trace.specs.Lines.{TraceLine}
 use Rattle.fabric_trace.specs.Wires.{WireChars}
-use Rattle.trace_check.specs.Checks.{Passes}
+use Rattle.trace_check.specs.Checks.{LinePasses}
 use Rattle.trace_check.specs.Lawful.{as_behind, OffWire}
 use Rattle.trace_check.specs.Wires.{are_short, told_wires, wires_after}
 use Rattle.trace_check.specs.Words.{SpellsLine}
@@ -26,8 +26,8 @@ wires_on links (x ∷ before) wires line behind =
     (sym (append_assoc before (line ∷ []) behind))
 
 pub passes_alike : (net : Network) (before : List TraceLine) (line : TraceLine)
-    (one other : List TraceLine) → are_short one ≡ are_short other → Passes net before line one
-    → Passes net before line other
+    (one other : List TraceLine) → are_short one ≡ are_short other → LinePasses net before line one
+    → LinePasses net before line other
 passes_alike net before line one other same passes = record {
   wires = stands net before line one other OffWire same passes;
   step = passes.step;

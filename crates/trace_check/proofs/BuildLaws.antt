@@ -13,9 +13,9 @@ use Rattle.fabric_trace.proofs.KindLaws.{IsKindThere, kind_there}
 use Rattle.fabric_trace.specs.Views.{lists_in, packets_in}
 use Rattle.trace_check.specs.declared.links.Links.{Links}
 use Rattle.trace_check.specs.declared.network.Network.{Network as Kept}
-use Rattle.trace_check.specs.Networks.{AreLinks, IsNetwork}
+use Rattle.trace_check.specs.Networks.{AreKeptLinks, IsNetwork}
 use Rattle.trace_check.specs.Starting.{AreEnds, AreJoined, IsBuilt, lent_lists}
-use Rattle.trace_check.specs.Tables.{IsIn, IsTable, place_of}
+use Rattle.trace_check.specs.Tables.{IsIn, IsTable, table_place}
 use Rattle.trace_check.proofs.StartLaws.{ends_joined, ends_more, later_apart, peer_within, peers_joined, table_behind, table_more, table_shown, unlinked_later}
 use Rattle.trace_check.proofs.TableLaws.{table_set}
 
@@ -133,7 +133,7 @@ port_linked old mid a p is_in linked =
 -- ---- buffers
 
 pub built_buffers : (net : Network) (old new : Kept) (p : PortRef) (i m : ℕ) → IsBuilt net old
-    → IsIn (length net.registers) p → i ≡ place_of p
+    → IsIn (length net.registers) p → i ≡ table_place p
     → new.buffers.items ≡ slice_set old.buffers.items i m
     → new ≡ record old { buffers = new.buffers }
     → IsBuilt (record net { buffers = with_buffers net.buffers p m }) new
@@ -292,7 +292,7 @@ pub joined_link : (net : Network) (old new : Links) (a b : PortRef) → AreJoine
     → IsIn (length net.registers) a → IsIn (length net.registers) b → same_port a b ≡ false
     → peer_in net.links a ≡ None → peer_in net.links b ≡ None
     → new.peers.items
-    ≡ slice_set (slice_set old.peers.items (place_of a) (Some b)) (place_of b) (Some a)
+    ≡ slice_set (slice_set old.peers.items (table_place a) (Some b)) (table_place b) (Some a)
     → AreJoined (record (with_end (with_end net a) b) { links = net.links ++ (a, b) ∷ [] }) new
 joined_link net old new a b joined in_a in_b apart none_a none_b is =
     let n = length net.registers in
@@ -303,13 +303,13 @@ joined_link net old new a b joined in_a in_b apart none_a none_b is =
     record {
       peers = subst (λ m. IsTable m Peers new.peers.items) (sym same)
           (subst (IsTable n Peers) (sym is) (peers_joined n net.links a b old.peers.items
-          (place_of a) (place_of b) joined.peers in_a in_b apart none_a none_b refl refl));
+          (table_place a) (table_place b) joined.peers in_a in_b apart none_a none_b refl refl));
       ends = subst (λ m. AreEnds m links) (sym same)
           (ends_joined n net.links a b joined.ends in_a in_b);
     }
 
 pub links_of : (nodes : ℕ) (net : Network) (kept : Links) → length net.registers ≡ nodes
-    → AreJoined net kept → AreLinks nodes net.links kept
+    → AreJoined net kept → AreKeptLinks nodes net.links kept
 links_of nodes net kept same joined = record {
   peers = subst (λ m. IsTable m (λ p peer. peer ≡ peer_in net.links p) kept.peers.items) same
       joined.peers;

@@ -7,8 +7,8 @@ use Rattle.trace_check.specs.declared.state.State.{State}
 use Rattle.trace_check.specs.Expecting.{IsExpected, IsExplained, IsToBeTold, TellsLine}
 use Rattle.script_input.specs.Inputs.{texts_ahead, texts_of}
 use Rattle.trace_check.specs.Lawful.{as_behind, IsUnlawful}
-use Rattle.trace_check.specs.Outcomes.{Reads}
-use Rattle.trace_check.specs.States.{fault_of, IsReached, Reached}
+use Rattle.trace_check.specs.Outcomes.{ReadsNextText}
+use Rattle.trace_check.specs.States.{fault_of, IsReachedState, ReachedState}
 use Rattle.trace_check.specs.Wires.{are_short}
 use Rattle.trace_check.proofs.Exclusive.{exclusive}
 use Rattle.trace_check.proofs.Once.{unlawful_once}
@@ -28,7 +28,7 @@ pub told_ahead : (known : Known) (net : Network) (bytes : List ℕ) (first numbe
     (text left : Bor (List ℕ)) (ended : Bool) (state : State) (expected : Expected)
     → IsAhead known net bytes first number (Some (text, left)) ended steps state
     → ended ≡ false
-    → ((r : Reached) → IsReached r state → r.nodes ≡ length known.names
+    → ((r : ReachedState) → IsReachedState r state → r.nodes ≡ length known.names
     → TellsLine known r text.now expected)
     → (place : ℕ) × (number ≡ first + place)
     × IsExpected known net (texts_of bytes) place expected
@@ -64,9 +64,9 @@ module _ (known : Known) (net : Network) (bytes : List ℕ) (first number : ℕ)
         (new : State)
         → IsAhead known net bytes first number (Some (text, left)) ended steps state
         → texts_of left.now ≡ texts_ahead next → short ≡ are_short (as_behind (texts_ahead next))
-        → ((r : Reached) → IsReached r state → r.nodes ≡ length known.names
-        → Reads known r text.now short ended steps ends more new (Some hit))
-        → (number ≡ first + place) × (ended ≡ false) × ((r : Reached) → IsReached r state
+        → ((r : ReachedState) → IsReachedState r state → r.nodes ≡ length known.names
+        → ReadsNextText known r text.now short ended steps ends more new (Some hit))
+        → (number ≡ first + place) × (ended ≡ false) × ((r : ReachedState) → IsReachedState r state
         → r.nodes ≡ length known.names → IsToBeTold known r text.now)
     hit_told text left ended steps state next short ends more hit new is texts short_is reads =
         let stops = hit_ahead known net bytes first number text left ended steps state next short
@@ -83,12 +83,13 @@ module _ (known : Known) (net : Network) (bytes : List ℕ) (first number : ℕ)
         )
       where
         goes : (ended : Bool) → IsExplained hit
-            → Reads known is.r text.now short ended steps ends more new (Some hit) → ended ≡ false
+            → ReadsNextText known is.r text.now short ended steps ends more new (Some hit)
+            → ended ≡ false
         goes true told form = absurd (let above = told.0 in omega (arith, above, form))
         goes false told form = refl
 
-        by_reading : {r : Reached} (ended : Bool) → IsExplained hit
-            → Reads known r text.now short ended steps ends more new (Some hit)
+        by_reading : {r : ReachedState} (ended : Bool) → IsExplained hit
+            → ReadsNextText known r text.now short ended steps ends more new (Some hit)
             → IsToBeTold known r text.now
         by_reading true told form = absurd (let above = told.0 in omega (arith, above, form))
         by_reading false told (inl (form, none)) =

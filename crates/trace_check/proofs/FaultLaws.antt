@@ -1,12 +1,12 @@
 -- Which faults stand where others do.
 use Rattle.std.proofs.Common.{◌<◌, arith}
-use Rattle.trace_check.specs.Lawful.{Fault, fault_number, NoStep, NotAllowed, NotCome, NotThere, OffWire}
+use Rattle.trace_check.specs.Lawful.{Fault, fault_number, NoSuchStep, NotAllowed, NotCome, NotThere, OffWire}
 
 module _ (Stands : Fault → Type 0) where
-  pub all_stand : Stands OffWire → Stands NoStep → Stands NotCome → Stands NotAllowed
+  pub all_stand : Stands OffWire → Stands NoSuchStep → Stands NotCome → Stands NotAllowed
       → Stands NotThere → (fault : Fault) → Stands fault
   all_stand wire step come allowed there OffWire = wire
-  all_stand wire step come allowed there NoStep = step
+  all_stand wire step come allowed there NoSuchStep = step
   all_stand wire step come allowed there NotCome = come
   all_stand wire step come allowed there NotAllowed = allowed
   all_stand wire step come allowed there NotThere = there
@@ -15,23 +15,23 @@ module _ (Stands : Fault → Type 0) where
 
   pub below_step : Stands OffWire → (other : Fault) → fault_number other < 23 → Stands other
   below_step wire OffWire less = wire
-  below_step wire NoStep less = absurd (omega (arith, less))
+  below_step wire NoSuchStep less = absurd (omega (arith, less))
   below_step wire NotCome less = absurd (omega (arith, less))
   below_step wire NotAllowed less = absurd (omega (arith, less))
   below_step wire NotThere less = absurd (omega (arith, less))
 
-  pub below_come : Stands OffWire → Stands NoStep → (other : Fault) → fault_number other < 24
+  pub below_come : Stands OffWire → Stands NoSuchStep → (other : Fault) → fault_number other < 24
       → Stands other
   below_come wire step OffWire less = wire
-  below_come wire step NoStep less = step
+  below_come wire step NoSuchStep less = step
   below_come wire step NotCome less = absurd (omega (arith, less))
   below_come wire step NotAllowed less = absurd (omega (arith, less))
   below_come wire step NotThere less = absurd (omega (arith, less))
 
-  pub below_allowed : Stands OffWire → Stands NoStep → Stands NotCome → (other : Fault)
+  pub below_allowed : Stands OffWire → Stands NoSuchStep → Stands NotCome → (other : Fault)
       → fault_number other < 25 → Stands other
   below_allowed wire step come OffWire less = wire
-  below_allowed wire step come NoStep less = step
+  below_allowed wire step come NoSuchStep less = step
   below_allowed wire step come NotCome less = come
   below_allowed wire step come NotAllowed less = absurd (omega (arith, less))
   below_allowed wire step come NotThere less = absurd (omega (arith, less))

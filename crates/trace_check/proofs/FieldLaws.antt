@@ -14,9 +14,9 @@ use Rattle.fabric_script.specs.declared.ports.PortRef.{PortRef}
 use Rattle.fabric_script.specs.Forms.{Port}
 use Rattle.fabric_script.specs.Known.{IsOrderly, Known, is_linked}
 use Rattle.fabric_script.specs.Lines.{words_of}
-use Rattle.fabric_script.specs.Texts.{AtPort, port_text}
+use Rattle.fabric_script.specs.Texts.{PortValue, port_text}
 use Rattle.fabric_script.proofs.LineLaws.{same_value}
-use Rattle.trace_check.specs.Words.{IsEnd, IsPortOf}
+use Rattle.trace_check.specs.Words.{IsEnd, IsScriptPort}
 use Rattle.trace_check.proofs.OneLine.{one_number}
 use Rattle.trace_check.proofs.PlainLines.{port_in}
 
@@ -28,10 +28,11 @@ some_word text = (let counted = length-slice_split (λ b. b == 32) text in omega
 
 -- a port without a link is no other that has one
 pub no_end : (known : Known) (word : List ℕ) (p q : PortRef) → IsOrderly known
-    → IsPortOf known p → word ≡ port_text known.names p → is_linked known.links p ≡ false
+    → IsScriptPort known p → word ≡ port_text known.names p → is_linked known.links p ≡ false
     → IsEnd known q → word ≡ port_text known.names q → ⊥
 no_end known word p q orderly f here unlinked end there =
-    let same = same_value known Port (AtPort p) (AtPort q) orderly tt f end.0 (sym here ∙ there) in
+    let same = same_value known Port (PortValue p) (PortValue q) orderly tt f end.0 (sym here
+    ∙ there) in
     let port : p ≡ q = ap (λ value. port_in (Some value)) same in
     absurd (cc (ap (is_linked known.links) port, unlinked, end.1))
 

@@ -3,7 +3,7 @@ use Rattle.std.proofs.Common.{◌≡◌, ℕ, ◌++◌, List, [], ◌∷◌, ◌
 use Rattle.fabric_script.specs.Known.{Known, IsOrderly}
 use Rattle.fabric_model.specs.Network.{Network}
 use Rattle.fabric_trace.specs.Lines.{TraceLine}
-use Rattle.trace_check.specs.Checks.{Passes}
+use Rattle.trace_check.specs.Checks.{LinePasses}
 use Rattle.trace_check.specs.Lawful.{as_behind, PassFront}
 use Rattle.trace_check.specs.Wires.{are_short}
 use Rattle.trace_check.specs.Words.{SpellsLine}
@@ -62,20 +62,21 @@ short_on known text last texts rest orderly spelled =
 
 pub pass_more : (known : Known) (net : Network) (lines : List TraceLine) (text : List ℕ)
     (last : TraceLine) (texts : List (List ℕ)) → IsOrderly known → SpellsLine known text last
-    → PassFront net lines (text ∷ texts) → Passes net lines last (as_behind texts)
+    → PassFront net lines (text ∷ texts) → LinePasses net lines last (as_behind texts)
     → PassFront net (lines ++ last ∷ []) texts
 pass_more known net lines text last texts orderly spelled pass passes before line behind is =
     by_place (among lines before line behind last is)
   where
     by_place : IsPlaced lines before line behind last
-        → Passes net before line (behind ++ as_behind texts)
+        → LinePasses net before line (behind ++ as_behind texts)
     by_place (inl a) =
-        subst (λ (l : List TraceLine). Passes net before line (l ++ as_behind texts))
+        subst (λ (l : List TraceLine). LinePasses net before line (l ++ as_behind texts))
         (sym a.behind_is)
         (passes_alike net before line (a.rest ++ as_behind (text ∷ texts))
         ((a.rest ++ last ∷ []) ++ as_behind texts)
         (short_on known text last texts a.rest orderly spelled) (pass before line a.rest a.is))
     by_place (inr b) =
-        subst (λ (l : List TraceLine). Passes net before line (l ++ as_behind texts)) (sym b.none)
-        (subst (λ (l : TraceLine). Passes net before l (as_behind texts)) b.line_is
-        (subst (λ (l : List TraceLine). Passes net l last (as_behind texts)) b.is passes))
+        subst (λ (l : List TraceLine). LinePasses net before line (l ++ as_behind texts))
+        (sym b.none)
+        (subst (λ (l : TraceLine). LinePasses net before l (as_behind texts)) b.line_is
+        (subst (λ (l : List TraceLine). LinePasses net l last (as_behind texts)) b.is passes))

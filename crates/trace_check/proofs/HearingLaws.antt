@@ -13,11 +13,11 @@ use Rattle.link_rest.proofs.SaidLaws.{said-append}
 use Rattle.rio_framer.specs.declared.events.Events.{Events}
 use Rattle.rio_framer.specs.declared.events.Told.{Told}
 use Rattle.rio_framer.specs.Framing.{Framing, framing_after}
-use Rattle.rio_framer.specs.Giving.{listed, told_of}
+use Rattle.rio_framer.specs.Giving.{listed, told_of_events}
 use Rattle.rio_framer.proofs.GivingLaws.{events_by-front, listed-front}
 use Rattle.fabric_trace.specs.Allowance.{raised_all}
 use Rattle.fabric_trace.proofs.Raising.{raised-append}
-use Rattle.trace_check.specs.Running.{Come, hears, notes, packets_of, PortRun, told_events}
+use Rattle.trace_check.specs.Running.{Come, run_hears, notes, packets_come, PortRun, told_events}
 use Rattle.trace_check.proofs.Running.{packets-append}
 
 -- ---- a run of characters
@@ -72,19 +72,19 @@ place-front from chars =
 
 -- what is known after the front, and then the characters behind it
 hears-front : (run : PortRun) (chars : List Char)
-    → hears run chars
-    ≡ hears (record (notes run (telling_front run.place chars).step.gives)
+    → run_hears run chars
+    ≡ run_hears (record (notes run (telling_front run.place chars).step.gives)
     { place = (telling_front run.place chars).step.place })
     (drop (telling_front run.place chars).count chars)
 hears-front run chars =
     let front = telling_front run.place chars in
     let rest = said front.step.place (drop front.count chars) in
     let events = said-front run.place chars in
-    let come : run.unheld ++ packets_of (said run.place chars)
-    ≡ (run.unheld ++ packets_of front.step.gives) ++ packets_of rest
-    = ap (λ (l : List Event). run.unheld ++ packets_of l) events
+    let come : run.unheld ++ packets_come (said run.place chars)
+    ≡ (run.unheld ++ packets_come front.step.gives) ++ packets_come rest
+    = ap (λ (l : List Event). run.unheld ++ packets_come l) events
     ∙ ap (λ (l : List Come). run.unheld ++ l) (packets-append front.step.gives rest)
-    ∙ sym (append_assoc run.unheld (packets_of front.step.gives) (packets_of rest)) in
+    ∙ sym (append_assoc run.unheld (packets_come front.step.gives) (packets_come rest)) in
     let allowed : raised_all run.allowed (said run.place chars)
     ≡ raised_all (raised_all run.allowed front.step.gives) rest
     = ap (raised_all run.allowed) events ∙ raised-append front.step.gives rest run.allowed in
@@ -97,7 +97,7 @@ hears-front run chars =
     }
 
 told-front : (from : Place) (chars : List Char) (told : Told) (framer : Framing)
-    → told ≡ told_of (telling_front from chars).step.gives
+    → told ≡ told_of_events (telling_front from chars).step.gives
     → framer ≡ framing_after (telling_front from chars).step
     → told_events told framer.ended ≡ (telling_front from chars).step.gives
 told-front from chars told framer told_is framer_is =
@@ -107,7 +107,7 @@ told-front from chars told framer told_is framer_is =
 
 -- what a run of characters told, and then what those behind it say
 pub said_on : (from : Place) (chars left : List Char) (told : Told) (framer : Framing)
-    → told ≡ told_of (telling_front from chars).step.gives
+    → told ≡ told_of_events (telling_front from chars).step.gives
     → framer ≡ framing_after (telling_front from chars).step
     → left ≡ drop (telling_front from chars).count chars
     → said from chars ≡ told_events told framer.ended ++ said framer.place left
@@ -118,15 +118,15 @@ said_on from chars left told framer told_is framer_is left_is =
 
 -- a run of characters is read, and what it told is noted
 pub hears_on : (run next : PortRun) (chars left : List Char) (told : Told) (framer : Framing)
-    → told ≡ told_of (telling_front run.place chars).step.gives
+    → told ≡ told_of_events (telling_front run.place chars).step.gives
     → framer ≡ framing_after (telling_front run.place chars).step
     → left ≡ drop (telling_front run.place chars).count chars
     → next ≡ notes (record run { place = framer.place }) (told_events told framer.ended)
-    → hears next left ≡ hears run chars
+    → run_hears next left ≡ run_hears run chars
 hears_on run next chars left told framer told_is framer_is left_is next_is =
     let events = told-front run.place chars told framer told_is framer_is in
-    (λ i. hears (next_is i) (left_is i))
-    ∙ (λ i. hears (notes (record run { place = (framer_is i).place }) (events i))
+    (λ i. run_hears (next_is i) (left_is i))
+    ∙ (λ i. run_hears (notes (record run { place = (framer_is i).place }) (events i))
     (drop (telling_front run.place chars).count chars))
     ∙ sym (hears-front run chars)
 
@@ -138,10 +138,10 @@ said_none from [] few = said-none from
 said_none from (c ∷ left) few = absurd (omega (arith, few))
 
 -- after no characters
-pub hears_none : (run : PortRun) (left : List Char) → length left ≤ 0 → hears run left ≡ run
+pub hears_none : (run : PortRun) (left : List Char) → length left ≤ 0 → run_hears run left ≡ run
 hears_none run [] few = λ i. record {
   place = place_after-none run.place i;
-  unheld = (ap (λ (l : List Event). run.unheld ++ packets_of l) (said-none run.place)
+  unheld = (ap (λ (l : List Event). run.unheld ++ packets_come l) (said-none run.place)
       ∙ append-nil run.unheld) i;
   next = run.next;
   freed = run.freed;

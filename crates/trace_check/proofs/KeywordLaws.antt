@@ -5,7 +5,7 @@ use Rattle.fabric_script.specs.Lines.{words_of}
 use Rattle.fabric_script.specs.Texts.{Value}
 use Rattle.fabric_trace.specs.Lines.{TraceLine}
 use Rattle.trace_check.specs.declared.keywords.Keyword.{Keyword}
-use Rattle.trace_check.specs.Keywords.{keyword_of, words_behind, keyword_text, NoneBehind}
+use Rattle.trace_check.specs.Keywords.{trace_keyword_of, words_behind, keyword_text, NoneBehind}
 use Rattle.trace_check.specs.Words.{SpellsLine}
 use Rattle.trace_check.proofs.FieldLaws.{some_word}
 use Rattle.trace_check.proofs.LineKeywords.{head_is}
@@ -28,6 +28,6 @@ pub no_keyword : (known : Known) (text word : List ℕ) (words : List (List ℕ)
     → ((keyword : Keyword) → keyword_text keyword ≡ word → ⊥) → words_of text ≡ word ∷ words
     → (line : TraceLine) → SpellsLine known text line → ⊥
 no_keyword known text word words none is line spells =
-    let all : word ∷ words ≡ keyword_text (keyword_of line) ∷ words_behind known.names line
+    let all : word ∷ words ≡ keyword_text (trace_keyword_of line) ∷ words_behind known.names line
     = sym is ∙ spells.words ∙ head_is known.names line in
-    none (keyword_of line) cc
+    none (trace_keyword_of line) cc

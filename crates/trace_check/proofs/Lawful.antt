@@ -17,7 +17,7 @@ use Rattle.fabric_model.proofs.Peers.{same_port-refl}
 use Rattle.fabric_trace.specs.Lines.{Sent, Got, Fired, TraceLine, Begun, Stepped, Signed, Lacked, Ended, Undetected, steps_of}
 use Rattle.fabric_trace.specs.Known.{Seen}
 use Rattle.fabric_trace.specs.Fold.{edit_of, says, seen}
-use Rattle.fabric_trace.specs.Holds.{got, holds, numbered, HoldsCame}
+use Rattle.fabric_trace.specs.Holds.{got, holds, numbered_packets, HoldsCame}
 use Rattle.fabric_trace.specs.Frees.{frees_by}
 use Rattle.fabric_trace.specs.Parts.{Made}
 use Rattle.fabric_trace.specs.Runs.{bare, set_up_all, begins, start, Runs}
@@ -33,7 +33,7 @@ use Rattle.fabric_trace.proofs.Starting.{set_up_bare, legal, made, wires_fold, h
 use Rattle.fabric_trace.specs.Allowance.{allowance, FreesAllowed}
 use Rattle.fabric_trace.specs.Owned.{HasEvent, IsOwned, AreOwned}
 use Rattle.trace_check.specs.Wires.{are_short, wires_after}
-use Rattle.trace_check.specs.Checks.{freed, net_after, EditFits, OnWires, IsStep, HasCome, IsAllowed, MaySend, Passes, PassAll}
+use Rattle.trace_check.specs.Checks.{freed, net_after, EditFits, OnWires, LineIsStep, HoldHasCome, IsAllowed, SendMayBe, LinePasses, PassAll}
 use Rattle.fabric_trace.proofs.Allowing.{allowed_at, freed_is, heard_is}
 use Rattle.fabric_trace.proofs.Sending.{owned_at}
 use Rattle.fabric_trace.proofs.Shows.{runs_shown}
@@ -72,14 +72,14 @@ on_wires s links (Undetected number q e) behind same told stood each = tt
 -- ---- steps
 
 is_step : (net end : Network) (before behind : List TraceLine) (line : TraceLine) → LegalFrom net
-    (steps_of (before ++ line ∷ behind)) end → IsStep (net_after net before) line
+    (steps_of (before ++ line ∷ behind)) end → LineIsStep (net_after net before) line
 is_step net end before behind line legal = by_line line
     (legal_parts net (steps_of before) (steps_of (line ∷ behind)) end
     (subst (λ (l : List Step). LegalFrom net l end) (steps_of-append before
     (line ∷ behind)) legal)).1
   where
     by_line : (line : TraceLine) → LegalFrom (net_after net before) (steps_of (line ∷ behind)) end
-        → IsStep (net_after net before) line
+        → LineIsStep (net_after net before) line
     by_line (Begun line) legal = tt
     by_line (Stepped step) legal = legal.0
     by_line (Signed sign) legal = tt
@@ -90,7 +90,7 @@ is_step net end before behind line legal = by_line line
 -- ---- holds
 
 hold_came : (before : List TraceLine) (q : PortRef) (packet : List ℕ) → HoldsCame q
-    (before ++ Stepped (Linked (Hold q packet)) ∷ []) → HasCome before
+    (before ++ Stepped (Linked (Hold q packet)) ∷ []) → HoldHasCome before
     (Stepped (Linked (Hold q packet)))
 hold_came before q packet came =
     let line = Stepped (Linked (Hold q packet)) in
@@ -100,20 +100,21 @@ hold_came before q packet came =
     (same_port-refl q) in
     let has : holds q (before ++ line ∷ []) ≡ holds q before ++ packet ∷ [] = holds-append q before
     (line ∷ []) ∙ ap (λ (l : List (List ℕ)). holds q before ++ l) one in
-    let all : numbered 0 (holds q (before ++ line ∷ [])) ≡ numbered 0 (holds q before) ++ Pkt
+    let all : numbered_packets 0 (holds q (before ++ line ∷ []))
+    ≡ numbered_packets 0 (holds q before) ++ Pkt
     (length (holds q before) % 32) packet ∷ [] =
-    ap (numbered 0) has ∙ numbered-append 0 (length (holds q before)) (holds q before)
+    ap (numbered_packets 0) has ∙ numbered-append 0 (length (holds q before)) (holds q before)
     (packet ∷ []) (omega arith) in
-    let there : IsSubsequence (numbered 0 (holds q before) ++ Pkt
+    let there : IsSubsequence (numbered_packets 0 (holds q before) ++ Pkt
     (length (holds q before) % 32) packet ∷ []) (says (got q before)) =
     subst (λ (l : List Event). IsSubsequence l (says (got q before))) all
-    (subst (λ (l : List Char). IsSubsequence (numbered 0 (holds q (before ++ line ∷ [])))
+    (subst (λ (l : List Char). IsSubsequence (numbered_packets 0 (holds q (before ++ line ∷ [])))
     (says l)) gets came) in
-    subst IsSome (all_then (numbered 0 (holds q before)) (says (got q before))
+    subst IsSome (all_then (numbered_packets 0 (holds q before)) (says (got q before))
     (Pkt (length (holds q before) % 32) packet)) (finds_all there)
 
 has_come : (before behind : List TraceLine) (line : TraceLine) →
-    ((q : PortRef) → HoldsCame q (before ++ line ∷ [])) → HasCome before line
+    ((q : PortRef) → HoldsCame q (before ++ line ∷ [])) → HoldHasCome before line
 has_come before behind (Begun line) came = tt
 has_come before behind (Stepped (Linked (Hold q packet))) came = hold_came before q packet (came q)
 has_come before behind (Stepped (Linked (Free p packet))) came = tt
@@ -156,7 +157,7 @@ is_allowed before behind (Undetected number q e) all = tt
 -- ---- packets that are sent
 
 may_send : (s : Seen) (net : Network) (line : TraceLine) → s.network ≡ net → IsOwned s line
-    → MaySend net line
+    → SendMayBe net line
 may_send s net (Begun line) same each = tt
 may_send s net (Stepped step) same each = tt
 may_send s net (Signed (Sent p chars)) same each = subst
@@ -173,7 +174,7 @@ line_passes : (net : Network) (before behind : List TraceLine) (line : TraceLine
     → Made (begins net) (before ++ line ∷ behind) → EditsTold (begins net) (before ++ line ∷ behind)
     → AreOwned (begins net) (before ++ line ∷ behind)
     → ((p : PortRef) → FreesAllowed p [] 0 (before ++ line ∷ behind))
-    → Passes net before line behind
+    → LinePasses net before line behind
 line_passes net before behind line is all told owned allowed =
     let s0 = begins net in
     let s = seen s0 before in

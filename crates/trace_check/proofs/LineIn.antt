@@ -11,9 +11,9 @@ use Rattle.fabric_trace.specs.Lines.{Begun, Ended, Fired, Got, Lacked, Sent, Sig
 use Rattle.trace_check.specs.Networks.{IsStepOf}
 use Rattle.trace_check.specs.States.{IsEditIn, IsLineIn}
 use Rattle.trace_check.specs.Tables.{IsIn}
-use Rattle.trace_check.specs.Words.{IsPortOf, LineFits, StepFits}
+use Rattle.trace_check.specs.Words.{IsScriptPort, LineFits, StepFits}
 
-port_in : (known : Known) (p : PortRef) → IsPortOf known p → IsIn (length known.names) p
+port_in : (known : Known) (p : PortRef) → IsScriptPort known p → IsIn (length known.names) p
 port_in known p is = record { node = is.0; port = is.1 }
 
 edit_in : (known : Known) (new : List ℕ) (line : Line) → MayBe known new line

@@ -7,7 +7,7 @@ use Rattle.fabric_model.specs.Steps.{Hold, Free, Take, Leave, Move, Drop, Answer
 use Rattle.fabric_trace.specs.Lines.{Full, Empty, Short, Early, NoStep, Sent, Got, Fired, TraceLine, Begun, Stepped, Signed, Lacked, Ended, Undetected}
 use Rattle.trace_check.specs.declared.keywords.Keyword.{Keyword}
 use Rattle.trace_check.specs.declared.keywords.Keyword.TheVariants as K
-use Rattle.trace_check.specs.Keywords.{keyword_text, keyword_of, words_behind}
+use Rattle.trace_check.specs.Keywords.{keyword_text, trace_keyword_of, words_behind}
 use Rattle.trace_check.specs.Words.{trace_words}
 
 all_keywords : List Keyword
@@ -42,7 +42,7 @@ keyword_with_sum-text K.End = refl
 keyword_with_sum-text K.Undetected = refl
 
 pub head_is : (names : List (List ℕ)) (line : TraceLine) → trace_words names line ≡ keyword_text
-    (keyword_of line) ∷ words_behind names line
+    (trace_keyword_of line) ∷ words_behind names line
 head_is names (Begun line) = refl
 head_is names (Stepped (Linked (Hold q packet))) = refl
 head_is names (Stepped (Linked (Free q packet))) = refl
@@ -63,17 +63,18 @@ head_is names Ended = refl
 head_is names (Undetected number q e) = refl
 
 pub same_keyword : (names : List (List ℕ)) (a b : TraceLine) → trace_words names a
-    ≡ trace_words names b → keyword_of a ≡ keyword_of b
+    ≡ trace_words names b → trace_keyword_of a ≡ trace_keyword_of b
 same_keyword names a b is =
-    let words : keyword_text (keyword_of a) ∷ words_behind names a ≡ keyword_text (keyword_of b)
+    let words : keyword_text (trace_keyword_of a) ∷ words_behind names a
+    ≡ keyword_text (trace_keyword_of b)
     ∷ words_behind names b = sym (head_is names a) ∙ is ∙ head_is names b in
-    let heads : keyword_text (keyword_of a) ≡ keyword_text (keyword_of b) = cc in
-    sym (keyword_with_sum-text (keyword_of a)) ∙ ap (λ w. keyword_with_sum
-    (sum w) all_keywords) heads ∙ keyword_with_sum-text (keyword_of b)
+    let heads : keyword_text (trace_keyword_of a) ≡ keyword_text (trace_keyword_of b) = cc in
+    sym (keyword_with_sum-text (trace_keyword_of a)) ∙ ap (λ w. keyword_with_sum
+    (sum w) all_keywords) heads ∙ keyword_with_sum-text (trace_keyword_of b)
 
 -- ---- what a keyword says of the line
 
-pub begun_of : (b : TraceLine) → K.Begun ≡ keyword_of b → (line : Line) × (b ≡ Begun line)
+pub begun_of : (b : TraceLine) → K.Begun ≡ trace_keyword_of b → (line : Line) × (b ≡ Begun line)
 begun_of (Begun line) is = (line, refl)
 begun_of (Stepped (Linked (Hold q packet))) is = absurd cc
 begun_of (Stepped (Linked (Free q packet))) is = absurd cc
@@ -93,7 +94,8 @@ begun_of (Lacked NoStep) is = absurd cc
 begun_of Ended is = absurd cc
 begun_of (Undetected number q e) is = absurd cc
 
-pub undetected_of : (b : TraceLine) → K.Undetected ≡ keyword_of b → (number : ℕ) × (q : PortRef) ×
+pub undetected_of : (b : TraceLine) → K.Undetected ≡ trace_keyword_of b → (number : ℕ)
+    × (q : PortRef) ×
     (e : Event) × (b ≡ Undetected number q e)
 undetected_of (Begun line) is = absurd cc
 undetected_of (Stepped (Linked (Hold q packet))) is = absurd cc

@@ -13,7 +13,7 @@ use Rattle.fabric_trace.specs.Views.{lists_in, packets_in}
 use Rattle.fabric_trace.proofs.Lanes.{behind_is, first_is, lane_at, lane_other, lent_other, lent_own, lists_set, of_prio_is, packets-append}
 use Rattle.trace_check.specs.declared.network.Network.{Network as Kept}
 use Rattle.trace_check.specs.Networks.{MakesIt}
-use Rattle.trace_check.specs.Tables.{IsIn, IsTable, place_of}
+use Rattle.trace_check.specs.Tables.{IsIn, IsTable, table_place}
 use Rattle.trace_check.proofs.TableLaws.{table_set}
 
 first_back : (items : List Item) (packet : List ℕ) → first_packet items ≡ Some packet
@@ -39,7 +39,7 @@ module _ (nodes : ℕ) where
 
   lanes_set : (lanes : Lanes) (list : List (List (List (List ℕ)))) (p : PortRef) (i r : ℕ)
       (after : List (List (List ℕ))) (items : List Item) → AreLanes lanes list → IsIn nodes p
-      → i ≡ place_of p → r < 4 → after ≡ slice_set (lists_in (lanes p)) r (packets_in items)
+      → i ≡ table_place p → r < 4 → after ≡ slice_set (lists_in (lanes p)) r (packets_in items)
       → AreLanes (with_lane lanes p r items) (slice_set list i after)
   lanes_set lanes list p i r after items table is_in here few same =
       table_set nodes (λ q lists. lists ≡ lists_in (lanes q))
@@ -48,7 +48,7 @@ module _ (nodes : ℕ) where
       (λ q lists other has. has ∙ ap lists_in (sym (lane_other lanes p r items q other)))
 
   pub lanes_taken : (lanes : Lanes) (list : List (List (List (List ℕ)))) (p : PortRef) (i r : ℕ)
-      (before after : List (List (List ℕ))) → AreLanes lanes list → IsIn nodes p → i ≡ place_of p
+      (before after : List (List (List ℕ))) → AreLanes lanes list → IsIn nodes p → i ≡ table_place p
       → r < 4 → before ≡ lists_in (lanes p) → after ≡ popped before r
       → AreLanes (with_lane lanes p r (behind_first (lanes p r))) (slice_set list i after)
   lanes_taken lanes list p i r before after table is_in here few was taken =
@@ -60,7 +60,7 @@ module _ (nodes : ℕ) where
 
   pub lanes_put : (lanes : Lanes) (list : List (List (List (List ℕ)))) (p : PortRef) (i r : ℕ)
       (before after : List (List (List ℕ))) (packet : List ℕ) (items : List Item)
-      → AreLanes lanes list → IsIn nodes p → i ≡ place_of p → r < 4 → before ≡ lists_in (lanes p)
+      → AreLanes lanes list → IsIn nodes p → i ≡ table_place p → r < 4 → before ≡ lists_in (lanes p)
       → after ≡ appended before r packet → packets_in items ≡ packet ∷ []
       → AreLanes (with_lane lanes p r (lanes p r ++ items)) (slice_set list i after)
   lanes_put lanes list p i r before after packet items table is_in here few was put one =
@@ -75,7 +75,7 @@ module _ (nodes : ℕ) where
   pub lent_set : {Q : Type 0} (lent : PortRef → List Item) (list : List Q)
       (items_of : Q → List (List ℕ)) (p : PortRef) (i : ℕ) (after : Q) (items : List Item)
       → IsTable nodes (λ q queue. items_of queue ≡ packets_in (lent q)) list → IsIn nodes p
-      → i ≡ place_of p → items_of after ≡ packets_in items
+      → i ≡ table_place p → items_of after ≡ packets_in items
       → IsTable nodes (λ q queue. items_of queue ≡ packets_in (with_lent lent p items q))
       (slice_set list i after)
   lent_set lent list items_of p i after items table is_in here same =

@@ -4,7 +4,7 @@ use Rattle.std.specs.List.{AllByRecursion}
 use Rattle.rio_chars.specs.declared.chars.Char.{Char}
 use Rattle.trace_check.specs.declared.hearing.Hearing.{Hearing}
 use Rattle.trace_check.specs.Running.{new_run, run_of}
-use Rattle.trace_check.specs.Tables.{IsTable, place_of}
+use Rattle.trace_check.specs.Tables.{IsTable, table_place}
 
 -- so many wires are empty, and so many ports have got nothing
 pub record AreNew (n : ℕ) (wires : List (List Char)) (hearings : List Hearing) : Type 0 where
@@ -38,7 +38,7 @@ module _ {A : Type 0} (Is : A → Type 0) where
       → AllByRecursion Is list → IsTable nodes (λ p x. Is x) list
   all_table nodes list size all = record {
     size = size;
-    at = λ p x is_in there. all_at list (place_of p) x all there;
+    at = λ p x is_in there. all_at list (table_place p) x all there;
   }
 
 pub one_new : (n : ℕ) (wires wires' : List (List Char)) (hearings hearings' : List Hearing)

@@ -4,8 +4,8 @@ use Rattle.std.proofs.lemmas.List.{append-nil}
 use Rattle.fabric_script.specs.Known.{Known, IsOrderly}
 use Rattle.fabric_model.specs.Network.{Network}
 use Rattle.fabric_trace.specs.Lines.{TraceLine, steps_of}
-use Rattle.trace_check.specs.Checks.{Passes}
-use Rattle.trace_check.specs.Lawful.{as_behind, Behind, Fault, fault_number, Hits, HitsNext, is_last, IsLawful, IsUnlawful, NoForm, PassFront, SpellAll, SpellFront, Stands}
+use Rattle.trace_check.specs.Checks.{LinePasses}
+use Rattle.trace_check.specs.Lawful.{as_behind, BehindLast, Fault, fault_number, HitsLine, HitsNext, is_last, IsLawful, IsUnlawful, SpellsNone, PassFront, SpellAll, SpellFront, Spares}
 use Rattle.trace_check.specs.Wires.{are_short}
 use Rattle.trace_check.specs.Words.{SpellsLine}
 use Rattle.trace_check.proofs.Behind.{text_short}
@@ -57,9 +57,9 @@ module _ (known : Known) (net : Network) (before : List TraceLine) (orderly : Is
   not_failed : (text : List ℕ) (line other : TraceLine) (one : List TraceLine)
       (texts : List (List ℕ)) (fault : Fault) → SpellsLine known text line
       → SpellsLine known text other → are_short one ≡ are_short (as_behind texts)
-      → Passes net before line one → (Stands net before other (as_behind texts) fault → ⊥) → ⊥
+      → LinePasses net before line one → (Spares net before other (as_behind texts) fault → ⊥) → ⊥
   not_failed text line other one texts fault spelled spells short passes fails =
-      fails (subst (λ l. Stands net before l (as_behind texts) fault)
+      fails (subst (λ l. Spares net before l (as_behind texts) fault)
       (same_line known text line other orderly spelled spells)
       (stands net before line one (as_behind texts) fault short passes))
 
@@ -67,71 +67,74 @@ module _ (known : Known) (net : Network) (before : List TraceLine) (orderly : Is
   pub not_over : (text : List ℕ) (texts : List (List ℕ)) (line : TraceLine)
       (behind : List TraceLine) (place reason : ℕ) → SpellsLine known text line
       → is_last line ≡ false → are_short behind ≡ are_short (as_behind texts)
-      → Passes net before line behind → HitsNext known net before (text ∷ texts) place reason → ⊥
-  not_over text [] line behind place reason spelled goes short passes (NoForm none) =
+      → LinePasses net before line behind → HitsNext known net before (text ∷ texts) place reason
+      → ⊥
+  not_over text [] line behind place reason spelled goes short passes (SpellsNone none) =
       none line spelled
   not_over text [] line behind place reason spelled goes short passes
-      (Hits other fault spells fails less) =
+      (HitsLine other fault spells fails less) =
       not_failed text line other behind [] fault spelled spells short passes fails
-  not_over text (next ∷ texts) line behind place reason spelled goes short passes (NoForm none) =
+  not_over text (next ∷ texts) line behind place reason spelled goes short passes (SpellsNone none)
+      =
       none line spelled
   not_over text (next ∷ texts) line behind place reason spelled goes short passes
-      (Behind other spells last passes_too) =
+      (BehindLast other spells last passes_too) =
       absurd (cc (ap is_last (same_line known text line other orderly spelled spells), goes, last))
   not_over text (next ∷ texts) line behind place reason spelled goes short passes
-      (Hits other fault spells fails less) =
+      (HitsLine other fault spells fails less) =
       not_failed text line other behind (next ∷ texts) fault spelled spells short passes fails
 
   -- two faults of one text
   faults_once : (text : List ℕ) (texts : List (List ℕ)) (line other : TraceLine) (a b : Fault)
       → SpellsLine known text line → SpellsLine known text other
-      → (Stands net before line (as_behind texts) a → ⊥)
-      → (Stands net before other (as_behind texts) b → ⊥)
+      → (Spares net before line (as_behind texts) a → ⊥)
+      → (Spares net before other (as_behind texts) b → ⊥)
       → ((f : Fault) → fault_number f < fault_number a
-      → Stands net before line (as_behind texts) f)
+      → Spares net before line (as_behind texts) f)
       → ((f : Fault) → fault_number f < fault_number b
-      → Stands net before other (as_behind texts) f)
+      → Spares net before other (as_behind texts) f)
       → fault_number a ≡ fault_number b
   faults_once text texts line other a b spelled spells fails_a fails_b below_a below_b =
       let same = same_line known text other line orderly spells spelled in
-      fault_once (Stands net before line (as_behind texts)) a b fails_a
-      (subst (λ l. Stands net before l (as_behind texts) b → ⊥) same fails_b) below_a
+      fault_once (Spares net before line (as_behind texts)) a b fails_a
+      (subst (λ l. Spares net before l (as_behind texts) b → ⊥) same fails_b) below_a
       (subst (λ l. (f : Fault) → fault_number f < fault_number b
-      → Stands net before l (as_behind texts) f) same below_b)
+      → Spares net before l (as_behind texts) f) same below_b)
 
   hits_once : (texts : List (List ℕ)) (place reason place' reason' : ℕ)
       → HitsNext known net before texts place reason
       → HitsNext known net before texts place' reason' → (place ≡ place') × (reason ≡ reason')
-  hits_once [] p r p' r' (NoForm none) (NoForm none') = (refl, refl)
-  hits_once (text ∷ []) p r p' r' (NoForm none) (NoForm none') = (refl, refl)
-  hits_once (text ∷ []) p r p' r' (NoForm none) (Hits line b spells fails less) =
+  hits_once [] p r p' r' (SpellsNone none) (SpellsNone none') = (refl, refl)
+  hits_once (text ∷ []) p r p' r' (SpellsNone none) (SpellsNone none') = (refl, refl)
+  hits_once (text ∷ []) p r p' r' (SpellsNone none) (HitsLine line b spells fails less) =
       absurd (none line spells)
-  hits_once (text ∷ []) p r p' r' (Hits line a spelled fails less) (NoForm none) =
+  hits_once (text ∷ []) p r p' r' (HitsLine line a spelled fails less) (SpellsNone none) =
       absurd (none line spelled)
-  hits_once (text ∷ []) p r p' r' (Hits line a spelled fails less)
-      (Hits other b spells fails_too less_too) =
+  hits_once (text ∷ []) p r p' r' (HitsLine line a spelled fails less)
+      (HitsLine other b spells fails_too less_too) =
       (refl, faults_once text [] line other a b spelled spells fails fails_too less less_too)
-  hits_once (text ∷ next ∷ texts) p r p' r' (NoForm none) (NoForm none') = (refl, refl)
-  hits_once (text ∷ next ∷ texts) p r p' r' (NoForm none) (Behind line spells last passes) =
+  hits_once (text ∷ next ∷ texts) p r p' r' (SpellsNone none) (SpellsNone none') = (refl, refl)
+  hits_once (text ∷ next ∷ texts) p r p' r' (SpellsNone none) (BehindLast line spells last passes) =
       absurd (none line spells)
-  hits_once (text ∷ next ∷ texts) p r p' r' (NoForm none) (Hits line b spells fails less) =
+  hits_once (text ∷ next ∷ texts) p r p' r' (SpellsNone none) (HitsLine line b spells fails less) =
       absurd (none line spells)
-  hits_once (text ∷ next ∷ texts) p r p' r' (Behind line spelled last passes) (NoForm none) =
+  hits_once (text ∷ next ∷ texts) p r p' r' (BehindLast line spelled last passes) (SpellsNone none)
+      =
       absurd (none line spelled)
-  hits_once (text ∷ next ∷ texts) p r p' r' (Behind line spelled last passes)
-      (Behind other spells last_too passes_too) = (refl, refl)
-  hits_once (text ∷ next ∷ texts) p r p' r' (Behind line spelled last passes)
-      (Hits other b spells fails less) =
+  hits_once (text ∷ next ∷ texts) p r p' r' (BehindLast line spelled last passes)
+      (BehindLast other spells last_too passes_too) = (refl, refl)
+  hits_once (text ∷ next ∷ texts) p r p' r' (BehindLast line spelled last passes)
+      (HitsLine other b spells fails less) =
       absurd (not_failed text line other (as_behind (next ∷ texts)) (next ∷ texts) b spelled spells
       refl passes fails)
-  hits_once (text ∷ next ∷ texts) p r p' r' (Hits line a spelled fails less) (NoForm none) =
+  hits_once (text ∷ next ∷ texts) p r p' r' (HitsLine line a spelled fails less) (SpellsNone none) =
       absurd (none line spelled)
-  hits_once (text ∷ next ∷ texts) p r p' r' (Hits line a spelled fails less)
-      (Behind other spells last passes) =
+  hits_once (text ∷ next ∷ texts) p r p' r' (HitsLine line a spelled fails less)
+      (BehindLast other spells last passes) =
       absurd (not_failed text other line (as_behind (next ∷ texts)) (next ∷ texts) a spells spelled
       refl passes fails)
-  hits_once (text ∷ next ∷ texts) p r p' r' (Hits line a spelled fails less)
-      (Hits other b spells fails_too less_too) = (
+  hits_once (text ∷ next ∷ texts) p r p' r' (HitsLine line a spelled fails less)
+      (HitsLine other b spells fails_too less_too) = (
         refl,
         faults_once text (next ∷ texts) line other a b spelled spells fails fails_too less less_too,
       )

@@ -8,14 +8,14 @@ use Rattle.link_model.specs.declared.event.Event.TheVariants.{Ctl, Pkt, Bad}
 use Rattle.fabric_script.specs.declared.ports.PortRef.{PortRef}
 use Rattle.fabric_script.specs.declared.lines.Line.{Line}
 use Rattle.fabric_script.specs.Forms.{Port}
-use Rattle.fabric_script.specs.Texts.{Value, AtPort, port_text}
+use Rattle.fabric_script.specs.Texts.{Value, PortValue, port_text}
 use Rattle.fabric_script.specs.Lines.{new_name}
 use Rattle.fabric_script.specs.Known.{Known, IsOrderly}
 use Rattle.fabric_script.proofs.HexWords.{hex_text-injective}
 use Rattle.fabric_script.proofs.LineLaws.{same_said, same_value}
 use Rattle.fabric_model.specs.Steps.{Hold, Free, Take, Leave, Move, Drop, Answer, Linked, AtNode, ByDevice}
 use Rattle.fabric_trace.specs.Lines.{Full, Empty, Short, Early, NoStep, Sent, Got, Fired, TraceLine, Begun, Stepped, Signed, Lacked, Ended, Undetected}
-use Rattle.trace_check.specs.Keywords.{keyword_of, words_behind}
+use Rattle.trace_check.specs.Keywords.{trace_keyword_of, words_behind}
 use Rattle.trace_check.specs.Words.{event_words, trace_words, LineFits, EventFits}
 use Rattle.trace_check.proofs.LineKeywords.{same_keyword, begun_of, undetected_of}
 use Rattle.trace_check.proofs.PlainLines.{is_plain, port_in, hex_is, one_plain}
@@ -64,7 +64,7 @@ one_undetected known m n q r e f orderly u v rest =
     let number : m ≡ n = one_number m n (2 ^ 32) u.0 v.0 (omega arith) cc in
     let named : port_text known.names q ≡ port_text known.names r = cc in
     let port : q ≡ r = ap (λ (x : Value). port_in (Some x))
-    (same_value known Port (AtPort q) (AtPort r) orderly tt u.1 v.1 named) in
+    (same_value known Port (PortValue q) (PortValue r) orderly tt u.1 v.1 named) in
     let words : event_words e ≡ event_words f = cc in
     let event = one_event e f u.2 v.2 words in
     λ i. Undetected (number i) (port i) (event i)
@@ -73,16 +73,17 @@ one_undetected known m n q r e f orderly u v rest =
 
 pub one_line : (known : Known) (a b : TraceLine) → IsOrderly known → LineFits known a
     → LineFits known b → trace_words known.names a ≡ trace_words known.names b → a ≡ b
-one_line known a b orderly f g is = by_kind (is_plain (keyword_of a)) refl
+one_line known a b orderly f g is = by_kind (is_plain (trace_keyword_of a)) refl
   where
-    alike : keyword_of a ≡ keyword_of b
+    alike : trace_keyword_of a ≡ trace_keyword_of b
     alike = same_keyword known.names a b is
 
     rest : words_behind known.names a ≡ words_behind known.names b
     rest = ap (λ (l : List (List ℕ)). drop 1 l) is
 
-    other : (a : TraceLine) → is_plain (keyword_of a) ≡ false → LineFits known a → keyword_of a
-        ≡ keyword_of b → words_behind known.names a ≡ words_behind known.names b → a ≡ b
+    other : (a : TraceLine) → is_plain (trace_keyword_of a) ≡ false → LineFits known a
+        → trace_keyword_of a
+        ≡ trace_keyword_of b → words_behind known.names a ≡ words_behind known.names b → a ≡ b
     other (Begun line) odd f alike rest =
         let there = begun_of b alike in
         let same = one_begun known line there.0 orderly f (subst (LineFits known) there.1 g)
@@ -110,6 +111,6 @@ one_line known a b orderly f g is = by_kind (is_plain (keyword_of a)) refl
     other (Lacked NoStep) odd f alike rest = absurd cc
     other Ended odd f alike rest = absurd cc
 
-    by_kind : (plain : Bool) → is_plain (keyword_of a) ≡ plain → a ≡ b
+    by_kind : (plain : Bool) → is_plain (trace_keyword_of a) ≡ plain → a ≡ b
     by_kind true plain = one_plain known a b orderly f g alike plain rest
     by_kind false odd = other a odd f alike rest

@@ -10,33 +10,33 @@ use Rattle.rio_packets.specs.LinkForm.{Passes}
 use Rattle.fabric_script.specs.declared.ports.PortRef.{PortRef}
 use Rattle.fabric_script.specs.Names.{name_of}
 use Rattle.fabric_script.specs.Forms.{Field, Node, Port, Hex, Character}
-use Rattle.fabric_script.specs.Texts.{Value, AtNode, AtPort, Bytes, Code, value_text, hex_text, port_text}
+use Rattle.fabric_script.specs.Texts.{Value, NodeValue, PortValue, Bytes, Code, value_text, hex_text, port_text}
 use Rattle.fabric_script.specs.Known.{Known, IsOrderly}
-use Rattle.fabric_script.specs.Hits.{Fits, FitAll}
+use Rattle.fabric_script.specs.Hits.{FitsField, FitAll}
 use Rattle.fabric_script.proofs.LineLaws.{AreSmall, same_values}
 use Rattle.fabric_script.proofs.Joins.{AreVisible, visible_values}
 use Rattle.fabric_model.specs.Steps.{Hold, Free, Take, Leave, Move, Drop, Answer, Linked, AtNode, ByDevice}
 use Rattle.fabric_trace.specs.Lines.{Full, Empty, Short, Early, NoStep, Sent, Got, Fired, TraceLine, Begun, Stepped, Signed, Lacked, Ended, Undetected}
 use Rattle.trace_check.specs.declared.keywords.Keyword.{Keyword}
 use Rattle.trace_check.specs.declared.keywords.Keyword.TheVariants as K
-use Rattle.trace_check.specs.Keywords.{keyword_of, words_behind}
+use Rattle.trace_check.specs.Keywords.{trace_keyword_of, words_behind}
 use Rattle.trace_check.specs.Words.{LineFits}
 
 -- ---- the values
 
 abbrev pub values_of : TraceLine → List Value
 values_of (Begun line) = []
-values_of (Stepped (Linked (Hold q packet))) = AtPort q ∷ Bytes packet ∷ []
-values_of (Stepped (Linked (Free q packet))) = AtPort q ∷ Bytes packet ∷ []
-values_of (Stepped (AtNode (Take n packet))) = AtNode n ∷ Bytes packet ∷ []
-values_of (Stepped (AtNode (Leave n packet))) = AtNode n ∷ Bytes packet ∷ []
-values_of (Stepped (ByDevice (Move p q packet))) = AtPort p ∷ AtPort q ∷ Bytes packet ∷ []
-values_of (Stepped (ByDevice (Drop p packet))) = AtPort p ∷ Bytes packet ∷ []
-values_of (Stepped (ByDevice (Answer p packet response))) = AtPort p ∷ Bytes packet
+values_of (Stepped (Linked (Hold q packet))) = PortValue q ∷ Bytes packet ∷ []
+values_of (Stepped (Linked (Free q packet))) = PortValue q ∷ Bytes packet ∷ []
+values_of (Stepped (AtNode (Take n packet))) = NodeValue n ∷ Bytes packet ∷ []
+values_of (Stepped (AtNode (Leave n packet))) = NodeValue n ∷ Bytes packet ∷ []
+values_of (Stepped (ByDevice (Move p q packet))) = PortValue p ∷ PortValue q ∷ Bytes packet ∷ []
+values_of (Stepped (ByDevice (Drop p packet))) = PortValue p ∷ Bytes packet ∷ []
+values_of (Stepped (ByDevice (Answer p packet response))) = PortValue p ∷ Bytes packet
     ∷ Bytes response ∷ []
-values_of (Signed (Sent p chars)) = AtPort p ∷ map (λ c. Code c) chars
-values_of (Signed (Got q chars)) = AtPort q ∷ map (λ c. Code c) chars
-values_of (Signed (Fired p)) = AtPort p ∷ []
+values_of (Signed (Sent p chars)) = PortValue p ∷ map (λ c. Code c) chars
+values_of (Signed (Got q chars)) = PortValue q ∷ map (λ c. Code c) chars
+values_of (Signed (Fired p)) = PortValue p ∷ []
 values_of (Lacked lack) = []
 values_of Ended = []
 values_of (Undetected number q e) = []
@@ -101,14 +101,16 @@ unfolding characters
 chars_fit known [] all = tt
 chars_fit known (c ∷ chars) all = (all.0, chars_fit known chars all.1)
 
-port_chars_fit : (known : Known) (p : PortRef) (chars : List Char) → Fits known Port (AtPort p)
+port_chars_fit : (known : Known) (p : PortRef) (chars : List Char)
+    → FitsField known Port (PortValue p)
     → AllByRecursion HasByte chars → FitAll known (with_port
-    (length (AtPort p ∷ map (λ (c : Char). Code c) chars))) (AtPort p ∷ map (λ c. Code c) chars)
+    (length (PortValue p ∷ map (λ (c : Char). Code c) chars))) (PortValue p
+    ∷ map (λ c. Code c) chars)
 unfolding with_port
 port_chars_fit known p chars fits all = (fits, chars_fit known chars all)
 
 fit : (known : Known) (line : TraceLine) → LineFits known line → FitAll known
-    (fields_by (keyword_of line) (length (values_of line))) (values_of line)
+    (fields_by (trace_keyword_of line) (length (values_of line))) (values_of line)
 fit known (Begun line) f = tt
 fit known (Stepped (Linked (Hold q packet))) f = (f.0.0, (f.1.range, tt))
 fit known (Stepped (Linked (Free q packet))) f = (f.0.0, (f.1.range, tt))
@@ -144,7 +146,7 @@ is_plain K.Begun = false
 is_plain K.Undetected = false
 is_plain _ = true
 
-texts : (known : Known) (line : TraceLine) → LineFits known line → is_plain (keyword_of line)
+texts : (known : Known) (line : TraceLine) → LineFits known line → is_plain (trace_keyword_of line)
     ≡ true → map (value_text known.names) (values_of line) ≡ words_behind known.names line
 texts known (Begun line) f plain = absurd cc
 texts known (Stepped (Linked (Hold q packet))) f plain = ap (λ w. port_text known.names q ∷ w ∷ [])
@@ -177,11 +179,11 @@ texts known (Undetected number q e) f plain = absurd cc
 -- ---- a keyword and values make one line
 
 abbrev pub node_in : Option Value → ℕ
-node_in (Some (AtNode n)) = n
+node_in (Some (NodeValue n)) = n
 node_in _ = 0
 
 abbrev pub port_in : Option Value → PortRef
-port_in (Some (AtPort p)) = p
+port_in (Some (PortValue p)) = p
 port_in _ = record { node = 0; port = 0 }
 
 abbrev pub bytes_in : Option Value → List ℕ
@@ -217,7 +219,8 @@ chars_back : (chars : List Char) → chars_in (map (λ c. Code c) chars) ≡ cha
 chars_back [] = refl
 chars_back (c ∷ chars) = ap (λ (l : List Char). c ∷ l) (chars_back chars)
 
-pub made_is : (line : TraceLine) → is_plain (keyword_of line) ≡ true → made (keyword_of line)
+pub made_is : (line : TraceLine) → is_plain (trace_keyword_of line) ≡ true
+    → made (trace_keyword_of line)
     (values_of line) ≡ line
 made_is (Begun line) plain = absurd cc
 made_is (Signed (Sent p chars)) plain = ap (λ (l : List Char). Signed (Sent p l)) (chars_back chars)
@@ -239,27 +242,30 @@ made_is (Lacked NoStep) plain = refl
 made_is Ended plain = refl
 
 pub one_plain : (known : Known) (a b : TraceLine) → IsOrderly known → LineFits known a
-    → LineFits known b → keyword_of a ≡ keyword_of b → is_plain (keyword_of a) ≡ true
+    → LineFits known b → trace_keyword_of a ≡ trace_keyword_of b
+    → is_plain (trace_keyword_of a) ≡ true
     → words_behind known.names a ≡ words_behind known.names b → a ≡ b
 one_plain known a b orderly f g alike plain rest =
-    let plain_b : is_plain (keyword_of b) ≡ true = ap is_plain (sym alike) ∙ plain in
+    let plain_b : is_plain (trace_keyword_of b) ≡ true = ap is_plain (sym alike) ∙ plain in
     let words : map (value_text known.names) (values_of a) ≡ map (value_text known.names)
     (values_of b) = texts known a f plain ∙ rest ∙ sym (texts known b g plain_b) in
     let count : length (values_of b) ≡ length (values_of a) = sym
     (length-map (values_of b) (value_text known.names)) ∙ ap length (sym words) ∙ length-map
     (values_of a) (value_text known.names) in
-    let fields : fields_by (keyword_of b) (length (values_of b)) ≡ fields_by (keyword_of a)
+    let fields : fields_by (trace_keyword_of b) (length (values_of b))
+    ≡ fields_by (trace_keyword_of a)
     (length (values_of a)) = (λ i. fields_by (sym alike i) (count i)) in
-    let values = same_values known (fields_by (keyword_of a) (length (values_of a))) (values_of a)
-    (values_of b) orderly (small_by (keyword_of a) (length (values_of a))) (fit known a f)
+    let values = same_values known (fields_by (trace_keyword_of a) (length (values_of a)))
+    (values_of a)
+    (values_of b) orderly (small_by (trace_keyword_of a) (length (values_of a))) (fit known a f)
     (subst (λ (l : List Field). FitAll known l (values_of b)) fields (fit known b g)) words in
     sym (made_is a plain) ∙ (λ i. made (alike i) (values i)) ∙ made_is b plain_b
 
 -- ---- and their words are visible
 
 pub visible_plain : (known : Known) (line : TraceLine) → IsOrderly known → LineFits known line
-    → is_plain (keyword_of line) ≡ true → AreVisible (words_behind known.names line)
+    → is_plain (trace_keyword_of line) ≡ true → AreVisible (words_behind known.names line)
 visible_plain known line orderly f plain =
     subst AreVisible (texts known line f plain) (visible_values known
-    (fields_by (keyword_of line) (length (values_of line))) (values_of line) orderly
-    (small_by (keyword_of line) (length (values_of line))) (fit known line f))
+    (fields_by (trace_keyword_of line) (length (values_of line))) (values_of line) orderly
+    (small_by (trace_keyword_of line) (length (values_of line))) (fit known line f))

@@ -5,7 +5,7 @@ use Rattle.std.specs.Fmt.{decimal}
 use Rattle.link_model.specs.declared.event.Event.{Event}
 use Rattle.link_model.specs.declared.event.Event.TheVariants.{Ctl, Pkt, Bad}
 use Rattle.fabric_script.specs.Forms.{fields_of, Port, Number, Hex}
-use Rattle.fabric_script.specs.Texts.{AtPort, Counted, Bytes}
+use Rattle.fabric_script.specs.Texts.{PortValue, Counted, Bytes}
 use Rattle.fabric_script.specs.Lines.{new_name, words_of, form_of, values_of as script_values}
 use Rattle.fabric_script.specs.Known.{Known, IsOrderly}
 use Rattle.fabric_script.proofs.LineLaws.{small_fields}
@@ -16,7 +16,7 @@ use Rattle.fabric_model.specs.Steps.{Hold, Free, Take, Leave, Move, Drop, Answer
 use Rattle.fabric_trace.specs.Lines.{Full, Empty, Short, Early, NoStep, Sent, Got, Fired, TraceLine, Begun, Stepped, Signed, Lacked, Ended, Undetected}
 use Rattle.trace_check.specs.declared.keywords.Keyword.{Keyword}
 use Rattle.trace_check.specs.declared.keywords.Keyword.TheVariants as K
-use Rattle.trace_check.specs.Keywords.{keyword_text, keyword_of, words_behind}
+use Rattle.trace_check.specs.Keywords.{keyword_text, trace_keyword_of, words_behind}
 use Rattle.trace_check.specs.Words.{event_words, trace_words, LineFits, EventFits}
 use Rattle.trace_check.proofs.LineKeywords.{head_is}
 use Rattle.trace_check.proofs.PlainLines.{is_plain, hex_is, visible_plain}
@@ -76,9 +76,9 @@ visible_keywords K.Undetected = refl
 
 visible_rest : (known : Known) (line : TraceLine) → IsOrderly known → LineFits known line
     → AreVisible (words_behind known.names line)
-visible_rest known line orderly f = by_kind (is_plain (keyword_of line)) refl
+visible_rest known line orderly f = by_kind (is_plain (trace_keyword_of line)) refl
   where
-    odd_rest : (line : TraceLine) → is_plain (keyword_of line) ≡ false → LineFits known line
+    odd_rest : (line : TraceLine) → is_plain (trace_keyword_of line) ≡ false → LineFits known line
         → AreVisible (words_behind known.names line)
     odd_rest (Begun l) odd f = (
       visible_keyword (form_of l),
@@ -89,7 +89,7 @@ visible_rest known line orderly f = by_kind (is_plain (keyword_of line)) refl
     odd_rest (Undetected number q e) odd f =
         let less = f.0 in
         let front = visible_values known (Number 0 4294967295 ∷ Port ∷ [])
-        (Counted number ∷ AtPort q ∷ []) orderly (omega arith, (tt, tt))
+        (Counted number ∷ PortValue q ∷ []) orderly (omega arith, (tt, tt))
         ((omega arith, omega (arith, less)), (f.1, tt)) in
         (front.0, (front.1.0, visible_event known e orderly f.2))
     odd_rest (Stepped (Linked (Hold q packet))) odd f = absurd cc
@@ -109,7 +109,7 @@ visible_rest known line orderly f = by_kind (is_plain (keyword_of line)) refl
     odd_rest (Lacked NoStep) odd f = absurd cc
     odd_rest Ended odd f = absurd cc
 
-    by_kind : (plain : Bool) → is_plain (keyword_of line) ≡ plain → AreVisible
+    by_kind : (plain : Bool) → is_plain (trace_keyword_of line) ≡ plain → AreVisible
         (words_behind known.names line)
     by_kind true plain = visible_plain known line orderly f plain
     by_kind false odd = odd_rest line odd f
@@ -118,6 +118,6 @@ pub printed_words : (known : Known) (line : TraceLine) → IsOrderly known → L
     → words_of (trace_line_text known.names line) ≡ trace_words known.names line
 printed_words known line orderly f =
     ap words_of (text_join known.names line ∙ ap (join_with_byte 32) (head_is known.names line))
-    ∙ split_join (keyword_text (keyword_of line)) (words_behind known.names line)
-    (visible_keywords (keyword_of line)) (visible_rest known line orderly f)
+    ∙ split_join (keyword_text (trace_keyword_of line)) (words_behind known.names line)
+    (visible_keywords (trace_keyword_of line)) (visible_rest known line orderly f)
     ∙ sym (head_is known.names line)

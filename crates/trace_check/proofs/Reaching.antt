@@ -10,11 +10,11 @@ use Rattle.fabric_trace.specs.Holds.{got}
 use Rattle.fabric_trace.specs.Lines.{Begun, Ended, Lacked, Signed, Stepped, steps_of, TraceLine, Undetected}
 use Rattle.fabric_trace.specs.Wires.{WireChars}
 use Rattle.fabric_trace.proofs.Keeping.{steps_of-append}
-use Rattle.trace_check.specs.Checks.{freed, HasCome, IsAllowed, IsStep, MaySend, net_after, OnWires, Passes}
-use Rattle.trace_check.specs.Lawful.{Fault, NoStep, NotAllowed, NotCome, NotThere, OffWire, Stands}
-use Rattle.trace_check.specs.Reaches.{IsRun, Reaches}
+use Rattle.trace_check.specs.Checks.{freed, HoldHasCome, IsAllowed, LineIsStep, SendMayBe, net_after, OnWires, LinePasses}
+use Rattle.trace_check.specs.Lawful.{Fault, NoSuchStep, NotAllowed, NotCome, NotThere, OffWire, Spares}
+use Rattle.trace_check.specs.Reaches.{IsPortRun, Reaches}
 use Rattle.trace_check.specs.Running.{MayFree, MayHold, PortRun}
-use Rattle.trace_check.specs.States.{FreeMayBe, HoldMayBe, reached_after, Reached, StandsAt, unreached}
+use Rattle.trace_check.specs.States.{FreeMayBe, HoldMayBe, reached_after, ReachedState, SparesAt, unreached}
 use Rattle.trace_check.specs.Wires.{are_short, told_wires}
 use Rattle.trace_check.proofs.Behind.{wires_on}
 use Rattle.trace_check.proofs.Exclusive.{wires_alike}
@@ -31,7 +31,8 @@ start_behind nodes net behind = record {
 }
 
 -- what stands behind the lines counts by the first of it alone
-pub other_behind : (nodes : ℕ) (net : Network) (before one other : List TraceLine) (r : Reached)
+pub other_behind : (nodes : ℕ) (net : Network) (before one other : List TraceLine)
+    (r : ReachedState)
     → are_short one ≡ are_short other → Reaches nodes net before one r
     → Reaches nodes net before other r
 other_behind nodes net before one other r same is = record {
@@ -63,7 +64,7 @@ holds_fit p runs Ended may = tt
 holds_fit p runs (Undetected number q e) may = tt
 
 pub on_behind : (nodes : ℕ) (net : Network) (before behind : List TraceLine) (line : TraceLine)
-    (r : Reached) → HoldMayBe r.runs line → Reaches nodes net before (line ∷ behind) r
+    (r : ReachedState) → HoldMayBe r.runs line → Reaches nodes net before (line ∷ behind) r
     → Reaches nodes net (before ++ line ∷ []) behind (reached_after r line (are_short behind))
 on_behind nodes net before behind line r may is = record {
   nodes_are = is.nodes_are;
@@ -79,8 +80,9 @@ on_behind nodes net before behind line r may is = record {
 -- ---- what is asked of what is reached is what is asked of the lines before
 
 has_come : (before : List TraceLine) (runs : PortRef → PortRun) (line : TraceLine)
-    → ((p : PortRef) → IsRun p before (runs p))
-    → (HoldMayBe runs line → HasCome before line) × (HasCome before line → HoldMayBe runs line)
+    → ((p : PortRef) → IsPortRun p before (runs p))
+    → (HoldMayBe runs line → HoldHasCome before line)
+    × (HoldHasCome before line → HoldMayBe runs line)
 has_come before runs (Begun line) are = (λ x. tt, λ x. tt)
 has_come before runs (Stepped (Linked (Hold q packet))) are =
     may_hold q before (runs q) packet (are q)
@@ -92,7 +94,7 @@ has_come before runs (Lacked lack) are = (λ x. tt, λ x. tt)
 has_come before runs Ended are = (λ x. tt, λ x. tt)
 has_come before runs (Undetected number q e) are = (λ x. tt, λ x. tt)
 
-may_free : (p : PortRef) (before : List TraceLine) (run : PortRun) → IsRun p before run
+may_free : (p : PortRef) (before : List TraceLine) (run : PortRun) → IsPortRun p before run
     → (MayFree run → freed p before < allowance (got p before))
     × (freed p before < allowance (got p before) → MayFree run)
 may_free p before run is =
@@ -103,7 +105,7 @@ may_free p before run is =
     )
 
 is_allowed : (before : List TraceLine) (runs : PortRef → PortRun) (line : TraceLine)
-    → ((p : PortRef) → IsRun p before (runs p))
+    → ((p : PortRef) → IsPortRun p before (runs p))
     → (FreeMayBe runs line → IsAllowed before line) × (IsAllowed before line → FreeMayBe runs line)
 is_allowed before runs (Begun line) are = (λ x. tt, λ x. tt)
 is_allowed before runs (Stepped (Linked (Hold q packet))) are = (λ x. tt, λ x. tt)
@@ -117,33 +119,33 @@ is_allowed before runs Ended are = (λ x. tt, λ x. tt)
 is_allowed before runs (Undetected number q e) are = (λ x. tt, λ x. tt)
 
 module _ (nodes : ℕ) (net : Network) (before behind : List TraceLine) (line : TraceLine)
-    (r : Reached) (is : Reaches nodes net before (line ∷ behind) r) where
-  pub stands_so : (fault : Fault) → StandsAt r line (are_short behind) fault
-      → Stands net before line behind fault
+    (r : ReachedState) (is : Reaches nodes net before (line ∷ behind) r) where
+  pub stands_so : (fault : Fault) → SparesAt r line (are_short behind) fault
+      → Spares net before line behind fault
   stands_so OffWire on =
       subst (λ (w : WireChars). OnWires net.links w line (are_short behind)) is.wires_are
       (subst (λ l. OnWires l r.wires line (are_short behind)) is.links_are on)
-  stands_so NoStep needs = subst (λ (n : Network). IsStep n line) is.net_is needs
+  stands_so NoSuchStep needs = subst (λ (n : Network). LineIsStep n line) is.net_is needs
   stands_so NotCome may = (has_come before r.runs line is.runs_are).0 may
   stands_so NotAllowed may = (is_allowed before r.runs line is.runs_are).0 may
-  stands_so NotThere may = subst (λ (n : Network). MaySend n line) is.net_is may
+  stands_so NotThere may = subst (λ (n : Network). SendMayBe n line) is.net_is may
 
-  pub stands_by : (fault : Fault) → Stands net before line behind fault
-      → StandsAt r line (are_short behind) fault
+  pub stands_by : (fault : Fault) → Spares net before line behind fault
+      → SparesAt r line (are_short behind) fault
   stands_by OffWire on =
       subst (λ l. OnWires l r.wires line (are_short behind)) (sym is.links_are)
       (subst (λ (w : WireChars). OnWires net.links w line (are_short behind)) (sym is.wires_are) on)
-  stands_by NoStep needs = subst (λ (n : Network). IsStep n line) (sym is.net_is) needs
+  stands_by NoSuchStep needs = subst (λ (n : Network). LineIsStep n line) (sym is.net_is) needs
   stands_by NotCome came = (has_come before r.runs line is.runs_are).1 came
   stands_by NotAllowed allowed = (is_allowed before r.runs line is.runs_are).1 allowed
-  stands_by NotThere may = subst (λ (n : Network). MaySend n line) (sym is.net_is) may
+  stands_by NotThere may = subst (λ (n : Network). SendMayBe n line) (sym is.net_is) may
 
   -- where all stand the line passes
-  pub passes_so : ((fault : Fault) → StandsAt r line (are_short behind) fault)
-      → Passes net before line behind
+  pub passes_so : ((fault : Fault) → SparesAt r line (are_short behind) fault)
+      → LinePasses net before line behind
   passes_so all = record {
     wires = stands_so OffWire (all OffWire);
-    step = stands_so NoStep (all NoStep);
+    step = stands_so NoSuchStep (all NoSuchStep);
     came = stands_so NotCome (all NotCome);
     allowed = stands_so NotAllowed (all NotAllowed);
     sends = stands_so NotThere (all NotThere);

@@ -12,7 +12,7 @@ use Rattle.fabric_script.specs.Known.{Known}
 use Rattle.fabric_script.specs.Lines.{is_event, line_words, new_name, words_of}
 use Rattle.fabric_script.specs.Reading.{MayBe, Spells, new_name_in}
 use Rattle.fabric_script.specs.Refusals.{out_of_place_in}
-use Rattle.fabric_script.specs.SetUps.{IsReady}
+use Rattle.fabric_script.specs.SetUps.{KnownIsReady}
 use Rattle.fabric_trace.specs.Lines.{Begun}
 use Rattle.trace_check.specs.Keywords.{SpellsBehind}
 use Rattle.trace_check.specs.declared.keywords.Keyword.TheVariants as K
@@ -58,7 +58,7 @@ named known text (Switch name ports) event = absurd cc
 named known text _ event = refl
 
 -- an event line that a text spells stands behind the keyword
-pub begun_spelled : (known : Known) (text : List ℕ) (line : Line) → IsReady known
+pub begun_spelled : (known : Known) (text : List ℕ) (line : Line) → KnownIsReady known
     → Spells known text line → SpellsBehind known K.Begun (words_of text) (Begun line)
 begun_spelled known text line ready spells =
     let event : not (is_event line) ≡ false

@@ -7,7 +7,7 @@ use Rattle.maint_registers.specs.Devices.{new_endpoint, new_switch}
 use Rattle.fabric_script.specs.Known.{Known, known_after, names_after, nothing}
 use Rattle.fabric_script.specs.Lines.{new_name}
 use Rattle.fabric_script.specs.Reading.{MayBe}
-use Rattle.fabric_script.specs.Scripts.{Passes, PassesFrom}
+use Rattle.fabric_script.specs.Scripts.{ScriptPasses, PassesFrom}
 use Rattle.fabric_script.specs.declared.lines.Line.{Line}
 use Rattle.fabric_script.specs.declared.lines.Line.TheVariants.{Endpoint, Switch, Link, Buffers, Route, Default, Lock, Large, Credits}
 use Rattle.fabric_script.specs.declared.lines.Numbered.{Numbered}
@@ -20,8 +20,8 @@ use Rattle.fabric_trace.specs.Settings.{defaulted, held_by, large_set, linked_at
 use Rattle.fabric_trace.specs.SetUps.{MaySetUpAll}
 use Rattle.fabric_trace.proofs.Happening.{may_set_up}
 use Rattle.fabric_trace.proofs.SettingUp.{set_up_all-append, lines_at}
-use Rattle.trace_check.specs.Starting.{AreEnds, ArePortsIn, MayAdd}
-use Rattle.trace_check.specs.Tables.{IsIn, IsTable, place_of}
+use Rattle.trace_check.specs.Starting.{AreEnds, ArePortsIn, MayStandBehind}
+use Rattle.trace_check.specs.Tables.{IsIn, IsTable, table_place}
 use Rattle.trace_check.proofs.TableLaws.{place_within, table_set}
 
 -- ---- one node more
@@ -41,24 +41,24 @@ module _ {A : Type 0} (nodes : ℕ) where
       is_old p is_in = let within = is_in.node in grind (arith, within)
 
       at_port : (p : PortRef) (y : A) → IsIn (nodes + 1) p
-          → slice_get (list ++ replicate 16 x) (place_of p) ≡ Some y
+          → slice_get (list ++ replicate 16 x) (table_place p) ≡ Some y
           → (p.node < nodes) ⊎ (p.node ≡ nodes) → More p y
       at_port p y is_in there (inl low) =
           let old : IsIn nodes p = record { node = low; port = is_in.port } in
           let within = place_within nodes p old in
           let size = table.size in
-          let less : place_of p < length list = omega (arith, within, size) in
-          let read : get_or list (place_of p) y ≡ y
-          = sym (get_or_append_left list (replicate 16 x) y (place_of p) less)
-          ∙ get_or_from_slice_get (list ++ replicate 16 x) (place_of p) y y there in
+          let less : table_place p < length list = omega (arith, within, size) in
+          let read : get_or list (table_place p) y ≡ y
+          = sym (get_or_append_left list (replicate 16 x) y (table_place p) less)
+          ∙ get_or_from_slice_get (list ++ replicate 16 x) (table_place p) y y there in
           kept p y old (table.at p y old
-          (slice_get_read list (length list) (place_of p) y refl less (sym read)))
+          (slice_get_read list (length list) (table_place p) y refl less (sym read)))
       at_port p y is_in there (inr last) =
           let size = table.size in
-          let place : place_of p ≡ length list + p.port = omega (arith, last, size) in
+          let place : table_place p ≡ length list + p.port = omega (arith, last, size) in
           let read : get_or (list ++ replicate 16 x) (length list + p.port) y ≡ y
           = ap (λ i. get_or (list ++ replicate 16 x) i y) (sym place)
-          ∙ get_or_from_slice_get (list ++ replicate 16 x) (place_of p) y y there in
+          ∙ get_or_from_slice_get (list ++ replicate 16 x) (table_place p) y y there in
           let own : x ≡ y = sym (get_or-replicate 16 p.port x y is_in.port)
           ∙ sym (get_or-append-add list (replicate 16 x) p.port y) ∙ read in
           subst (More p) own (new p last)
@@ -69,12 +69,12 @@ module _ {A B : Type 0} (nodes : ℕ) (view : A → B) (Has : PortRef → B → 
       → IsTable nodes Has (map view list)
   table_shown list table = record {
     size = length-map list view ∙ table.size;
-    at = λ p y is_in there. by_item p y is_in (slice_get list (place_of p)) refl
-        (sym (slice_get-map view list (place_of p)) ∙ there);
+    at = λ p y is_in there. by_item p y is_in (slice_get list (table_place p)) refl
+        (sym (slice_get-map view list (table_place p)) ∙ there);
   }
     where
       by_item : (p : PortRef) (y : B) → IsIn nodes p → (o : Option A)
-          → slice_get list (place_of p) ≡ o → option_map view o ≡ Some y → Has p y
+          → slice_get list (table_place p) ≡ o → option_map view o ≡ Some y → Has p y
       by_item p y is_in None there shown = absurd cc
       by_item p y is_in (Some x) there shown =
           let same : view x ≡ y = cc in subst (Has p) same (table.at p x is_in there)
@@ -84,7 +84,7 @@ module _ {A B : Type 0} (nodes : ℕ) (view : A → B) (Has : PortRef → B → 
   table_behind list table = record {
     size = sym (length-map list view) ∙ table.size;
     at = λ p x is_in there. table.at p (view x) is_in
-        (slice_get-map view list (place_of p) ∙ ap (option_map view) there);
+        (slice_get-map view list (table_place p) ∙ ap (option_map view) there);
   }
 
 -- ---- links
@@ -179,7 +179,7 @@ module _ (nodes : ℕ) (links : List (PortRef × PortRef)) (a b : PortRef) where
   pub peers_joined : (list : List (Option PortRef)) (i j : ℕ)
       → IsTable nodes (λ p peer. peer ≡ peer_in links p) list → IsIn nodes a → IsIn nodes b
       → same_port a b ≡ false → peer_in links a ≡ None → peer_in links b ≡ None
-      → i ≡ place_of a → j ≡ place_of b
+      → i ≡ table_place a → j ≡ table_place b
       → IsTable nodes (λ p peer. peer ≡ peer_in joined p)
       (slice_set (slice_set list i (Some b)) j (Some a))
   peers_joined list i j table in_a in_b apart none_a none_b at_a at_b =
@@ -277,21 +277,21 @@ count_all known names net (line ∷ lines) same passes =
     count_all (known_after known new line.line) names (set_up net line.line) lines
     (count_after net known.names new line.line same) passes.2
 
-pub nodes_named : (names : List (List ℕ)) (lines : List Numbered) → Passes names lines
+pub nodes_named : (names : List (List ℕ)) (lines : List Numbered) → ScriptPasses names lines
     → length (set_up_all bare lines).registers ≡ length names
 nodes_named names lines passes = count_all nothing names bare lines refl passes
 
 may_at : (net : Network) (before behind : List Numbered) (line : Numbered)
     → MaySetUpAll net (before ++ line ∷ behind) → AllPorts net (before ++ line ∷ behind)
-    → MayAdd (set_up_all net before) line.line
+    → MayStandBehind (set_up_all net before) line.line
 may_at net [] behind line may ports = record { may = may.0; ports = ports.0 }
 may_at net (first ∷ before) behind line may ports =
     may_at (set_up net first.line) before behind line may.1 ports.1
 
 -- the next line may be added
 pub next_may : (names : List (List ℕ)) (lines : List Numbered) (i : ℕ) (line : Numbered)
-    → Passes names lines → i < length lines → line ≡ get_or lines i line
-    → MayAdd (set_up_all bare (take i lines)) line.line
+    → ScriptPasses names lines → i < length lines → line ≡ get_or lines i line
+    → MayStandBehind (set_up_all bare (take i lines)) line.line
 next_may names lines i line passes within at =
     let split = lines_at lines i line within at in
     may_at bare (take i lines) (drop (i + 1) lines) line

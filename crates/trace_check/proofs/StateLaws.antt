@@ -8,7 +8,7 @@ use Rattle.fabric_model.proofs.Peers.{same_port-refl}
 use Rattle.fabric_trace.specs.Wires.{taken_chars, WireChars, with_chars}
 use Rattle.trace_check.specs.declared.hearing.Hearing.{Hearing}
 use Rattle.trace_check.specs.Running.{PortRun, run_of}
-use Rattle.trace_check.specs.Tables.{IsIn, IsTable, place_of}
+use Rattle.trace_check.specs.Tables.{IsIn, IsTable, table_place}
 use Rattle.trace_check.proofs.TableLaws.{table_set}
 
 module _ (nodes : ℕ) where
@@ -19,7 +19,7 @@ module _ (nodes : ℕ) where
   AreRuns runs list = IsTable nodes (λ p hearing. run_of hearing ≡ runs p) list
 
   pub wires_set : (wires : WireChars) (list : List (List Char)) (p : PortRef) (i : ℕ)
-      (after chars : List Char) → AreWires wires list → IsIn nodes p → i ≡ place_of p
+      (after chars : List Char) → AreWires wires list → IsIn nodes p → i ≡ table_place p
       → after ≡ chars → AreWires (with_chars wires p chars) (slice_set list i after)
   wires_set wires list p i after chars table is_in here same =
       table_set nodes (λ q cs. cs ≡ wires q) (λ q cs. cs ≡ with_chars wires p chars q) list p i
@@ -29,7 +29,7 @@ module _ (nodes : ℕ) where
 
   pub wires_taken : (wires : WireChars) (list : List (List Char)) (p : PortRef)
       (peer : Option PortRef) (i : ℕ) (after chars : List Char) → AreWires wires list
-      → IsIn nodes p → i ≡ place_of p → Some p ≡ peer → wires p ≡ chars ++ after
+      → IsIn nodes p → i ≡ table_place p → Some p ≡ peer → wires p ≡ chars ++ after
       → AreWires (taken_chars wires peer chars) (slice_set list i after)
   wires_taken wires list p peer i after chars table is_in here peer_is stands =
       subst (λ o. AreWires (taken_chars wires o chars) (slice_set list i after)) peer_is
@@ -38,7 +38,7 @@ module _ (nodes : ℕ) where
 
   pub runs_set : (runs : PortRef → PortRun) (list : List Hearing) (p : PortRef) (i : ℕ)
       (hearing : Hearing) (after : PortRun → PortRun) → AreRuns runs list → IsIn nodes p
-      → i ≡ place_of p → run_of hearing ≡ after (runs p)
+      → i ≡ table_place p → run_of hearing ≡ after (runs p)
       → AreRuns (λ q. if same_port q p then after (runs q) else runs q) (slice_set list i hearing)
   runs_set runs list p i hearing after table is_in here same =
       table_set nodes (λ q h. run_of h ≡ runs q)

@@ -6,12 +6,12 @@ use Rattle.fabric_model.specs.Network.{Network}
 use Rattle.fabric_trace.specs.Lines.{TraceLine, Begun, Stepped, Signed, Lacked, Ended, Undetected, steps_of}
 use Rattle.fabric_trace.proofs.Keeping.{steps_of-append}
 use Rattle.trace_check.specs.declared.state.State.{State}
-use Rattle.trace_check.specs.Checks.{Passes, PassAll}
+use Rattle.trace_check.specs.Checks.{LinePasses, PassAll}
 use Rattle.script_input.specs.Inputs.{texts_ahead, texts_of}
-use Rattle.trace_check.specs.Lawful.{as_behind, Behind, Fault, fault_number, Hits, HitsNext, is_last, IsLawful, IsUnlawful, NoForm, NotCome, PassFront, SpellAll, SpellFront}
-use Rattle.trace_check.specs.Outcomes.{Reads}
+use Rattle.trace_check.specs.Lawful.{as_behind, BehindLast, Fault, fault_number, HitsLine, HitsNext, is_last, IsLawful, IsUnlawful, SpellsNone, NotCome, PassFront, SpellAll, SpellFront}
+use Rattle.trace_check.specs.Outcomes.{ReadsNextText}
 use Rattle.trace_check.specs.Reaches.{Reaches}
-use Rattle.trace_check.specs.States.{fault_of, IsReached, reached_after, Reached, StandsAt, unreached}
+use Rattle.trace_check.specs.States.{fault_of, IsReachedState, reached_after, ReachedState, SparesAt, unreached}
 use Rattle.trace_check.specs.Wires.{are_short}
 use Rattle.trace_check.specs.Words.{SpellsLine}
 use Rattle.trace_check.proofs.Behind.{text_short}
@@ -49,7 +49,7 @@ pub record HasEnded (known : Known) (net : Network) (texts : List (List ℕ)) (l
   pub spelled : SpellsLine known text line
   pub last : is_last line ≡ true
   pub pass : PassFront net earlier (text ∷ rest)
-  pub passes : Passes net earlier line (as_behind rest)
+  pub passes : LinePasses net earlier line (as_behind rest)
 
 -- or the trace goes on
 abbrev pub HasRead : Known → Network → Bool → List (List ℕ) → List TraceLine → List (List ℕ)
@@ -69,8 +69,8 @@ pub record IsAhead (known : Known) (net : Network) (bytes : List ℕ) (first num
   pub read : HasRead known net ended front lines (texts_ahead ahead)
   pub count : steps ≡ length (steps_of lines)
   pub steps_few : steps ≤ length front
-  pub r : Reached
-  pub reached : IsReached r state
+  pub r : ReachedState
+  pub reached : IsReachedState r state
   pub behind : Reaches (length known.names) net lines (as_behind (texts_ahead ahead)) r
 
 none_front : (net : Network) (rest : List (List ℕ)) → PassFront net [] rest
@@ -80,7 +80,7 @@ none_front net rest (x ∷ before) line behind is = absurd cc
 pub begin_ahead : (known : Known) (net : Network) (bytes : List ℕ) (first : ℕ)
     (ahead : Option (Bor (List ℕ) × Bor (List ℕ))) (state : State)
     → texts_of bytes ≡ texts_ahead ahead → left_ahead ahead ≤ length bytes
-    → IsReached (unreached (length known.names) net) state
+    → IsReachedState (unreached (length known.names) net) state
     → IsAhead known net bytes first first ahead false 0 state
 begin_ahead known net bytes first ahead state texts less reached = record {
   front = [];
@@ -116,7 +116,7 @@ front_more known (x ∷ texts) lines text line front spells goes =
 read_more : (known : Known) (net : Network) (texts : List (List ℕ)) (lines : List TraceLine)
     (text : List ℕ) (line : TraceLine) (ends : Bool) (rest : List (List ℕ)) → IsOrderly known
     → SpellFront known texts lines → PassFront net lines (text ∷ rest) → SpellsLine known text line
-    → ends ≡ is_last line → Passes net lines line (as_behind rest)
+    → ends ≡ is_last line → LinePasses net lines line (as_behind rest)
     → HasRead known net ends (texts ++ text ∷ []) (lines ++ line ∷ []) rest
 read_more known net texts lines text line false rest orderly front pass spells goes passes = (
   front_more known texts lines text line front spells (sym goes),
@@ -151,8 +151,8 @@ pub on_ahead : (known : Known) (net : Network) (bytes : List ℕ) (first number 
     → IsOrderly known → IsAhead known net bytes first number (Some (text, left)) ended steps state
     → texts_of left.now ≡ texts_ahead next → left_ahead next ≤ length left.now
     → short ≡ are_short (as_behind (texts_ahead next))
-    → ((r : Reached) → IsReached r state → r.nodes ≡ length known.names
-    → Reads known r text.now short ended steps ends more new None)
+    → ((r : ReachedState) → IsReachedState r state → r.nodes ≡ length known.names
+    → ReadsNextText known r text.now short ended steps ends more new None)
     → IsAhead known net bytes first (number + 1) next ends more new
 on_ahead known net bytes first number text left true steps state next short ends more new orderly is
     texts less short_is reads =
@@ -166,8 +166,8 @@ on_ahead known net bytes first number text left false steps state next short end
     (as_behind (text.now ∷ texts_of left.now)) (line ∷ as_behind rest) is.r
     (text_short known text.now (texts_of left.now) line (as_behind rest) orderly goes.spelled)
     is.behind in
-    let stand : (fault : Fault) → StandsAt is.r line (are_short (as_behind rest)) fault
-    = subst (λ b. (fault : Fault) → StandsAt is.r line b fault) short_is goes.checked.answer in
+    let stand : (fault : Fault) → SparesAt is.r line (are_short (as_behind rest)) fault
+    = subst (λ b. (fault : Fault) → SparesAt is.r line b fault) short_is goes.checked.answer in
     let pass = subst (λ (l : List (List ℕ)). PassFront net is.lines (text.now ∷ l)) texts
     is.read.1 in
     let passes = passes_so (length known.names) net is.lines (as_behind rest) line is.r behind
@@ -193,7 +193,7 @@ on_ahead known net bytes first number text left false steps state next short end
       count = omega (arith, all, count, adds);
       steps_few = omega (arith, longer, steps_few, adds, low);
       r = reached_after is.r line (are_short (as_behind rest));
-      reached = subst (λ b. IsReached (reached_after is.r line b) new) short_is
+      reached = subst (λ b. IsReachedState (reached_after is.r line b) new) short_is
           (goes.checked.reached refl);
       behind = on_behind (length known.names) net is.lines (as_behind rest) line is.r
           (stand NotCome) behind;
@@ -212,8 +212,8 @@ pub hit_ahead : (known : Known) (net : Network) (bytes : List ℕ) (first number
     (new : State) → IsOrderly known
     → IsAhead known net bytes first number (Some (text, left)) ended steps state
     → texts_of left.now ≡ texts_ahead next → short ≡ are_short (as_behind (texts_ahead next))
-    → ((r : Reached) → IsReached r state → r.nodes ≡ length known.names
-    → Reads known r text.now short ended steps ends more new (Some reason))
+    → ((r : ReachedState) → IsReachedState r state → r.nodes ≡ length known.names
+    → ReadsNextText known r text.now short ended steps ends more new (Some reason))
     → StopsAt known net (texts_of bytes) first number reason
 hit_ahead known net bytes first number text left true steps state next short ends more reason new
     orderly is texts short_is reads =
@@ -233,7 +233,7 @@ hit_ahead known net bytes first number text left true steps state next short end
             ∙ append_assoc ended.before (ended.text ∷ []) (text.now ∷ texts_of left.now);
         spelled = ended.front;
         pass = ended.pass;
-        hits = Behind ended.line ended.spelled ended.last ended.passes;
+        hits = BehindLast ended.line ended.spelled ended.last ended.passes;
         at = refl;
       }),
     )
@@ -254,11 +254,11 @@ hit_ahead known net bytes first number text left false steps state next short en
       },
     )
   where
-    by_reading : Reads known is.r text.now short false steps ends more new (Some reason)
+    by_reading : ReadsNextText known is.r text.now short false steps ends more new (Some reason)
         → HitsNext known net is.lines (text.now ∷ texts_of left.now) 0 reason
     by_reading (inl (form, none)) =
         subst (λ n. HitsNext known net is.lines (text.now ∷ texts_of left.now) 0 n) (sym form)
-        (NoForm none)
+        (SpellsNone none)
     by_reading (inr hit) =
         let behind = other_behind (length known.names) net is.lines
         (as_behind (text.now ∷ texts_of left.now)) (hit.line ∷ as_behind (texts_of left.now)) is.r
@@ -267,14 +267,14 @@ hit_ahead known net bytes first number text left false steps state next short en
         let rest = as_behind (texts_of left.now) in
         let same : short ≡ are_short rest
         = short_is ∙ ap (λ (l : List (List ℕ)). are_short (as_behind l)) (sym texts) in
-        let fails = subst (λ b. StandsAt is.r hit.line b (fault_of hit.fault) → ⊥) same
+        let fails = subst (λ b. SparesAt is.r hit.line b (fault_of hit.fault) → ⊥) same
         hit.least.0 in
         let below = subst (λ b. (other : Fault) → fault_number other
-        < fault_number (fault_of hit.fault) → StandsAt is.r hit.line b other) same hit.least.1 in
+        < fault_number (fault_of hit.fault) → SparesAt is.r hit.line b other) same hit.least.1 in
         let so = stands_so (length known.names) net is.lines rest hit.line is.r behind in
         let by_them = stands_by (length known.names) net is.lines rest hit.line is.r behind in
         subst (λ n. HitsNext known net is.lines (text.now ∷ texts_of left.now) 0 n) (sym hit.number)
-        (Hits hit.line (fault_of hit.fault) hit.spelled
+        (HitsLine hit.line (fault_of hit.fault) hit.spelled
         (λ stands. fails (by_them (fault_of hit.fault) stands))
         (λ other less. so other (below other less)))
 
@@ -292,7 +292,7 @@ none_ahead known net bytes first number steps state is = (
     split = is.split;
     spelled = is.read.0;
     pass = is.read.1;
-    hits = NoForm tt;
+    hits = SpellsNone tt;
     at = omega arith;
   },
 )
@@ -337,7 +337,7 @@ all_ahead known net bytes first number steps state orderly is =
           (sym (is.split ∙ append-nil is.front ∙ ended.texts_are))
           (subst (SpellAll known (ended.before ++ ended.text ∷ [])) (sym ended.lines_are) all);
       pass = subst (PassAll net) (sym ended.lines_are)
-          (λ before line behind same. subst (λ (l : List TraceLine). Passes net before line l)
+          (λ before line behind same. subst (λ (l : List TraceLine). LinePasses net before line l)
           (append-nil behind) (front before line behind same));
       count = is.count;
     }

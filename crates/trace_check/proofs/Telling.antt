@@ -10,19 +10,19 @@ use Rattle.trace_check.specs.declared.checking.CheckEnd.TheVariants as C
 use Rattle.trace_check.specs.declared.checking.Unlawful.{Unlawful}
 use Rattle.script_input.specs.Inputs.{IsRefusedInput, set_up_texts, texts_of}
 use Rattle.trace_check.specs.Lawful.{IsLawful, IsUnlawful}
-use Rattle.trace_check.specs.Outcomes.{ended_by, HasLawful, HasUnlawful}
+use Rattle.trace_check.specs.Outcomes.{check_end_of, HasLawful, HasUnlawful}
 use Rattle.script_input.proofs.InputOnce.{accepted_orderly, for_other, not_input, refused_alone}
 use Rattle.trace_check.proofs.Exclusive.{exclusive}
 use Rattle.trace_check.proofs.Once.{lawful_once, unlawful_once}
 
 -- ---- why the set-up lines end
 
-pub refusal_of : (end : ScriptEnd) (refusal : Refusal) → ended_by end ≡ C.Refused refusal
+pub refusal_of : (end : ScriptEnd) (refusal : Refusal) → check_end_of end ≡ C.Refused refusal
     → end ≡ S.Refused refusal
 refusal_of (S.Refused r) refusal is = cc
 refusal_of S.NoMemory refusal is = absurd cc
 
-pub never_unlawful : (end : ScriptEnd) (hit : Unlawful) → ended_by end ≡ C.Unlawful hit → ⊥
+pub never_unlawful : (end : ScriptEnd) (hit : Unlawful) → check_end_of end ≡ C.Unlawful hit → ⊥
 never_unlawful (S.Refused r) hit is = absurd cc
 never_unlawful S.NoMemory hit is = absurd cc
 

@@ -12,7 +12,7 @@ use Rattle.fabric_model.specs.Steps.{Hold, Free, Linked, Needs, after_all}
 use Rattle.fabric_trace.specs.Lines.{Sent, Got, Fired, TraceLine, Begun, Stepped, Signed, steps_of}
 use Rattle.fabric_trace.specs.Fold.{edit_of, says}
 use Rattle.fabric_trace.specs.Wires.{WireChars, IsFrontOf}
-use Rattle.fabric_trace.specs.Holds.{got, holds, numbered}
+use Rattle.fabric_trace.specs.Holds.{got, holds, numbered_packets}
 use Rattle.fabric_trace.specs.Frees.{frees_by}
 use Rattle.fabric_trace.specs.Allowance.{allowance}
 use Rattle.fabric_trace.specs.Owned.{HasEvent}
@@ -32,7 +32,7 @@ net_after net before = after_all net (steps_of before)
 -- the events of what a port got behind that of its last hold, of which each took the first that
 -- fits
 abbrev pub unheld : PortRef → List TraceLine → Option (List Event)
-unheld q before = behind_all (numbered 0 (holds q before)) (says (got q before))
+unheld q before = behind_all (numbered_packets 0 (holds q before)) (says (got q before))
 
 -- ---- 22: wires
 
@@ -58,17 +58,17 @@ OnWires links wires _ short = Unit {0}
 
 -- ---- 23: steps
 
-abbrev pub IsStep : Network → TraceLine → Type 0
-IsStep net (Stepped step) = Needs net step
-IsStep net _ = Unit {0}
+abbrev pub LineIsStep : Network → TraceLine → Type 0
+LineIsStep net (Stepped step) = Needs net step
+LineIsStep net _ = Unit {0}
 
 -- ---- 24: holds
 
 -- the packet stands behind the last hold, with the ackID of its number
-abbrev pub HasCome : List TraceLine → TraceLine → Type 0
-HasCome before (Stepped (Linked (Hold q packet))) =
+abbrev pub HoldHasCome : List TraceLine → TraceLine → Type 0
+HoldHasCome before (Stepped (Linked (Hold q packet))) =
     IsSome (behind_some (behind (Pkt (length (holds q before) % 32) packet)) (unheld q before))
-HasCome before _ = Unit {0}
+HoldHasCome before _ = Unit {0}
 
 -- ---- 25: frees
 
@@ -79,23 +79,23 @@ IsAllowed before _ = Unit {0}
 -- ---- 26: packets that are sent
 
 -- the port has each packet to be sent, or has lent it
-abbrev pub MaySend : Network → TraceLine → Type 0
-MaySend net (Signed (Sent p chars)) = AllByRecursion (HasEvent net p) (says chars)
-MaySend net _ = Unit {0}
+abbrev pub SendMayBe : Network → TraceLine → Type 0
+SendMayBe net (Signed (Sent p chars)) = AllByRecursion (HasEvent net p) (says chars)
+SendMayBe net _ = Unit {0}
 
 -- ---- all of them
 
 -- none of these reasons hits a line
-pub record Passes (net : Network) (before : List TraceLine) (line : TraceLine)
+pub record LinePasses (net : Network) (before : List TraceLine) (line : TraceLine)
     (behind : List TraceLine) : Type 0 where
   pub wires : OnWires net.links (wires_after net.links (λ p. []) before (line ∷ behind)) line
       (are_short behind)
-  pub step : IsStep (net_after net before) line
-  pub came : HasCome before line
+  pub step : LineIsStep (net_after net before) line
+  pub came : HoldHasCome before line
   pub allowed : IsAllowed before line
-  pub sends : MaySend (net_after net before) line
+  pub sends : SendMayBe (net_after net before) line
 
 -- none of them hits any line
 abbrev pub PassAll : Network → List TraceLine → Type 0
 PassAll net lines = (before : List TraceLine) (line : TraceLine) (behind : List TraceLine)
-    → lines ≡ before ++ line ∷ behind → Passes net before line behind
+    → lines ≡ before ++ line ∷ behind → LinePasses net before line behind

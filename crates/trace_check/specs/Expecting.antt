@@ -20,7 +20,7 @@ use Rattle.script_input.specs.Inputs.{IsInput, set_up_texts, texts_of}
 use Rattle.trace_check.specs.Lawful.{as_behind, Fault, fault_number, PassFront, SpellFront}
 use Rattle.trace_check.specs.Reaches.{Reaches}
 use Rattle.trace_check.specs.Running.{Come}
-use Rattle.trace_check.specs.States.{Reached, StandsAt}
+use Rattle.trace_check.specs.States.{ReachedState, SparesAt}
 use Rattle.trace_check.specs.Words.{SpellsLine}
 
 -- the reasons of which it is told what would have been lawful: those of wires, holds, frees and
@@ -31,11 +31,11 @@ IsExplained reason = (21 < reason) × (reason ≢ 23)
 -- ---- what is told
 
 -- the characters on the wire to a port, which is that of its peer
-abbrev pub wire_to : Reached → PortRef → List Char
+abbrev pub wire_to : ReachedState → PortRef → List Char
 wire_to r q = unwrap_or (option_map r.wires (peer_in r.net.links q)) []
 
 -- how many are on the wire of a port, or if none is, on the wire to it
-abbrev pub left_on_link : Reached → PortRef → ℕ
+abbrev pub left_on_link : ReachedState → PortRef → ℕ
 left_on_link r p =
     if nat_lt 0 (length (r.wires p)) then length (r.wires p) else length (wire_to r p)
 
@@ -56,12 +56,12 @@ OneIsLacked net p prio (event ∷ events) =
     IsLacked net p prio event ⊎ OneIsLacked net p prio events
 
 -- so many characters are on the wire that an edit changes
-abbrev pub AreOnWire : Reached → ℕ → Option (PortRef × Edit) → Type 0
+abbrev pub AreOnWire : ReachedState → ℕ → Option (PortRef × Edit) → Type 0
 AreOnWire r n None = ⊥
 AreOnWire r n (Some edit) = n ≡ length (r.wires edit.0)
 
 -- What is told of a line is so: a row for each kind of line.
-abbrev pub IsSo : Reached → TraceLine → Expected → Type 0
+abbrev pub IsSo : ReachedState → TraceLine → Expected → Type 0
 IsSo r (Signed (Got q chars)) (E.Front front) = front.items ≡ take 8 (wire_to r q)
 IsSo r (Begun line) (E.OnWire n) = AreOnWire r n (edit_of line)
 IsSo r (Signed (Fired p)) (E.OnLink n) = n ≡ left_on_link r p
@@ -75,18 +75,18 @@ IsSo r line expected = ⊥
 -- ---- of one text
 
 -- the text spells a line of which this is so
-abbrev pub TellsLine : Known → Reached → List ℕ → Expected → Type 0
+abbrev pub TellsLine : Known → ReachedState → List ℕ → Expected → Type 0
 TellsLine known r text expected =
     (line : TraceLine) × SpellsLine known text line × IsSo r line expected
 
 -- the text spells a line that such a reason hits
-pub record IsToBeTold (known : Known) (r : Reached) (text : List ℕ) : Type 0 where
+pub record IsToBeTold (known : Known) (r : ReachedState) (text : List ℕ) : Type 0 where
   pub line : TraceLine
   pub spelled : SpellsLine known text line
   pub short : Bool
   pub fault : Fault
   pub explained : IsExplained (fault_number fault)
-  pub hits : StandsAt r line short fault → ⊥
+  pub hits : SparesAt r line short fault → ⊥
 
 -- ---- of the texts of a trace
 
@@ -104,7 +104,7 @@ pub record IsExpected (known : Known) (net : Network) (texts : List (List ℕ)) 
   pub spelled : SpellFront known front lines
   pub pass : PassFront net lines (text ∷ rest)
   pub spells : SpellsLine known text line
-  pub r : Reached
+  pub r : ReachedState
   pub reached : Reaches (length known.names) net lines (as_behind (text ∷ rest)) r
   pub so : IsSo r line expected
 

@@ -27,25 +27,25 @@ keyword_text K.NoStep = codes "none"
 keyword_text K.End = codes "end"
 keyword_text K.Undetected = codes "undetected"
 
-abbrev pub keyword_of : TraceLine → Keyword
-keyword_of (Begun line) = K.Begun
-keyword_of (Stepped (Linked (Hold q packet))) = K.Hold
-keyword_of (Stepped (Linked (Free p packet))) = K.Free
-keyword_of (Stepped (AtNode (Take n packet))) = K.Take
-keyword_of (Stepped (AtNode (Leave n packet))) = K.Leave
-keyword_of (Stepped (ByDevice (Move p q packet))) = K.Move
-keyword_of (Stepped (ByDevice (Drop p packet))) = K.Drop
-keyword_of (Stepped (ByDevice (Answer p packet response))) = K.Answer
-keyword_of (Signed (Sent p chars)) = K.Sent
-keyword_of (Signed (Got q chars)) = K.Got
-keyword_of (Signed (Fired p)) = K.Fire
-keyword_of (Lacked Full) = K.Full
-keyword_of (Lacked Empty) = K.Empty
-keyword_of (Lacked Short) = K.Short
-keyword_of (Lacked Early) = K.Early
-keyword_of (Lacked NoStep) = K.NoStep
-keyword_of Ended = K.End
-keyword_of (Undetected number q e) = K.Undetected
+abbrev pub trace_keyword_of : TraceLine → Keyword
+trace_keyword_of (Begun line) = K.Begun
+trace_keyword_of (Stepped (Linked (Hold q packet))) = K.Hold
+trace_keyword_of (Stepped (Linked (Free p packet))) = K.Free
+trace_keyword_of (Stepped (AtNode (Take n packet))) = K.Take
+trace_keyword_of (Stepped (AtNode (Leave n packet))) = K.Leave
+trace_keyword_of (Stepped (ByDevice (Move p q packet))) = K.Move
+trace_keyword_of (Stepped (ByDevice (Drop p packet))) = K.Drop
+trace_keyword_of (Stepped (ByDevice (Answer p packet response))) = K.Answer
+trace_keyword_of (Signed (Sent p chars)) = K.Sent
+trace_keyword_of (Signed (Got q chars)) = K.Got
+trace_keyword_of (Signed (Fired p)) = K.Fire
+trace_keyword_of (Lacked Full) = K.Full
+trace_keyword_of (Lacked Empty) = K.Empty
+trace_keyword_of (Lacked Short) = K.Short
+trace_keyword_of (Lacked Early) = K.Early
+trace_keyword_of (Lacked NoStep) = K.NoStep
+trace_keyword_of Ended = K.End
+trace_keyword_of (Undetected number q e) = K.Undetected
 
 -- the words behind the keyword
 abbrev pub words_behind : List (List ℕ) → TraceLine → List (List ℕ)
@@ -55,7 +55,7 @@ words_behind names line = drop 1 (trace_words names line)
 pub record SpellsBehind (known : Known) (keyword : Keyword) (words : List (List ℕ))
     (line : TraceLine) :
     Type 0 where
-  pub keyword_is : keyword_of line ≡ keyword
+  pub keyword_is : trace_keyword_of line ≡ keyword
   pub words_are : words ≡ words_behind known.names line
   pub fits : LineFits known line
 

@@ -4,7 +4,7 @@ use Rattle.std.specs.Cmp.Lexicographic.{pointwise}
 use Rattle.fabric_script.specs.Known.{Known}
 use Rattle.fabric_model.specs.Network.{Network}
 use Rattle.fabric_trace.specs.Lines.{Short, Lacked, TraceLine, Ended, Undetected, steps_of}
-use Rattle.trace_check.specs.Checks.{OnWires, IsStep, HasCome, IsAllowed, MaySend, net_after, Passes, PassAll}
+use Rattle.trace_check.specs.Checks.{OnWires, LineIsStep, HoldHasCome, IsAllowed, SendMayBe, net_after, LinePasses, PassAll}
 use Rattle.trace_check.specs.Wires.{are_short, wires_after}
 use Rattle.trace_check.specs.Words.{SpellsLine}
 
@@ -43,26 +43,26 @@ SpellFront known (text ∷ texts) lines = (line : TraceLine) × (rest : List Tra
 -- why a line is not lawful, apart from its form
 pub data Fault : Type 0 where
   OffWire : Fault
-  NoStep : Fault
+  NoSuchStep : Fault
   NotCome : Fault
   NotAllowed : Fault
   NotThere : Fault
 
 abbrev pub fault_number : Fault → ℕ
 fault_number OffWire = 22
-fault_number NoStep = 23
+fault_number NoSuchStep = 23
 fault_number NotCome = 24
 fault_number NotAllowed = 25
 fault_number NotThere = 26
 
 -- it does not hit the line
-abbrev pub Stands : Network → List TraceLine → TraceLine → List TraceLine → Fault → Type 0
-Stands net before line behind OffWire = OnWires net.links
+abbrev pub Spares : Network → List TraceLine → TraceLine → List TraceLine → Fault → Type 0
+Spares net before line behind OffWire = OnWires net.links
     (wires_after net.links (λ p. []) before (line ∷ behind)) line (are_short behind)
-Stands net before line behind NoStep = IsStep (net_after net before) line
-Stands net before line behind NotCome = HasCome before line
-Stands net before line behind NotAllowed = IsAllowed before line
-Stands net before line behind NotThere = MaySend (net_after net before) line
+Spares net before line behind NoSuchStep = LineIsStep (net_after net before) line
+Spares net before line behind NotCome = HoldHasCome before line
+Spares net before line behind NotAllowed = IsAllowed before line
+Spares net before line behind NotThere = SendMayBe (net_after net before) line
 
 -- a text as the line behind others: what matters is whether it says that a wire is too short
 abbrev pub as_behind : List (List ℕ) → List TraceLine
@@ -72,7 +72,7 @@ as_behind (text ∷ texts) = if pointwise nat_eq text (codes "short") then Lacke
 -- none of the lines is hit, with this text behind them
 abbrev pub PassFront : Network → List TraceLine → List (List ℕ) → Type 0
 PassFront net lines texts = (before : List TraceLine) (line : TraceLine) (behind : List TraceLine)
-    → lines ≡ before ++ line ∷ behind → Passes net before line (behind ++ as_behind texts)
+    → lines ≡ before ++ line ∷ behind → LinePasses net before line (behind ++ as_behind texts)
 
 -- 21: the text spells no line, or there is none
 abbrev pub NoLine : Known → List (List ℕ) → Type 0
@@ -83,16 +83,16 @@ NoLine known (text ∷ texts) = (line : TraceLine) → SpellsLine known text lin
 -- the least fault of a line that is spelled.
 pub data HitsNext (known : Known) (net : Network) (before : List TraceLine) :
     List (List ℕ) → (place reason : ℕ) → Type 0 where
-  NoForm : {texts : List (List ℕ)} → NoLine known texts → HitsNext known net before texts 0 21
-  Behind : {text next : List ℕ} {texts : List (List ℕ)} (line : TraceLine)
+  SpellsNone : {texts : List (List ℕ)} → NoLine known texts → HitsNext known net before texts 0 21
+  BehindLast : {text next : List ℕ} {texts : List (List ℕ)} (line : TraceLine)
       → SpellsLine known text line → is_last line ≡ true
-      → Passes net before line (as_behind (next ∷ texts))
+      → LinePasses net before line (as_behind (next ∷ texts))
       → HitsNext known net before (text ∷ next ∷ texts) 1 21
-  Hits : {text : List ℕ} {texts : List (List ℕ)} (line : TraceLine) (fault : Fault)
+  HitsLine : {text : List ℕ} {texts : List (List ℕ)} (line : TraceLine) (fault : Fault)
       → SpellsLine known text line
-      → (Stands net before line (as_behind texts) fault → ⊥)
+      → (Spares net before line (as_behind texts) fault → ⊥)
       → ((other : Fault) → fault_number other < fault_number fault
-      → Stands net before line (as_behind texts) other)
+      → Spares net before line (as_behind texts) other)
       → HitsNext known net before (text ∷ texts) 0 (fault_number fault)
 
 -- The first text that a reason hits, counted from 0, and its least reason.

@@ -64,6 +64,6 @@ MakesIt nodes net step kept made = (IsTrue made ↔ Needs net step)
     × (IsTrue made → IsNetwork nodes (after net step) kept)
 
 -- the other ends of the links of the ports, which are ports of these nodes
-pub record AreLinks (nodes : ℕ) (links : List (PortRef × PortRef)) (kept : Links) : Type 0 where
+pub record AreKeptLinks (nodes : ℕ) (links : List (PortRef × PortRef)) (kept : Links) : Type 0 where
   pub peers : IsTable nodes (λ p peer. peer ≡ peer_in links p) kept.peers.items
   pub within : (p q : PortRef) → peer_in links q ≡ Some p → IsIn nodes p

@@ -12,7 +12,7 @@ use Rattle.trace_check.specs.declared.state.Fault.{Fault as ReadFault}
 use Rattle.trace_check.specs.declared.state.State.{State}
 use Rattle.script_input.specs.Inputs.{IsInput, set_up_texts, texts_of}
 use Rattle.trace_check.specs.Lawful.{fault_number, is_last, IsLawful, IsUnlawful, NoLine}
-use Rattle.trace_check.specs.States.{Checks, fault_of, IsLeast, Reached, StandsAt}
+use Rattle.trace_check.specs.States.{Checks, fault_of, IsLeast, ReachedState, SparesAt}
 use Rattle.trace_check.specs.Words.{SpellsLine}
 
 -- ---- of the whole input
@@ -38,15 +38,15 @@ pub record HasUnlawful (bytes : List ℕ) (line reason : ℕ) : Type 0 where
   pub unlawful : IsUnlawful known (set_up_all bare set_up) texts place reason
 
 -- why there is no trace, if the set-up lines end so
-abbrev pub ended_by : ScriptEnd → CheckEnd
-ended_by (S.Refused refusal) = C.Refused refusal
-ended_by S.NoMemory = C.NoMemory
+abbrev pub check_end_of : ScriptEnd → CheckEnd
+check_end_of (S.Refused refusal) = C.Refused refusal
+check_end_of S.NoMemory = C.NoMemory
 
 -- ---- of one text
 
 -- The text spells a line that no reason hits, which may end the trace and may be a step, and this
 -- is reached behind it.
-pub record GoesOn (known : Known) (r : Reached) (text : List ℕ) (short : Bool) (steps : ℕ)
+pub record ReadsOn (known : Known) (r : ReachedState) (text : List ℕ) (short : Bool) (steps : ℕ)
     (ends : Bool) (more : ℕ) (state : State) : Type 0 where
   pub line : TraceLine
   pub spelled : SpellsLine known text line
@@ -55,20 +55,21 @@ pub record GoesOn (known : Known) (r : Reached) (text : List ℕ) (short : Bool)
   pub checked : Checks r line short state None
 
 -- the text spells a line that this fault hits, and none that is less
-pub record IsHit (known : Known) (r : Reached) (text : List ℕ) (short : Bool) (reason : ℕ) :
+pub record IsHit (known : Known) (r : ReachedState) (text : List ℕ) (short : Bool) (reason : ℕ) :
     Type 0 where
   pub line : TraceLine
   pub spelled : SpellsLine known text line
   pub fault : ReadFault
   pub number : reason ≡ fault_number (fault_of fault)
-  pub least : IsLeast (StandsAt r line short) (Some fault)
+  pub least : IsLeast (SparesAt r line short) (Some fault)
 
 -- One text is read, behind others that may have ended the trace.
-abbrev pub Reads : Known → Reached → List ℕ → Bool → Bool → ℕ → Bool → ℕ → State → Option ℕ
+abbrev pub ReadsNextText : Known → ReachedState → List ℕ → Bool → Bool → ℕ → Bool → ℕ → State
+    → Option ℕ
     → Type 0
-Reads known r text short true steps ends more state None = ⊥
-Reads known r text short true steps ends more state (Some reason) = reason ≡ 21
-Reads known r text short false steps ends more state None =
-    GoesOn known r text short steps ends more state
-Reads known r text short false steps ends more state (Some reason) =
+ReadsNextText known r text short true steps ends more state None = ⊥
+ReadsNextText known r text short true steps ends more state (Some reason) = reason ≡ 21
+ReadsNextText known r text short false steps ends more state None =
+    ReadsOn known r text short steps ends more state
+ReadsNextText known r text short false steps ends more state (Some reason) =
     ((reason ≡ 21) × NoLine known (text ∷ [])) ⊎ IsHit known r text short reason

@@ -8,14 +8,14 @@ use Rattle.trace_check.specs.declared.lines.Lack.TheVariants as L
 use Rattle.trace_check.specs.declared.lines.TraceLine.{TraceLine as ReadLine}
 use Rattle.trace_check.specs.declared.lines.TraceLine.TheVariants as R
 
-abbrev pub step_of : ReadStep → Step
-step_of (S.Hold port packet) = Linked (Hold port packet)
-step_of (S.Free port packet) = Linked (Free port packet)
-step_of (S.Take node packet) = AtNode (Take node packet)
-step_of (S.Leave node packet) = AtNode (Leave node packet)
-step_of (S.Move from to packet) = ByDevice (Move from to packet)
-step_of (S.Drop port packet) = ByDevice (Drop port packet)
-step_of (S.Answer port packet response) = ByDevice (Answer port packet response)
+abbrev pub step_read : ReadStep → Step
+step_read (S.Hold port packet) = Linked (Hold port packet)
+step_read (S.Free port packet) = Linked (Free port packet)
+step_read (S.Take node packet) = AtNode (Take node packet)
+step_read (S.Leave node packet) = AtNode (Leave node packet)
+step_read (S.Move from to packet) = ByDevice (Move from to packet)
+step_read (S.Drop port packet) = ByDevice (Drop port packet)
+step_read (S.Answer port packet response) = ByDevice (Answer port packet response)
 
 abbrev pub lack_of : ReadLack → Lack
 lack_of L.Full = Full
@@ -24,12 +24,12 @@ lack_of L.Short = Short
 lack_of L.Early = Early
 lack_of L.NoStep = NoStep
 
-abbrev pub line_of : ReadLine → TraceLine
-line_of (R.Begun line) = Begun line
-line_of (R.Stepped step) = Stepped (step_of step)
-line_of (R.Sent port chars) = Signed (Sent port chars.items)
-line_of (R.Got port chars) = Signed (Got port chars.items)
-line_of (R.Fired port) = Signed (Fired port)
-line_of (R.Lacked lack) = Lacked (lack_of lack)
-line_of R.Ended = Ended
-line_of (R.Undetected number port event) = Undetected number port event
+abbrev pub line_read : ReadLine → TraceLine
+line_read (R.Begun line) = Begun line
+line_read (R.Stepped step) = Stepped (step_read step)
+line_read (R.Sent port chars) = Signed (Sent port chars.items)
+line_read (R.Got port chars) = Signed (Got port chars.items)
+line_read (R.Fired port) = Signed (Fired port)
+line_read (R.Lacked lack) = Lacked (lack_of lack)
+line_read R.Ended = Ended
+line_read (R.Undetected number port event) = Undetected number port event

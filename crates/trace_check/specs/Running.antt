@@ -4,7 +4,7 @@ use Rattle.rio_chars.specs.declared.chars.Char.{Char}
 use Rattle.link_model.specs.declared.event.Event.{Event}
 use Rattle.link_model.specs.declared.event.Event.TheVariants.{Ctl, Pkt, Bad}
 use Rattle.link_model.specs.Events.{same_event}
-use Rattle.link_model.specs.Places.{Place, start, place_after}
+use Rattle.link_model.specs.Places.{Place, place_start, place_after}
 use Rattle.link_model.specs.Said.{said}
 use Rattle.rio_framer.specs.declared.events.Told.{Told}
 use Rattle.rio_framer.specs.Giving.{events_by, listed}
@@ -19,11 +19,11 @@ use Rattle.trace_check.specs.declared.hearing.Hearing.{Hearing}
 abbrev pub Come : Type 0
 Come = ℕ × List ℕ
 
-abbrev pub packets_of : List Event → List Come
-packets_of [] = []
-packets_of (Ctl symbol ∷ events) = packets_of events
-packets_of (Pkt ack packet ∷ events) = (ack, packet) ∷ packets_of events
-packets_of (Bad cause ∷ events) = packets_of events
+abbrev pub packets_come : List Event → List Come
+packets_come [] = []
+packets_come (Ctl symbol ∷ events) = packets_come events
+packets_come (Pkt ack packet ∷ events) = (ack, packet) ∷ packets_come events
+packets_come (Bad cause ∷ events) = packets_come events
 
 -- what stands behind the first that is this packet with this ackID
 abbrev pub behind_packet : ℕ → List ℕ → List Come → Option (List Come)
@@ -42,18 +42,18 @@ pub record PortRun : Type 0 where
   pub allowed : ℕ
 
 abbrev pub new_run : PortRun
-new_run = record { place = start; unheld = []; next = 0; freed = 0; allowed = 0 }
+new_run = record { place = place_start; unheld = []; next = 0; freed = 0; allowed = 0 }
 
 -- after events that it reads
 abbrev pub notes : PortRun → List Event → PortRun
 notes run events = record run {
-  unheld = run.unheld ++ packets_of events;
+  unheld = run.unheld ++ packets_come events;
   allowed = raised_all run.allowed events;
 }
 
 -- after characters that it got
-abbrev pub hears : PortRun → List Char → PortRun
-hears run chars =
+abbrev pub run_hears : PortRun → List Char → PortRun
+run_hears run chars =
     record (notes run (said run.place chars)) { place = place_after run.place chars }
 
 -- after a packet that it holds
@@ -68,13 +68,13 @@ abbrev pub frees_one : PortRun → PortRun
 frees_one run = record run { freed = run.freed + 1 }
 
 -- after one more line
-abbrev pub port_after : PortRef → PortRun → TraceLine → PortRun
-port_after p run (Stepped (Linked (Hold q packet))) =
+abbrev pub run_after : PortRef → PortRun → TraceLine → PortRun
+run_after p run (Stepped (Linked (Hold q packet))) =
     if same_port p q then holds_one run packet else run
-port_after p run (Stepped (Linked (Free q packet))) =
+run_after p run (Stepped (Linked (Free q packet))) =
     if same_port p q then frees_one run else run
-port_after p run (Signed (Got q chars)) = if same_port p q then hears run chars else run
-port_after p run _ = run
+run_after p run (Signed (Got q chars)) = if same_port p q then run_hears run chars else run
+run_after p run _ = run
 
 -- the packet has come
 abbrev pub MayHold : PortRun → List ℕ → Type 0
@@ -102,4 +102,4 @@ told_events told ended = listed (events_by told ended).first (events_by told end
 -- the packet of an event, if it is one
 abbrev pub packet_in : Option Event → List Come
 packet_in None = []
-packet_in (Some event) = packets_of (event ∷ [])
+packet_in (Some event) = packets_come (event ∷ [])

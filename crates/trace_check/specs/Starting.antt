@@ -4,7 +4,7 @@ use Rattle.std.specs.List.{AllByRecursion}
 use Rattle.fabric_script.specs.declared.lines.Line.{Line}
 use Rattle.fabric_script.specs.declared.lines.Line.TheVariants.{Endpoint, Switch, Link, Buffers, Credits}
 use Rattle.fabric_script.specs.declared.ports.PortRef.{PortRef}
-use Rattle.fabric_script.specs.Scripts.{Passes}
+use Rattle.fabric_script.specs.Scripts.{ScriptPasses}
 use Rattle.fabric_script.specs.SetUps.{SetUpLines}
 use Rattle.fabric_model.specs.Laws.History.{IsEmptyNetwork}
 use Rattle.fabric_model.specs.Network.{Network, peer_in}
@@ -17,7 +17,7 @@ use Rattle.trace_check.specs.Tables.{IsIn, IsTable}
 
 -- No reason hits one of the set-up lines, and the names are those of their nodes.
 abbrev pub IsBegun : SetUpLines → Type 0
-IsBegun set_up = Passes set_up.known.names set_up.lines
+IsBegun set_up = ScriptPasses set_up.known.names set_up.lines
 
 -- the network that the lines make
 abbrev pub net_of : SetUpLines → Network
@@ -43,7 +43,7 @@ ArePortsIn nodes (Credits p) = IsIn nodes p
 ArePortsIn nodes _ = ⊤
 
 -- a line may stand behind those that made this network
-pub record MayAdd (net : Network) (line : Line) : Type 0 where
+pub record MayStandBehind (net : Network) (line : Line) : Type 0 where
   pub may : MaySetUp net line
   pub ports : ArePortsIn (length net.registers) line
 
@@ -62,7 +62,7 @@ lent_lists kept = map (λ lent. lent.items) kept.lent.items
 pub record MayBuild (kept : Kept) (line : Line) : Type 0 where
   pub net : Network
   pub built : IsBuilt net kept
-  pub may : MayAdd net line
+  pub may : MayStandBehind net line
 
 -- both ends of each link are ports of these nodes
 abbrev pub AreEnds : ℕ → List (PortRef × PortRef) → Type 0
@@ -78,4 +78,4 @@ pub record AreJoined (net : Network) (kept : Links) : Type 0 where
 pub record MayJoin (kept : Links) (line : Line) : Type 0 where
   pub net : Network
   pub joined : AreJoined net kept
-  pub may : MayAdd net line
+  pub may : MayStandBehind net line

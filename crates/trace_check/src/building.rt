@@ -6,7 +6,7 @@ ghost use Rattle.fabric_model.specs.Network.{Network as ANetwork};
 ghost use Rattle.fabric_trace.specs.Settings.{set_up, with_node};
 ghost use Rattle.link_buffers.specs.Queues.{no_packets};
 ghost use Rattle.trace_check.specs.Networks.{IsNetwork};
-ghost use Rattle.trace_check.specs.Starting.{is_node, IsBegun, IsBuilt, lent_lists, MayAdd, MayBuild, net_of, nodes_of};
+ghost use Rattle.trace_check.specs.Starting.{is_node, IsBegun, IsBuilt, lent_lists, MayStandBehind, MayBuild, net_of, nodes_of};
 ghost use Rattle.trace_check.specs.Tables.{IsIn};
 
 use crate::lanes::Lanes;
@@ -43,7 +43,8 @@ impl Network {
     /// Takes in a line of set-up.
     fn add(&mut self, alloc: Global, line: &Line) -> Result<(), AllocError>
         requires { MayBuild self.old line.now }
-        ensures { IfOk result (λ _. (net : ANetwork) → IsBuilt net self.old → MayAdd net line.now
+        ensures { IfOk result (λ _. (net : ANetwork) → IsBuilt net self.old
+            → MayStandBehind net line.now
             → IsBuilt (set_up net line.now) self.new) }
     {
         match line {
@@ -90,7 +91,7 @@ impl Network {
     fn set(&mut self, line: &Line)
         requires may { MayBuild self.old line.now }
         requires old { is_node line.now ≡ false }
-        ensures { (net : ANetwork) → IsBuilt net self.old → MayAdd net line.now
+        ensures { (net : ANetwork) → IsBuilt net self.old → MayStandBehind net line.now
             → IsBuilt (set_up net line.now) self.new }
     {
         match line {

@@ -3,9 +3,9 @@
 ghost use Rattle.std.specs.Prelude.{◌≡◌, ◌+◌, ◌<◌, false, [], ◌∷◌, length, IfOk};
 ghost use Rattle.fabric_trace.specs.Lines.{steps_of};
 ghost use Rattle.trace_check.specs.Lawful.{is_last};
-ghost use Rattle.trace_check.specs.Reads.{line_of};
+ghost use Rattle.trace_check.specs.Reads.{line_read};
 ghost use Rattle.trace_check.specs.Starting.{IsBegun, net_of, nodes_of};
-ghost use Rattle.trace_check.specs.States.{Checks, IsLineIn, IsReached, Reached, unreached};
+ghost use Rattle.trace_check.specs.States.{Checks, IsLineIn, IsReachedState, ReachedState, unreached};
 
 use crate::lines::TraceLine;
 use crate::state::{Fault, State};
@@ -27,7 +27,7 @@ impl Checker {
         ensures ended { IfOk result (λ checker. checker.ended ≡ false) }
         ensures steps { IfOk result (λ checker. checker.steps ≡ 0) }
         ensures reached { IfOk result (λ checker.
-            IsReached (unreached (nodes_of set_up.now) (net_of set_up.now)) checker.state) }
+            IsReachedState (unreached (nodes_of set_up.now) (net_of set_up.now)) checker.state) }
     {
         let state = State::new(alloc, set_up)?;
         Ok(Checker {
@@ -68,12 +68,12 @@ impl Checker {
     ) -> Result<Option<Fault>, AllocError>
         requires going { self.old.ended ≡ false }
         requires few { self.old.steps < 16777218 }
-        ensures checked { IfOk result (λ fault. (r : Reached) → IsReached r self.old.state
-            → IsLineIn r.nodes (line_of line)
-            → Checks r (line_of line) short self.new.state fault) }
-        ensures ended { IfOk result (λ _. self.new.ended ≡ is_last (line_of line)) }
+        ensures checked { IfOk result (λ fault. (r : ReachedState) → IsReachedState r self.old.state
+            → IsLineIn r.nodes (line_read line)
+            → Checks r (line_read line) short self.new.state fault) }
+        ensures ended { IfOk result (λ _. self.new.ended ≡ is_last (line_read line)) }
         ensures steps { IfOk result (λ _. self.new.steps
-            ≡ self.old.steps + length (steps_of (line_of line ∷ []))) }
+            ≡ self.old.steps + length (steps_of (line_read line ∷ []))) }
     {
         match line {
             TraceLine::Begun(line) => {

@@ -1,12 +1,12 @@
 //! A script of set-up lines and a trace, and whether the trace is lawful.
 
 ghost use Rattle.std.specs.Prelude.{◌≡◌, ◌⊎◌, ◌+◌, ◌<◌, ◌≤◌, ℕ, length, option_map, Err, IfOk, IsErrOf, IsOk};
-ghost use Rattle.fabric_script.specs.SetUps.{IsReady};
+ghost use Rattle.fabric_script.specs.SetUps.{KnownIsReady};
 ghost use Rattle.script_input.specs.Inputs.{IsRefusedInput, texts_ahead, texts_of};
 ghost use Rattle.trace_check.specs.Lawful.{as_behind, fault_number, IsLawful, IsUnlawful};
-ghost use Rattle.trace_check.specs.Outcomes.{ended_by, HasLawful, HasUnlawful, Reads};
+ghost use Rattle.trace_check.specs.Outcomes.{check_end_of, HasLawful, HasUnlawful, ReadsNextText};
 ghost use Rattle.trace_check.specs.Starting.{IsBegun, net_of, nodes_of};
-ghost use Rattle.trace_check.specs.States.{fault_of, IsReached, Reached};
+ghost use Rattle.trace_check.specs.States.{fault_of, IsReachedState, ReachedState};
 ghost use Rattle.trace_check.specs.Wires.{are_short};
 ghost use Rattle.trace_check.specs.declared.checking.CheckEnd.TheVariants.{NoMemory as OutOfMemory};
 
@@ -49,7 +49,7 @@ impl From<AllocError> for CheckEnd {
 }
 
 impl From<ScriptEnd> for CheckEnd {
-    ghost from_gives = { λ from end. end ≡ ended_by from };
+    ghost from_gives = { λ from end. end ≡ check_end_of from };
 
     fn from(end: ScriptEnd) -> Self {
         match end {
@@ -91,7 +91,7 @@ pub fn check_trace(alloc: Global, bytes: &[u8]) -> Result<u32, CheckEnd>
 
 /// Checks the lines of a trace, of which the first has this number.
 fn check_lines(alloc: Global, set_up: &SetUp, bytes: &[u8], first: u32) -> Result<u32, CheckEnd>
-    requires ready { IsReady set_up.now.known }
+    requires ready { KnownIsReady set_up.now.known }
     requires begun { IsBegun set_up.now }
     requires few { first + length bytes.now ≤ 16777218 }
     ensures lawful { IfOk result (λ steps. IsLawful set_up.now.known (net_of set_up.now)
@@ -153,10 +153,10 @@ impl Checker {
         text: &[u8],
         short: bool,
     ) -> Result<Option<u8>, AllocError>
-        requires ready { IsReady set_up.now.known }
+        requires ready { KnownIsReady set_up.now.known }
         requires few { self.old.steps < 16777218 }
-        ensures read { IfOk result (λ hit. (r : Reached) → IsReached r self.old.state
-            → r.nodes ≡ nodes_of set_up.now → Reads set_up.now.known r text.now short
+        ensures read { IfOk result (λ hit. (r : ReachedState) → IsReachedState r self.old.state
+            → r.nodes ≡ nodes_of set_up.now → ReadsNextText set_up.now.known r text.now short
             self.old.ended self.old.steps self.new.ended self.new.steps self.new.state hit) }
     {
         if self.has_ended() {

@@ -1,19 +1,19 @@
 //! What would have been lawful at a line of a trace that is not.
 
 ghost use Rattle.std.specs.Prelude.{◌≡◌, ◌+◌, ◌≤◌, ℕ, Bool, List, length, false, true, IfOk, IfSome, IsSome, IsSomeAnd, MatchOption};
-ghost use Rattle.fabric_script.specs.SetUps.{IsReady};
+ghost use Rattle.fabric_script.specs.SetUps.{KnownIsReady};
 ghost use Rattle.fabric_trace.specs.Fold.{edit_of};
 ghost use Rattle.fabric_trace.specs.Lines.{Begun, Fired as AFired, Got as AGot, Sent as ASent, Signed, Stepped, TraceLine as ALine};
 ghost use Rattle.fabric_model.specs.Steps.{Free, Hold, Linked};
 ghost use Rattle.rio_chars.specs.declared.chars.Char.{Char as AChar};
-ghost use Rattle.trace_check.specs.Checks.{MaySend};
+ghost use Rattle.trace_check.specs.Checks.{SendMayBe};
 ghost use Rattle.trace_check.specs.Expecting.{HasExpected, IsExpected, IsExplained, IsSo, IsToBeTold, TellsLine};
 ghost use Rattle.script_input.specs.Inputs.{texts_of};
 ghost use Rattle.trace_check.specs.Lawful.{Fault, fault_number, IsUnlawful};
 ghost use Rattle.trace_check.specs.Outcomes.{HasUnlawful};
-ghost use Rattle.trace_check.specs.Reads.{line_of, step_of};
+ghost use Rattle.trace_check.specs.Reads.{line_read, step_read};
 ghost use Rattle.trace_check.specs.Starting.{IsBegun, net_of, nodes_of};
-ghost use Rattle.trace_check.specs.States.{IsEditIn, IsLineIn, IsReached, Reached, StandsAt};
+ghost use Rattle.trace_check.specs.States.{IsEditIn, IsLineIn, IsReachedState, ReachedState, SparesAt};
 ghost use Rattle.trace_check.specs.Networks.{IsStepOf};
 ghost use Rattle.trace_check.specs.Tables.{IsIn};
 ghost use Rattle.trace_check.specs.Words.{SpellsLine};
@@ -83,7 +83,7 @@ fn expect_in(
     first: u32,
     wanted: u32,
 ) -> Result<Option<Expected>, AllocError>
-    requires ready { IsReady set_up.now.known }
+    requires ready { KnownIsReady set_up.now.known }
     requires begun { IsBegun set_up.now }
     requires few { first + length bytes.now ≤ 16777218 }
     ensures told { IfOk result (λ expected. IfSome expected (λ e. (place : ℕ)
@@ -117,13 +117,13 @@ impl Checker {
         text: &[u8],
         asked: bool,
     ) -> Result<Option<Expected>, AllocError>
-        requires { IsReady set_up.now.known }
+        requires { KnownIsReady set_up.now.known }
         ensures told { IfOk result (λ expected. IfSome expected
             (λ e. (asked ≡ true) × (self.now.ended ≡ false)
-            × ((r : Reached) → IsReached r self.now.state → r.nodes ≡ nodes_of set_up.now
+            × ((r : ReachedState) → IsReachedState r self.now.state → r.nodes ≡ nodes_of set_up.now
             → TellsLine set_up.now.known r text.now e))) }
         ensures some { IfOk result (λ expected. asked ≡ true → self.now.ended ≡ false
-            → (r : Reached) → IsReached r self.now.state → r.nodes ≡ nodes_of set_up.now
+            → (r : ReachedState) → IsReachedState r self.now.state → r.nodes ≡ nodes_of set_up.now
             → IsToBeTold set_up.now.known r text.now → IsSome expected) }
     {
         if !asked || self.has_ended() {
@@ -140,11 +140,11 @@ impl Checker {
 impl State {
     /// What would have been lawful in place of a line.
     fn expected(&self, line: &TraceLine) -> Option<Expected>
-        ensures told { IfSome result (λ e. (r : Reached) → IsReached r self.now
-            → IsLineIn r.nodes (line_of line.now) → IsSo r (line_of line.now) e) }
-        ensures some { (r : Reached) (short : Bool) (fault : Fault) → IsReached r self.now
-            → IsLineIn r.nodes (line_of line.now) → IsExplained (fault_number fault)
-            → (StandsAt r (line_of line.now) short fault → ⊥) → IsSome result }
+        ensures told { IfSome result (λ e. (r : ReachedState) → IsReachedState r self.now
+            → IsLineIn r.nodes (line_read line.now) → IsSo r (line_read line.now) e) }
+        ensures some { (r : ReachedState) (short : Bool) (fault : Fault) → IsReachedState r self.now
+            → IsLineIn r.nodes (line_read line.now) → IsExplained (fault_number fault)
+            → (SparesAt r (line_read line.now) short fault → ⊥) → IsSome result }
     {
         match line {
             TraceLine::Begun(line) => self.on_wire(line),
@@ -160,11 +160,11 @@ impl State {
 
     /// The same, of a step.
     fn expected_step(&self, step: &Step) -> Option<Expected>
-        ensures told { IfSome result (λ e. (r : Reached) → IsReached r self.now
-            → IsStepOf r.nodes (step_of step.now) → IsSo r (Stepped (step_of step.now)) e) }
-        ensures some { (r : Reached) (short : Bool) (fault : Fault) → IsReached r self.now
-            → IsStepOf r.nodes (step_of step.now) → IsExplained (fault_number fault)
-            → (StandsAt r (Stepped (step_of step.now)) short fault → ⊥) → IsSome result }
+        ensures told { IfSome result (λ e. (r : ReachedState) → IsReachedState r self.now
+            → IsStepOf r.nodes (step_read step.now) → IsSo r (Stepped (step_read step.now)) e) }
+        ensures some { (r : ReachedState) (short : Bool) (fault : Fault) → IsReachedState r self.now
+            → IsStepOf r.nodes (step_read step.now) → IsExplained (fault_number fault)
+            → (SparesAt r (Stepped (step_read step.now)) short fault → ⊥) → IsSome result }
     {
         match step {
             Step::Hold(port, _) => self.next_to_hold(*port),
@@ -179,7 +179,7 @@ impl State {
 
     /// How many characters are on the wire that an event line edits, if it edits one.
     fn on_wire(&self, line: &Line) -> Option<Expected>
-        ensures told { IfSome result (λ e. (r : Reached) → IsReached r self.now
+        ensures told { IfSome result (λ e. (r : ReachedState) → IsReachedState r self.now
             → IsEditIn r.nodes (edit_of line.now) → IsSo r (Begun line.now) e) }
         ensures some { IsSome (edit_of line.now) → IsSome result }
     {
@@ -189,7 +189,7 @@ impl State {
 
     /// How many characters are on the wire of a port.
     fn chars_on(&self, port: PortRef) -> usize
-        ensures { (r : Reached) → IsReached r self.now → IsIn r.nodes port
+        ensures { (r : ReachedState) → IsReachedState r self.now → IsIn r.nodes port
             → result ≡ length (r.wires port) }
     {
         match self.wire(port) {
@@ -200,7 +200,8 @@ impl State {
 
     /// The next characters of the wire to a port.
     fn front_to(&self, port: PortRef) -> Expected
-        ensures { (r : Reached) (chars : List AChar) → IsReached r self.now → IsIn r.nodes port
+        ensures { (r : ReachedState) (chars : List AChar) → IsReachedState r self.now
+            → IsIn r.nodes port
             → IsSo r (Signed (AGot port chars)) result }
     {
         Expected::Front(match self.wire_to(port) {
@@ -211,7 +212,7 @@ impl State {
 
     /// How many characters are on the wire of a port, or, if none is, on the wire to it.
     fn on_link(&self, port: PortRef) -> Expected
-        ensures { (r : Reached) → IsReached r self.now → IsIn r.nodes port
+        ensures { (r : ReachedState) → IsReachedState r self.now → IsIn r.nodes port
             → IsSo r (Signed (AFired port)) result }
     {
         let own = self.chars_on(port);
@@ -228,7 +229,8 @@ impl State {
 
     /// The ackID of the next packet that a port holds, and the first that came with it.
     fn next_to_hold(&self, port: PortRef) -> Option<Expected>
-        ensures { (r : Reached) (packet : List ℕ) → IsReached r self.now → IsIn r.nodes port
+        ensures { (r : ReachedState) (packet : List ℕ) → IsReachedState r self.now
+            → IsIn r.nodes port
             → IsSomeAnd result (IsSo r (Stepped (Linked (Hold port packet)))) }
     {
         let hearing = self.hearing(port)?;
@@ -237,7 +239,8 @@ impl State {
 
     /// How many packets a port may free in all.
     fn freed(&self, port: PortRef) -> Option<Expected>
-        ensures { (r : Reached) (packet : List ℕ) → IsReached r self.now → IsIn r.nodes port
+        ensures { (r : ReachedState) (packet : List ℕ) → IsReachedState r self.now
+            → IsIn r.nodes port
             → IsSomeAnd result (IsSo r (Stepped (Linked (Free port packet)))) }
     {
         let hearing = self.hearing(port)?;
@@ -246,8 +249,8 @@ impl State {
 
     /// The priority of a packet that a port does not have, and the first of it that waits there.
     fn waiting(&self, port: PortRef, chars: &[Char]) -> Option<Expected>
-        ensures { (r : Reached) → IsReached r self.now → IsIn r.nodes port
-            → MatchOption result (MaySend r.net (Signed (ASent port chars.now)))
+        ensures { (r : ReachedState) → IsReachedState r self.now → IsIn r.nodes port
+            → MatchOption result (SendMayBe r.net (Signed (ASent port chars.now)))
             (IsSo r (Signed (ASent port chars.now))) }
     {
         let (prio, packet) = self.lacking(port, chars)?;

@@ -10,9 +10,9 @@ ghost use Rattle.rio_packets.specs.LinkForm.{Passes};
 ghost use Rattle.fabric_script.specs.declared.ports.PortRef.{PortRef as APortRef};
 ghost use Rattle.fabric_script.specs.Lines.{words_of};
 ghost use Rattle.fabric_script.specs.Names.{name_of};
-ghost use Rattle.fabric_script.specs.SetUps.{IsReady};
+ghost use Rattle.fabric_script.specs.SetUps.{KnownIsReady};
 ghost use Rattle.fabric_script.specs.Texts.{port_text};
-ghost use Rattle.trace_check.specs.Words.{IsPortOf, IsEnd, IsNode};
+ghost use Rattle.trace_check.specs.Words.{IsScriptPort, IsEnd, IsNode};
 ghost use Rattle.trace_check.specs.declared.fields.LineEnd.TheVariants.{NoForm, NoMemory as OutOfMemory};
 
 use fabric_script::{PortRef, SetUp, read_number, split_word};
@@ -82,9 +82,9 @@ pub(crate) fn any_node(set_up: &SetUp, word: &[u8]) -> Result<u8, LineEnd>
 
 /// The port that a word names.
 pub(crate) fn any_port(set_up: &SetUp, word: &[u8]) -> Result<PortRef, LineEnd>
-    ensures port { IfOk result (λ port. IsPortOf set_up.now.known port
+    ensures port { IfOk result (λ port. IsScriptPort set_up.now.known port
         × (word.now ≡ port_text set_up.now.known.names port)) }
-    ensures none { OnErr result ((port : APortRef) → IsPortOf set_up.now.known port
+    ensures none { OnErr result ((port : APortRef) → IsScriptPort set_up.now.known port
         → word.now ≢ port_text set_up.now.known.names port) }
 {
     match set_up.read_port(word) {
@@ -95,7 +95,7 @@ pub(crate) fn any_port(set_up: &SetUp, word: &[u8]) -> Result<PortRef, LineEnd>
 
 /// The port that a word names, if it has a link.
 pub(crate) fn linked_port(set_up: &SetUp, word: &[u8]) -> Result<PortRef, LineEnd>
-    requires { IsReady set_up.now.known }
+    requires { KnownIsReady set_up.now.known }
     ensures port { IfOk result (λ port. IsEnd set_up.now.known port
         × (word.now ≡ port_text set_up.now.known.names port)) }
     ensures none { OnErr result ((port : APortRef) → IsEnd set_up.now.known port

@@ -6,7 +6,7 @@ ghost use Rattle.link_model.specs.declared.event.Event.{Event as AnEvent};
 ghost use Rattle.link_model.specs.declared.event.Event.TheVariants.{Ctl as ACtl};
 ghost use Rattle.fabric_trace.specs.Allowance.{raised};
 ghost use Rattle.trace_check.specs.Expecting.{first_with};
-ghost use Rattle.trace_check.specs.Running.{new_run, run_of, hears, notes, told_events, packet_in, MayHold, MayFree, holds_one, frees_one};
+ghost use Rattle.trace_check.specs.Running.{new_run, run_of, run_hears, notes, told_events, packet_in, MayHold, MayFree, holds_one, frees_one};
 
 use rio_chars::Char;
 use rio_framer::{Framer, Told};
@@ -44,7 +44,7 @@ impl Hearing {
 
     /// The port got characters.
     pub(crate) fn hear(&mut self, chars: &[Char]) -> Result<(), AllocError>
-        ensures { IfOk result (λ _. run_of self.new ≡ hears (run_of self.old) chars.now) }
+        ensures { IfOk result (λ _. run_of self.new ≡ run_hears (run_of self.old) chars.now) }
     {
         let mut left = chars;
         while !left.is_empty() {

@@ -3,9 +3,9 @@
 ghost use Rattle.std.specs.Prelude.{◌≡◌, ◌<◌, ◌++◌, None, Some, length, replicate, slice_get, slice_set, IfOk};
 ghost use Rattle.fabric_model.specs.Network.{Network as ANetwork};
 ghost use Rattle.fabric_trace.specs.Settings.{set_up};
-ghost use Rattle.trace_check.specs.Networks.{AreLinks};
-ghost use Rattle.trace_check.specs.Starting.{AreJoined, IsBegun, MayAdd, MayJoin, net_of, nodes_of};
-ghost use Rattle.trace_check.specs.Tables.{place_of};
+ghost use Rattle.trace_check.specs.Networks.{AreKeptLinks};
+ghost use Rattle.trace_check.specs.Starting.{AreJoined, IsBegun, MayStandBehind, MayJoin, net_of, nodes_of};
+ghost use Rattle.trace_check.specs.Tables.{table_place};
 
 use crate::places::{PORTS, place_of};
 use fabric_script::{Line, PortRef, SetUp};
@@ -22,7 +22,7 @@ impl Links {
     pub(crate) fn new(alloc: Global, set_up: &SetUp) -> Result<Links, AllocError>
         requires { IsBegun set_up.now }
         ensures { IfOk result (λ links.
-            AreLinks (nodes_of set_up.now) (net_of set_up.now).links links) }
+            AreKeptLinks (nodes_of set_up.now) (net_of set_up.now).links links) }
     {
         let mut links = Links {
             peers: Vec::new(alloc),
@@ -37,7 +37,7 @@ impl Links {
     fn add(&mut self, line: &Line) -> Result<(), AllocError>
         requires { MayJoin self.old line.now }
         ensures { IfOk result (λ _. (net : ANetwork) → AreJoined net self.old
-            → MayAdd net line.now → AreJoined (set_up net line.now) self.new) }
+            → MayStandBehind net line.now → AreJoined (set_up net line.now) self.new) }
     {
         match line {
             Line::Endpoint { .. } | Line::Switch { .. } => self.add_node(),
@@ -63,9 +63,9 @@ impl Links {
 
     /// A port has a link to another.
     fn join(&mut self, port: PortRef, peer: PortRef)
-        requires { place_of port < length self.old.peers.items }
+        requires { table_place port < length self.old.peers.items }
         ensures { self.new.peers.items
-            ≡ slice_set self.old.peers.items (place_of port) (Some peer) }
+            ≡ slice_set self.old.peers.items (table_place port) (Some peer) }
     {
         self.peers[place_of(port)] = Some(peer);
     }
@@ -80,9 +80,10 @@ impl Links {
     /// The other end of a port's link.
     pub(crate) fn peer(&self, port: PortRef) -> Option<PortRef>
         ensures some { (peer : _) → result ≡ Some peer
-            → slice_get self.now.peers.items (place_of port) ≡ Some (Some peer) }
+            → slice_get self.now.peers.items (table_place port) ≡ Some (Some peer) }
         ensures none { result ≡ None
-            → (peer : _) → slice_get self.now.peers.items (place_of port) ≡ Some (Some peer) → ⊥ }
+            → (peer : _) → slice_get self.now.peers.items (table_place port) ≡ Some (Some peer)
+            → ⊥ }
     {
         let place = place_of(port);
         if place < self.peers.len() {

@@ -7,8 +7,8 @@ ghost use Rattle.fabric_model.specs.Network.{Item, Network as ANetwork, room_in,
 ghost use Rattle.fabric_model.specs.Steps.{Answer, AtNode, ByDevice, Drop as ADrop, Free, Hold, IsFirst, IsForRegisters, Leave, Linked, Move, Take, with_waiting, without_first};
 ghost use Rattle.fabric_trace.specs.Views.{packets_in};
 ghost use Rattle.fabric_model.specs.Serving.{next_at, response_at};
-ghost use Rattle.trace_check.specs.Networks.{AreLinks, IsNetwork, IsStepOf, MakesIt, WaitsFirst, with_answered, with_lending, with_received, without_waiting};
-ghost use Rattle.trace_check.specs.Reads.{step_of};
+ghost use Rattle.trace_check.specs.Networks.{AreKeptLinks, IsNetwork, IsStepOf, MakesIt, WaitsFirst, with_answered, with_lending, with_received, without_waiting};
+ghost use Rattle.trace_check.specs.Reads.{step_read};
 ghost use Rattle.trace_check.specs.Tables.{IsIn};
 ghost use Rattle.maint_packets.specs.NextHops.{is_at_end};
 
@@ -53,8 +53,8 @@ impl Network {
     /// any more.
     pub(crate) fn make(&mut self, step: &Step, links: &Links) -> Result<bool, AllocError>
         ensures { IfOk result (λ made. (nodes : ℕ) (net : ANetwork) → IsNetwork nodes net self.old
-            → AreLinks nodes net.links links.now → IsStepOf nodes (step_of step.now)
-            → MakesIt nodes net (step_of step.now) self.new made) }
+            → AreKeptLinks nodes net.links links.now → IsStepOf nodes (step_read step.now)
+            → MakesIt nodes net (step_read step.now) self.new made) }
     {
         match step {
             Step::Hold(port, packet) => self.hold(*port, packet, links),
@@ -70,7 +70,7 @@ impl Network {
     /// A port holds the first packet of its priority that waits at the peer.
     fn hold(&mut self, port: PortRef, packet: &Packet, links: &Links) -> Result<bool, AllocError>
         ensures { IfOk result (λ made. (nodes : ℕ) (net : ANetwork) → IsNetwork nodes net self.old
-            → AreLinks nodes net.links links.now → IsIn nodes port
+            → AreKeptLinks nodes net.links links.now → IsIn nodes port
             → MakesIt nodes net (Linked (Hold port packet.now)) self.new made) }
     {
         let Some(peer) = links.peer(port) else {

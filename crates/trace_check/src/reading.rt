@@ -10,11 +10,11 @@ ghost use Rattle.fabric_script.specs.declared.ports.PortRef.{PortRef as APortRef
 ghost use Rattle.fabric_script.specs.Known.{Known as AKnown};
 ghost use Rattle.fabric_script.specs.Lines.{words_of};
 ghost use Rattle.fabric_script.specs.Names.{name_of};
-ghost use Rattle.fabric_script.specs.SetUps.{IsReady};
+ghost use Rattle.fabric_script.specs.SetUps.{KnownIsReady};
 ghost use Rattle.fabric_script.specs.Texts.{port_text};
 ghost use Rattle.fabric_trace.specs.Lines.{TraceLine as ALine};
 ghost use Rattle.trace_check.specs.Keywords.{SpellsBehind, NoneBehind};
-ghost use Rattle.trace_check.specs.Reads.{line_of};
+ghost use Rattle.trace_check.specs.Reads.{line_read};
 ghost use Rattle.trace_check.specs.Words.{IsEnd, IsNode, SpellsLine};
 ghost use Rattle.trace_check.specs.declared.fields.LineEnd.TheVariants.{NoForm};
 ghost use Rattle.trace_check.specs.declared.keywords.Keyword.{Keyword as AKeyword};
@@ -33,8 +33,8 @@ use std::alloc::Global;
 /// The line that a text spells behind set-up lines. NoForm comes exactly if it spells none, unless
 /// memory runs out.
 pub fn read_trace_line(alloc: Global, set_up: &SetUp, text: &[u8]) -> Result<TraceLine, LineEnd>
-    requires { IsReady set_up.now.known }
-    ensures line { IfOk result (λ line. SpellsLine set_up.now.known text.now (line_of line)) }
+    requires { KnownIsReady set_up.now.known }
+    ensures line { IfOk result (λ line. SpellsLine set_up.now.known text.now (line_read line)) }
     ensures no_form { IsErrOf result NoForm
         → (line : ALine) → SpellsLine set_up.now.known text.now line → ⊥ }
 {
@@ -55,9 +55,9 @@ fn read_words(
     keyword: Keyword,
     text: &[u8],
 ) -> Result<TraceLine, LineEnd>
-    requires { IsReady set_up.now.known }
+    requires { KnownIsReady set_up.now.known }
     ensures line { IfOk result (λ line.
-        SpellsBehind set_up.now.known keyword (words_of text.now) (line_of line)) }
+        SpellsBehind set_up.now.known keyword (words_of text.now) (line_read line)) }
     ensures no_form { IsErrOf result NoForm
         → NoneBehind set_up.now.known keyword (words_of text.now) }
 {
@@ -86,7 +86,7 @@ fn read_words(
 /// A line of one word.
 fn read_alone(keyword: Keyword) -> Result<TraceLine, LineEnd>
     ensures line { IfOk result
-        (λ line. (known : AKnown) → SpellsBehind known keyword [] (line_of line)) }
+        (λ line. (known : AKnown) → SpellsBehind known keyword [] (line_read line)) }
     ensures no_form { IsErrOf result NoForm → (known : AKnown) → NoneBehind known keyword [] }
 {
     match keyword {
@@ -113,9 +113,9 @@ fn read_alone(keyword: Keyword) -> Result<TraceLine, LineEnd>
 
 /// An event line.
 fn read_begun(alloc: Global, set_up: &SetUp, text: &[u8]) -> Result<TraceLine, LineEnd>
-    requires { IsReady set_up.now.known }
+    requires { KnownIsReady set_up.now.known }
     ensures line { IfOk result (λ line.
-        SpellsBehind set_up.now.known AKeyword.Begun (words_of text.now) (line_of line)) }
+        SpellsBehind set_up.now.known AKeyword.Begun (words_of text.now) (line_read line)) }
     ensures no_form { IsErrOf result NoForm
         → NoneBehind set_up.now.known AKeyword.Begun (words_of text.now) }
 {
@@ -128,9 +128,9 @@ fn read_begun(alloc: Global, set_up: &SetUp, text: &[u8]) -> Result<TraceLine, L
 
 /// A port holds a packet.
 fn read_hold(alloc: Global, set_up: &SetUp, text: &[u8]) -> Result<TraceLine, LineEnd>
-    requires { IsReady set_up.now.known }
+    requires { KnownIsReady set_up.now.known }
     ensures line { IfOk result (λ line.
-        SpellsBehind set_up.now.known AKeyword.Hold (words_of text.now) (line_of line)) }
+        SpellsBehind set_up.now.known AKeyword.Hold (words_of text.now) (line_read line)) }
     ensures no_form { IsErrOf result NoForm
         → NoneBehind set_up.now.known AKeyword.Hold (words_of text.now) }
 {
@@ -140,9 +140,9 @@ fn read_hold(alloc: Global, set_up: &SetUp, text: &[u8]) -> Result<TraceLine, Li
 
 /// A port frees a packet.
 fn read_free(alloc: Global, set_up: &SetUp, text: &[u8]) -> Result<TraceLine, LineEnd>
-    requires { IsReady set_up.now.known }
+    requires { KnownIsReady set_up.now.known }
     ensures line { IfOk result (λ line.
-        SpellsBehind set_up.now.known AKeyword.Free (words_of text.now) (line_of line)) }
+        SpellsBehind set_up.now.known AKeyword.Free (words_of text.now) (line_read line)) }
     ensures no_form { IsErrOf result NoForm
         → NoneBehind set_up.now.known AKeyword.Free (words_of text.now) }
 {
@@ -152,9 +152,9 @@ fn read_free(alloc: Global, set_up: &SetUp, text: &[u8]) -> Result<TraceLine, Li
 
 /// An endpoint takes a packet.
 fn read_take(alloc: Global, set_up: &SetUp, text: &[u8]) -> Result<TraceLine, LineEnd>
-    requires { IsReady set_up.now.known }
+    requires { KnownIsReady set_up.now.known }
     ensures line { IfOk result (λ line.
-        SpellsBehind set_up.now.known AKeyword.Take (words_of text.now) (line_of line)) }
+        SpellsBehind set_up.now.known AKeyword.Take (words_of text.now) (line_read line)) }
     ensures no_form { IsErrOf result NoForm
         → NoneBehind set_up.now.known AKeyword.Take (words_of text.now) }
 {
@@ -164,9 +164,9 @@ fn read_take(alloc: Global, set_up: &SetUp, text: &[u8]) -> Result<TraceLine, Li
 
 /// A packet leaves at an endpoint.
 fn read_leave(alloc: Global, set_up: &SetUp, text: &[u8]) -> Result<TraceLine, LineEnd>
-    requires { IsReady set_up.now.known }
+    requires { KnownIsReady set_up.now.known }
     ensures line { IfOk result (λ line.
-        SpellsBehind set_up.now.known AKeyword.Leave (words_of text.now) (line_of line)) }
+        SpellsBehind set_up.now.known AKeyword.Leave (words_of text.now) (line_read line)) }
     ensures no_form { IsErrOf result NoForm
         → NoneBehind set_up.now.known AKeyword.Leave (words_of text.now) }
 {
@@ -176,9 +176,9 @@ fn read_leave(alloc: Global, set_up: &SetUp, text: &[u8]) -> Result<TraceLine, L
 
 /// A switch moves a packet.
 fn read_move(alloc: Global, set_up: &SetUp, text: &[u8]) -> Result<TraceLine, LineEnd>
-    requires { IsReady set_up.now.known }
+    requires { KnownIsReady set_up.now.known }
     ensures line { IfOk result (λ line.
-        SpellsBehind set_up.now.known AKeyword.Move (words_of text.now) (line_of line)) }
+        SpellsBehind set_up.now.known AKeyword.Move (words_of text.now) (line_read line)) }
     ensures no_form { IsErrOf result NoForm
         → NoneBehind set_up.now.known AKeyword.Move (words_of text.now) }
 {
@@ -192,9 +192,9 @@ fn read_move(alloc: Global, set_up: &SetUp, text: &[u8]) -> Result<TraceLine, Li
 
 /// A switch drops a packet.
 fn read_drop(alloc: Global, set_up: &SetUp, text: &[u8]) -> Result<TraceLine, LineEnd>
-    requires { IsReady set_up.now.known }
+    requires { KnownIsReady set_up.now.known }
     ensures line { IfOk result (λ line.
-        SpellsBehind set_up.now.known AKeyword.Drop (words_of text.now) (line_of line)) }
+        SpellsBehind set_up.now.known AKeyword.Drop (words_of text.now) (line_read line)) }
     ensures no_form { IsErrOf result NoForm
         → NoneBehind set_up.now.known AKeyword.Drop (words_of text.now) }
 {
@@ -206,9 +206,9 @@ fn read_drop(alloc: Global, set_up: &SetUp, text: &[u8]) -> Result<TraceLine, Li
 
 /// Registers answer a packet with another.
 fn read_answer(alloc: Global, set_up: &SetUp, text: &[u8]) -> Result<TraceLine, LineEnd>
-    requires { IsReady set_up.now.known }
+    requires { KnownIsReady set_up.now.known }
     ensures line { IfOk result (λ line.
-        SpellsBehind set_up.now.known AKeyword.Answer (words_of text.now) (line_of line)) }
+        SpellsBehind set_up.now.known AKeyword.Answer (words_of text.now) (line_read line)) }
     ensures no_form { IsErrOf result NoForm
         → NoneBehind set_up.now.known AKeyword.Answer (words_of text.now) }
 {
@@ -222,9 +222,9 @@ fn read_answer(alloc: Global, set_up: &SetUp, text: &[u8]) -> Result<TraceLine, 
 
 /// A port put characters on its wire.
 fn read_sent(alloc: Global, set_up: &SetUp, text: &[u8]) -> Result<TraceLine, LineEnd>
-    requires { IsReady set_up.now.known }
+    requires { KnownIsReady set_up.now.known }
     ensures line { IfOk result (λ line.
-        SpellsBehind set_up.now.known AKeyword.Sent (words_of text.now) (line_of line)) }
+        SpellsBehind set_up.now.known AKeyword.Sent (words_of text.now) (line_read line)) }
     ensures no_form { IsErrOf result NoForm
         → NoneBehind set_up.now.known AKeyword.Sent (words_of text.now) }
 {
@@ -234,9 +234,9 @@ fn read_sent(alloc: Global, set_up: &SetUp, text: &[u8]) -> Result<TraceLine, Li
 
 /// A port took characters from its peer's wire.
 fn read_got(alloc: Global, set_up: &SetUp, text: &[u8]) -> Result<TraceLine, LineEnd>
-    requires { IsReady set_up.now.known }
+    requires { KnownIsReady set_up.now.known }
     ensures line { IfOk result (λ line.
-        SpellsBehind set_up.now.known AKeyword.Got (words_of text.now) (line_of line)) }
+        SpellsBehind set_up.now.known AKeyword.Got (words_of text.now) (line_read line)) }
     ensures no_form { IsErrOf result NoForm
         → NoneBehind set_up.now.known AKeyword.Got (words_of text.now) }
 {
@@ -246,9 +246,9 @@ fn read_got(alloc: Global, set_up: &SetUp, text: &[u8]) -> Result<TraceLine, Lin
 
 /// The time-out of a port fired.
 fn read_fire(set_up: &SetUp, text: &[u8]) -> Result<TraceLine, LineEnd>
-    requires { IsReady set_up.now.known }
+    requires { KnownIsReady set_up.now.known }
     ensures line { IfOk result (λ line.
-        SpellsBehind set_up.now.known AKeyword.Fire (words_of text.now) (line_of line)) }
+        SpellsBehind set_up.now.known AKeyword.Fire (words_of text.now) (line_read line)) }
     ensures no_form { IsErrOf result NoForm
         → NoneBehind set_up.now.known AKeyword.Fire (words_of text.now) }
 {
@@ -258,7 +258,7 @@ fn read_fire(set_up: &SetUp, text: &[u8]) -> Result<TraceLine, LineEnd>
 
 /// A port with a link, and a packet.
 fn link_step(alloc: Global, set_up: &SetUp, text: &[u8]) -> Result<(PortRef, Packet), LineEnd>
-    requires { IsReady set_up.now.known }
+    requires { KnownIsReady set_up.now.known }
     ensures found { IfOk result (λ found. IsEnd set_up.now.known found.0 × Passes found.1
         × (words_of text.now
         ≡ port_text set_up.now.known.names found.0 ∷ hex_of found.1 ∷ [])) }
@@ -287,7 +287,7 @@ fn node_step(alloc: Global, set_up: &SetUp, text: &[u8]) -> Result<(u8, Packet),
 
 /// A port with a link, and characters.
 fn port_chars(alloc: Global, set_up: &SetUp, text: &[u8]) -> Result<(PortRef, Vec<Char>), LineEnd>
-    requires { IsReady set_up.now.known }
+    requires { KnownIsReady set_up.now.known }
     ensures found { IfOk result (λ found. IsEnd set_up.now.known found.0
         × (found.1.items ≢ []) × AllByRecursion HasByte found.1.items
         × (words_of text.now

@@ -9,7 +9,7 @@ ghost use Rattle.fabric_model.specs.Network.{first_packet, Network as ANetwork};
 ghost use Rattle.fabric_trace.specs.Fold.{says};
 ghost use Rattle.fabric_trace.specs.Lines.{Sent, Signed};
 ghost use Rattle.fabric_trace.specs.Owned.{HasEvent, HasPacket};
-ghost use Rattle.trace_check.specs.Checks.{MaySend};
+ghost use Rattle.trace_check.specs.Checks.{SendMayBe};
 ghost use Rattle.trace_check.specs.Expecting.{OneIsLacked};
 ghost use Rattle.trace_check.specs.Networks.{IsNetwork};
 ghost use Rattle.trace_check.specs.Running.{told_events};
@@ -29,7 +29,7 @@ impl Network {
     /// Whether a port has each packet in characters that it sends.
     pub(crate) fn may_send(&self, port: PortRef, chars: &[Char]) -> bool
         ensures { (nodes : ℕ) (net : ANetwork) → IsNetwork nodes net self.now → IsIn nodes port
-            → IsTrue result ↔ MaySend net (Signed (Sent port chars.now)) }
+            → IsTrue result ↔ SendMayBe net (Signed (Sent port chars.now)) }
     {
         let place = place_of(port);
         place < self.waiting.len()
@@ -41,7 +41,7 @@ impl Network {
     /// this priority that waits there.
     pub(crate) fn lacking(&self, port: PortRef, chars: &[Char]) -> Option<(u8, Option<Packet>)>
         ensures { (nodes : ℕ) (net : ANetwork) → IsNetwork nodes net self.now → IsIn nodes port
-            → MatchOption result (MaySend net (Signed (Sent port chars.now)))
+            → MatchOption result (SendMayBe net (Signed (Sent port chars.now)))
             (λ found. OneIsLacked net port found.0 (says chars.now)
             × (found.1 ≡ first_packet (net.waiting port found.0))) }
     {

@@ -5,14 +5,14 @@ ghost use Rattle.std.specs.Option.{option_copied};
 ghost use Rattle.fabric_model.specs.Network.{first_packet};
 ghost use Rattle.fabric_trace.specs.Fold.{edit_of, says};
 ghost use Rattle.fabric_trace.specs.Lines.{Begun, Fired as AFired, Got as AGot, Sent as ASent, Signed, Stepped};
-ghost use Rattle.trace_check.specs.Checks.{MaySend};
+ghost use Rattle.trace_check.specs.Checks.{SendMayBe};
 ghost use Rattle.trace_check.specs.Expecting.{OneIsLacked, wire_to};
 ghost use Rattle.trace_check.specs.Lawful.{fault_number};
 ghost use Rattle.trace_check.specs.Networks.{IsStepOf};
-ghost use Rattle.trace_check.specs.Reads.{step_of};
+ghost use Rattle.trace_check.specs.Reads.{step_read};
 ghost use Rattle.trace_check.specs.Running.{run_of};
 ghost use Rattle.trace_check.specs.Starting.{IsBegun, net_of, nodes_of};
-ghost use Rattle.trace_check.specs.States.{Checks, fault_of, Frees, Holds, IsEditIn, IsLeast, IsReached, Reached, StandsAt, unreached};
+ghost use Rattle.trace_check.specs.States.{Checks, fault_of, ChecksFree, ChecksHold, IsEditIn, IsLeast, IsReachedState, ReachedState, SparesAt, unreached};
 ghost use Rattle.trace_check.specs.Tables.{IsIn};
 
 use crate::hearing::Hearing;
@@ -57,7 +57,7 @@ impl State {
     pub(crate) fn new(alloc: Global, set_up: &SetUp) -> Result<State, AllocError>
         requires { IsBegun set_up.now }
         ensures { IfOk result (λ state.
-            IsReached (unreached (nodes_of set_up.now) (net_of set_up.now)) state) }
+            IsReachedState (unreached (nodes_of set_up.now) (net_of set_up.now)) state) }
     {
         let links = Links::new(alloc, set_up)?;
         let network = Network::new(alloc, set_up)?;
@@ -77,7 +77,7 @@ impl State {
 
     /// An event line, which may edit a wire.
     pub(crate) fn edit(&mut self, line: &Line) -> Result<Option<Fault>, AllocError>
-        ensures { IfOk result (λ fault. (r : Reached) → IsReached r self.old
+        ensures { IfOk result (λ fault. (r : ReachedState) → IsReachedState r self.old
             → IsEditIn r.nodes (edit_of line.now)
             → Checks r (Begun line.now) false self.new fault) }
     {
@@ -97,7 +97,8 @@ impl State {
         port: PortRef,
         chars: Vec<Char>,
     ) -> Result<Option<Fault>, AllocError>
-        ensures { IfOk result (λ fault. (r : Reached) (short : Bool) → IsReached r self.old
+        ensures { IfOk result (λ fault. (r : ReachedState) (short : Bool)
+            → IsReachedState r self.old
             → IsIn r.nodes port
             → Checks r (Signed (ASent port chars.items)) short self.new fault) }
     {
@@ -111,7 +112,8 @@ impl State {
 
     /// A port takes characters from the front of its peer's wire.
     pub(crate) fn got(&mut self, port: PortRef, chars: &[Char]) -> Result<Option<Fault>, AllocError>
-        ensures { IfOk result (λ fault. (r : Reached) (short : Bool) → IsReached r self.old
+        ensures { IfOk result (λ fault. (r : ReachedState) (short : Bool)
+            → IsReachedState r self.old
             → IsIn r.nodes port → Checks r (Signed (AGot port chars.now)) short self.new fault) }
     {
         let Some(peer) = self.links.peer(port) else {
@@ -131,8 +133,8 @@ impl State {
 
     /// The time-out of a port fires: nothing is on its way on its link.
     pub(crate) fn fired(&self, port: PortRef) -> Option<Fault>
-        ensures { (r : Reached) (short : Bool) → IsReached r self.now → IsIn r.nodes port
-            → IsLeast (StandsAt r (Signed (AFired port)) short) result }
+        ensures { (r : ReachedState) (short : Bool) → IsReachedState r self.now → IsIn r.nodes port
+            → IsLeast (SparesAt r (Signed (AFired port)) short) result }
     {
         match self.links.peer(port) {
             Some(peer) if self.is_empty(port) && self.is_empty(peer) => None,
@@ -142,7 +144,7 @@ impl State {
 
     /// The wire of a port.
     pub(crate) fn wire(&self, port: PortRef) -> Option<&CharQueue>
-        ensures { (r : Reached) → IsReached r self.now → IsIn r.nodes port
+        ensures { (r : ReachedState) → IsReachedState r self.now → IsIn r.nodes port
             → option_copied result ≡ Some (r.wires port) }
     {
         self.wires.get(place_of(port))
@@ -150,7 +152,7 @@ impl State {
 
     /// The wire to a port.
     pub(crate) fn wire_to(&self, port: PortRef) -> Option<&CharQueue>
-        ensures { (r : Reached) → IsReached r self.now → IsIn r.nodes port
+        ensures { (r : ReachedState) → IsReachedState r self.now → IsIn r.nodes port
             → unwrap_or (option_copied result) [] ≡ wire_to r port }
     {
         match self.links.peer(port) {
@@ -161,7 +163,7 @@ impl State {
 
     /// What a port has got.
     pub(crate) fn hearing(&self, port: PortRef) -> Option<&Hearing>
-        ensures { (r : Reached) → IsReached r self.now → IsIn r.nodes port
+        ensures { (r : ReachedState) → IsReachedState r self.now → IsIn r.nodes port
             → option_map run_of (option_copied result) ≡ Some (r.runs port) }
     {
         self.hearings.get(place_of(port))
@@ -170,8 +172,8 @@ impl State {
     /// The priority of a packet in characters that a port does not have to send, and the first
     /// packet of this priority that waits there.
     pub(crate) fn lacking(&self, port: PortRef, chars: &[Char]) -> Option<(u8, Option<Packet>)>
-        ensures { (r : Reached) → IsReached r self.now → IsIn r.nodes port
-            → MatchOption result (MaySend r.net (Signed (ASent port chars.now)))
+        ensures { (r : ReachedState) → IsReachedState r self.now → IsIn r.nodes port
+            → MatchOption result (SendMayBe r.net (Signed (ASent port chars.now)))
             (λ found. OneIsLacked r.net port found.0 (says chars.now)
             × (found.1 ≡ first_packet (r.net.waiting port found.0))) }
     {
@@ -180,7 +182,7 @@ impl State {
 
     /// Whether no character is on the wire of a port.
     fn is_empty(&self, port: PortRef) -> bool
-        ensures { (r : Reached) → IsReached r self.now → IsIn r.nodes port
+        ensures { (r : ReachedState) → IsReachedState r self.now → IsIn r.nodes port
             → IsTrue result ↔ (r.wires port ≡ []) }
     {
         let place = place_of(port);
@@ -189,9 +191,10 @@ impl State {
 
     /// A step is made.
     pub(crate) fn step(&mut self, step: &Step) -> Result<Option<Fault>, AllocError>
-        ensures { IfOk result (λ fault. (r : Reached) (short : Bool) → IsReached r self.old
-            → IsStepOf r.nodes (step_of step.now)
-            → Checks r (Stepped (step_of step.now)) short self.new fault) }
+        ensures { IfOk result (λ fault. (r : ReachedState) (short : Bool)
+            → IsReachedState r self.old
+            → IsStepOf r.nodes (step_read step.now)
+            → Checks r (Stepped (step_read step.now)) short self.new fault) }
     {
         if !self.network.make(step, &self.links)? {
             return Ok(Some(Fault::NoStep));
@@ -219,8 +222,8 @@ impl State {
 
     /// Whether a packet that a port holds has come to it.
     fn has_come(&mut self, port: PortRef, packet: &Packet) -> bool
-        ensures { (r : Reached) → IsReached r self.old → IsIn r.nodes port
-            → Holds r port packet.now self.new result }
+        ensures { (r : ReachedState) → IsReachedState r self.old → IsIn r.nodes port
+            → ChecksHold r port packet.now self.new result }
     {
         let place = place_of(port);
         place < self.hearings.len() && self.hearings[place].hold(packet)
@@ -228,8 +231,8 @@ impl State {
 
     /// Whether a port may free one more packet.
     fn is_allowed(&mut self, port: PortRef) -> bool
-        ensures { (r : Reached) → IsReached r self.old → IsIn r.nodes port
-            → Frees r port self.new result }
+        ensures { (r : ReachedState) → IsReachedState r self.old → IsIn r.nodes port
+            → ChecksFree r port self.new result }
     {
         let place = place_of(port);
         place < self.hearings.len() && self.hearings[place].free()

@@ -7,9 +7,9 @@ ghost use Rattle.rio_packets.specs.LinkForm.{Passes};
 ghost use Rattle.rio_symbols.specs.Fields.{Fields, InRange};
 ghost use Rattle.link_model.specs.declared.event.Event.{Event as AnEvent};
 ghost use Rattle.fabric_script.specs.Lines.{words_of};
-ghost use Rattle.fabric_script.specs.SetUps.{IsReady};
+ghost use Rattle.fabric_script.specs.SetUps.{KnownIsReady};
 ghost use Rattle.trace_check.specs.Keywords.{SpellsBehind, NoneBehind};
-ghost use Rattle.trace_check.specs.Reads.{line_of};
+ghost use Rattle.trace_check.specs.Reads.{line_read};
 ghost use Rattle.trace_check.specs.Words.{event_words, symbol_words, EventFits};
 ghost use Rattle.trace_check.specs.declared.fields.LineEnd.TheVariants.{NoForm};
 ghost use Rattle.trace_check.specs.declared.keywords.Keyword.{Keyword as AKeyword};
@@ -28,9 +28,9 @@ pub(crate) fn read_undetected(
     set_up: &SetUp,
     text: &[u8],
 ) -> Result<TraceLine, LineEnd>
-    requires { IsReady set_up.now.known }
+    requires { KnownIsReady set_up.now.known }
     ensures line { IfOk result (λ line.
-        SpellsBehind set_up.now.known AKeyword.Undetected (words_of text.now) (line_of line)) }
+        SpellsBehind set_up.now.known AKeyword.Undetected (words_of text.now) (line_read line)) }
     ensures no_form { IsErrOf result NoForm
         → NoneBehind set_up.now.known AKeyword.Undetected (words_of text.now) }
 {

@@ -3,7 +3,7 @@ use Rattle.std.specs.Prelude.{◌≡◌, ℕ, ◌+◌, ◌<◌, ◌==◌, List, 
 use Rattle.rio_packets.specs.Fields.{prio_of, tt_of, ftype_of, dest_of, source_of, hop_of}
 use Rattle.fabric_model.specs.Network.{Item, Network, route_at}
 use Rattle.fabric_model.specs.Steps.{Step, after, after_all}
-use Rattle.fabric_model.specs.Laws.History.{Left, Answered, taken_by, ended_by, ended}
+use Rattle.fabric_model.specs.Laws.History.{EndLeft, EndAnswered, taken_by, ended_by, items_ended}
 use Rattle.fabric_model.specs.Laws.Holding.{how_often}
 
 -- The items go the same way through any fabric. Each field reads what they were when they were
@@ -37,11 +37,11 @@ EarlierFirst Alike start steps =
     (before : List Step) (first : Step) (between : List Step) (last : Step) (later : List Step)
     (x y : Item) → steps ≡ before ++ first ∷ (between ++ last ∷ later)
     → taken_by (after_all start before) first ≡ x ∷ []
-    → ended_by Left (after_all (after (after_all start before) first) between) last ≡ y ∷ []
+    → ended_by EndLeft (after_all (after (after_all start before) first) between) last ≡ y ∷ []
     → RoutesStand (dest_of x.taken) (after (after_all start before) first) between
     → Alike x y → x.number < y.number
-    → 0 < how_often x.number (ended (after (after_all start before) first) between Left)
-    + how_often x.number (ended (after (after_all start before) first) between Answered)
+    → 0 < how_often x.number (items_ended (after (after_all start before) first) between EndLeft)
+    + how_often x.number (items_ended (after (after_all start before) first) between EndAnswered)
 
 pub record InOrder (start : Network) (steps : List Step) : Type 0 where
   pub earlier_first : EarlierFirst SameFlow start steps

@@ -8,14 +8,14 @@ use Rattle.fabric_model.specs.Network.{Item, Network, first_packet}
 use Rattle.fabric_model.specs.Serving.{response_at}
 
 -- each of these items is a packet in its link form
-abbrev pub ArePackets : List Item → Type 0
-ArePackets items = AllByRecursion (λ item. Passes item.now) items
+abbrev pub ItemsPass : List Item → Type 0
+ItemsPass items = AllByRecursion (λ item. Passes item.now) items
 
 -- all items are, and the registers of each node are within
 pub record IsFormed (net : Network) : Type 0 where
-  pub received : (p : PortRef) (r : ℕ) → ArePackets (net.received p r)
-  pub waiting : (p : PortRef) (r : ℕ) → ArePackets (net.waiting p r)
-  pub lent : (p : PortRef) → ArePackets (net.lent p)
+  pub received : (p : PortRef) (r : ℕ) → ItemsPass (net.received p r)
+  pub waiting : (p : PortRef) (r : ℕ) → ItemsPass (net.waiting p r)
+  pub lent : (p : PortRef) → ItemsPass (net.lent p)
   pub registers : AllByRecursion IsWithin net.registers
 
 -- Whatever the registers answer to a packet that is first in a lane is a packet in its link form.

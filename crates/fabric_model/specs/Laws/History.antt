@@ -28,14 +28,14 @@ taken_by net (ByDevice (Answer p packet response)) = item_of net p response ∷ 
 
 -- how an item ends: it leaves the fabric, it is dropped, or it is answered
 pub data End : Type 0 where
-  Left : End
-  Dropped : End
-  Answered : End
+  EndLeft : End
+  EndDropped : End
+  EndAnswered : End
 
 abbrev pub same_end : End → End → Bool
-same_end Left Left = true
-same_end Dropped Dropped = true
-same_end Answered Answered = true
+same_end EndLeft EndLeft = true
+same_end EndDropped EndDropped = true
+same_end EndAnswered EndAnswered = true
 same_end _ _ = false
 
 -- the items that end in one way by a step
@@ -43,26 +43,26 @@ abbrev pub ended_by : End → Network → Step → List Item
 ended_by end net (Linked step) = []
 ended_by end net (AtNode (Take n packet)) = []
 ended_by end net (AtNode (Leave n packet)) =
-    if same_end end Left then only_first (net.received (port_of n) (prio_of packet)) else []
+    if same_end end EndLeft then only_first (net.received (port_of n) (prio_of packet)) else []
 ended_by end net (ByDevice (Move p q packet)) = []
 ended_by end net (ByDevice (Drop p packet)) =
-    if same_end end Dropped then only_first (net.received p (prio_of packet)) else []
+    if same_end end EndDropped then only_first (net.received p (prio_of packet)) else []
 ended_by end net (ByDevice (Answer p packet response)) =
-    if same_end end Answered then only_first (net.received p (prio_of packet)) else []
+    if same_end end EndAnswered then only_first (net.received p (prio_of packet)) else []
 
 -- the items as they were taken, in the order of their numbers
-abbrev pub taken : Network → List Step → List Item
-taken net steps = gathered taken_by net steps
+abbrev pub items_taken : Network → List Step → List Item
+items_taken net steps = gathered taken_by net steps
 
 -- the items that have ended in one way, in the order in which they ended
-abbrev pub ended : Network → List Step → End → List Item
-ended net steps end = gathered (ended_by end) net steps
+abbrev pub items_ended : Network → List Step → End → List Item
+items_ended net steps end = gathered (ended_by end) net steps
 
 -- those that have left
 abbrev pub gone : Network → List Step → List Item
-gone net steps = ended net steps Left
+gone net steps = items_ended net steps EndLeft
 
 -- the item of this number was taken at this port as this packet
 abbrev pub WasTaken : Network → List Step → Item → Type 0
 WasTaken start steps item =
-    slice_get (taken start steps) item.number ≡ Some (record item { now = item.taken })
+    slice_get (items_taken start steps) item.number ≡ Some (record item { now = item.taken })

@@ -4,13 +4,10 @@ use Rattle.std.specs.Prelude.{◌≡◌, ℕ, true, List, [], ◌∷◌}
 use Rattle.rio_packets.specs.Fields.{prio_of}
 use Rattle.maint_registers.specs.Devices.{Device, new_endpoint, new_switch}
 use Rattle.fabric_script.specs.declared.ports.PortRef.{PortRef}
+use Rattle.fabric_script.specs.Ports.{port_at}
 use Rattle.fabric_model.specs.Network.{Item, Network, port_of, bare}
 use Rattle.fabric_model.specs.Steps.{Hold, Take, Leave, Move, Drop, Answer, Step, Linked, AtNode, ByDevice}
 use Rattle.fabric_model.specs.Laws.Examples.{packet, other}
-
--- a port of a switch
-abbrev pub port_at : ℕ → ℕ → PortRef
-port_at node port = record { node = node; port = port }
 
 -- a switch with three ports and these entries, which sends what has none to port 1
 abbrev pub switch_with : List ℕ → Device

@@ -1,6 +1,6 @@
 use Rattle.std.proofs.Common.{refl}
 use Rattle.host_enumerate.proofs.Askable.{opened-first}
-use Rattle.contest_asking.specs.Examples.{waiting, waiting_host}
+use Rattle.contest_asking.specs.Examples.{host_waiting, waiting_host}
 use Rattle.contest_asking.proofs.examples.a_lock_is_read.Goals as goal
 
 pub returns-clause-wanted : goal.returns-clause-wanted
@@ -9,7 +9,7 @@ returns-clause-wanted c = record {
   keeps_on = λ same. cc;
   some = λ same. cc;
   leads = refl;
-  opened = opened-first waiting_host.view waiting.registers waiting_host.id 0;
+  opened = opened-first waiting_host.view host_waiting.registers waiting_host.id 0;
 }
 
 pub returns-clause-carried : goal.returns-clause-carried

@@ -4,7 +4,7 @@ use Rattle.rio_chars.specs.Fronts.{AppendsFront}
 use Rattle.contest_machine.specs.Turns.{Both, after_turns}
 use Rattle.fabric_contest.specs.Contests.{both_of, contest_of}
 use Rattle.fabric_contest.specs.ContestTexts.{contest_text}
-use Rattle.fabric_contest.specs.Orders.{turns_of}
+use Rattle.fabric_contest.specs.Orders.{seeded_turns}
 use Rattle.fabric_contest.proofs.Distinct.{host_named}
 use Rattle.fabric_contest.proofs.lines.write_contest.Goals as goal
 
@@ -26,7 +26,7 @@ returns-then-tell_contest-clause-fault g c is =
     let end = contest_of c.args.script.now.lines.items c.args.first c.args.second c.args.seed in
     let both : both_of c.turns_by.new.self ≡ end =
     c.in_ok-turns_by.ensures.both
-    ∙ ap (λ (b : Both). after_turns b (turns_of c.args.seed)) c.in_ok-contest.ensures.both in
+    ∙ ap (λ (b : Both). after_turns b (seeded_turns c.args.seed)) c.in_ok-contest.ensures.both in
     let text : contest_text c.as_slice-names.result.now c.args.first c.args.second
     (both_of c.turns_by.new.self) ≡ contest_text names c.args.first c.args.second end =
     ap (λ (b : Both). contest_text c.as_slice-names.result.now c.args.first c.args.second b) both
@@ -43,7 +43,7 @@ returns-clause-written g c =
     let end = contest_of c.args.script.now.lines.items c.args.first c.args.second c.args.seed in
     let both : both_of c.turns_by.new.self ≡ end =
     c.in_ok-turns_by.ensures.both
-    ∙ ap (λ (b : Both). after_turns b (turns_of c.args.seed)) c.in_ok-contest.ensures.both in
+    ∙ ap (λ (b : Both). after_turns b (seeded_turns c.args.seed)) c.in_ok-contest.ensures.both in
     let text : contest_text c.as_slice-names.result.now c.args.first c.args.second
     (both_of c.turns_by.new.self) ≡ contest_text names c.args.first c.args.second end =
     ap (λ (b : Both). contest_text c.as_slice-names.result.now c.args.first c.args.second b) both

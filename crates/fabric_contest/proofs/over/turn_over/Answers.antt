@@ -5,7 +5,7 @@ use Rattle.fabric_map.specs.Routes.{Registers}
 use Rattle.fabric_map.specs.Plain.{registers_of}
 use Rattle.fabric_ports.specs.declared.fabric.Fabric.{Fabric}
 use Rattle.fabric_maint.specs.Going.{topology_in, StandsFor}
-use Rattle.contest_machine.specs.Turns.{turned}
+use Rattle.contest_machine.specs.Turns.{walker_turned}
 use Rattle.host_contest.specs.Steps.{state_in, CanStep}
 use Rattle.host_contest.specs.Walkers.{machine_in}
 use Rattle.host_contest.proofs.Machines.{on_ok}
@@ -28,7 +28,7 @@ returns-clause-turned c =
     let made = c.resting-maint.ensures in
     let Turned : Topology → Registers → List Device → Type 0 =
     λ view old new. OnOk c.make_turn.result (state_in view (registers_of new)
-    c.make_turn.new.walker.machine ≡ turned (machine_in view c.args.walker.now) old) in
+    c.make_turn.new.walker.machine ≡ walker_turned (machine_in view c.args.walker.now) old) in
     let view = view_of c.args.script.now.lines.items c.args.host in
     let old = registers_of c.args.fabric.now.devices.items in
     let end = c.make_turn.new.maint.fabric.now.devices.items in

@@ -1,8 +1,8 @@
 use Rattle.std.proofs.Common.{◌≡◌, take, flat_map}
-use Rattle.fabric_map.specs.Numbered.{entries_at, ids_of}
+use Rattle.fabric_map.specs.Numbered.{entries_at, given_ids}
 use Rattle.fabric_map.proofs.entries.entries_of.Given as goal
 
 abbrev pub invariant-loop-device : goal.invariant-loop-device
 invariant-loop-device l =
     l.entries.items
-    ≡ flat_map (entries_at l.devices (ids_of l.devices)) (take l.device-index l.devices)
+    ≡ flat_map (entries_at l.devices (given_ids l.devices)) (take l.device-index l.devices)

@@ -3,7 +3,7 @@ use Rattle.rio_chars.specs.Written.{Writes}
 use Rattle.rio_chars.specs.declared.outbox.Outbox.{Outbox}
 use Rattle.rio_packets.specs.LinkForm.{Passes}
 use Rattle.switch_core.specs.declared.switch.Step.{Step}
-use Rattle.switch_core.specs.SwitchSteps.{step_of, device_after}
+use Rattle.switch_core.specs.SwitchSteps.{step_of, switch_after}
 use Rattle.switch_core.proofs.GoingLaws.{dropped_is, moved_is}
 use Rattle.fabric_model.specs.Steps.{Move, Drop, Answer, ByDevice}
 use Rattle.fabric_trace.specs.Lines.{Stepped}
@@ -29,7 +29,7 @@ returns-in-Nowhere-clause-lists g c = c.pass_on.ensures.faces c.args.registers.n
 pub returns-in-Nowhere-clause-registers : goal.returns-in-Nowhere-clause-registers
 returns-in-Nowhere-clause-registers g c =
     let device = c.args.registers.now in
-    sym (ap (device_after device) (dropped_is device (faces_at c.args.own.now) c.args.going
+    sym (ap (switch_after device) (dropped_is device (faces_at c.args.own.now) c.args.going
     c.requires.goes c.packet-packet.result.now c.packet-packet.ensures c.in-Nowhere.is))
 
 pub returns-in-Nowhere-clause-wrote : goal.returns-in-Nowhere-clause-wrote
@@ -51,7 +51,7 @@ returns-in-Port-clause-lists g c =
 pub returns-in-Port-clause-registers : goal.returns-in-Port-clause-registers
 returns-in-Port-clause-registers g c =
     let device = c.args.registers.now in
-    sym (ap (device_after device) (moved_is device (faces_at c.args.own.now) c.args.going
+    sym (ap (switch_after device) (moved_is device (faces_at c.args.own.now) c.args.going
     c.requires.goes c.packet-packet.result.now c.packet-packet.ensures c.in-Port.to c.in-Port.is).0)
 
 pub returns-in-Port-clause-wrote : goal.returns-in-Port-clause-wrote

@@ -1,5 +1,5 @@
 use Rattle.std.proofs.Common.{refl}
-use Rattle.fabric_script.specs.Words.{Done, More}
+use Rattle.fabric_script.specs.Words.{NoMore, More}
 use Rattle.fabric_script.proofs.line_words.alter.Goals as goal
 
 pub returns : goal.returns
@@ -8,5 +8,5 @@ returns c = record {
   next = tt;
   takes = More c.port-port.ensures
       (More (c.number-place.ensures.takes c.args.known.now)
-      (More (c.character-ch.ensures c.args.known.now) Done));
+      (More (c.character-ch.ensures c.args.known.now) NoMore));
 }

@@ -1,5 +1,5 @@
 use Rattle.std.proofs.Common.{refl}
-use Rattle.fabric_script.specs.Words.{Done, More}
+use Rattle.fabric_script.specs.Words.{NoMore, More}
 use Rattle.fabric_script.proofs.line_words.large.Goals as goal
 
 pub returns : goal.returns
@@ -7,5 +7,5 @@ returns c = record {
   is = refl;
   next = tt;
   takes = More c.node-node.ensures
-      (More (c.number-id.ensures.takes c.args.known.now) Done);
+      (More (c.number-id.ensures.takes c.args.known.now) NoMore);
 }

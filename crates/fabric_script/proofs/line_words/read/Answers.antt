@@ -1,5 +1,5 @@
 use Rattle.std.proofs.Common.{refl}
-use Rattle.fabric_script.specs.Words.{Done, More}
+use Rattle.fabric_script.specs.Words.{NoMore, More}
 use Rattle.fabric_script.proofs.line_words.read.Goals as goal
 
 pub returns : goal.returns
@@ -11,5 +11,5 @@ returns c = record {
       (More (c.byte-dest.ensures c.args.known.now)
       (More (c.byte-hop.ensures c.args.known.now)
       (More (c.byte-tid.ensures c.args.known.now)
-      (More (c.digits-offset.ensures c.args.known.now) Done)))));
+      (More (c.digits-offset.ensures c.args.known.now) NoMore)))));
 }

@@ -1,5 +1,5 @@
 use Rattle.std.proofs.Common.{refl}
-use Rattle.fabric_script.specs.Words.{Done, More}
+use Rattle.fabric_script.specs.Words.{NoMore, More}
 use Rattle.fabric_script.proofs.line_words.route.Goals as goal
 
 pub returns : goal.returns
@@ -8,5 +8,5 @@ returns c = record {
   next = tt;
   takes = More c.node-node.ensures
       (More (c.number-id.ensures.takes c.args.known.now)
-      (More (c.byte-p.ensures c.args.known.now) Done));
+      (More (c.byte-p.ensures c.args.known.now) NoMore));
 }

@@ -1,5 +1,5 @@
 use Rattle.std.proofs.Common.{◌≡◌, ◌+◌, ◌/◌, ◌++◌, sym, subst, arith}
-use Rattle.fabric_script.specs.Soak.{step_lines, numbered_from}
+use Rattle.fabric_script.specs.Soak.{soak_step_lines, numbered_from}
 use Rattle.fabric_script.proofs.SoakLaws.{IsUpTo, up_to_none, up_to_next, up_to_all}
 use Rattle.fabric_script.proofs.soak.push_steps.Goals as goal
 
@@ -29,7 +29,7 @@ loop-step-preserved c =
           (up_to_next c.args.seed c.loop-step.step number c.loop-step.lines.items
           c.push_step.new.lines.items new before c.loop-step-test.true (old.numbered before is)
           (λ ls at. subst (λ x. c.push_step.new.lines.items
-          ≡ numbered_from 1 (ls ++ step_lines (x / 65536))) next (one.numbered ls at))
+          ≡ numbered_from 1 (ls ++ soak_step_lines (x / 65536))) next (one.numbered ls at))
           two.numbered);
     }
 

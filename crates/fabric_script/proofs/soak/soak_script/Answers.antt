@@ -1,6 +1,6 @@
 use Rattle.std.proofs.Common.{◌≡◌, ◌∙◌, ◌%◌, ◌++◌, ap, append-nil, append_assoc, sym, subst, arith}
 use Rattle.fabric_script.specs.Soak.{soak_names, soak_set_up, round_lines, last_rounds, numbered_from}
-use Rattle.fabric_script.specs.Scripts.{Passes}
+use Rattle.fabric_script.specs.Scripts.{ScriptPasses}
 use Rattle.fabric_script.proofs.SoakLaws.{steps_behind, rounds_end, rounds-push, soak_parts}
 use Rattle.fabric_script.proofs.SoakPasses.{soak_passes}
 use Rattle.fabric_script.proofs.soak.soak_script.Goals as goal
@@ -50,5 +50,5 @@ returns-clause-passes c =
     let lines = c.loop.invariant.numbered
     ∙ ap (λ n. numbered_from 1 ((soak_set_up ++ steps_behind 1 2000 (c.args.seed % 2147483648))
     ++ last_rounds n)) end ∙ soak_parts c.args.seed in
-    subst (λ ns. Passes ns c.loop.lines.items) (sym c.loop.invariant.names)
-    (subst (λ ls. Passes soak_names ls) (sym lines) (soak_passes c.args.seed))
+    subst (λ ns. ScriptPasses ns c.loop.lines.items) (sym c.loop.invariant.names)
+    (subst (λ ls. ScriptPasses soak_names ls) (sym lines) (soak_passes c.args.seed))

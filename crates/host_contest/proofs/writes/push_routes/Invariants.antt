@@ -1,7 +1,7 @@
 use Rattle.std.proofs.Common.{◌≡◌, ◌++◌, take, flat_map}
-use Rattle.contest_machine.specs.Machine.{route_at}
+use Rattle.contest_machine.specs.Machine.{route_pending}
 use Rattle.host_contest.proofs.writes.push_routes.Given as goal
 
 abbrev pub invariant-loop-device : goal.invariant-loop-device
 invariant-loop-device l =
-    l.todo ≡ l.fn.todo ++ flat_map (route_at l.path l.id) (take l.device-index l.devices)
+    l.todo ≡ l.fn.todo ++ flat_map (route_pending l.path l.id) (take l.device-index l.devices)

@@ -4,7 +4,7 @@ use Rattle.maint_registers.specs.Devices.{Device}
 use Rattle.fabric_map.specs.declared.map.Kind.TheVariants.{Switch}
 use Rattle.fabric_map.specs.Topology.{entered}
 use Rattle.host_enumerate.specs.Asking.{Becomes}
-use Rattle.host_enumerate.specs.Setting.{IsSetUp, with_entry}
+use Rattle.host_enumerate.specs.Setting.{SwitchIsSetUp, with_entry}
 use Rattle.host_enumerate.proofs.Opening.{same_end}
 use Rattle.host_enumerate.proofs.SettingUp.{informed, stage_askable, stage_read, default-writable, stage_default, stage_cleared, set_up}
 use Rattle.host_enumerate.proofs.setting.send_home.Goals as goal
@@ -148,6 +148,6 @@ returns-clause-registers g c goal_at enters =
     (c.in_ok-set_entry.ensures.registers at
     (ap (λ t. entered t c.args.path.now) cleared.0.stays ∙ c.requires.askable.1.leads)) in
     subst (λ (p : PortRef). (held : Device) × Becomes old end p.node held
-    × IsSetUp c.args.host_id p.port (old p.node) held)
+    × SwitchIsSetUp c.args.host_id p.port (old p.node) held)
     (same_end topology c.args.path.now at goal_at c.requires.askable.1.leads enters)
     (with_entry found.0 c.args.host_id at.port, done.0, done.1)

@@ -3,7 +3,7 @@ use Rattle.io_script.specs.declared.forms.IoForm.TheVariants as F
 use Rattle.io_script.specs.declared.lines.IoLine.TheVariants.{Memory}
 use Rattle.io_script.specs.IoForms.{io_fields_of}
 use Rattle.io_script.specs.IoLines.{io_values_of}
-use Rattle.io_script.specs.IoTaking.{Done, More, TakesAllIo}
+use Rattle.io_script.specs.IoTaking.{NoMoreIo, MoreIo, TakesAllIo}
 use Rattle.io_script.proofs.reading.read_memory.Goals as goal
 
 pub returns : goal.returns
@@ -13,6 +13,6 @@ returns c = λ known is.
     let taken = subst
     (λ words. TakesAllIo known (io_fields_of F.Memory) (io_values_of line) words c.args.hit last)
     (sym c.in-Some.ensures)
-    (More (c.take_endpoint-node.ensures known is)
-    (More (c.take_memory_size-bytes.ensures known) Done)) in
+    (MoreIo (c.take_endpoint-node.ensures known is)
+    (MoreIo (c.take_memory_size-bytes.ensures known) NoMoreIo)) in
     inr (line, last, refl, taken, c.end.ensures)

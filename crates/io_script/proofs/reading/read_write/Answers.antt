@@ -1,5 +1,5 @@
 use Rattle.std.proofs.Common.{inr}
-use Rattle.io_script.specs.IoTaking.{Done, More}
+use Rattle.io_script.specs.IoTaking.{NoMoreIo, MoreIo}
 use Rattle.io_script.proofs.IoReadLaws.{written_words}
 use Rattle.io_script.proofs.reading.read_write.Goals as goal
 
@@ -11,7 +11,7 @@ returns c = λ known is.
     c.take_endpoint-node.result c.take_device-dest.result c.take_address-addr.result
     c.in_ok-load.load
     c.requires.write c.write_of.ensures.values c.in-Some.ensures
-    (More (c.take_endpoint-node.ensures known is)
-    (More (c.take_device-dest.ensures known)
-    (More (c.take_address-addr.ensures known) (More load Done)))) in
+    (MoreIo (c.take_endpoint-node.ensures known is)
+    (MoreIo (c.take_device-dest.ensures known)
+    (MoreIo (c.take_address-addr.ensures known) (MoreIo load NoMoreIo)))) in
     inr (c.write_of.result, last, c.write_of.ensures.form, taken, c.end.ensures)

@@ -1,7 +1,7 @@
 use Rattle.std.proofs.Common.{◌≡◌, ◌%◌, ◌==◌, false, refl, rules, tests}
 use Rattle.fabric_script.specs.Hits.{DigitsAreBad}
 use Rattle.fabric_script.specs.Texts.{InDigits}
-use Rattle.io_script.specs.IoWords.{IsMisspelled, IsWrong}
+use Rattle.io_script.specs.IoWords.{IsMisspelledIo, IsWrong}
 use Rattle.io_script.proofs.words.read_address.Goals as goal
 
 pub returns-in-Some-2 : goal.returns-in-Some-2
@@ -11,4 +11,4 @@ returns-in-Some-2 c = λ known.
     IsWrong (InDigits 8 c.in-Some.addr) (refl, read.0) read.1 wrong refl
 
 pub returns-in-None : goal.returns-in-None
-returns-in-None c = λ known. IsMisspelled (DigitsAreBad c.in-None.ensures)
+returns-in-None c = λ known. IsMisspelledIo (DigitsAreBad c.in-None.ensures)

@@ -1,7 +1,7 @@
 use Rattle.std.proofs.Common.{sym, ◌∙◌, refl}
 use Rattle.fabric_script.specs.Hits.{NumberIsBad}
 use Rattle.fabric_script.specs.Texts.{Counted}
-use Rattle.io_script.specs.IoWords.{IsMisspelled, IsWrong}
+use Rattle.io_script.specs.IoWords.{IsMisspelledIo, IsWrong}
 use Rattle.io_script.proofs.words.read_read_size.Goals as goal
 
 pub returns-in_default : goal.returns-in_default
@@ -11,4 +11,4 @@ returns-in_default c = λ known.
     (sym c.is_size.ensures ∙ c.if-is_size.false) refl
 
 pub returns-in_default-2 : goal.returns-in_default-2
-returns-in_default-2 c = λ known. IsMisspelled (NumberIsBad c.in_default.ensures)
+returns-in_default-2 c = λ known. IsMisspelledIo (NumberIsBad c.in_default.ensures)

@@ -1,10 +1,10 @@
 use Rattle.fabric_script.specs.Texts.{Counted}
-use Rattle.io_script.specs.IoForms.{Device}
+use Rattle.io_script.specs.IoForms.{DeviceNumber}
 use Rattle.io_script.proofs.IoTakes.{takes_io}
 use Rattle.io_script.proofs.words.take_device.Goals as goal
 
 pub returns : goal.returns
 returns c = λ known.
-    takes_io known Device (λ n. Counted n) 0 c.args.word.now c.args.hit.now c.note.new.hit
+    takes_io known DeviceNumber (λ n. Counted n) 0 c.args.word.now c.args.hit.now c.note.new.hit
     c.read_device.result c.note.result c.unwrap_or.result (c.read_device.ensures known)
     c.note.ensures.noted c.note.ensures.value c.unwrap_or.ensures

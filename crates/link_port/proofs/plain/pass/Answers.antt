@@ -1,7 +1,7 @@
 use Rattle.std.proofs.Common.{sym, ap, ◌∙◌, arith}
 use Rattle.rio_packets.specs.Fields.{prio_of}
 use Rattle.link_buffers.specs.Queues.{popped}
-use Rattle.link_port.specs.Plain.{Plain, without}
+use Rattle.link_port.specs.Plain.{PlainStores, without}
 use Rattle.link_port.proofs.FirstPackets.{first_has_prio}
 use Rattle.link_port.proofs.plain.pass.Goals as goal
 
@@ -20,4 +20,4 @@ returns-clause-leaves c =
     (sym c.in_ok-packet.ensures.value) in
     ap (λ queued. record { queued = queued; received = c.from.inside.received })
     (c.pop.ensures.popped ∙ ap (popped c.from.inside.queued) (sym its))
-    ∙ ap (λ (from : Plain). without from c.in_ok-packet.packet) c.from.view_is
+    ∙ ap (λ (from : PlainStores). without from c.in_ok-packet.packet) c.from.view_is

@@ -4,7 +4,7 @@ use Rattle.link_port.specs.Prelude.{Event, PortState, Burst, no_burst, turns_to,
 use Rattle.link_port.specs.declared.sending.Sending.{Sending}
 use Rattle.link_port.specs.declared.sending.Sending.TheVariants.{Nothing}
 use Rattle.link_port.specs.Bursts.{sending_burst}
-use Rattle.link_wires.specs.Wires.{turned, bursts}
+use Rattle.link_wires.specs.Wires.{port_turned, bursts}
 use Rattle.link_wires.proofs.QuietTurns.{quiet_turn, turned_quiet, bursts_quiet}
 use Rattle.link_wires.proofs.PumpLaws.{turned_next, turned_none, bursts_none, sent_then, chars_then, sent_end, chars_end}
 use Rattle.link_wires.proofs.pumps.put_turns.Goals as goal
@@ -18,7 +18,7 @@ loop-left-preserved c =
     let sends = c.start_turn-sending.ensures.sends in
     let put = c.in_ok-put_sending.ensures in
     record {
-      port = ap (turned (n - 1)) state ∙ turned_next n port more ∙ c.loop-left.invariant.port;
+      port = ap (port_turned (n - 1)) state ∙ turned_next n port more ∙ c.loop-left.invariant.port;
       kept = ap (λ (p : PortState). c.put_sending.new.kept ++ (bursts (n - 1) p).sent) state
           ∙ ap (λ (l : List Event). l ++ (bursts (n - 1) (turns_to port)).sent)
           (put.kept ∙ ap (λ (s : Burst). c.loop-left.kept ++ s.sent) sends)
@@ -71,7 +71,7 @@ returns-in-Nothing-clause-chars c =
 pub returns-clause-port : goal.returns-clause-port
 returns-clause-port c =
     let none : c.loop-left.left ≡ 0 = omega arith in
-    sym (ap (λ k. turned k c.loop-left.port) none ∙ turned_none c.loop-left.port)
+    sym (ap (λ k. port_turned k c.loop-left.port) none ∙ turned_none c.loop-left.port)
     ∙ c.loop-left.invariant.port
 
 pub returns-clause-kept : goal.returns-clause-kept

@@ -1,7 +1,7 @@
 use Rattle.std.proofs.Common.{◌+◌, Ok, Err, ap}
 use Rattle.rio_cli.specs.declared.command.Command.TheVariants.{Contest}
 use Rattle.rio_cli.specs.declared.status.Status.TheVariants.{Script}
-use Rattle.rio_cli.specs.Contesting.{HasHosts, IsRefusedForTwo, Hit}
+use Rattle.rio_cli.specs.Contesting.{HasHosts, IsRefusedForTwo, HitForTwo}
 use Rattle.rio_cli.proofs.AnswerLaws.{says_line, RefusesBytes-line}
 use Rattle.rio_cli.proofs.ContestLaws.{finds_as, no_hosts, says_contest}
 use Rattle.rio_cli.proofs.contesting.contest_bytes.Goals as goal
@@ -11,14 +11,14 @@ returns-in-Err-Refused-clause-says g c =
     let r = c.in-Err-Refused in
     says_line (Contest c.args.first c.args.second c.args.seed) c.args.bytes.now
     c.refuse_line.result.status r.refusal.line r.refusal.reason _ _ _ _
-    (Hit (r.ensures.refused r.refusal (ap Err r.field-0-is))) c.refuse_line.ensures.refused
+    (HitForTwo (r.ensures.refused r.refusal (ap Err r.field-0-is))) c.refuse_line.ensures.refused
 
 pub returns-in-Err-Refused-clause-refuses : goal.returns-in-Err-Refused-clause-refuses
 returns-in-Err-Refused-clause-refuses g c =
     let r = c.in-Err-Refused in
     RefusesBytes-line Script (Contest c.args.first c.args.second c.args.seed) c.args.bytes.now
     c.refuse_line.result.status c.refuse_line.result.refusal r.refusal.line r.refusal.reason _ _
-    (Hit (r.ensures.refused r.refusal (ap Err r.field-0-is))) c.refuse_line.ensures.refusal
+    (HitForTwo (r.ensures.refused r.refusal (ap Err r.field-0-is))) c.refuse_line.ensures.refusal
 
 pub returns-in-Ok-Ok-clause-says : goal.returns-in-Ok-Ok-clause-says
 returns-in-Ok-Ok-clause-says g c =

@@ -3,7 +3,7 @@ use Rattle.std.specs.List.{flat_map}
 use Rattle.std.proofs.lemmas.List.{take_rest}
 use Rattle.rio_chars.proofs.WrittenLaws.{Writes-rose, Writes-whole, Writes-front}
 use Rattle.rio_framer.specs.Framing.{Framing}
-use Rattle.rio_cli.specs.Decoding.{event_text}
+use Rattle.rio_cli.specs.Decoding.{placed_text}
 use Rattle.rio_cli.proofs.DecodeLaws.{whole_text, Going-begin, Going-read, Going-front, Going-end}
 use Rattle.rio_cli.proofs.decode.write_reading.Goals as goal
 
@@ -37,7 +37,7 @@ returns-then-failed-clause-write_fault g c = λ failed.
     run.ensures.count run.ensures.told run.ensures.state
     (take_rest c.loop-left.left.now run.result.0) (run.ensures.some there) c.loop-left.invariant
     c.write_told.ensures in (
-      Writes-rose _ _ begun _ (flat_map event_text more.found) c.requires.fine more.told failed,
+      Writes-rose _ _ begun _ (flat_map placed_text more.found) c.requires.fine more.told failed,
       Going-front _ _ begun c.args.chars.now _ _ c.requires.empty more,
     )
 

@@ -2,7 +2,7 @@ use Rattle.std.proofs.Common.{ℕ, ◌≤◌, rules, sym, subst, ◌∙◌, ap}
 use Rattle.rio_chars.specs.Faults.{Rose}
 use Rattle.fabric_script.specs.declared.lines.Script.{Script}
 use Rattle.fabric_trace.specs.Runs.{start}
-use Rattle.fabric_maint.specs.Going.{RestsAt}
+use Rattle.fabric_maint.specs.Going.{MaintRestsAt}
 use Rattle.rio_cli.specs.Numbering.{registers_for, Maps}
 use Rattle.rio_cli.proofs.numbering.ask_devices.Goals as goal
 
@@ -12,9 +12,9 @@ number_by-requires g c =
     let maint = c.new-maint.result in
     record {
       whole = new.whole;
-      rests = subst (λ h. RestsAt h (start maint.script.now.lines.items) maint.fabric.now)
+      rests = subst (λ h. MaintRestsAt h (start maint.script.now.lines.items) maint.fabric.now)
           (sym new.host_is)
-          (subst (λ s. RestsAt c.args.host (start s.lines.items) maint.fabric.now)
+          (subst (λ s. MaintRestsAt c.args.host (start s.lines.items) maint.fabric.now)
           (sym new.script) new.rests);
       registers = new.registers ∙ ap (λ s. registers_for s.lines.items) (sym new.script);
       untagged = new.untagged;

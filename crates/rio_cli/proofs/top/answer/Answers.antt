@@ -2,10 +2,10 @@ use Rattle.std.proofs.Common.{refl, subst, arith, inl, inr, map}
 use Rattle.std.specs.String.{string_bytes}
 use Rattle.rio_cli.specs.declared.command.Command.{Command}
 use Rattle.rio_cli.specs.declared.status.Status.TheVariants.{Done, Words, Script, ReadFault, WriteFault, NoMemory, Undetected, TooLong, Locked, Unlawful}
-use Rattle.rio_cli.specs.Answers.{Ended, SaysOfInput}
+use Rattle.rio_cli.specs.Answers.{ProgramEnded, SaysOfInput}
 use Rattle.rio_cli.proofs.AnswerLaws.{says_at, accepts, refuses, lengthy, no_other, refusal_told, refusal_failed, refusal_either, took_none, ran_out, Refuses-input}
 use Rattle.rio_cli.proofs.CommandLaws.{same_command, accepted_stays, refused_stays, refused_is_not_exposed, refused_is_not_met, refused_is_not_unlawful, reads_or_soaks}
-use Rattle.rio_cli.specs.Words.{AsksFor}
+use Rattle.rio_cli.specs.Words.{AsksInput}
 use Rattle.rio_cli.proofs.SoakLaws.{soak_at, soak_ends}
 use Rattle.rio_cli.proofs.top.answer.Goals as goal
 
@@ -13,7 +13,7 @@ pub returns-in-Some-Input : goal.returns-in-Some-Input
 returns-in-Some-Input g c =
     let words = map string_bytes c.args.words.now in
     let command = c.in-Some-Input.command in
-    let known = subst (λ a. AsksFor a words) c.in-Some-Input.field-0-is c.in-Some-Input.ensures in
+    let known = subst (λ a. AsksInput a words) c.in-Some-Input.field-0-is c.in-Some-Input.ensures in
     let l = g.S.Source.left c.args.source.now in
     let l2 = g.S.Source.left c.run_input.new.source in
     let w = g.K.Sink.written c.args.sink.now in
@@ -73,10 +73,11 @@ pub returns-in-Some-Soak : goal.returns-in-Some-Soak
 returns-in-Some-Soak g c =
     let words = map string_bytes c.args.words.now in
     let seed = c.in-Some-Soak.seed in
-    let known = subst (λ a. AsksFor a words) c.in-Some-Soak.field-0-is c.in-Some-Soak.ensures in
+    let known = subst (λ a. AsksInput a words) c.in-Some-Soak.field-0-is c.in-Some-Soak.ensures in
     let status = c.soak.result in
     let h = c.soak.ensures.says in
-    let ending : Ended words c.soak.result g.S.Source.left g.S.Source.faults c.args.source.now
+    let ending : ProgramEnded words c.soak.result g.S.Source.left g.S.Source.faults
+    c.args.source.now
     c.args.source.now g.K.Sink.written g.K.Sink.faults c.args.sink.now c.soak.new.sink =
     record {
       words = λ e. absurd (soak_at seed _ _ _ _ status Words h e);
@@ -127,7 +128,7 @@ returns-in-None g c =
     let other = c.in-None.ensures in
     let h = c.write_answer.ensures.answers in
     let S = g.S.Source.left in
-    let ending : Ended words c.write_answer.result g.S.Source.left g.S.Source.faults
+    let ending : ProgramEnded words c.write_answer.result g.S.Source.left g.S.Source.faults
     c.args.source.now
     c.args.source.now g.K.Sink.written g.K.Sink.faults c.args.sink.now c.write_answer.new.sink =
     record {

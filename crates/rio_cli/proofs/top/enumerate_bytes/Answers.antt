@@ -4,7 +4,7 @@ use Rattle.host_enumerate.specs.Devised.{devices_of, links_of}
 use Rattle.host_enumerate.specs.Hosts.{FindsHost}
 use Rattle.rio_cli.specs.declared.command.Command.TheVariants.{Enumerate}
 use Rattle.rio_cli.specs.declared.status.Status.TheVariants.{Script}
-use Rattle.rio_cli.specs.Numbering.{HasHost, Hit}
+use Rattle.rio_cli.specs.Numbering.{HasHost, HitFor}
 use Rattle.rio_cli.proofs.AnswerLaws.{says_line, RefusesBytes-line}
 use Rattle.rio_cli.proofs.HostLaws.{no_host}
 use Rattle.rio_cli.proofs.NumberingLaws.{says_of_bytes}
@@ -14,7 +14,7 @@ pub returns-in-Err-Refused-clause-says : goal.returns-in-Err-Refused-clause-says
 returns-in-Err-Refused-clause-says g c =
     let r = c.in-Err-Refused in
     says_line (Enumerate c.args.node) c.args.bytes.now c.refuse_line.result.status r.refusal.line
-    r.refusal.reason _ _ _ _ (Hit (r.ensures.refused r.refusal (ap Err r.field-0-is)))
+    r.refusal.reason _ _ _ _ (HitFor (r.ensures.refused r.refusal (ap Err r.field-0-is)))
     c.refuse_line.ensures.refused
 
 pub returns-in-Err-Refused-clause-refuses : goal.returns-in-Err-Refused-clause-refuses
@@ -22,7 +22,7 @@ returns-in-Err-Refused-clause-refuses g c =
     let r = c.in-Err-Refused in
     RefusesBytes-line Script (Enumerate c.args.node) c.args.bytes.now c.refuse_line.result.status
     c.refuse_line.result.refusal r.refusal.line r.refusal.reason _ _
-    (Hit (r.ensures.refused r.refusal (ap Err r.field-0-is))) c.refuse_line.ensures.refusal
+    (HitFor (r.ensures.refused r.refusal (ap Err r.field-0-is))) c.refuse_line.ensures.refusal
 
 pub returns-in-Ok-Ok-clause-says : goal.returns-in-Ok-Ok-clause-says
 returns-in-Ok-Ok-clause-says g c =

@@ -2,7 +2,7 @@ use Rattle.std.proofs.Common.{◌++◌, ◌∷◌, [], map, filter, sym, ap, ◌
 use Rattle.std.proofs.lemmas.List.{map-append}
 use Rattle.std.proofs.lemmas.List.Elements.{filter-append}
 use Rattle.std.proofs.lemmas.Iterator.Consumers.{YieldsList-turn, YieldsList-end}
-use Rattle.rio_cli.specs.Decoding.{is_word, word_in, words_in, AreTexts}
+use Rattle.rio_cli.specs.Decoding.{is_word, word_in, words_in_line, AreTexts}
 use Rattle.rio_cli.proofs.WordLaws.{AreTexts-append, bad_word, spelled_behind, words-road}
 use Rattle.rio_cli.proofs.words.read_line.Goals as goal
 
@@ -35,7 +35,7 @@ returns-then-not-branch-clause-bad c = λ is h.
     c.in-Some.is c.next.ensures.steps in
     bad_word left c.in-Some.word.now _ turn.0 turn.1
     (c.in_ok-read_word.ensures.bad c.if-not-branch.true)
-    (spelled_behind front.1 (words_in left) h.0 (subst (λ ws. AreTexts ws h.0) front.3 h.1))
+    (spelled_behind front.1 (words_in_line left) h.0 (subst (λ ws. AreTexts ws h.0) front.3 h.1))
 
 pub returns-clause-good : goal.returns-clause-good
 returns-clause-good c = λ is.
@@ -51,6 +51,6 @@ returns-clause-good c = λ is.
       front.0 ++ h.0,
       h.1 ∙ ap (λ xs. xs ++ h.0) front.2 ∙ append_assoc _ front.0 h.0,
       subst (λ ws. AreTexts ws (front.0 ++ h.0)) (sym front.3) (AreTexts-append front.1
-          (words_in left) front.0 h.0 front.4
+          (words_in_line left) front.0 h.0 front.4
           (subst (λ ws. AreTexts (filter is_word ws) h.0) end.0 h.2)),
     )

@@ -3,7 +3,7 @@ use Rattle.std.specs.List.{flat_map}
 use Rattle.std.proofs.lemmas.List.{map-append, length-map}
 use Rattle.std.proofs.lemmas.Grind.{flat_map-append}
 use Rattle.std.proofs.lemmas.Iterator.Consumers.{YieldsList-turn, YieldsList-so_far, YieldsList-end}
-use Rattle.rio_cli.specs.Decoding.{words_in, AreTexts, SpellsChars}
+use Rattle.rio_cli.specs.Decoding.{words_in_line, AreTexts, SpellsChars}
 use Rattle.rio_cli.proofs.WordLaws.{AreTexts-append, BadWordAt-from_turn, few_chars, lines-road}
 use Rattle.rio_cli.proofs.words.read_lines.Goals as goal
 
@@ -13,18 +13,20 @@ loop-text-preserved c =
     let new = c.in_ok-read_line.ensures.good c.if-not-branch.false in
     let texts = map (λ t. t.now) c.loop-text.yielded in
     let all =
-    ap (flat_map words_in) (map-append (λ t. t.now) c.loop-text.yielded (c.in-Some.text ∷ []))
-    ∙ flat_map-append words_in texts (c.in-Some.text.now ∷ []) in
-    let here : flat_map words_in (c.in-Some.text.now ∷ []) ≡ words_in c.in-Some.text.now =
-    append-nil (words_in c.in-Some.text.now) in
+    ap (flat_map words_in_line) (map-append (λ t. t.now) c.loop-text.yielded (c.in-Some.text ∷ []))
+    ∙ flat_map-append words_in_line texts (c.in-Some.text.now ∷ []) in
+    let here : flat_map words_in_line (c.in-Some.text.now ∷ []) ≡ words_in_line c.in-Some.text.now =
+    append-nil (words_in_line c.in-Some.text.now) in
     record {
       counted = simp length-append (omega arith);
       spelled =
           subst (λ cs. AreTexts
-          (flat_map words_in (map (λ t. t.now) (c.loop-text.yielded ++ c.in-Some.text ∷ []))) cs)
+          (flat_map words_in_line (map (λ t. t.now) (c.loop-text.yielded ++ c.in-Some.text ∷ [])))
+          cs)
           (sym new.1)
           (subst (λ ws. AreTexts ws (c.loop-text.chars.items ++ new.0)) (sym all)
-          (AreTexts-append (flat_map words_in texts) (flat_map words_in (c.in-Some.text.now ∷ []))
+          (AreTexts-append (flat_map words_in_line texts)
+          (flat_map words_in_line (c.in-Some.text.now ∷ []))
           c.loop-text.chars.items new.0 h.spelled
           (subst (λ ws. AreTexts ws new.0) (sym here) new.2)));
     }
@@ -54,7 +56,7 @@ returns-clause-chars c =
     let end =
     YieldsList-end all c.loop-text.yielded _ c.loop-text.yielded_by _ _ c.in-None.is
     c.next.ensures.steps in
-    subst (λ ts. AreTexts (flat_map words_in ts) c.loop-text.chars.items) end.0
+    subst (λ ts. AreTexts (flat_map words_in_line ts) c.loop-text.chars.items) end.0
     c.loop-text.invariant.spelled
 
 pub returns-clause-count : goal.returns-clause-count
@@ -66,7 +68,7 @@ returns-clause-count c =
     YieldsList-end all c.loop-text.yielded _ c.loop-text.yielded_by _ _ c.in-None.is
     c.next.ensures.steps in
     let spelled : SpellsChars c.args.bytes.now c.loop-text.chars.items =
-    subst (λ ts. AreTexts (flat_map words_in ts) c.loop-text.chars.items) end.0
+    subst (λ ts. AreTexts (flat_map words_in_line ts) c.loop-text.chars.items) end.0
     c.loop-text.invariant.spelled in
     let few = few_chars c.args.bytes.now c.loop-text.chars.items spelled in
     omega (arith, c.requires)

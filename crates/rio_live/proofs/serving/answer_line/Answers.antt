@@ -1,5 +1,5 @@
-use Rattle.rio_live.specs.Answers.{Answered}
-use Rattle.rio_live.specs.Holding.{Holds}
+use Rattle.rio_live.specs.Answers.{LineAnswered}
+use Rattle.rio_live.specs.Holding.{LiveHolds}
 use Rattle.rio_live.specs.Lines.{Taken}
 use Rattle.rio_live.proofs.AnsweringLaws.{on_each, answered_whole}
 use Rattle.rio_live.proofs.serving.answer_line.Goals as goal
@@ -13,10 +13,10 @@ returns-clause-answered g c =
     let next = c.flush.new.self in
     let live = c.answer-answered.new.live in
     on_each
-    (λ going. (taken : Taken) → Holds c.args.live.now taken
-    → Answered written faults taken c.args.number c.args.line.now out mid live going)
-    (λ going. (taken : Taken) → Holds c.args.live.now taken
-    → Answered written faults taken c.args.number c.args.line.now out next live going)
+    (λ going. (taken : Taken) → LiveHolds c.args.live.now taken
+    → LineAnswered written faults taken c.args.number c.args.line.now out mid live going)
+    (λ going. (taken : Taken) → LiveHolds c.args.live.now taken
+    → LineAnswered written faults taken c.args.number c.args.line.now out next live going)
     c.answer-answered.result
     (λ going was taken holds. answered_whole written faults taken c.args.number
     c.args.line.now out mid next live going (was taken holds) c.flush.ensures.written)

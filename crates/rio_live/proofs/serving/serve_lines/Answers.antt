@@ -1,8 +1,8 @@
 use Rattle.std.proofs.Common.{◌≡◌, ◌+◌, ◌-◌, ◌^◌, refl, sym, ◌∙◌, arith}
 use Rattle.rio_live.specs.declared.answers.Going.TheVariants as Goings
 use Rattle.rio_live.specs.Lines.{Taken}
-use Rattle.rio_live.specs.Holding.{Holds}
-use Rattle.rio_live.specs.Answers.{Answered}
+use Rattle.rio_live.specs.Holding.{LiveHolds}
+use Rattle.rio_live.specs.Answers.{LineAnswered}
 use Rattle.rio_live.proofs.ServingLaws.{as_ok, Course-begin, Course-line}
 use Rattle.rio_live.proofs.EndingLaws.{Course-closed, Course-done}
 use Rattle.rio_live.proofs.FailingLaws.{Course-undetected, Course-no_memory, Course-failed}
@@ -50,8 +50,8 @@ loop-number-preserved g c =
     let read = c.in_default.ensures.read in
     let answered =
     as_ok
-    (λ going. (t : Taken) → Holds c.loop-number.live t
-    → Answered g.K.Sink.written g.K.Sink.faults t (c.loop-number.number + 1)
+    (λ going. (t : Taken) → LiveHolds c.loop-number.live t
+    → LineAnswered g.K.Sink.written g.K.Sink.faults t (c.loop-number.number + 1)
     c.read_line.new.line.items c.loop-number.outbox c.answer_line-answered.new.outbox
     c.answer_line-answered.new.live going)
     c.answer_line-answered.result c.in-Ok-On.field-0 Goings.On c.in-Ok-On.is
@@ -76,8 +76,8 @@ returns-in-Ok-Undetected-clause-serves g c =
     let read = c.in_default.ensures.read in
     let answered =
     as_ok
-    (λ going. (t : Taken) → Holds c.loop-number.live t
-    → Answered g.K.Sink.written g.K.Sink.faults t (c.loop-number.number + 1)
+    (λ going. (t : Taken) → LiveHolds c.loop-number.live t
+    → LineAnswered g.K.Sink.written g.K.Sink.faults t (c.loop-number.number + 1)
     c.read_line.new.line.items c.loop-number.outbox c.answer_line-answered.new.outbox
     c.answer_line-answered.new.live going)
     c.answer_line-answered.result c.in-Ok-Undetected.field-0 Goings.Undetected c.in-Ok-Undetected.is

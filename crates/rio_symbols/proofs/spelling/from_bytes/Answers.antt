@@ -1,5 +1,5 @@
 use Rattle.std.proofs.Common.{◌∙◌, sym, subst}
-use Rattle.rio_symbols.specs.Spelling.{Spells}
+use Rattle.rio_symbols.specs.Spelling.{SpellsSymbol}
 use Rattle.rio_symbols.proofs.SpellingLaws.{accepted, refused, list_some, list_back, spells_own}
 use Rattle.rio_symbols.proofs.spelling.from_bytes.Goals as goal
 
@@ -23,7 +23,7 @@ pub returns-then-found-computed-clause-reads_back :
     goal.returns-then-found-computed-clause-reads_back
 returns-then-found-computed-clause-reads_back c = λ s range e.
     returns-then-found-computed-clause-all_spelled c s
-    (subst (Spells s) (sym e) (spells_own s range))
+    (subst (SpellsSymbol s) (sym e) (spells_own s range))
 
 pub returns-else-found-computed-clause-decided : goal.returns-else-found-computed-clause-decided
 returns-else-found-computed-clause-decided c =
@@ -38,4 +38,4 @@ pub returns-else-found-computed-clause-reads_back :
     goal.returns-else-found-computed-clause-reads_back
 returns-else-found-computed-clause-reads_back c = λ s range e.
     returns-else-found-computed-clause-all_spelled c s
-    (subst (Spells s) (sym e) (spells_own s range))
+    (subst (SpellsSymbol s) (sym e) (spells_own s range))

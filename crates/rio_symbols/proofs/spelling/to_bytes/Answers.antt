@@ -1,5 +1,5 @@
 use Rattle.std.proofs.Common.{[], ◌∷◌, ◌*◌, ◌%◌, ◌∙◌, sym, ap, subst, bit_or}
-use Rattle.rio_symbols.specs.Spelling.{Spells, symbol_bytes, spelled_in}
+use Rattle.rio_symbols.specs.Spelling.{SpellsSymbol, symbol_bytes, spelled_in}
 use Rattle.rio_symbols.specs.Fields.{InRange}
 use Rattle.rio_symbols.specs.Crc5.{crc5_value}
 use Rattle.rio_symbols.proofs.SpellingLaws.{symbol_bytes-joined, spells_own, spelled_symbol_bytes}
@@ -15,7 +15,7 @@ returns-clause-exact c =
 
 pub returns-clause-spells : goal.returns-clause-spells
 returns-clause-spells c =
-    subst (Spells c.args.symbol.now) (sym (returns-clause-exact c))
+    subst (SpellsSymbol c.args.symbol.now) (sym (returns-clause-exact c))
     (spells_own c.args.symbol.now (subst InRange c.symbol.view_is c.symbol.invariant))
 
 pub returns-clause-reads_back : goal.returns-clause-reads_back

@@ -2,9 +2,9 @@ use Rattle.std.proofs.Common.{◌≡◌, ◌+◌, min, true, false, ap, sym, ◌
 use Rattle.std.specs.Option.{option_and_then}
 use Rattle.maint_packets.specs.Requests.{request_of}
 use Rattle.maint_packets.specs.Responses.{response_bytes}
-use Rattle.maint_packets.specs.Answers.{answered}
+use Rattle.maint_packets.specs.Answers.{request_answered}
 use Rattle.switch_core.specs.Faces.{face_of, head_of, has_room, without_head, with_packet}
-use Rattle.switch_core.specs.EndpointSteps.{face_after, device_after, answered_on_0}
+use Rattle.switch_core.specs.EndpointSteps.{face_after, endpoint_after, answered_on_0}
 use Rattle.switch_core.proofs.RequestLaws.{first_has_prio, some_there}
 use Rattle.switch_core.proofs.CollectLaws.{full, answers}
 use Rattle.switch_core.proofs.endpoint.endpoint_collect.Goals as goal
@@ -40,7 +40,7 @@ returns-clause-face g c =
     let there = some_there (head_of face c.in-Some.prio) c.in-Some.ensures.held in
     let response =
     response_bytes
-    (answered c.args.registers.now c.in-Some-first_request.request 0).response in
+    (request_answered c.args.registers.now c.in-Some-first_request.request 0).response in
     let same = first_has_prio face.received c.in-Some.prio there.0 c.in-Some.ensures.lists
     c.in-Some.ensures.range there.1 in
     c.answer_first.ensures.face
@@ -54,5 +54,5 @@ returns-clause-registers g c =
     let asks = sym (c.in-Some-first_request.ensures.value ∙ ap (option_and_then request_of) there.1)
     in
     c.answer_first.ensures.registers
-    ∙ sym (ap (device_after c.args.registers.now) (c.answer_first.ensures.value there.0 there.1)
+    ∙ sym (ap (endpoint_after c.args.registers.now) (c.answer_first.ensures.value there.0 there.1)
     ∙ ap (answered_on_0 c.args.registers.now) asks)

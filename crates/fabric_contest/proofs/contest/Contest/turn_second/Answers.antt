@@ -1,5 +1,5 @@
 use Rattle.fabric_maint.proofs.Hosts.{other_stands}
-use Rattle.fabric_contest.specs.Contests.{lines_of}
+use Rattle.fabric_contest.specs.Contests.{contest_lines}
 use Rattle.fabric_contest.proofs.Carrying.{second_step, second_reaches}
 use Rattle.fabric_contest.proofs.MadeTurns.{on_all_ok}
 use Rattle.fabric_contest.proofs.Playing.{second_can}
@@ -9,7 +9,8 @@ pub turn_over-requires-clause-stands : goal.turn_over-requires-clause-stands
 turn_over-requires-clause-stands c =
     let old = c.args.self.now in
     let can = c.requires.can in
-    other_stands old.script.now.names.items (lines_of old) old.first_node old.second_node old.fabric
+    other_stands old.script.now.names.items (contest_lines old) old.first_node old.second_node
+    old.fabric
     can.stands can.second_host
 
 pub turn_over-requires-clause-can : goal.turn_over-requires-clause-can

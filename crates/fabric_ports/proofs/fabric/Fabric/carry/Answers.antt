@@ -1,7 +1,7 @@
 use Rattle.std.proofs.Common.{◌++◌, List, arith}
 use Rattle.fabric_trace.specs.Known.{Seen}
 use Rattle.fabric_trace.specs.Lines.{TraceLine}
-use Rattle.fabric_ports.specs.Carrying.{WithLeft, Carries}
+use Rattle.fabric_ports.specs.Carrying.{WithLeft, LinkCarries}
 use Rattle.fabric_ports.specs.Ran.{RanEnds}
 use Rattle.fabric_ports.specs.Standing.{Stands}
 use Rattle.fabric_ports.proofs.RanLaws.{handed_on}
@@ -42,7 +42,7 @@ pub returns-in_err-turn_both-clause-ended : goal.returns-in_err-turn_both-clause
 returns-in_err-turn_both-clause-ended g c =
     handed_on c.from_residual.result c.in_err-turn_both.field-0.0
     (λ end. (from : Seen) (lines : List TraceLine) → Stands from lines c.args.self.now
-    → RanEnds (WithLeft (Carries c.args.ends (g.N.Noise.edits c.args.noise.now)))
+    → RanEnds (WithLeft (LinkCarries c.args.ends (g.N.Noise.edits c.args.noise.now)))
     c.args.names.now g.K.Sink.written g.K.Sink.faults
     c.args.outbox.now c.turn_both.new.outbox from lines end)
     c.from_residual.ensures.1
@@ -56,7 +56,7 @@ pub returns-in_err-stir_both-clause-ended : goal.returns-in_err-stir_both-clause
 returns-in_err-stir_both-clause-ended g c =
     handed_on c.from_residual-in_err-stir_both.result c.in_err-stir_both.field-0.0
     (λ end. (from : Seen) (lines : List TraceLine) → Stands from lines c.args.self.now
-    → RanEnds (WithLeft (Carries c.args.ends (g.N.Noise.edits c.args.noise.now)))
+    → RanEnds (WithLeft (LinkCarries c.args.ends (g.N.Noise.edits c.args.noise.now)))
     c.args.names.now g.K.Sink.written g.K.Sink.faults
     c.args.outbox.now c.stir_both.new.outbox from lines end)
     c.from_residual-in_err-stir_both.ensures.1

@@ -1,6 +1,6 @@
 use Rattle.std.proofs.Common.{sym, subst, ◌∙◌}
 use Rattle.fabric_trace.specs.Fold.{seen}
-use Rattle.fabric_ports.specs.Carrying.{Carries}
+use Rattle.fabric_ports.specs.Carrying.{LinkCarries}
 use Rattle.fabric_ports.proofs.IdleLinks.{idle_carries}
 use Rattle.fabric_ports.proofs.RanLaws.{Nothing, ran_nothing, ran_as}
 use Rattle.fabric_ports.proofs.fabric.Fabric.carry_at.Goals as goal
@@ -13,9 +13,9 @@ returns-then-is_idle-clause-done g c = λ from lines stands.
     let is = sym (c.is_idle.ensures (seen from lines) a b stands.shows c.requires.at)
     ∙ c.if-is_idle.true in
     ran_as g.K.Sink.written g.K.Sink.faults c.args.names.now Nothing
-    (Carries c.args.ends edits edits) c.args.outbox.now c.args.outbox.now from lines
+    (LinkCarries c.args.ends edits edits) c.args.outbox.now c.args.outbox.now from lines
     c.args.self.now
-    (λ block none. subst (Carries c.args.ends edits edits (seen from lines)) (sym none)
+    (λ block none. subst (LinkCarries c.args.ends edits edits (seen from lines)) (sym none)
     (idle_carries edits (seen from lines) a b is))
     (ran_nothing g.K.Sink.written g.K.Sink.faults c.args.names.now c.args.outbox.now from lines
     c.args.self.now stands)

@@ -1,7 +1,7 @@
 use Rattle.std.proofs.Common.{◌++◌, subst}
 use Rattle.fabric_trace.specs.Fold.{seen}
 use Rattle.fabric_trace.proofs.Keeping.{good_by_priority}
-use Rattle.fabric_ports.specs.Events.{IsStep}
+use Rattle.fabric_ports.specs.Events.{IsSwitchStep}
 use Rattle.fabric_ports.proofs.SettlingLaws.{good_behind, switch_stays}
 use Rattle.fabric_ports.proofs.ServeLaws.{held_fewer, serves_begin, serves_more, serves_end}
 use Rattle.fabric_ports.proofs.fabric.Fabric.serve.Goals as goal
@@ -24,7 +24,7 @@ loop-smaller g c =
     let s = seen known.0 (known.1 ++ ran.block) in
     let good = good_behind ran.stands.ready ran.stands.made in
     let did = c.step.ensures s ran.stands.shows ran.stands.sent (good_by_priority good) in
-    let own = subst (λ r. IsStep s.network c.args.node r did.block) c.loop-test.true did.is in
+    let own = subst (λ r. IsSwitchStep s.network c.args.node r did.block) c.loop-test.true did.is in
     held_fewer s c.loop.self c.step.new.self c.args.node did.block good ran.stands.shows did.shows
     own.0 own.1
 

@@ -1,6 +1,6 @@
 use Rattle.std.proofs.Common.{ap, subst}
 use Rattle.fabric_script.specs.Forms.{Port}
-use Rattle.fabric_script.specs.Texts.{AtPort}
+use Rattle.fabric_script.specs.Texts.{PortValue}
 use Rattle.fabric_script.specs.Known.{IsOrderly}
 use Rattle.fabric_script.specs.Hits.{Hits}
 use Rattle.fabric_script.specs.SetUps.{SetUpLines}
@@ -14,4 +14,4 @@ returns-in-Err c = λ value fits spelled.
     let same = ap (λ (s : SetUpLines). s.known) c.self.view_is in
     let orderly = subst IsOrderly same c.self.invariant.orderly in
     let hit = subst (λ known. Hits known reason Port word) same c.in-Err.ensures in
-    no_hit c.args.self.now.known Port (AtPort value) word reason orderly fits spelled hit
+    no_hit c.args.self.now.known Port (PortValue value) word reason orderly fits spelled hit

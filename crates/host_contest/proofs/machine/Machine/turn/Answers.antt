@@ -1,6 +1,6 @@
 use Rattle.std.proofs.Common.{true, ◌∙◌}
 use Rattle.contest_machine.specs.Machine.{stepped}
-use Rattle.contest_machine.specs.Turns.{locked_on, turned}
+use Rattle.contest_machine.specs.Turns.{locked_on, walker_turned}
 use Rattle.host_contest.specs.Machines.{machine_of}
 use Rattle.host_contest.specs.Steps.{state_in}
 use Rattle.host_contest.proofs.Machines.{on_ok}
@@ -43,7 +43,7 @@ returns-clause-turned g c =
     on_ok c.lock_on-2.result (λ last.
     chain locked_on (stepped (record w { begun = true }) r)
     (state_in view one c.step-2.new.self) (state_in view two c.lock_on.new.self)
-    (state_in view three c.lock_on-2.new.self) (turned w r)
+    (state_in view three c.lock_on-2.new.self) (walker_turned w r)
     c.in_ok-step.ensures.stepped
     (same_views view (g.M.Maint.topology c.step-2.new.maint) one two c.step-2.new.self
     c.lock_on.new.self c.step-2.ensures.topology c.in_ok-lock_on.ensures.stepped)

@@ -1,10 +1,10 @@
 use Rattle.std.proofs.Common.{◌≡◌, false}
-use Rattle.host_contest.specs.Machines.{is_done}
+use Rattle.host_contest.specs.Machines.{machine_is_done}
 use Rattle.host_contest.proofs.Machines.{no_view, new_is_not_done}
 use Rattle.host_contest.proofs.walker.Walker.new.Goals as goal
 
 pub returns-clause-entries : goal.returns-clause-entries
 returns-clause-entries c done =
-    let not : is_done c.new.result ≡ false =
+    let not : machine_is_done c.new.result ≡ false =
     new_is_not_done c.new.result c.args.id (c.new.ensures.machine no_view) in
     absurd (cc)

@@ -1,4 +1,4 @@
-use Rattle.fabric_map.specs.Topology.{port_at}
+use Rattle.fabric_script.specs.Ports.{port_at}
 use Rattle.host_enumerate.proofs.Accessed.{accessed-registers, accessed-topology, accessed-whole}
 use Rattle.host_enumerate.proofs.plain.PlainMaintMaint.own.Goals as goal
 

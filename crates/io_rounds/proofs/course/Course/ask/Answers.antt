@@ -1,5 +1,5 @@
 use Rattle.std.proofs.Common.{refl, subst}
-use Rattle.io_rounds.specs.Course.{Acted}
+use Rattle.io_rounds.specs.Course.{EventActed}
 use Rattle.io_rounds.proofs.StateLaws.{within_stations}
 use Rattle.io_rounds.proofs.TakeLaws.{asks_took, asks_full}
 use Rattle.io_rounds.proofs.course.Course.ask.Goals as goal
@@ -14,7 +14,7 @@ pub returns-in-Took-clause-done : goal.returns-in-Took-clause-done
 returns-in-Took-clause-done g c = λ script begun first s rest at is.
     let asked = c.args.asked.now in
     asks_took asked.node asked.tid asked.line rest _ at is c.requires.named
-    (subst (λ what. Acted c.args.names.now script s.events s.trace s.stations asked.line what
+    (subst (λ what. EventActed c.args.names.now script s.events s.trace s.stations asked.line what
     c.act.new.self) c.in-Took.is (c.in_ok-act.ensures script s.events s.trace s.stations at.holds))
     c.write_asked.ensures refl refl c.count_on.ensures
 

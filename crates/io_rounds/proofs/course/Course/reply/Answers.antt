@@ -1,5 +1,5 @@
 use Rattle.std.proofs.Common.{refl, subst}
-use Rattle.io_rounds.specs.Course.{Acted}
+use Rattle.io_rounds.specs.Course.{EventActed}
 use Rattle.io_rounds.proofs.ReplyLaws.{can_same, reply_took, reply_kept}
 use Rattle.io_rounds.proofs.StateLaws.{within_stations}
 use Rattle.io_rounds.proofs.course.Course.reply.Goals as goal
@@ -13,7 +13,7 @@ keep-requires c =
 pub returns-in-Took : goal.returns-in-Took
 returns-in-Took c = λ script s rest holds is.
     reply_took c.args.node c.args.line rest is c.requires.may.can.0
-    (subst (λ what. Acted c.args.names.now script s.events s.trace s.stations c.args.line what
+    (subst (λ what. EventActed c.args.names.now script s.events s.trace s.stations c.args.line what
     c.act.new.self) c.in-Took.is (c.in_ok-act.ensures script s.events s.trace s.stations holds))
 
 pub returns-in_default : goal.returns-in_default

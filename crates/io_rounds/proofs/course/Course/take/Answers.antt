@@ -1,6 +1,6 @@
 use Rattle.std.proofs.Common.{subst}
 use Rattle.fabric_script.specs.declared.lines.Line.TheVariants.{Collect}
-use Rattle.io_rounds.specs.Course.{Acted}
+use Rattle.io_rounds.specs.Course.{EventActed}
 use Rattle.io_rounds.proofs.StateLaws.{on_if, on_else}
 use Rattle.io_rounds.proofs.TakeLaws.{takes_answered, takes_none, turns_on, goes_not}
 use Rattle.io_rounds.proofs.course.Course.take.Goals as goal
@@ -17,7 +17,7 @@ returns-in-Left-clause-done g c = on_if c.serve.result
       before = c.args.self.now;
       at = at;
       next = is;
-      acted = subst (λ what. Acted c.args.names.now script s.events s.trace s.stations
+      acted = subst (λ what. EventActed c.args.names.now script s.events s.trace s.stations
           (Collect c.args.node) what c.act.new.self) c.in-Left.is
           (c.in_ok-packet.ensures script s.events s.trace s.stations at.holds);
     })) c.serve.ensures.done
@@ -28,7 +28,7 @@ returns-in-Left-clause-ended g c = on_else c.serve.result
       before = c.args.self.now;
       at = at;
       next = is;
-      acted = subst (λ what. Acted c.args.names.now script s.events s.trace s.stations
+      acted = subst (λ what. EventActed c.args.names.now script s.events s.trace s.stations
           (Collect c.args.node) what c.act.new.self) c.in-Left.is
           (c.in_ok-packet.ensures script s.events s.trace s.stations at.holds);
     })) c.serve.ensures.ended
@@ -36,7 +36,7 @@ returns-in-Left-clause-ended g c = on_else c.serve.result
 pub returns-in-Answered-clause-done : goal.returns-in-Answered-clause-done
 returns-in-Answered-clause-done g c = λ script begun first s rest at is.
     takes_answered c.args.node rest at is
-    (subst (λ what. Acted c.args.names.now script s.events s.trace s.stations
+    (subst (λ what. EventActed c.args.names.now script s.events s.trace s.stations
     (Collect c.args.node) what c.act.new.self) c.in-Answered.is
     (c.in_ok-packet.ensures script s.events s.trace s.stations at.holds))
 

@@ -1,5 +1,5 @@
 use Rattle.std.proofs.Common.{◌≡◌, true, false, rules, [], ◌∷◌, refl}
-use Rattle.io_rounds.specs.Tasks.{Take}
+use Rattle.io_rounds.specs.Tasks.{Fetch}
 use Rattle.io_rounds.proofs.BeginLaws.{state_of, at_itself, underway}
 use Rattle.io_rounds.proofs.StateLaws.{always_else}
 use Rattle.io_rounds.proofs.TakeLaws.{taken_on, taken_over, taken_smaller}
@@ -8,7 +8,7 @@ use Rattle.io_rounds.proofs.course.Course.take_all.Goals as goal
 pub take-requires : goal.take-requires
 take-requires g c =
     let may = c.requires in
-    let tasks = Take c.args.node ∷ [] in
+    let tasks = Fetch c.args.node ∷ [] in
     let arrived = c.loop.invariant may.way.script c.args.output.now (state_of may.way tasks)
     (state_of may.way tasks) []
     (at_itself g.K.Sink.written g.K.Sink.faults c.args.output.now may.way tasks) refl in
@@ -30,7 +30,7 @@ returns-then-not-branch-clause-done g c = λ script begun first s rest at is.
 pub loop-smaller : goal.loop-smaller
 loop-smaller g c =
     let may = c.requires in
-    let tasks = Take c.args.node ∷ [] in
+    let tasks = Fetch c.args.node ∷ [] in
     let arrived = c.loop.invariant may.way.script c.args.output.now (state_of may.way tasks)
     (state_of may.way tasks) []
     (at_itself g.K.Sink.written g.K.Sink.faults c.args.output.now may.way tasks) refl in

@@ -1,5 +1,5 @@
 use Rattle.std.proofs.Common.{◌++◌, ap, ◌∙◌, arith}
-use Rattle.io_rounds.specs.Course.{turn_of}
+use Rattle.io_rounds.specs.Course.{node_turn}
 use Rattle.io_rounds.proofs.RoundLaws.{turn_may, turn_small, index_false}
 use Rattle.io_rounds.proofs.StateLaws.{on_else}
 use Rattle.io_rounds.proofs.course.Course.turn_at.Goals as goal
@@ -17,6 +17,6 @@ turn-requires g c = turn_may c.args.node c.args.self.now c.requires.way c.requir
 pub returns-clause-ended : goal.returns-clause-ended
 returns-clause-ended g c = on_else c.turn.result
     (λ given. λ script begun first s rest at is. given script begun first s rest at
-    (is ∙ ap (λ b. turn_of b c.args.node ++ rest)
+    (is ∙ ap (λ b. node_turn b c.args.node ++ rest)
     (index_false c.args.self.now.switches.items c.args.node c.index.result.now c.index.ensures
     c.if-index.false))) c.turn.ensures.ended

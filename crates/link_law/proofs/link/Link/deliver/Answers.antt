@@ -3,8 +3,8 @@ use Rattle.link_watch.proofs.StopLaws.{stopped_at_once}
 use Rattle.link_wires.specs.Deliveries.{told_of, undetected}
 use Rattle.link_wires.specs.declared.edits.Edited.{Edited}
 use Rattle.link_machine.specs.Prelude.{Stopped, Note, other_side, has_chars, delivery_from, delivered_from, told_notes, delivery_notes, queues_of, Walks, IsSoundLink, LinkState, Wires, link, from_end}
-use Rattle.link_machine.specs.Queues.{steps_of}
-use Rattle.link_machine.specs.Queues.Walks.{Ends}
+use Rattle.link_machine.specs.Queues.{note_steps}
+use Rattle.link_machine.specs.Queues.Walks.{WalkEnds}
 use Rattle.link_machine.proofs.Machine.{delivery_keeps, delivery_walks}
 use Rattle.link_watch.specs.declared.watch.NoteEnd.TheVariants as Stop
 use Rattle.link_law.specs.declared.answers.LinkEnd.{LinkEnd}
@@ -23,9 +23,9 @@ returns-then-not-has-clause-steps g c =
     ∙ ap (λ (wires : Wires). has_chars from count (link wires c.args.a.now c.args.b.now))
     c.self.view_is)
     ∙ c.if-not-has.true in
-    λ l. subst (λ b. Walks (queues_of s) (steps_of (if b
+    λ l. subst (λ b. Walks (queues_of s) (note_steps (if b
     then told_notes (other_side from) (take count (from_end from s).wire_a.chars)
-    (told_of (delivery_from from count s)) else [])) (queues_of s)) (sym none) Ends
+    (told_of (delivery_from from count s)) else [])) (queues_of s)) (sym none) WalkEnds
 
 -- ---- no memory for the delivery
 
@@ -103,9 +103,10 @@ returns-clause-steps g c =
     sym (c.has.ensures c.args.a.now c.args.b.now) ∙ c.if-not-has.false in
     subst (λ (wires : Wires). let s = link wires c.args.a.now c.args.b.now in
     OnOk c.ended.result (IsSoundLink s
-    → Walks (queues_of s) (steps_of (delivery_notes from count s)) (queues_of next))) c.self.view_is
+    → Walks (queues_of s) (note_steps (delivery_notes from count s)) (queues_of next)))
+    c.self.view_is
     (subst (λ (r : Result Edited LinkEnd). OnOk r (IsSoundLink here
-    → Walks (queues_of here) (steps_of (delivery_notes from count here)) (queues_of next)))
+    → Walks (queues_of here) (note_steps (delivery_notes from count here)) (queues_of next)))
     (sym c.ended.ensures)
     (on_done c.other-to.result c.in_ok-unsent.unsent (λ none l.
     let is : next ≡ delivered_from from count here =
@@ -113,5 +114,5 @@ returns-clause-steps g c =
     let sent : undetected (delivery_from from count here) ≡ None =
     sym c.in_ok-unsent.ensures.told.found_is ∙ none in
     subst (λ (t : LinkState).
-    Walks (queues_of here) (steps_of (delivery_notes from count here)) (queues_of t))
+    Walks (queues_of here) (note_steps (delivery_notes from count here)) (queues_of t))
     (sym is) (delivery_walks from count here sent l))))

@@ -2,7 +2,7 @@ use Rattle.std.proofs.Common.{rules}
 use Rattle.link_machine.specs.Prelude.{link}
 use Rattle.link_rest.specs.Settling.{Settles}
 use Rattle.link_rest.proofs.Settled.{FromTelling, FromRecovering}
-use Rattle.link_law.specs.Does.{Did}
+use Rattle.link_law.specs.Does.{CallDid}
 use Rattle.link_law.proofs.DoesLaws.{IsWatch, did_next, did_early}
 use Rattle.link_law.proofs.SettleLaws.{SecondRecovers, drained_at, first_at, second_at, is_quiet, did_comes, did_settles, did_ends, first_follows, second_follows, finish_follows}
 use Rattle.link_law.proofs.link.Link.settle.Given.{Over}
@@ -87,7 +87,7 @@ finish-requires g c =
     c.in_ok-recover-2.ensures.does)
 
 settles : (g : Over) (c : goal.After-finish g)
-    → Did g.W.Watch.grew g.W.Watch.cut Settles (link c.args.self.now c.args.a.now c.args.b.now)
+    → CallDid g.W.Watch.grew g.W.Watch.cut Settles (link c.args.self.now c.args.a.now c.args.b.now)
     c.args.watch.now c.finish.result (link c.finish.new.self c.finish.new.a c.finish.new.b)
     c.finish.new.watch
 settles g c =

@@ -1,5 +1,5 @@
 use Rattle.std.proofs.Common.{sym, ap, ◌∙◌}
-use Rattle.link_model.specs.Prelude.{start, place_after, said}
+use Rattle.link_model.specs.Prelude.{place_start, place_after, said}
 use Rattle.link_port.specs.Turns.{Burst}
 use Rattle.link_port.proofs.SentReads.{tell_read}
 use Rattle.link_port.proofs.port.Port.tell.Goals as goal
@@ -14,11 +14,11 @@ returns-clause-sent c =
 
 pub returns-clause-read : goal.returns-clause-read
 returns-clause-read c =
-    ap (said start) (returns-clause-chars c)
+    ap (said place_start) (returns-clause-chars c)
     ∙ (tell_read c.args.self.now c.bounds.ensures).says
     ∙ sym (returns-clause-sent c)
 
 pub returns-clause-rests : goal.returns-clause-rests
 returns-clause-rests c =
-    ap (place_after start) (returns-clause-chars c)
+    ap (place_after place_start) (returns-clause-chars c)
     ∙ (tell_read c.args.self.now c.bounds.ensures).rests

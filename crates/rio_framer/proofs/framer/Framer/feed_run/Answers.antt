@@ -1,7 +1,7 @@
 use Rattle.std.proofs.Common.{◌≡◌, ap, sym, subst, ◌∙◌}
 use Rattle.link_model.specs.Fronts.{telling_front}
 use Rattle.rio_framer.specs.Framing.{Framing, framing_after}
-use Rattle.rio_framer.specs.Giving.{listed, events_of, events_by, IsPaired}
+use Rattle.rio_framer.specs.Giving.{listed, events_given, events_by, IsPaired}
 use Rattle.rio_framer.specs.declared.events.Events.{Events}
 use Rattle.rio_framer.specs.declared.events.Told.{Told}
 use Rattle.rio_framer.proofs.GivingLaws.{listed-front, paired-front, events_by-front}
@@ -9,7 +9,8 @@ use Rattle.rio_framer.proofs.framer.Framer.feed_run.Goals as goal
 use Rattle.rio_framer.proofs.framer.Framer.feed_run.Goals.{After-events}
 
 exact : (c : After-events)
-    → c.events.result ≡ events_of (telling_front c.args.self.now.place c.args.chars.now).step.gives
+    → c.events.result
+    ≡ events_given (telling_front c.args.self.now.place c.args.chars.now).step.gives
 exact c = c.events.ensures
     ∙ ap (λ (f : Framing). events_by c.read_run-count.result.1 f.ended)
     c.read_run-count.ensures.state

@@ -1,7 +1,7 @@
 use Rattle.std.proofs.Common.{◌≡◌, ◌+◌, ◌-◌, [], length, sym, ap, ◌∙◌, arith, eqb-true}
 use Rattle.link_model.specs.Fronts.{Front, telling_front}
 use Rattle.rio_framer.specs.Framing.{framing_after}
-use Rattle.rio_framer.specs.Giving.{told_of}
+use Rattle.rio_framer.specs.Giving.{told_of_events}
 use Rattle.rio_framer.proofs.PartLaws.{part-quiet, part-tells, part-none}
 use Rattle.rio_framer.proofs.framer.Framer.read_run.Goals as goal
 
@@ -38,7 +38,7 @@ returns-in_default c =
     omega arith in
     record {
       count = count ∙ ap (λ (f : Front). f.count) is;
-      told = tells.1 ∙ ap (λ (f : Front). told_of f.step.gives) is;
+      told = tells.1 ∙ ap (λ (f : Front). told_of_events f.step.gives) is;
       state = tells.2 ∙ ap (λ (f : Front). framing_after f.step) is;
       within = omega arith;
       some = λ _. omega arith;
@@ -58,7 +58,7 @@ pub returns-clause-count : goal.returns-clause-count
 returns-clause-count c = ap (λ (f : Front). f.count) (all c)
 
 pub returns-clause-told : goal.returns-clause-told
-returns-clause-told c = ap (λ (f : Front). told_of f.step.gives) (all c)
+returns-clause-told c = ap (λ (f : Front). told_of_events f.step.gives) (all c)
 
 pub returns-clause-state : goal.returns-clause-state
 returns-clause-state c =

@@ -1,7 +1,7 @@
 use Rattle.std.proofs.Common.{◌≡◌, ℕ, ◌-◌, ◌==◌, List, set, get_or, length, take, drop, sym, ap, ◌∙◌, subst, length-set, take_at}
 use Rattle.std.specs.List.{refill}
 use Rattle.rio_packets.specs.LinkForm.{Passes}
-use Rattle.rio_packets.specs.Hops.{ended, lowered}
+use Rattle.rio_packets.specs.Hops.{message_ended, lowered}
 use Rattle.rio_packets.specs.Fields.{tt_of, hop_place, crc_place, Lowered}
 use Rattle.rio_packets.proofs.LowerLaws.{hop_known, Passes-lowered, Lowered-lowered}
 use Rattle.rio_packets.proofs.packet.Packet.lower_hop.Goals as goal
@@ -13,7 +13,7 @@ with_less hop bytes = set bytes hop (get_or bytes hop 0 - 1)
 -- what stands after the write, with its CRC made again
 renewed : (old items now new : List ℕ) (hop crc type : ℕ) → items ≡ old → now ≡ items
     → hop ≡ hop_place old → crc ≡ crc_place old → type ≡ tt_of old
-    → new ≡ ended (type == 1) (take crc (refill (length items) items (with_less hop now)))
+    → new ≡ message_ended (type == 1) (take crc (refill (length items) items (with_less hop now)))
     → new ≡ lowered old
 renewed old items now new hop crc type first second at end kind is =
     let same : now ≡ old = second ∙ first in
@@ -24,10 +24,10 @@ renewed old items now new hop crc type first second at end kind is =
     ∙ ap (λ (t : List ℕ). refill (length old) old (with_less hop t)) same
     ∙ take_at less (drop (length less) old) (length old) size in
     is
-    ∙ ap (λ (t : List ℕ). ended (type == 1) (take crc t)) whole
-    ∙ ap (λ n. ended (type == 1) (take crc (with_less n old))) at
-    ∙ ap (λ n. ended (type == 1) (take n (with_less (hop_place old) old))) end
-    ∙ ap (λ n. ended (n == 1) (take (crc_place old) (with_less (hop_place old) old))) kind
+    ∙ ap (λ (t : List ℕ). message_ended (type == 1) (take crc t)) whole
+    ∙ ap (λ n. message_ended (type == 1) (take crc (with_less n old))) at
+    ∙ ap (λ n. message_ended (type == 1) (take n (with_less (hop_place old) old))) end
+    ∙ ap (λ n. message_ended (n == 1) (take (crc_place old) (with_less (hop_place old) old))) kind
 
 pub returns-clause-value : goal.returns-clause-value
 returns-clause-value c =

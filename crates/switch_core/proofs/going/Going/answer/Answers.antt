@@ -1,7 +1,7 @@
 use Rattle.std.proofs.Common.{ap, sym, ◌∙◌}
 use Rattle.maint_packets.specs.Responses.{response_bytes}
 use Rattle.switch_core.specs.Faces.{faces_of, taken_at, put_at}
-use Rattle.switch_core.specs.SwitchSteps.{faces_after, answered_by, device_after}
+use Rattle.switch_core.specs.SwitchSteps.{faces_after, answered_by, switch_after}
 use Rattle.switch_core.specs.declared.switch.Step.TheVariants.{Answered}
 use Rattle.switch_core.proofs.FaceLaws.{AreAlike-on}
 use Rattle.switch_core.proofs.GoingLaws.{inside, own_prio, answered_is}
@@ -36,7 +36,7 @@ returns-clause-registers g c =
     let step = returns-clause-step g c c.in-Some.packet (sym c.in-Some.ensures.value) in
     let asked = sym c.in-Some-read_request.ensures.value in
     c.answer.ensures.registers
-    ∙ sym (ap (device_after device) step ∙ ap (answered_by device c.args.self.port) asked)
+    ∙ sym (ap (switch_after device) step ∙ ap (answered_by device c.args.self.port) asked)
 
 pub returns-clause-alike : goal.returns-clause-alike
 returns-clause-alike g c =

@@ -1,5 +1,5 @@
 use Rattle.std.proofs.Common.{◌∙◌, sym, subst}
-use Rattle.trace_check.specs.Reads.{line_of}
+use Rattle.trace_check.specs.Reads.{line_read}
 use Rattle.trace_check.specs.States.{IsLineIn}
 use Rattle.trace_check.proofs.AnswerLaws.{reads_by}
 use Rattle.trace_check.proofs.LineIn.{line_in}
@@ -8,7 +8,7 @@ use Rattle.trace_check.proofs.checker.Checker.read.Goals as goal
 pub returns-in_ok-check-in-Ok : goal.returns-in_ok-check-in-Ok
 returns-in_ok-check-in-Ok c =
     let known = c.args.set_up.now.known in
-    let line = line_of c.in-Ok.line in
+    let line = line_read c.in-Ok.line in
     let goes = sym c.has_ended.ensures ∙ c.if-has_ended.false in
     let spelled = c.in-Ok.ensures.line in
     let checked = c.in_ok-check-in-Ok.ensures in record {

@@ -4,7 +4,7 @@ use Rattle.fabric_script.specs.declared.ports.PortRef.{PortRef}
 use Rattle.fabric_trace.specs.Settings.{set_up}
 use Rattle.fabric_trace.specs.SetUps.{MaySetUp}
 use Rattle.trace_check.specs.Starting.{AreJoined, ArePortsIn}
-use Rattle.trace_check.specs.Tables.{place_of}
+use Rattle.trace_check.specs.Tables.{table_place}
 use Rattle.trace_check.proofs.BuildLaws.{joined_link, joined_new, joined_other}
 use Rattle.trace_check.proofs.NetworkLaws.{if_ok_map}
 use Rattle.trace_check.proofs.TableLaws.{place_within}
@@ -27,7 +27,7 @@ join-requires-in-Link c =
     (subst (ArePortsIn n) c.in-Link.is may.may.ports).1 in
     let size = may.joined.peers.size in
     let same = ap length c.join.ensures
-    ∙ length-set c.args.self.now.peers.items (place_of c.in-Link.a) (Some c.in-Link.b) in
+    ∙ length-set c.args.self.now.peers.items (table_place c.in-Link.a) (Some c.in-Link.b) in
     omega (arith, within, size, same)
 
 pub returns-in-Link : goal.returns-in-Link
@@ -41,7 +41,7 @@ returns-in-Link c = λ net joined may.
     subst (λ line. AreJoined (set_up net line) new) (sym c.in-Link.is)
     (joined_link net old new a b joined ports.0 ports.1 parts.0 parts.1 parts.2
     (c.join-in-Link.ensures
-    ∙ ap (λ (l : List (Option PortRef)). slice_set l (place_of b) (Some a)) c.join.ensures))
+    ∙ ap (λ (l : List (Option PortRef)). slice_set l (table_place b) (Some a)) c.join.ensures))
 
 pub returns-in_default : goal.returns-in_default
 returns-in_default c = λ net joined may.

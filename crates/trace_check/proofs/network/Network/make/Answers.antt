@@ -3,16 +3,16 @@ use Rattle.fabric_model.specs.Network.{Network}
 use Rattle.trace_check.specs.declared.lines.Step.{Step}
 use Rattle.trace_check.specs.declared.links.Links.{Links}
 use Rattle.trace_check.specs.declared.network.Network.{Network as Kept}
-use Rattle.trace_check.specs.Networks.{AreLinks, IsNetwork, IsStepOf, MakesIt}
-use Rattle.trace_check.specs.Reads.{step_of}
+use Rattle.trace_check.specs.Networks.{AreKeptLinks, IsNetwork, IsStepOf, MakesIt}
+use Rattle.trace_check.specs.Reads.{step_read}
 use Rattle.trace_check.proofs.NetworkLaws.{if_ok_map}
 use Rattle.trace_check.proofs.network.Network.make.Goals as goal
 
 -- what is ensured of the step that was read
 abbrev Makes : Kept → Links → Kept → Step → Bool → Type 0
 Makes old links new step made = (nodes : ℕ) (net : Network) → IsNetwork nodes net old
-    → AreLinks nodes net.links links → IsStepOf nodes (step_of step)
-    → MakesIt nodes net (step_of step) new made
+    → AreKeptLinks nodes net.links links → IsStepOf nodes (step_read step)
+    → MakesIt nodes net (step_read step) new made
 
 pub returns-in-Hold : goal.returns-in-Hold
 returns-in-Hold c =

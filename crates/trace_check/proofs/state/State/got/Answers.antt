@@ -1,5 +1,5 @@
 use Rattle.std.proofs.Common.{Some, ◌≡◌, sym, ap, ◌∙◌, rules}
-use Rattle.trace_check.specs.Running.{hears, run_of}
+use Rattle.trace_check.specs.Running.{run_hears, run_of}
 use Rattle.trace_check.proofs.AnswerLaws.{got_stands}
 use Rattle.trace_check.proofs.StateLaws.{runs_set, wires_taken}
 use Rattle.trace_check.proofs.TableLaws.{table_read}
@@ -29,6 +29,6 @@ returns c = λ r short is is_in.
       wires = wires_taken r.nodes r.wires wires peer _ from c.take_front.new.self chars is.wires
           in_peer c.place_of-from.ensures peer_is stands;
       runs = runs_set r.nodes r.runs hearings c.args.port to c.hear.new.self
-          (λ run. hears run chars) is.runs is_in c.place_of-to.ensures
-          (c.in_ok-hear.ensures ∙ ap (λ run. hears run chars) run);
+          (λ run. run_hears run chars) is.runs is_in c.place_of-to.ensures
+          (c.in_ok-hear.ensures ∙ ap (λ run. run_hears run chars) run);
     })

@@ -1,7 +1,7 @@
 use Rattle.std.proofs.Common.{◌≡◌, ◌++◌, List, true, ap, ◌∙◌, subst, rules, tests}
 use Rattle.rio_chars.specs.declared.chars.Char.{Char}
 use Rattle.fabric_trace.specs.Lines.{Sent, Signed}
-use Rattle.trace_check.specs.Checks.{MaySend}
+use Rattle.trace_check.specs.Checks.{SendMayBe}
 use Rattle.trace_check.proofs.AnswerLaws.{sent_stands}
 use Rattle.trace_check.proofs.StateLaws.{wires_set}
 use Rattle.trace_check.proofs.TableLaws.{table_read}
@@ -16,7 +16,7 @@ returns c = λ r short is is_in.
     let before = table_read r.nodes (λ p chars. chars ≡ r.wires p) c.args.self.now.wires.items
     c.args.port place wire is.wires is_in here c.index_mut.ensures.value in
     let yes : c.may_send.result ≡ true = search (rules, tests) in
-    let may = subst (λ (l : List Char). MaySend r.net (Signed (Sent c.args.port l)))
+    let may = subst (λ (l : List Char). SendMayBe r.net (Signed (Sent c.args.port l)))
     c.as_slice.ensures.value ((c.may_send.ensures r.nodes r.net is.network is_in).0 yes) in
     sent_stands r short _ c.args.port chars may
     (record {

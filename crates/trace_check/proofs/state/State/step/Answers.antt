@@ -1,5 +1,5 @@
 use Rattle.std.proofs.Common.{◌≡◌, false, true, ap, rules, tests}
-use Rattle.trace_check.specs.Reads.{step_of}
+use Rattle.trace_check.specs.Reads.{step_read}
 use Rattle.trace_check.proofs.AnswerLaws.{device_made, free_allowed, free_early, hold_came, hold_late, node_made, not_made}
 use Rattle.trace_check.proofs.state.State.step.Goals as goal
 
@@ -47,32 +47,32 @@ returns-in-Take c = λ r short is within.
     let makes = c.in_ok-make.ensures r.nodes r.net is.network is.links within in
     let yes : c.in_ok-make.field-0 ≡ true = search (rules, tests) in
     node_made r short c.args.self.now c.args.self.now c.make.new.self c.args.step.now
-    c.in_ok-make.field-0 is within makes _ (ap step_of c.in-Take.is) yes
+    c.in_ok-make.field-0 is within makes _ (ap step_read c.in-Take.is) yes
 
 pub returns-in-Leave : goal.returns-in-Leave
 returns-in-Leave c = λ r short is within.
     let makes = c.in_ok-make.ensures r.nodes r.net is.network is.links within in
     let yes : c.in_ok-make.field-0 ≡ true = search (rules, tests) in
     node_made r short c.args.self.now c.args.self.now c.make.new.self c.args.step.now
-    c.in_ok-make.field-0 is within makes _ (ap step_of c.in-Leave.is) yes
+    c.in_ok-make.field-0 is within makes _ (ap step_read c.in-Leave.is) yes
 
 pub returns-in-Move : goal.returns-in-Move
 returns-in-Move c = λ r short is within.
     let makes = c.in_ok-make.ensures r.nodes r.net is.network is.links within in
     let yes : c.in_ok-make.field-0 ≡ true = search (rules, tests) in
     device_made r short c.args.self.now c.args.self.now c.make.new.self c.args.step.now
-    c.in_ok-make.field-0 is within makes _ (ap step_of c.in-Move.is) yes
+    c.in_ok-make.field-0 is within makes _ (ap step_read c.in-Move.is) yes
 
 pub returns-in-Drop : goal.returns-in-Drop
 returns-in-Drop c = λ r short is within.
     let makes = c.in_ok-make.ensures r.nodes r.net is.network is.links within in
     let yes : c.in_ok-make.field-0 ≡ true = search (rules, tests) in
     device_made r short c.args.self.now c.args.self.now c.make.new.self c.args.step.now
-    c.in_ok-make.field-0 is within makes _ (ap step_of c.in-Drop.is) yes
+    c.in_ok-make.field-0 is within makes _ (ap step_read c.in-Drop.is) yes
 
 pub returns-in-Answer : goal.returns-in-Answer
 returns-in-Answer c = λ r short is within.
     let makes = c.in_ok-make.ensures r.nodes r.net is.network is.links within in
     let yes : c.in_ok-make.field-0 ≡ true = search (rules, tests) in
     device_made r short c.args.self.now c.args.self.now c.make.new.self c.args.step.now
-    c.in_ok-make.field-0 is within makes _ (ap step_of c.in-Answer.is) yes
+    c.in_ok-make.field-0 is within makes _ (ap step_read c.in-Answer.is) yes
