@@ -25,7 +25,7 @@ impl Tally {
         }
     }
 
-    /// IsCount the lines that begin in bytes behind a text.
+    /// Counts the lines that begin in bytes behind a text.
     pub(crate) fn count(&mut self, bytes: &[u8])
         ensures { (text : List ℕ) → Tallied text self.old → Tallied (text ++ bytes.now) self.new }
     {
@@ -34,7 +34,7 @@ impl Tally {
         }
     }
 
-    /// IsCount the line that begins with a byte behind a text, if one does.
+    /// Counts the line that begins with a byte behind a text, if one does.
     fn count_byte(&mut self, byte: u8)
         ensures { (text : List ℕ) → Tallied text self.old
             → Tallied (text ++ byte ∷ []) self.new }
@@ -45,7 +45,7 @@ impl Tally {
         self.begins = byte == b'\n';
     }
 
-    /// IsCount a line that begins with this letter.
+    /// Counts a line that begins with this letter.
     fn begin(&mut self, letter: u8)
         ensures { LineBegun letter self.old self.new }
     {
