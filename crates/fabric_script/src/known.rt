@@ -14,7 +14,7 @@ ghost use Rattle.fabric_script.specs.declared.lines.Line.TheVariants.{Large as A
 
 use crate::lines::Line;
 use crate::links::Links;
-use crate::names::{Name, find, is_name};
+use crate::names::{Name, PLACES, find, is_name, place_of};
 use crate::ports::{PortRef, split_port};
 use crate::reasons::Reason;
 use crate::words::Words;
@@ -45,6 +45,8 @@ pub(crate) enum Node {
 #[derive(Drop)]
 pub(crate) struct Known {
     names: Vec<Name>,
+    /// At the place of each name's key its number, so that the name is found at once.
+    hints: [u8; PLACES],
     nodes: Vec<Node>,
     links: Links,
     large_ids: Vec<(u8, u16)>,
@@ -79,6 +81,7 @@ impl Known {
     {
         Known {
             names: Vec::new(alloc),
+            hints: [0; PLACES],
             nodes: Vec::new(alloc),
             links: Links::new(alloc),
             large_ids: Vec::new(alloc),
@@ -119,6 +122,7 @@ impl Known {
         let mut words = Words::new(text);
         words.word();
         let name = Name::of_word(words.word());
+        self.hints[place_of(name.key())] = self.names.len() as u8;
         self.names.push(name)?;
         self.nodes.push(node)?;
         Ok(())
@@ -165,7 +169,7 @@ impl Known {
         if !is_name(word) {
             return Err(Reason::BadName);
         }
-        match find(self.names.as_slice(), word) {
+        match find(self.names.as_slice(), &self.hints, word) {
             Some(_) => Err(Reason::NameTaken),
             None => Ok(()),
         }
@@ -181,7 +185,7 @@ impl Known {
         if !is_name(word) {
             return Err(Reason::BadName);
         }
-        match find(self.names.as_slice(), word) {
+        match find(self.names.as_slice(), &self.hints, word) {
             Some(n) => Ok(n),
             None => Err(Reason::UnknownNode),
         }
@@ -197,7 +201,7 @@ impl Known {
         let Some((name, port)) = split_port(word) else {
             return Err(Reason::BadName);
         };
-        let Some(node) = find(self.names.as_slice(), name) else {
+        let Some(node) = find(self.names.as_slice(), &self.hints, name) else {
             return Err(Reason::UnknownNode);
         };
         if port >= self.ports_of(node) {

@@ -6,6 +6,9 @@ ghost use Rattle.fabric_script.specs.Names.{is_name, is_letter, is_digit, are_le
 use arrayvec::ArrayVec;
 use std::marker::Model;
 
+/// How many places there are for hints.
+pub(crate) const PLACES: usize = 1024;
+
 /// The name of a node, of at most eight bytes: in a script a letter and then letters or digits, in
 /// ASCII.
 ///
@@ -46,6 +49,11 @@ impl Name {
             items.push(*byte);
         }
         Name::new(items)
+    }
+
+    /// The key of the name.
+    pub(crate) fn key(&self) -> u64 {
+        self.key
     }
 
     /// The bytes of the name.
@@ -123,14 +131,35 @@ fn is_digit(c: u8) -> bool
     matches!(c, b'0'..=b'9')
 }
 
-/// The number of the node with this name.
-pub(crate) fn find(names: &[Name], word: &[u8]) -> Option<u8>
+/// The number of the node with this name. The hint at the place of its key is the number of the last
+/// name there, mostly this one. A hint that is wrong costs time alone.
+pub(crate) fn find(names: &[Name], hints: &[u8; PLACES], word: &[u8]) -> Option<u8>
     requires { length names.now ≤ 64 }
     ensures { MatchOption result
         (¬ Contains names.now word.now)
         (λ n. (n < length names.now) × (name_of names.now n ≡ word.now)) }
 {
     let key = key_of(word);
+    let hint = hints[place_of(key)];
+    if is_at(names, hint, word, key) {
+        return Some(hint);
+    }
     let place = names.iter().position(|name| name.is_word(word, key))?;
     Some(place as u8)
+}
+
+/// Whether a word, whose key this is, is the name with this number.
+fn is_at(names: &[Name], number: u8, word: &[u8], key: u64) -> bool
+    requires { key ≡ key_of word.now }
+    ensures { result ≡ true → (number < length names.now) × (name_of names.now number ≡ word.now) }
+{
+    let number = usize::from(number);
+    number < names.len() && names[number].is_word(word, key)
+}
+
+/// The place of a key among the hints.
+pub(crate) fn place_of(key: u64) -> usize
+    ensures { result < 1024 }
+{
+    (key.wrapping_mul(0x9e37_79b9_7f4a_7c15) >> 54) as usize
 }
