@@ -3,7 +3,7 @@ use Rattle.std.proofs.Common.{◌≡◌, ◌≢◌, ℕ, ◌≤◌, Bool, false,
 use Rattle.std.proofs.lemmas.Option.{same_Some}
 use Rattle.fabric_script.specs.declared.ports.PortRef.{PortRef}
 use Rattle.fabric_map.specs.Topology.{Topology}
-use Rattle.fabric_map.specs.Routes.{Registers}
+use Rattle.fabric_map.specs.Routes.{AllRegisters}
 use Rattle.link_watch.specs.declared.side.Side.{Side}
 use Rattle.link_watch.specs.declared.side.Side.TheVariants.{A, B}
 use Rattle.host_enumerate.specs.declared.maint.Access.TheVariants.{Read, Write}
@@ -63,7 +63,7 @@ first_own view id begun stage (p ∷ rest) ask own wanted =
     at Done none = absurd (omega (arith, none.1))
     at Lost none = absurd (omega (arith, none.1))
 
-start_own : (w v : Walker) (now : Registers) (ask : Asked)
+start_own : (w v : Walker) (now : AllRegisters) (ask : Asked)
     → w ≡ starter v.view v.id v.begun v.stage v.todo
     → IsMine w now → wants w ≡ Some ask → ask.path ≡ []
 start_own w v now ask is mine wanted =
@@ -87,7 +87,7 @@ over_asks w ask Information is over led on wanted = over
 over_asks w ask Status is over led on wanted = over
 over_asks w ask Done is over led on wanted = over
 
-pub ready_carried : (before : Registers) (w o : Walker) (now : Registers) (ask : Asked)
+pub ready_carried : (before : AllRegisters) (w o : Walker) (now : AllRegisters) (ask : Asked)
     (at : PortRef) → IsReady before w o now → IsGuided w → WantsAlong w now ask at
     → IsCarried w now ask at
 ready_carried before w o now ask at ready guided wants_it = come ready.come
@@ -111,7 +111,7 @@ ready_carried before w o now ask at ready guided wants_it = come ready.come
         wants_it.wanted))
 
 -- and its path has at most 64 ports
-pub ready_short : (before : Registers) (w o : Walker) (now : Registers) (ask : Asked)
+pub ready_short : (before : AllRegisters) (w o : Walker) (now : AllRegisters) (ask : Asked)
     → IsReady before w o now → IsGuided w → w.stage ≢ Free → wants w ≡ Some ask
     → length ask.path ≤ 64
 ready_short before w o now ask ready guided on wanted = come ready.come
@@ -139,7 +139,7 @@ ready_short before w o now ask ready guided on wanted = come ready.come
 abbrev Guides : State → Type 0
 Guides state = IsGuided state.walker
 
-turned_guided : (w : Walker) (old : Registers) → IsGuided w → Guides (walker_turned w old)
+turned_guided : (w : Walker) (old : AllRegisters) → IsGuided w → Guides (walker_turned w old)
 turned_guided w old guided = turned_by Guides step_guided w old guided guided
 
 pub turn_guided : (both : Both) (side turn : Side) → IsGuided (walker_of both side)
@@ -158,7 +158,7 @@ new_guided w new = (
   inl new.devices,
 )
 
-carried_for : (before : Registers) (both : Both) (side : Side) (ask : Asked) (at : PortRef)
+carried_for : (before : AllRegisters) (both : Both) (side : Side) (ask : Asked) (at : PortRef)
     → ReadyFor before both side → IsGuided (walker_of both side)
     → WantsAlong (walker_of both side) both.registers ask at
     → IsCarried (walker_of both side) both.registers ask at
@@ -167,7 +167,8 @@ carried_for before both A ask at ready guided wants_it =
 carried_for before both B ask at ready guided wants_it =
     ready_carried before both.second both.first both.registers ask at ready guided wants_it
 
-turns_carried : (before : Registers) (both : Both) (turns : List Side) (side : Side) (ask : Asked)
+turns_carried : (before : AllRegisters) (both : Both) (turns : List Side) (side : Side)
+    (ask : Asked)
     (at : PortRef) → ReadyFor before both side → IsGuided (walker_of both side)
     → WantsAlong (walker_of (after_turns both turns) side) (after_turns both turns).registers ask at
     → IsCarried (walker_of (after_turns both turns) side) (after_turns both turns).registers ask at

@@ -3,11 +3,11 @@ use Rattle.std.proofs.Common.{◌≡◌, ◌≢◌, ℕ, ◌+◌, ◌*◌, ◌�
 use Rattle.std.proofs.lemmas.List.Elements.{Contains-append_left, Contains-append_cases}
 use Rattle.std.proofs.lemmas.Option.{same_Some}
 use Rattle.fabric_script.specs.declared.ports.PortRef.{PortRef}
-use Rattle.maint_registers.specs.Devices as registers
+use Rattle.maint_registers.specs.Devices.{Registers}
 use Rattle.maint_registers.specs.Routes.{next_port}
 use Rattle.fabric_map.specs.declared.map.Device.{Device}
 use Rattle.fabric_map.specs.Topology.{Topology, IsTopology, entered}
-use Rattle.fabric_map.specs.Routes.{Registers}
+use Rattle.fabric_map.specs.Routes.{AllRegisters}
 use Rattle.fabric_map.specs.Numbered.{paths_of}
 use Rattle.fabric_map.specs.Ways.{IsOpened}
 use Rattle.fabric_map.proofs.Growing.{node_at-entered}
@@ -43,7 +43,7 @@ use Rattle.contest_asking.proofs.StepsOpen.{step_opening}
 
 -- ---- the other's turn
 
-module _ (view : Topology) (devices : List Device) (id : ℕ) (old new : Registers)
+module _ (view : Topology) (devices : List Device) (id : ℕ) (old new : AllRegisters)
     (same : (node : ℕ) → Leads view (paths_of devices) node → new node ≡ old node) where
   way_stays : (path : List ℕ) → IsWay view devices id old path → IsWay view devices id new path
   way_stays path way = way-stays view id devices old new path same way
@@ -69,7 +69,7 @@ module _ (view : Topology) (devices : List Device) (id : ℕ) (old new : Registe
           node_at-entered view front at leads,
         ))
         ∙ leaving.home front rest port at listed some leads;
-    base = ap (λ (d : registers.Device). d.base_id) (same view.host ([], leaving.host, refl))
+    base = ap (λ (d : Registers). d.base_id) (same view.host ([], leaving.host, refl))
         ∙ leaving.base;
     way = way_stays (last_path devices) leaving.way;
   }
@@ -77,7 +77,7 @@ module _ (view : Topology) (devices : List Device) (id : ℕ) (old new : Registe
   stands_stay path tried Lost way = tt
 
 -- what a walker keeps stays
-opening_stays : (w : Walker) (old new : Registers) → IsMine w old
+opening_stays : (w : Walker) (old new : AllRegisters) → IsMine w old
     → ((node : ℕ) → Keeps w node → new node ≡ old node) → IsOpening w old → IsOpening w new
 opening_stays w old new mine same opening = record {
   writes = open-stays w.view w.id w.devices (kept w) old new w.todo mine.own on same
@@ -91,7 +91,7 @@ opening_stays w old new mine same opening = record {
     on : (one : List ℕ) → Contains (paths_of w.devices) one → Contains (kept w) one
     on one listed = Contains-append_left (paths_of w.devices) _ one listed
 
-their_opening : (w : Walker) (before old : Registers) (o : Walker) → IsContest w o before old
+their_opening : (w : Walker) (before old : AllRegisters) (o : Walker) → IsContest w o before old
     → IsOpening w old → IsOpening w (walker_turned o old).registers
 their_opening w before old o contest opening =
     opening_stays w old (walker_turned o old).registers contest.first
@@ -99,7 +99,7 @@ their_opening w before old o contest opening =
 
 -- ---- the walker's own turn
 
-module _ (before : Registers) (o : Walker) where
+module _ (before : AllRegisters) (o : Walker) where
   abbrev IsGoing : State → Type 0
   IsGoing state = IsSound before o state × IsGuided state.walker
       × IsOpening state.walker state.registers
@@ -124,7 +124,8 @@ module _ (before : Registers) (o : Walker) where
       go true = step_going state going
       go false = going
 
-module _ (before : Registers) (w o : Walker) (old : Registers) (ready : IsReady before w o old)
+module _ (before : AllRegisters) (w o : Walker) (old : AllRegisters)
+    (ready : IsReady before w o old)
     (guided : IsGuided w) (opening : IsOpening w old) where
   own_opening : IsOpening (walker_turned w old).walker (walker_turned w old).registers
   own_opening = go w.begun refl
@@ -148,11 +149,12 @@ module _ (before : Registers) (w o : Walker) (old : Registers) (ready : IsReady 
 
 -- ---- all turns
 
-abbrev pub IsOpeningFor : Registers → Both → Side → Type 0
+abbrev pub IsOpeningFor : AllRegisters → Both → Side → Type 0
 IsOpeningFor before both side = ReadyFor before both side × IsGuided (walker_of both side)
     × IsOpening (walker_of both side) both.registers
 
-pub turn_opening : (before : Registers) (both : Both) (side turn : Side) → ReadyFor before both side
+pub turn_opening : (before : AllRegisters) (both : Both) (side turn : Side)
+    → ReadyFor before both side
     → IsGuided (walker_of both side) → IsOpening (walker_of both side) both.registers
     → IsOpening (walker_of (turn_of both turn) side) (turn_of both turn).registers
 turn_opening before both A A ready guided opening =
@@ -164,7 +166,7 @@ turn_opening before both B A ready guided opening =
 turn_opening before both B B ready guided opening =
     own_opening before both.second both.first both.registers ready guided opening
 
-turns_opening : (before : Registers) (both : Both) (side : Side) (turns : List Side)
+turns_opening : (before : AllRegisters) (both : Both) (side : Side) (turns : List Side)
     → IsOpeningFor before both side → IsOpeningFor before (after_turns both turns) side
 turns_opening before both side [] holds = holds
 turns_opening before both side (turn ∷ turns) holds =
@@ -174,7 +176,7 @@ turns_opening before both side (turn ∷ turns) holds =
       turn_opening before both side turn holds.0 holds.1 holds.2,
     )
 
-pub new_opening : (w : Walker) (now : Registers) → IsNew w → IsOpening w now
+pub new_opening : (w : Walker) (now : AllRegisters) → IsNew w → IsOpening w now
 new_opening w now new = record {
   writes = subst (AreOpen w.view w.devices w.id now) (sym new.todo) tt;
   stands = subst (λ stage. IsOpenAt w.view w.devices w.id w.path w.tried
@@ -195,7 +197,7 @@ turns_open both turns side begun untagged =
 
 -- ---- what is asked
 
-module _ (w : Walker) (now : Registers) (opening : IsOpening w now) where
+module _ (w : Walker) (now : AllRegisters) (opening : IsOpening w now) where
   one_opened : (one ask : Asked) → Some one ≡ Some ask → IsOpened w.view now w.id one.path
       → IsOpened w.view now w.id ask.path
   one_opened one ask same opened =
@@ -238,7 +240,7 @@ module _ (w : Walker) (now : Registers) (opening : IsOpening w now) where
 
 -- ---- what a walker asks that gives up
 
-module _ (w : Walker) (now : Registers) (proper : IsTopology w.view) (mine : IsMine w now)
+module _ (w : Walker) (now : AllRegisters) (proper : IsTopology w.view) (mine : IsMine w now)
     (guided : IsGuided w) (opening : IsOpening w now) (is : w.stage ≡ Free) where
   leaving : IsLeaving w.view w.devices w.id (performed w.view now w.todo)
   leaving = subst (λ s. IsOpenAt w.view w.devices w.id w.path w.tried
@@ -267,7 +269,7 @@ module _ (w : Walker) (now : Registers) (proper : IsTopology w.view) (mine : IsM
 
   base : (now w.view.host).base_id ≡ w.id
   base =
-      ap (λ (d : registers.Device). d.base_id)
+      ap (λ (d : Registers). d.base_id)
       (sym (host_stays w.view (kept w) w.todo now
       (λ path at found leads some. other path at (kept_listed path found) leads some) mine.own
       (outside guided.2 guided.4)))
@@ -332,7 +334,7 @@ free_or_not Status = inr (λ e. cc)
 free_or_not Done = inr (λ e. cc)
 free_or_not Lost = inr (λ e. cc)
 
-pub wanted_carried : (before : Registers) (w o : Walker) (now : Registers) (ask : Asked)
+pub wanted_carried : (before : AllRegisters) (w o : Walker) (now : AllRegisters) (ask : Asked)
     (at : PortRef) → IsReady before w o now → IsGuided w → IsOpening w now → WantsBehind w ask at
     → IsCarried w now ask at
 wanted_carried before w o now ask at ready guided opening asks = go (free_or_not w.stage)
@@ -352,7 +354,7 @@ wanted_carried before w o now ask at ready guided opening asks = go (free_or_not
       opened = opened;
     })
 
-carried_side : (before : Registers) (both : Both) (side : Side) (ask : Asked) (at : PortRef)
+carried_side : (before : AllRegisters) (both : Both) (side : Side) (ask : Asked) (at : PortRef)
     → IsOpeningFor before both side → WantsBehind (walker_of both side) ask at
     → IsCarried (walker_of both side) both.registers ask at
 carried_side before both A ask at holds asks =

@@ -5,7 +5,7 @@ use Rattle.fabric_script.specs.Ports.{port_at}
 use Rattle.fabric_map.specs.declared.map.Device.{Device}
 use Rattle.fabric_map.specs.Topology.{Topology, IsTopology, entered, node_at}
 use Rattle.fabric_map.specs.Walked.{Walked}
-use Rattle.fabric_map.specs.Routes.{Registers, walk}
+use Rattle.fabric_map.specs.Routes.{AllRegisters, walk}
 use Rattle.fabric_map.specs.Numbered.{paths_of}
 use Rattle.fabric_map.specs.Ways.{IsOpened}
 use Rattle.fabric_map.proofs.Fronts.{front_listed}
@@ -31,7 +31,7 @@ PassesOthers view path node = (first : ℕ) (front rest : List ℕ) (port : ℕ)
     → path ≡ first ∷ front ++ port ∷ rest → entered view (first ∷ front) ≡ Some end
     → end.node ≢ node
 
-module _ (view : Topology) (now : Registers) (id : ℕ) (path : List ℕ) (at : PortRef) where
+module _ (view : Topology) (now : AllRegisters) (id : ℕ) (path : List ℕ) (at : PortRef) where
   pub carried : (access : Access) → IsTopology view → (now view.host).base_id ≡ id
       → IsOpened view now id path → IsOpened view (after_access now at access) id path
       → entered view path ≡ Some at → at.node ≢ view.host → path ≢ [] → length path ≤ 64

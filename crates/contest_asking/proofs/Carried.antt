@@ -5,7 +5,7 @@ use Rattle.std.proofs.lemmas.Option.{same_Some}
 use Rattle.fabric_script.specs.declared.ports.PortRef.{PortRef}
 use Rattle.fabric_map.specs.Topology.{entered, node_at}
 use Rattle.fabric_map.specs.Walked.{Walked}
-use Rattle.fabric_map.specs.Routes.{Registers}
+use Rattle.fabric_map.specs.Routes.{AllRegisters}
 use Rattle.fabric_map.specs.Numbered.{paths_of}
 use Rattle.fabric_map.specs.Ways.{IsOpened}
 use Rattle.fabric_map.proofs.Fronts.{passed_listed}
@@ -35,13 +35,13 @@ use Rattle.contest_asking.proofs.Back.{not_back}
 use Rattle.contest_asking.proofs.Hosted.{listed_other, host_base, host_stays}
 
 -- what is known of an access of a walker behind the host
-record IsFree (w : Walker) (now : Registers) (path : List ℕ) (access : Access) : Type 0 where
+record IsFree (w : Walker) (now : AllRegisters) (path : List ℕ) (access : Access) : Type 0 where
   short : length path ≤ 64
   other : (at : PortRef) → entered w.view path ≡ Some at → path ≢ [] → at.node ≢ w.view.host
   later : (at : PortRef) → entered w.view path ≡ Some at → IsOpened w.view now w.id path
       → IsOpened w.view (after_access now at access) w.id path
 
-module _ (w : Walker) (now : Registers) (within : WalkerIsWithin w) (mine : IsMine w now)
+module _ (w : Walker) (now : AllRegisters) (within : WalkerIsWithin w) (mine : IsMine w now)
     (along : IsAlong w now) (guided : IsGuided w) where
   abbrev paths : List (List ℕ)
   paths = paths_of w.devices

@@ -7,7 +7,7 @@ use Rattle.fabric_map.specs.declared.map.Kind.{Kind}
 use Rattle.fabric_map.specs.declared.map.Kind.TheVariants.{Endpoint, Switch}
 use Rattle.fabric_map.specs.declared.map.Device.{Device}
 use Rattle.fabric_map.specs.Topology.{entered}
-use Rattle.fabric_map.specs.Routes.{Registers}
+use Rattle.fabric_map.specs.Routes.{AllRegisters}
 use Rattle.fabric_map.specs.Numbered.{toward}
 use Rattle.host_enumerate.specs.Accesses.{answered}
 use Rattle.host_enumerate.specs.Underway.{id_after, met_as}
@@ -326,7 +326,7 @@ told_guided w value guided = go w.todo guided.2 guided.3
         settled_guided (record w { todo = p ∷ rest }) rest w.stage w.path guided.0 guided.1
         (first p rest outside) (informed w.stage (p ∷ rest) known) guided.4
 
-pub step_guided : (w : Walker) (old : Registers) → IsGuided w
+pub step_guided : (w : Walker) (old : AllRegisters) → IsGuided w
     → IsGuided (stepped w old).walker
 step_guided w old guided = go (wants w)
   where

@@ -7,7 +7,7 @@ use Rattle.fabric_map.specs.declared.map.Kind.TheVariants.{Endpoint, Switch}
 use Rattle.fabric_map.specs.declared.map.Device.{Device}
 use Rattle.fabric_map.specs.Topology.{Topology, entered}
 use Rattle.fabric_map.specs.Walked.{Before}
-use Rattle.fabric_map.specs.Routes.{Registers}
+use Rattle.fabric_map.specs.Routes.{AllRegisters}
 use Rattle.fabric_map.specs.Numbered.{paths_of, AreDescribed, HasBaseId}
 use Rattle.fabric_map.proofs.Fronts.{not_before_empty}
 use Rattle.fabric_map.proofs.Growing.{path_listed, host-first, node_at-entered}
@@ -22,7 +22,7 @@ use Rattle.contest_machine.specs.Contest.{AreOwnWrites}
 use Rattle.contest_numbering.proofs.OnWay.{one_performed, performed}
 use Rattle.contest_asking.proofs.Guided.{AreOutside}
 
-module _ (view : Topology) (before seen : Registers) (id next : ℕ) (devices : List Device)
+module _ (view : Topology) (before seen : AllRegisters) (id next : ℕ) (devices : List Device)
     (bound : List ℕ) (underway : IsUnderway view before seen id devices next bound)
     (host : IsMember view devices view.host) where
   abbrev paths : List (List ℕ)
@@ -82,7 +82,7 @@ module _ (view : Topology) (before seen : Registers) (id next : ℕ) (devices : 
       has (Switch ports entry) is shown = absurd (cc)
 
 -- writes to other devices leave the host
-pub host_stays : (view : Topology) (all : List (List ℕ)) (todo : List Pending) (now : Registers)
+pub host_stays : (view : Topology) (all : List (List ℕ)) (todo : List Pending) (now : AllRegisters)
     → ((path : List ℕ) (at : PortRef) → Contains all path → entered view path ≡ Some at
     → path ≢ [] → at.node ≢ view.host)
     → AreOwnWrites all todo → AreOutside todo
@@ -93,7 +93,7 @@ host_stays view all (p ∷ rest) now others own outside =
     (λ next. host_stays view all rest next others own.1 outside.1)
   where
     go : (o : Option PortRef) → entered view p.path ≡ o
-        → ((next : Registers) → performed view next rest view.host ≡ next view.host)
+        → ((next : AllRegisters) → performed view next rest view.host ≡ next view.host)
         → performed view (one_performed now p o) rest view.host ≡ now view.host
     go None is on = on now
     go (Some at) is on =

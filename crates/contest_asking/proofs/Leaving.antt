@@ -4,15 +4,14 @@ use Rattle.std.proofs.Common.{◌≡◌, ◌≢◌, ℕ, ◌<◌, ◌≤◌, tru
 use Rattle.std.proofs.lemmas.Bool.{cases_eq}
 use Rattle.std.proofs.lemmas.Option.{same_Some}
 use Rattle.fabric_script.specs.declared.ports.PortRef.{PortRef}
-use Rattle.maint_registers.specs.Devices as registers
-use Rattle.maint_registers.specs.Devices.{IsDevice, is_switch}
+use Rattle.maint_registers.specs.Devices.{Registers, IsDevice, is_switch}
 use Rattle.maint_registers.specs.Routes.{next_port}
 use Rattle.fabric_map.specs.declared.map.Kind.{Kind}
 use Rattle.fabric_map.specs.declared.map.Kind.TheVariants.{Endpoint, Switch}
 use Rattle.fabric_map.specs.declared.map.Device.{Device}
 use Rattle.fabric_map.specs.Topology.{Topology, IsTopology, entered}
 use Rattle.fabric_map.specs.Walked.{Before}
-use Rattle.fabric_map.specs.Routes.{Registers}
+use Rattle.fabric_map.specs.Routes.{AllRegisters}
 use Rattle.fabric_map.specs.Fitting.{Fits}
 use Rattle.fabric_map.specs.Numbered.{paths_of, toward}
 use Rattle.fabric_map.proofs.Branches.{toward-further, further_from_toward}
@@ -39,19 +38,19 @@ module _ (view : Topology) (proper : IsTopology view) (id : ℕ) (fits : id < 25
     (devices : List Device) (tree : IsTree view devices) (path : List ℕ)
     (listed : Contains (paths_of devices) path) where
   -- the switches of the way, other than those of a list, send 255 on along it
-  abbrev AreSet : Registers → List Device → Type 0
+  abbrev AreSet : AllRegisters → List Device → Type 0
   AreSet now rest = (first : ℕ) (front later : List ℕ) (port : ℕ) (end : PortRef)
       → path ≡ first ∷ front ++ port ∷ later → entered view (first ∷ front) ≡ Some end
       → ¬ Contains (paths_of rest) (first ∷ front) → next_port (now end.node) 255 ≡ Some port
 
-  record Stands (now : Registers) (rest : List Device) : Type 0 where
+  record Stands (now : AllRegisters) (rest : List Device) : Type 0 where
     shown : Fits view now
     home : AreHome view devices id now
     base : (now view.host).base_id ≡ id
     set : AreSet now rest
 
   -- a device that the way does not pass, or passes as the host
-  skipped : (now : Registers) (device : Device) (rest : List Device)
+  skipped : (now : AllRegisters) (device : Device) (rest : List Device)
       → ((port : ℕ) (later : List ℕ) → path ≡ device.path ++ port ∷ later → device.path ≡ [])
       → Stands now (device ∷ rest) → Stands now rest
   skipped now device rest none stands = record {
@@ -74,7 +73,7 @@ module _ (view : Topology) (proper : IsTopology view) (id : ℕ) (fits : id < 25
           absurd (cc)
 
   -- the switch at the end of a front of the way
-  module _ (now : Registers) (device : Device) (rest : List Device) (first : ℕ) (front : List ℕ)
+  module _ (now : AllRegisters) (device : Device) (rest : List Device) (first : ℕ) (front : List ℕ)
       (port : ℕ) (later : List ℕ) (in_list : Contains devices device)
       (path_is : device.path ≡ first ∷ front) (goes : path ≡ (first ∷ front) ++ port ∷ later)
       (behind : (other : List ℕ) → Contains (paths_of rest) other → Before device.path other)
@@ -116,10 +115,10 @@ module _ (view : Topology) (proper : IsTopology view) (id : ℕ) (fits : id < 25
     abbrev todo : List Pending
     todo = entry_set here 255 port
 
-    abbrev new : Registers
+    abbrev new : AllRegisters
     new = performed view now todo
 
-    abbrev held : registers.Device
+    abbrev held : Registers
     held = with_entry (now at.node) 255 port
 
     new_is : (node : ℕ) → new node ≡ registers_with now at.node held node
@@ -136,8 +135,8 @@ module _ (view : Topology) (proper : IsTopology view) (id : ℕ) (fits : id < 25
     new_other node apart = new_is node ∙ with_device-other now at.node node held apart
 
     -- what an entry of 255 does not change
-    keeps : {X : Type 0} (of : registers.Device → X)
-        → ((d : registers.Device) → of (with_entry d 255 port) ≡ of d) → (node : ℕ)
+    keeps : {X : Type 0} (of : Registers → X)
+        → ((d : Registers) → of (with_entry d 255 port) ≡ of d) → (node : ℕ)
         → of (new node) ≡ of (now node)
     keeps of same node = go (cases_eq node at.node)
       where
@@ -212,7 +211,7 @@ module _ (view : Topology) (proper : IsTopology view) (id : ℕ) (fits : id < 25
         shown = performed_fits view now todo stands.shown;
         home = λ one more by end is some enters.
             home_stays end.node ∙ stands.home one more by end is some enters;
-        base = keeps (λ (d : registers.Device). d.base_id) (λ d. refl) view.host ∙ stands.base;
+        base = keeps (λ (d : Registers). d.base_id) (λ d. refl) view.host ∙ stands.base;
         set = λ one before after by end is enters beside.
             sent one before after by end is enters beside (cases_eq end.node at.node);
       },
@@ -255,7 +254,7 @@ module _ (view : Topology) (proper : IsTopology view) (id : ℕ) (fits : id < 25
             go (inr more) = beside more
 
   -- what is set at one device
-  one_device : (device : Device) (rest : List Device) (now : Registers)
+  one_device : (device : Device) (rest : List Device) (now : AllRegisters)
       → Contains devices device → IsBehindHost device.path device.kind
       → ((other : List ℕ) → Contains (paths_of rest) other → Before device.path other)
       → Stands now (device ∷ rest)
@@ -308,7 +307,7 @@ module _ (view : Topology) (proper : IsTopology view) (id : ℕ) (fits : id < 25
       )
       go (Switch ports entry) is some (Some port) goes = here device.path refl some port goes
 
-  chain : (rest : List Device) (now : Registers)
+  chain : (rest : List Device) (now : AllRegisters)
       → ((device : Device) → Contains rest device → Contains devices device)
       → AreBehindHost rest → AreLater (paths_of rest) → Stands now rest
       → AreOpen view devices id now (routes_to rest path 255)
@@ -329,7 +328,7 @@ module _ (view : Topology) (proper : IsTopology view) (id : ℕ) (fits : id < 25
             on.1,
       )
 
-  way_of : (now : Registers) → Stands now [] → IsWay view devices id now path
+  way_of : (now : AllRegisters) → Stands now [] → IsWay view devices id now path
   way_of now stands = record {
     opened = record {
       onwards = λ first front later port end is enters.
@@ -358,7 +357,7 @@ module _ (view : Topology) (proper : IsTopology view) (id : ℕ) (fits : id < 25
           (ap (λ l. entered view l) found.2 ∙ enters)).other
 
   -- the writes that open the way to a device that is kept
-  pub way_opened : (now : Registers) → AreBehindHost devices → Fits view now
+  pub way_opened : (now : AllRegisters) → AreBehindHost devices → Fits view now
       → AreHome view devices id now → (now view.host).base_id ≡ id
       → AreOpen view devices id now (routes_to devices path 255)
       × AreHome view devices id (performed view now (routes_to devices path 255))

@@ -2,12 +2,12 @@
 use Rattle.std.proofs.Common.{◌≡◌, ◌≢◌, ℕ, List, [], ◌∷◌, ◌++◌, Option, Some, None, Contains, ◌⊎◌, inl, inr, subst, sym, refl, ap, ◌∙◌, append_assoc}
 use Rattle.std.proofs.lemmas.Bool.{cases_eq}
 use Rattle.fabric_script.specs.declared.ports.PortRef.{PortRef}
-use Rattle.maint_registers.specs.Devices.{Device}
+use Rattle.maint_registers.specs.Devices.{Registers}
 use Rattle.maint_registers.specs.Routes.{next_port}
 use Rattle.maint_registers.proofs.AccessLaws.{lock-written, tag-written}
 use Rattle.fabric_map.specs.declared.map.Device as map
 use Rattle.fabric_map.specs.Topology.{Topology, entered}
-use Rattle.fabric_map.specs.Routes.{Registers}
+use Rattle.fabric_map.specs.Routes.{AllRegisters}
 use Rattle.fabric_map.specs.Fitting.{Fits}
 use Rattle.fabric_map.specs.Numbered.{paths_of}
 use Rattle.fabric_map.specs.Ways.{IsOpened}
@@ -28,35 +28,35 @@ use Rattle.contest_numbering.proofs.Sound.{fits_after}
 use Rattle.contest_asking.proofs.Answering.{PassesListed, PassesOthers, open_after_write}
 
 -- The way is open, and passes only switches of the list.
-pub record IsWay (view : Topology) (devices : List map.Device) (id : ℕ) (now : Registers)
+pub record IsWay (view : Topology) (devices : List map.Device) (id : ℕ) (now : AllRegisters)
     (path : List ℕ) : Type 0 where
   pub opened : IsOpened view now id path
   pub passes : PassesListed view devices path
 
 -- each write that is left finds its way open, once those before it are made
-abbrev pub AreOpen : Topology → List map.Device → ℕ → Registers → List Pending → Type 0
+abbrev pub AreOpen : Topology → List map.Device → ℕ → AllRegisters → List Pending → Type 0
 AreOpen view devices id now [] = Unit {0}
 AreOpen view devices id now (p ∷ rest) =
     IsWay view devices id now p.path
     × AreOpen view devices id (one_performed now p (entered view p.path)) rest
 
 -- these registers send packets for 255 and for the host as those do
-abbrev pub SendAs : ℕ → Registers → Registers → Type 0
+abbrev pub SendAs : ℕ → AllRegisters → AllRegisters → Type 0
 SendAs id old new = (node : ℕ) → (next_port (new node) 255 ≡ next_port (old node) 255)
     × (next_port (new node) id ≡ next_port (old node) id)
 
-pub sends_itself : (id : ℕ) (now : Registers) → SendAs id now now
+pub sends_itself : (id : ℕ) (now : AllRegisters) → SendAs id now now
 sends_itself id now node = (refl, refl)
 
 module _ (view : Topology) (id : ℕ) where
-  pub way-empty : (devices : List map.Device) (now : Registers) → IsWay view devices id now []
+  pub way-empty : (devices : List map.Device) (now : AllRegisters) → IsWay view devices id now []
   way-empty devices now = record {
     opened = opened-empty view now id;
     passes = λ first front rest port end is enters. absurd
         (never_empty first (front ++ port ∷ rest) is);
   }
 
-  pub way-single : (devices : List map.Device) (now : Registers) (x : ℕ)
+  pub way-single : (devices : List map.Device) (now : AllRegisters) (x : ℕ)
       → IsWay view devices id now (x ∷ [])
   way-single devices now x = record {
     opened = opened-first view now id x;
@@ -65,7 +65,7 @@ module _ (view : Topology) (id : ℕ) where
   }
 
   -- a front of an open way
-  pub way-front : (devices : List map.Device) (now : Registers) (front rest : List ℕ)
+  pub way-front : (devices : List map.Device) (now : AllRegisters) (front rest : List ℕ)
       → IsWay view devices id now (front ++ rest) → IsWay view devices id now front
   way-front devices now front rest way = record {
     opened = opened-front view now id front rest way.opened;
@@ -75,7 +75,7 @@ module _ (view : Topology) (id : ℕ) where
         ∙ ap (λ l. first ∷ l) (append_assoc before (port ∷ later) rest)) enters;
   }
 
-  pub way-more : (devices more : List map.Device) (now : Registers) (path : List ℕ)
+  pub way-more : (devices more : List map.Device) (now : AllRegisters) (path : List ℕ)
       → ((one : List ℕ) → Contains (paths_of devices) one → Contains (paths_of more) one)
       → IsWay view devices id now path → IsWay view more id now path
   way-more devices more now path on way = record {
@@ -85,7 +85,7 @@ module _ (view : Topology) (id : ℕ) where
   }
 
   -- devices of the list stay
-  pub way-stays : (devices : List map.Device) (old new : Registers) (path : List ℕ)
+  pub way-stays : (devices : List map.Device) (old new : AllRegisters) (path : List ℕ)
       → ((node : ℕ) → Leads view (paths_of devices) node → new node ≡ old node)
       → IsWay view devices id old path → IsWay view devices id new path
   way-stays devices old new path same way = record {
@@ -98,7 +98,7 @@ module _ (view : Topology) (id : ℕ) where
     passes = way.passes;
   }
 
-  pub way-sends : (devices : List map.Device) (old new : Registers) (path : List ℕ)
+  pub way-sends : (devices : List map.Device) (old new : AllRegisters) (path : List ℕ)
       → SendAs id old new → IsWay view devices id old path → IsWay view devices id new path
   way-sends devices old new path sends way = record {
     opened = record {
@@ -111,7 +111,7 @@ module _ (view : Topology) (id : ℕ) where
     passes = way.passes;
   }
 
-  pub open-append : (devices : List map.Device) (now : Registers) (first second : List Pending)
+  pub open-append : (devices : List map.Device) (now : AllRegisters) (first second : List Pending)
       → AreOpen view devices id now first
       → AreOpen view devices id (performed view now first) second
       → AreOpen view devices id now (first ++ second)
@@ -121,7 +121,7 @@ module _ (view : Topology) (id : ℕ) where
     open-append devices (one_performed now p (entered view p.path)) rest second one.1 two,
   )
 
-  pub open-more : (devices more : List map.Device) (now : Registers) (todo : List Pending)
+  pub open-more : (devices more : List map.Device) (now : AllRegisters) (todo : List Pending)
       → ((one : List ℕ) → Contains (paths_of devices) one → Contains (paths_of more) one)
       → AreOpen view devices id now todo → AreOpen view more id now todo
   open-more devices more now [] on open_now = tt
@@ -131,7 +131,7 @@ module _ (view : Topology) (id : ℕ) where
   )
 
   -- what is kept stays
-  pub open-stays : (devices : List map.Device) (paths : List (List ℕ)) (old new : Registers)
+  pub open-stays : (devices : List map.Device) (paths : List (List ℕ)) (old new : AllRegisters)
       (todo : List Pending) → AreOwnWrites paths todo
       → ((one : List ℕ) → Contains (paths_of devices) one → Contains paths one)
       → ((node : ℕ) → Leads view paths node → new node ≡ old node)
@@ -148,7 +148,7 @@ module _ (view : Topology) (id : ℕ) where
 
   -- writes to the device on an open path, which it does not pass
   pub at_one : (devices : List map.Device) (path : List ℕ) (at : PortRef) (todo : List Pending)
-      (now : Registers) → entered view path ≡ Some at → AreAt path todo
+      (now : AllRegisters) → entered view path ≡ Some at → AreAt path todo
       → PassesOthers view path at.node → IsWay view devices id now path
       → AreOpen view devices id now todo
       × IsWay view devices id (performed view now todo) path
@@ -169,7 +169,7 @@ module _ (view : Topology) (id : ℕ) where
       )
 
   -- one device becomes another that sends as it did
-  pub one_sends : (now : Registers) (node : ℕ) (held : Device)
+  pub one_sends : (now : AllRegisters) (node : ℕ) (held : Registers)
       → next_port held 255 ≡ next_port (now node) 255 → next_port held id ≡ next_port (now node) id
       → SendAs id now (registers_with now node held)
   one_sends now node held onwards home other = go (cases_eq other node)
@@ -189,7 +189,7 @@ module _ (view : Topology) (id : ℕ) where
       )
 
   -- a lock or a tag that is written
-  pub lock_sends : (now : Registers) (at : PortRef) (value : ℕ)
+  pub lock_sends : (now : AllRegisters) (at : PortRef) (value : ℕ)
       → SendAs id now (after_access now at (Write 0x68 value))
   lock_sends now at value =
       let written = ap (λ o. (after_write (now at.node) o).device)
@@ -197,7 +197,7 @@ module _ (view : Topology) (id : ℕ) where
       one_sends now at.node (answered (now at.node) at.port (Write 0x68 value)).device
       (ap (λ d. next_port d 255) written) (ap (λ d. next_port d id) written)
 
-  pub tag_sends : (now : Registers) (at : PortRef) (value : ℕ)
+  pub tag_sends : (now : AllRegisters) (at : PortRef) (value : ℕ)
       → SendAs id now (after_access now at (Write 0x6c value))
   tag_sends now at value =
       let written = ap (λ o. (after_write (now at.node) o).device)
@@ -206,7 +206,7 @@ module _ (view : Topology) (id : ℕ) where
       (ap (λ d. next_port d 255) written) (ap (λ d. next_port d id) written)
 
 -- what shows the fabric still does after the writes that are left
-pub performed_fits : (view : Topology) (now : Registers) (todo : List Pending) → Fits view now
+pub performed_fits : (view : Topology) (now : AllRegisters) (todo : List Pending) → Fits view now
     → Fits view (performed view now todo)
 performed_fits view now [] shown = shown
 performed_fits view now (p ∷ rest) shown =

@@ -4,7 +4,7 @@ use Rattle.fabric_script.specs.declared.ports.PortRef.{PortRef}
 use Rattle.fabric_map.specs.declared.map.Device.{Device}
 use Rattle.fabric_map.specs.Topology.{Topology, IsTopology, entered}
 use Rattle.fabric_map.specs.Walked.{onward}
-use Rattle.fabric_map.specs.Routes.{Registers}
+use Rattle.fabric_map.specs.Routes.{AllRegisters}
 use Rattle.fabric_map.specs.Fitting.{Fits}
 use Rattle.fabric_map.specs.Numbered.{paths_of}
 use Rattle.fabric_map.proofs.Lists.{Contains-first}
@@ -23,7 +23,8 @@ use Rattle.contest_asking.proofs.Trees.{AreHome, IsTree, last_listed}
 use Rattle.contest_asking.proofs.Leaving.{way_opened}
 
 -- What a walker that gives up has left.
-pub record IsLeaving (view : Topology) (devices : List Device) (id : ℕ) (now : Registers) : Type 0
+pub record IsLeaving (view : Topology) (devices : List Device) (id : ℕ)
+    (now : AllRegisters) : Type 0
   where
     pub tree : IsTree view devices
     pub host : Contains (paths_of devices) []
@@ -31,12 +32,13 @@ pub record IsLeaving (view : Topology) (devices : List Device) (id : ℕ) (now :
     pub base : (now view.host).base_id ≡ id
     pub way : IsWay view devices id now (last_path devices)
 
-abbrev pub IsOpenTop : Topology → List Device → ℕ → Registers → List Tried → Type 0
+abbrev pub IsOpenTop : Topology → List Device → ℕ → AllRegisters → List Tried → Type 0
 IsOpenTop view devices id now [] = Unit {0}
 IsOpenTop view devices id now (top ∷ rest) = IsWay view devices id now top.path
 
 -- the way along which a walker with this path and these switches asks next
-abbrev pub IsOpenAt : Topology → List Device → ℕ → List ℕ → List Tried → Registers → Stage → Type 0
+abbrev pub IsOpenAt : Topology → List Device → ℕ → List ℕ → List Tried → AllRegisters → Stage
+    → Type 0
 IsOpenAt view devices id path tried now Ask = IsWay view devices id now path
 IsOpenAt view devices id path tried now Claim = IsWay view devices id now path
 IsOpenAt view devices id path tried now Check = IsWay view devices id now path
@@ -48,11 +50,11 @@ IsOpenAt view devices id path tried now Free = IsLeaving view devices id now
 IsOpenAt view devices id path tried now Done = Unit {0}
 IsOpenAt view devices id path tried now Lost = Unit {0}
 
-abbrev pub StandsOpen : Walker → Registers → Type 0
+abbrev pub StandsOpen : Walker → AllRegisters → Type 0
 StandsOpen w now = IsOpenAt w.view w.devices w.id w.path w.tried now w.stage
 
 -- each write finds its way open, and then what is asked next does
-pub record IsOpening (w : Walker) (now : Registers) : Type 0 where
+pub record IsOpening (w : Walker) (now : AllRegisters) : Type 0 where
   pub writes : AreOpen w.view w.devices w.id now w.todo
   pub stands : StandsOpen w (performed w.view now w.todo)
 
@@ -72,7 +74,7 @@ nested view devices (top ∷ []) chained = tt
 nested view devices (top ∷ second ∷ rest) chained =
     (chained.1, nested view devices (second ∷ rest) chained.2)
 
-top-rest : (view : Topology) (devices : List Device) (id : ℕ) (now : Registers) (top : Tried)
+top-rest : (view : Topology) (devices : List Device) (id : ℕ) (now : AllRegisters) (top : Tried)
     (rest : List Tried) → AreNested (top ∷ rest) → IsWay view devices id now top.path
     → IsOpenTop view devices id now rest × AreNested rest
 top-rest view devices id now top [] chain way = (tt, tt)
@@ -83,7 +85,7 @@ top-rest view devices id now top (second ∷ rest) chain way = (
 )
 
 -- what is open behind a port is open to its switch
-pub top_here : (view : Topology) (devices : List Device) (id : ℕ) (now : Registers)
+pub top_here : (view : Topology) (devices : List Device) (id : ℕ) (now : AllRegisters)
     (path : List ℕ) (tried : List Tried) → IsHere path tried → IsWay view devices id now path
     → IsOpenTop view devices id now tried
 top_here view devices id now path [] here way = tt
@@ -91,7 +93,7 @@ top_here view devices id now path (top ∷ rest) here way =
     way-front view id devices now top.path (top.port ∷ [])
     (subst (IsWay view devices id now) here way)
 
-pub gone_opening : (w : Walker) (now : Registers) (tried : List Tried) → AreNested tried
+pub gone_opening : (w : Walker) (now : AllRegisters) (tried : List Tried) → AreNested tried
     → AreOpen w.view w.devices w.id now w.todo
     → IsOpenTop w.view w.devices w.id (performed w.view now w.todo) tried
     → IsOpening (gone_on w tried) now
@@ -112,7 +114,7 @@ gone_opening w now (top ∷ rest) chain writes way =
 
 -- ---- the walker gives up
 
-pub freeing_opening : (w : Walker) (now : Registers) (devices : List Device) → IsTopology w.view
+pub freeing_opening : (w : Walker) (now : AllRegisters) (devices : List Device) → IsTopology w.view
     → w.id < 255 → AreBehindHost devices → Fits w.view now
     → (devices ≢ [] → IsTree w.view devices × AreHome w.view devices w.id now
     × ((now w.view.host).base_id ≡ w.id))
@@ -137,7 +139,7 @@ freeing_opening w now (device ∷ rest) proper fits behind shown some =
 
 -- ---- a device is taken
 
-pub taken_opening : (w : Walker) (now : Registers) (path : List ℕ) (stage : Stage)
+pub taken_opening : (w : Walker) (now : AllRegisters) (path : List ℕ) (stage : Stage)
     → IsWay w.view w.devices w.id now path
     → IsOpening (taken (record w { todo = []; path = path; stage = stage })) now
 taken_opening w now [] stage way = record {

@@ -4,7 +4,7 @@ use Rattle.std.proofs.lemmas.List.Elements.{Contains-append_left}
 use Rattle.std.proofs.lemmas.Option.{same_Some}
 use Rattle.fabric_script.specs.declared.ports.PortRef.{PortRef}
 use Rattle.fabric_map.specs.Topology.{entered}
-use Rattle.fabric_map.specs.Routes.{Registers}
+use Rattle.fabric_map.specs.Routes.{AllRegisters}
 use Rattle.host_enumerate.specs.declared.maint.Access.TheVariants.{Read, Write}
 use Rattle.contest_machine.specs.declared.stages.Asked.{Asked}
 use Rattle.contest_machine.specs.declared.stages.Pending.{Pending}
@@ -32,7 +32,7 @@ some_at : (o : Option PortRef) → IsSome o → (at : PortRef) × (o ≡ Some at
 some_at None some = absurd (cc)
 some_at (Some at) some = (at, refl)
 
-module _ (w : Walker) (now : Registers) (within : WalkerIsWithin w) (mine : IsMine w now)
+module _ (w : Walker) (now : AllRegisters) (within : WalkerIsWithin w) (mine : IsMine w now)
     (led : IsLed w) where
   abbrev Leads : Asked → Type 0
   Leads ask = (at : PortRef) × (entered w.view ask.path ≡ Some at)
@@ -82,7 +82,7 @@ module _ (w : Walker) (now : Registers) (within : WalkerIsWithin w) (mine : IsMi
       go (p ∷ rest) own wanted =
           one (asked p.path (Write p.offset p.value)) ask wanted (kept_leads p.path own.0.0)
 
-pub asked_reaches : (before : Registers) (w o : Walker) (now : Registers)
+pub asked_reaches : (before : AllRegisters) (w o : Walker) (now : AllRegisters)
     → IsReady before w o now → IsGuided w → IsOpening w now → (ask : Asked)
     → wants w ≡ Some ask
     → (at : PortRef) × (entered w.view ask.path ≡ Some at) × (length ask.path ≤ 64)

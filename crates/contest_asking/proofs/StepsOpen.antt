@@ -4,13 +4,12 @@ use Rattle.std.proofs.lemmas.Bool.{cases_eq, eqb-true, eqb-false}
 use Rattle.std.proofs.lemmas.Option.{same_Some}
 use Rattle.fabric_script.specs.declared.ports.PortRef.{PortRef}
 use Rattle.fabric_script.specs.Ports.{port_at}
-use Rattle.maint_registers.specs.Devices as registers
-use Rattle.maint_registers.specs.Devices.{IsDevice, is_switch}
+use Rattle.maint_registers.specs.Devices.{Registers, IsDevice, is_switch}
 use Rattle.maint_registers.specs.Routes.{next_port}
 use Rattle.maint_registers.proofs.AccessLaws.{lock-written}
 use Rattle.maint_registers.proofs.SameLaws.{same_device}
 use Rattle.fabric_map.specs.Topology.{IsTopology, device_ports, entered}
-use Rattle.fabric_map.specs.Routes.{Registers}
+use Rattle.fabric_map.specs.Routes.{AllRegisters}
 use Rattle.fabric_map.specs.Fitting.{Fits}
 use Rattle.fabric_map.proofs.Few.{entered-inside}
 use Rattle.fabric_map.proofs.Growing.{listed-switch, node_at-entered}
@@ -44,7 +43,7 @@ use Rattle.contest_asking.proofs.Opened.{IsLeaving, IsOpenAt, IsOpening, nested,
 use Rattle.contest_asking.proofs.TakenOpen.{host_opening, endpoint_opening, switch_opening, outward_opening}
 
 -- a lock that is written leaves each ID
-lock_base : (now : Registers) (at : PortRef) (value node : ℕ)
+lock_base : (now : AllRegisters) (at : PortRef) (value node : ℕ)
     → (after_access now at (Write 0x68 value) node).base_id ≡ (now node).base_id
 lock_base now at value node = go (cases_eq node at.node)
   where
@@ -52,13 +51,13 @@ lock_base now at value node = go (cases_eq node at.node)
         → (after_access now at (Write 0x68 value) node).base_id ≡ (now node).base_id
     go (inl same) =
         ap (λ n. (after_access now at (Write 0x68 value) n).base_id) same
-        ∙ (ap (λ (d : registers.Device). d.base_id) (with_device-at now at.node _)
+        ∙ (ap (λ (d : Registers). d.base_id) (with_device-at now at.node _)
         ∙ (ap (λ o. (after_write (now at.node) o).device.base_id)
         (lock-written (now at.node) value) ∙ ap (λ n. (now n).base_id) (sym same)))
     go (inr apart) =
-        ap (λ (d : registers.Device). d.base_id) (with_device-other now at.node node _ apart)
+        ap (λ (d : Registers). d.base_id) (with_device-other now at.node node _ apart)
 
-module _ (w : Walker) (old : Registers) (fits : w.id < 0xff) (proper : IsTopology w.view)
+module _ (w : Walker) (old : AllRegisters) (fits : w.id < 0xff) (proper : IsTopology w.view)
     (shown : Fits w.view old) where
   abbrev between : Stage → Walker
   between stage = record w { todo = []; stage = stage }
@@ -336,7 +335,7 @@ module _ (w : Walker) (old : Registers) (fits : w.id < 0xff) (proper : IsTopolog
 
 -- ---- a write
 
-write_opening : (w : Walker) (p : Pending) (old : Registers) (at : PortRef)
+write_opening : (w : Walker) (p : Pending) (old : AllRegisters) (at : PortRef)
     → entered w.view p.path ≡ Some at → (rest : List Pending) (stage : Stage) (path : List ℕ)
     → IsOpening (record w { todo = p ∷ rest; stage = stage; path = path }) old
     → IsOpening (settled (record w { todo = p ∷ rest; stage = stage; path = path }) rest stage path)
@@ -373,7 +372,7 @@ write_opening w p old at enters = go
     go [] Lost path opening = one [] Lost path opening
 
 -- one access
-pub step_opening : (w : Walker) (old : Registers) → w.id < 0xff → IsTopology w.view
+pub step_opening : (w : Walker) (old : AllRegisters) → w.id < 0xff → IsTopology w.view
     → Fits w.view old → (w.stage ≡ Features → w.next ≤ 65) → IsGuided w → IsLed w
     → IsComing w old → IsOpening w old
     → IsOpening (stepped w old).walker (stepped w old).registers

@@ -10,7 +10,7 @@ use Rattle.fabric_map.specs.declared.map.Kind.{Kind}
 use Rattle.fabric_map.specs.declared.map.Kind.TheVariants.{Endpoint, Switch}
 use Rattle.fabric_map.specs.declared.map.Device.{Device}
 use Rattle.fabric_map.specs.Topology.{Topology, entered}
-use Rattle.fabric_map.specs.Routes.{Registers}
+use Rattle.fabric_map.specs.Routes.{AllRegisters}
 use Rattle.fabric_map.specs.Numbered.{paths_of, toward}
 use Rattle.fabric_map.proofs.Branches.{further_from_toward}
 use Rattle.fabric_map.proofs.Growing.{paths_of-push}
@@ -43,11 +43,11 @@ use Rattle.contest_asking.proofs.Opened.{IsOpening, AreNested, top_here, gone_op
 module _ (view : Topology) (devices : List Device) (id given : ℕ) (path : List ℕ)
     (not_all : 255 ≢ given) (not_host : id ≢ given) (few : given < 256) (end : PortRef)
     (leads : entered view path ≡ Some end) where
-  abbrev Both : Registers → List Pending → Type 0
+  abbrev Both : AllRegisters → List Pending → Type 0
   Both now todo = AreOpen view devices id now todo
       × IsWay view devices id (performed view now todo) path
 
-  one_route : (first : ℕ) (front : List ℕ) (port : ℕ) (later : List ℕ) (now : Registers)
+  one_route : (first : ℕ) (front : List ℕ) (port : ℕ) (later : List ℕ) (now : AllRegisters)
       → path ≡ first ∷ front ++ port ∷ later → IsWay view devices id now path
       → Both now (entry_set (first ∷ front) given port)
   one_route first front port later now is way = (writes, opened)
@@ -109,7 +109,7 @@ module _ (view : Topology) (devices : List Device) (id given : ℕ) (path : List
         ),
       )
 
-  routed : (all : List Device) (now : Registers) → AreBehindHost all
+  routed : (all : List Device) (now : AllRegisters) → AreBehindHost all
       → IsWay view devices id now path → Both now (routes_to all path given)
   routed [] now some way = (tt, way)
   routed (device ∷ rest) now some way =
@@ -156,7 +156,7 @@ few_given id next few = go (eqb next id)
     go true = omega (arith, few)
     go false = omega (arith, few)
 
-module _ (w : Walker) (now : Registers) where
+module _ (w : Walker) (now : AllRegisters) where
   -- the host is taken in
   pub host_opening : (stage : Stage)
       → IsOpening (numbered (record w { todo = []; path = []; stage = stage }) []) now
@@ -179,7 +179,7 @@ module _ (w : Walker) (now : Registers) where
   abbrev with_switch : ℕ → ℕ → List Device
   with_switch ports entry = w.devices ++ met_as w.devices (Switch ports entry) w.path ∷ []
 
-  abbrev sent_out : Tried → Registers
+  abbrev sent_out : Tried → AllRegisters
   sent_out top = performed w.view now (entry_set top.path 255 top.port)
 
   pub endpoint_opening : (x : ℕ) (path : List ℕ) (stage : Stage) (at : PortRef)

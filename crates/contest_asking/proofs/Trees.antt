@@ -11,7 +11,7 @@ use Rattle.fabric_map.specs.declared.map.Kind.TheVariants.{Endpoint, Switch}
 use Rattle.fabric_map.specs.declared.map.Device.{Device}
 use Rattle.fabric_map.specs.Topology.{Topology, behind_port, along, ports_followed, entered, node_at}
 use Rattle.fabric_map.specs.Walked.{Before}
-use Rattle.fabric_map.specs.Routes.{Registers}
+use Rattle.fabric_map.specs.Routes.{AllRegisters}
 use Rattle.fabric_map.specs.Fitting.{Fits}
 use Rattle.fabric_map.specs.Numbered.{paths_of, IsKindAt}
 use Rattle.fabric_map.proofs.Fronts.{not_before_empty, front_listed}
@@ -65,7 +65,7 @@ pub record IsTree (view : Topology) (devices : List Device) : Type 0 where
       → device.path ≢ [] → entered view device.path ≡ Some at → IsSwitchAt view device port at
 
 -- the switches that these paths pass send home
-abbrev pub AreHome : Topology → List Device → ℕ → Registers → Type 0
+abbrev pub AreHome : Topology → List Device → ℕ → AllRegisters → Type 0
 AreHome view devices id now = (front rest : List ℕ) (port : ℕ) (at : PortRef)
     → Contains (paths_of devices) (front ++ port ∷ rest) → front ≢ []
     → entered view front ≡ Some at → next_port (now at.node) id ≡ Some at.port
@@ -80,7 +80,7 @@ later-pairs (path ∷ rest) pairs = (
 
 -- ---- a walker that begins to give up
 
-module _ (view : Topology) (before now : Registers) (id next : ℕ) (devices : List Device)
+module _ (view : Topology) (before now : AllRegisters) (id next : ℕ) (devices : List Device)
     (bound : List ℕ) (underway : IsUnderway view before now id devices next bound)
     (host : IsMember view devices view.host) where
   none_listed : Contains (paths_of devices) []

@@ -2,7 +2,7 @@
 use Rattle.std.specs.Prelude.{◌≡◌, ◌≢◌, ◌-◌, List, [], length, Some}
 use Rattle.fabric_script.specs.declared.ports.PortRef.{PortRef}
 use Rattle.fabric_map.specs.Topology.{entered}
-use Rattle.fabric_map.specs.Routes.{Registers}
+use Rattle.fabric_map.specs.Routes.{AllRegisters}
 use Rattle.fabric_map.specs.Ways.{IsOpened}
 use Rattle.host_enumerate.specs.Accesses.{IsAnswered}
 use Rattle.host_enumerate.specs.Underway.{AreOwnUntagged}
@@ -16,7 +16,7 @@ use Rattle.contest_law.specs.Going.{AreBegun}
 
 -- A walker that does not give up wants this access. The path is not empty, as that of the host
 -- itself is, and enters a device by this port. The switches that it passes are open for the walker.
-pub record WantsAlong (w : Walker) (now : Registers) (ask : Asked) (at : PortRef) : Type 0 where
+pub record WantsAlong (w : Walker) (now : AllRegisters) (ask : Asked) (at : PortRef) : Type 0 where
   pub wanted : wants w ≡ Some ask
   pub keeps_on : w.stage ≢ Free
   pub some : ask.path ≢ []
@@ -25,7 +25,7 @@ pub record WantsAlong (w : Walker) (now : Registers) (ask : Asked) (at : PortRef
 
 -- A request for 255 with a hop for each port of the path but the first ends at the device, and its
 -- response comes back to the host, by the tables that stand after the access.
-abbrev pub IsCarried : Walker → Registers → Asked → PortRef → Type 0
+abbrev pub IsCarried : Walker → AllRegisters → Asked → PortRef → Type 0
 IsCarried w now ask at = IsAnswered w.view now 255 (length ask.path - 1) ask.access at
 
 -- Whatever turns two hosts have made, an access along an open path is carried, if the host does not

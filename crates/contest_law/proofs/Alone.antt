@@ -1,6 +1,6 @@
 -- Once the other host is lost, a host waits no more and is done in the end.
 use Rattle.std.proofs.Common.{◌≡◌, ◌≢◌, ℕ, ◌+◌, ◌≤◌, List, [], ◌∷◌, ◌++◌, arith, ◌⊎◌, inl, inr, subst, sym, refl, ap, ◌∙◌}
-use Rattle.fabric_map.specs.Routes.{Registers}
+use Rattle.fabric_map.specs.Routes.{AllRegisters}
 use Rattle.link_watch.specs.declared.side.Side.{Side}
 use Rattle.link_watch.specs.declared.side.Side.TheVariants.{A, B}
 use Rattle.contest_machine.specs.declared.stages.Pending.{Pending}
@@ -21,7 +21,7 @@ use Rattle.contest_law.proofs.Counted.{FairFor, left_for, turn_fair, turn_left, 
 use Rattle.contest_law.proofs.Greatest.{alone_holds, ended_turn, lost_holds}
 use Rattle.contest_law.proofs.OwnLocks.{OtherIsLost, lost_stays, no_lesser_for}
 
-lost_more : (before : Registers) (both : Both) (side : Side) (turns : List Side)
+lost_more : (before : AllRegisters) (both : Both) (side : Side) (turns : List Side)
     → FairFor before both side → OtherIsLost both side → OtherIsLost (after_turns both turns) side
 lost_more before both side [] fair lost = lost
 lost_more before both side (turn ∷ turns) fair lost =
@@ -124,7 +124,7 @@ answers both side Turns.Lost is goes =
     (lost_stage (walker_of both side) (walker_of (turn_of both side) side)
     (walker_of (turn_of both side) side).stage is) (goes (side ∷ [])).1))
 
-module _ (before : Registers) (side : Side) where
+module _ (before : AllRegisters) (side : Side) where
   own_runs : (both : Both) (turns : List Side) → FairFor before both side → GoesOn both side
       → IsDoneOrLess (turn_of both side) side turns (left_for (turn_of both side) side)
       → HasNumbered (walker_of (after_turns (turn_of both side) turns) side)
@@ -151,7 +151,7 @@ module _ (before : Registers) (side : Side) where
       let one = turn_left before both side turn fair in
       inr (omega (arith, less, one))
 
-runs : (before : Registers) (both : Both) (side : Side) (turns : List Side)
+runs : (before : AllRegisters) (both : Both) (side : Side) (turns : List Side)
     → FairFor before both side → GoesOn both side
     → IsDoneOrLess both side turns (left_for both side)
 runs before both side [] fair goes = inr (omega arith)

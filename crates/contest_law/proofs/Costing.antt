@@ -6,7 +6,7 @@ use Rattle.fabric_map.specs.declared.map.Kind.{Kind}
 use Rattle.fabric_map.specs.declared.map.Kind.TheVariants.{Endpoint, Switch}
 use Rattle.fabric_map.specs.declared.map.Device.{Device}
 use Rattle.fabric_map.specs.Topology.{entered}
-use Rattle.fabric_map.specs.Routes.{Registers}
+use Rattle.fabric_map.specs.Routes.{AllRegisters}
 use Rattle.fabric_map.specs.Numbered.{toward}
 use Rattle.contest_machine.specs.declared.stages.Tried.{Tried}
 use Rattle.contest_machine.specs.declared.stages.Turn.{Turn}
@@ -31,7 +31,7 @@ room devices = 64 - length devices
 abbrev pub sought : Walker → ℕ
 sought w = 8450 + 300 * room w.devices + ports_left w.tried + length w.todo
 
-abbrev pub lock_is : Registers → ℕ → Option PortRef → Bool
+abbrev pub lock_is : AllRegisters → ℕ → Option PortRef → Bool
 lock_is now lock None = false
 lock_is now lock (Some at) = (now at.node).lock == lock
 
@@ -40,7 +40,7 @@ abbrev pub if_failed : Bool → ℕ
 if_failed true = 0
 if_failed false = 2
 
-abbrev pub turns_left_at : Walker → Registers → Stage → ℕ
+abbrev pub turns_left_at : Walker → AllRegisters → Stage → ℕ
 turns_left_at w now Ask = sought w + 6
 turns_left_at w now Claim =
     sought w + 5 + if_failed (lock_is now 0xffff (entered w.view w.path))
@@ -53,7 +53,7 @@ turns_left_at w now Free = length w.todo + 130 * length w.devices
 turns_left_at w now Done = length w.todo
 turns_left_at w now Lost = length w.todo
 
-abbrev pub turns_left : Walker → Registers → ℕ
+abbrev pub turns_left : Walker → AllRegisters → ℕ
 turns_left w now = turns_left_at w now w.stage
 
 abbrev pub if_won : Bool → ℕ
@@ -61,7 +61,7 @@ if_won true = 1
 if_won false = 0
 
 -- how many locks a walker may still take
-abbrev pub claims_left_at : Walker → Registers → Stage → ℕ
+abbrev pub claims_left_at : Walker → AllRegisters → Stage → ℕ
 claims_left_at w now Ask = room w.devices
 claims_left_at w now Claim = room w.devices
 claims_left_at w now Check =
@@ -74,7 +74,7 @@ claims_left_at w now Free = 0
 claims_left_at w now Done = 0
 claims_left_at w now Lost = 0
 
-abbrev pub claims_left : Walker → Registers → ℕ
+abbrev pub claims_left : Walker → AllRegisters → ℕ
 claims_left w now = claims_left_at w now w.stage
 
 -- ---- how long lists of writes are
@@ -143,7 +143,7 @@ further entry port = go (eqb (port + 1) entry)
     go true = omega arith
     go false = omega arith
 
-pub gone_left : (w : Walker) (now : Registers) (tried : List Tried)
+pub gone_left : (w : Walker) (now : AllRegisters) (tried : List Tried)
     → turns_left (gone_on w tried) now
     ≤ 8450 + 300 * room w.devices + ports_left tried + length w.todo + 1
 gone_left w now [] = omega arith
@@ -165,7 +165,7 @@ gone_left w now (top ∷ rest) =
         omega (arith, more, less)
     go false is on = omega (arith, on)
 
-pub gone_claims : (w : Walker) (now : Registers) (tried : List Tried)
+pub gone_claims : (w : Walker) (now : AllRegisters) (tried : List Tried)
     → claims_left (gone_on w tried) now ≤ room w.devices
 gone_claims w now [] = omega arith
 gone_claims w now (top ∷ rest) =
@@ -180,7 +180,7 @@ gone_claims w now (top ∷ rest) =
     go true on = omega arith
     go false on = on
 
-pub freeing_left : (w : Walker) (now : Registers) (devices : List Device)
+pub freeing_left : (w : Walker) (now : AllRegisters) (devices : List Device)
     → turns_left (freeing w devices) now ≤ 132 * length devices
 freeing_left w now [] = omega arith
 freeing_left w now (device ∷ rest) =
@@ -188,7 +188,7 @@ freeing_left w now (device ∷ rest) =
     (last_path (device ∷ rest)) 255 in
     omega (arith, most)
 
-pub freeing_claims : (w : Walker) (now : Registers) (devices : List Device)
+pub freeing_claims : (w : Walker) (now : AllRegisters) (devices : List Device)
     → claims_left (freeing w devices) now ≡ 0
 freeing_claims w now [] = refl
 freeing_claims w now (device ∷ rest) = refl

@@ -1,7 +1,7 @@
 -- Over all turns a host goes on no more often than it has turns left at first.
 use Rattle.std.proofs.Common.{◌≡◌, ℕ, ◌+◌, ◌*◌, ◌≤◌, Bool, true, false, List, [], ◌∷◌, ◌++◌, length, Contains, arith, subst, sym, refl, ap, ◌∙◌, if◌then◌else◌}
 use Rattle.maint_registers.proofs.SameLaws.{same_device}
-use Rattle.fabric_map.specs.Routes.{Registers}
+use Rattle.fabric_map.specs.Routes.{AllRegisters}
 use Rattle.fabric_map.specs.Numbered.{paths_of}
 use Rattle.fabric_map.proofs.Lists.{not_in_empty}
 use Rattle.link_watch.specs.declared.side.Side.{Side}
@@ -22,7 +22,7 @@ use Rattle.contest_law.proofs.Fair.{IsFit, AreFair, swap_fair, step_fair, begun_
 
 -- ---- one turn
 
-module _ (before : Registers) (o : Walker) where
+module _ (before : AllRegisters) (o : Walker) where
   abbrev FairTo : State → Type 0
   FairTo state = AreFair before state.walker o state.registers
 
@@ -70,7 +70,7 @@ module _ (before : Registers) (o : Walker) where
       go false is = paid
 
   -- that a walker has begun costs nothing
-  begun_left : (w : Walker) (now : Registers)
+  begun_left : (w : Walker) (now : AllRegisters)
       → left_of (record w { begun = true }) o now ≡ left_of w o now
   begun_left w now = go w.stage
     where
@@ -87,7 +87,7 @@ module _ (before : Registers) (o : Walker) where
       go Done = refl
       go Lost = refl
 
-  own_turn : (w : Walker) (old : Registers) → AreFair before w o old
+  own_turn : (w : Walker) (old : AllRegisters) → AreFair before w o old
       → left_in (walker_turned w old) + going_one (came_of w (walker_turned w old).walker)
       ≤ left_of w o old
   own_turn w old fair = go w.begun
@@ -131,13 +131,14 @@ module _ (before : Registers) (o : Walker) where
           (subst (λ c. left_in last + going_one c ≤ left_of (record w { begun = true }) o old)
           (came_same (record w { begun = true }) w last.walker last.walker.stage refl) paid)
 
-  fair_turn : (w : Walker) (old : Registers) → AreFair before w o old → FairTo (walker_turned w old)
+  fair_turn : (w : Walker) (old : AllRegisters) → AreFair before w o old
+      → FairTo (walker_turned w old)
   fair_turn w old fair =
       turned_by FairTo (λ v r f. step_fair before v o r f) w old fair
       (begun_fair before w o old fair)
 
   -- the other has no more left after a turn of the walker
-  their_turn : (w : Walker) (old : Registers) → AreFair before w o old
+  their_turn : (w : Walker) (old : AllRegisters) → AreFair before w o old
       → left_of o (walker_turned w old).walker (walker_turned w old).registers ≤ left_of o w old
   their_turn w old fair =
       (turned_by (λ (state : State). FairTo state
@@ -148,7 +149,8 @@ module _ (before : Registers) (o : Walker) where
       ))
       w old (fair, omega arith) (begun_fair before w o old fair, begun w.stage)).1
     where
-      less : (v : Walker) (r : Registers) → AreFair before v o r → left_of o v r ≤ left_of o w old
+      less : (v : Walker) (r : AllRegisters) → AreFair before v o r
+          → left_of o v r ≤ left_of o w old
           → left_of o (stepped v r).walker (stepped v r).registers ≤ left_of o w old
       less v r fair most =
           let step = their_step before v o r fair in
@@ -171,7 +173,7 @@ module _ (before : Registers) (o : Walker) where
 -- ---- all turns
 
 -- what a host of the two has left
-abbrev pub FairFor : Registers → Both → Side → Type 0
+abbrev pub FairFor : AllRegisters → Both → Side → Type 0
 FairFor before both A = AreFair before both.first both.second both.registers
 FairFor before both B = AreFair before both.second both.first both.registers
 
@@ -179,7 +181,7 @@ abbrev pub left_for : Both → Side → ℕ
 left_for both A = left_of both.first both.second both.registers
 left_for both B = left_of both.second both.first both.registers
 
-pub turn_fair : (before : Registers) (both : Both) (side turn : Side) → FairFor before both side
+pub turn_fair : (before : AllRegisters) (both : Both) (side turn : Side) → FairFor before both side
     → FairFor before (turn_of both turn) side
 turn_fair before both A A fair = fair_turn before both.second both.first both.registers fair
 turn_fair before both A B fair =
@@ -192,7 +194,7 @@ turn_fair before both B A fair =
     (swap_fair before both.second both.first both.registers fair))
 turn_fair before both B B fair = fair_turn before both.first both.second both.registers fair
 
-pub turn_left : (before : Registers) (both : Both) (side turn : Side) → FairFor before both side
+pub turn_left : (before : AllRegisters) (both : Both) (side turn : Side) → FairFor before both side
     → left_for (turn_of both turn) side + going_in_turn both side turn ≤ left_for both side
 turn_left before both A A fair = own_turn before both.second both.first both.registers fair
 turn_left before both A B fair =
@@ -205,13 +207,13 @@ turn_left before both B A fair =
     omega (arith, most)
 turn_left before both B B fair = own_turn before both.first both.second both.registers fair
 
-pub turns_fair : (before : Registers) (both : Both) (side : Side) (turns : List Side)
+pub turns_fair : (before : AllRegisters) (both : Both) (side : Side) (turns : List Side)
     → FairFor before both side → FairFor before (after_turns both turns) side
 turns_fair before both side [] fair = fair
 turns_fair before both side (turn ∷ turns) fair =
     turns_fair before (turn_of both turn) side turns (turn_fair before both side turn fair)
 
-turns_counted : (before : Registers) (both : Both) (side : Side) (turns : List Side)
+turns_counted : (before : AllRegisters) (both : Both) (side : Side) (turns : List Side)
     → FairFor before both side
     → left_for (after_turns both turns) side + going_over both side turns ≤ left_for both side
 turns_counted before both side [] fair = omega arith
@@ -277,14 +279,14 @@ begun_for both A begun = begun_apart both begun
 begun_for both B begun =
     swap_fair both.registers both.first both.second both.registers (begun_apart both begun)
 
-new_turns : (w : Walker) (now : Registers) → IsNew w → turns_left w now ≡ 27656
+new_turns : (w : Walker) (now : AllRegisters) → IsNew w → turns_left w now ≡ 27656
 new_turns w now new =
     subst (λ s. turns_left_at w now s ≡ 27656) (sym new.stage)
     (ap (λ d. 8450 + 300 * room d + ports_left w.tried + length w.todo + 6) new.devices
     ∙ (ap (λ t. 8450 + 300 * 64 + ports_left t + length w.todo + 6) new.tried
     ∙ ap (λ t. 8450 + 300 * 64 + 0 + length t + 6) new.todo))
 
-new_claims : (w : Walker) (now : Registers) → IsNew w → claims_left w now ≡ 64
+new_claims : (w : Walker) (now : AllRegisters) → IsNew w → claims_left w now ≡ 64
 new_claims w now new =
     subst (λ s. claims_left_at w now s ≡ 64) (sym new.stage) (ap (λ d. room d) new.devices)
 

@@ -3,9 +3,9 @@
 use Rattle.std.proofs.Common.{◌≡◌, ◌≢◌, ℕ, ◌+◌, ◌*◌, ◌≤◌, ◌<◌, Bool, true, false, Option, Some, None, arith, subst, sym, refl, ap, ◌∙◌, eq-eqb}
 use Rattle.std.proofs.lemmas.Bool.{eqb-true, eqb-false}
 use Rattle.fabric_script.specs.declared.ports.PortRef.{PortRef}
-use Rattle.maint_registers.specs.Devices as registers
+use Rattle.maint_registers.specs.Devices.{Registers}
 use Rattle.fabric_map.specs.Topology.{entered}
-use Rattle.fabric_map.specs.Routes.{Registers}
+use Rattle.fabric_map.specs.Routes.{AllRegisters}
 use Rattle.fabric_map.specs.Fitting.{Fits}
 use Rattle.contest_machine.specs.declared.stages.Stage.{Stage}
 use Rattle.contest_machine.specs.declared.stages.Stage.TheVariants.{Ask, Claim, Check, Test, Features, Information, Status, Free, Done, Lost}
@@ -25,18 +25,18 @@ use Rattle.contest_law.proofs.Paying.{step_spends}
 
 -- ---- what stands of two walkers
 
-pub record IsFit (before : Registers) (w : Walker) (now : Registers) : Type 0 where
+pub record IsFit (before : AllRegisters) (w : Walker) (now : AllRegisters) : Type 0 where
   pub within : WalkerIsWithin w
   pub shown : Fits w.view before
   pub led : IsLed w
   pub same : AreSameDevices before now
 
-pub record AreFair (before : Registers) (w o : Walker) (now : Registers) : Type 0 where
+pub record AreFair (before : AllRegisters) (w o : Walker) (now : AllRegisters) : Type 0 where
   pub contest : IsContest w o before now
   pub first : IsFit before w now
   pub second : IsFit before o now
 
-pub swap_fair : (before : Registers) (w o : Walker) (now : Registers) → AreFair before w o now
+pub swap_fair : (before : AllRegisters) (w o : Walker) (now : AllRegisters) → AreFair before w o now
     → AreFair before o w now
 swap_fair before w o now fair = record {
   contest = swap w o before now fair.contest;
@@ -44,7 +44,7 @@ swap_fair before w o now fair = record {
   second = fair.first;
 }
 
-pub step_fair : (before : Registers) (w o : Walker) (old : Registers) → AreFair before w o old
+pub step_fair : (before : AllRegisters) (w o : Walker) (old : AllRegisters) → AreFair before w o old
     → AreFair before (stepped w old).walker o (stepped w old).registers
 step_fair before w o old fair = record {
   contest = step_holds o before w old fair.contest;
@@ -63,7 +63,8 @@ step_fair before w o old fair = record {
   };
 }
 
-pub begun_fair : (before : Registers) (w o : Walker) (now : Registers) → AreFair before w o now
+pub begun_fair : (before : AllRegisters) (w o : Walker) (now : AllRegisters)
+    → AreFair before w o now
     → AreFair before (record w { begun = true }) o now
 begun_fair before w o now fair = record {
   contest = begun_contest w o before now fair.contest;
@@ -82,14 +83,14 @@ begun_fair before w o now fair = record {
 
 -- ---- what an access leaves the other walker
 
-module _ (w after o : Walker) (old new : Registers) (turn : IsTurn w after old new)
+module _ (w after o : Walker) (old new : AllRegisters) (turn : IsTurn w after old new)
     (mine : IsMine w old) (differ : w.id ≢ o.id) (is_id : o.id < 0xff)
     (spends : Spends w old after new) where
   won_stays : (p : Option PortRef) → lock_is old o.id p ≡ true → lock_is new o.id p ≡ true
   won_stays None is = is
   won_stays (Some at) is =
       eq-eqb (new at.node).lock o.id
-      (ap (λ (d : registers.Device). d.lock)
+      (ap (λ (d : Registers). d.lock)
       (untouched w after old new turn mine o.id differ is_id at.node held) ∙ held)
     where
       held : (old at.node).lock ≡ o.id
@@ -138,7 +139,7 @@ module _ (w after o : Walker) (old new : Registers) (turn : IsTurn w after old n
       is = eqb-false (new at.node).lock 0xffff taken
 
       go : Does w after old new at.node → claims_left after new + 1 ≤ claims_left w old
-      go (Nothing same) = absurd (is (ap (λ (d : registers.Device). d.lock) same ∙ was))
+      go (Nothing same) = absurd (is (ap (λ (d : Registers). d.lock) same ∙ was))
       go (Writes keeps same) = absurd (is (same ∙ was))
       go (Takes once claimed) = spends.takes at.node claimed was
       go (Frees keeps freed) = absurd (is freed)
@@ -205,10 +206,10 @@ module _ (w after o : Walker) (old new : Registers) (turn : IsTurn w after old n
 -- ---- one access
 
 -- what a walker has left, with what the other can cost it
-abbrev pub left_of : Walker → Walker → Registers → ℕ
+abbrev pub left_of : Walker → Walker → AllRegisters → ℕ
 left_of w o now = turns_left w now + 2 * claims_left o now
 
-module _ (before : Registers) (w o : Walker) (old : Registers) (fair : AreFair before w o old)
+module _ (before : AllRegisters) (w o : Walker) (old : AllRegisters) (fair : AreFair before w o old)
   where
     spent : Spends w old (stepped w old).walker (stepped w old).registers
     spent = step_spends w before old fair.contest.first_id fair.first.shown fair.first.same

@@ -1,7 +1,7 @@
 -- The greater of two hosts holds on, on either side, and who has ended stays so.
 use Rattle.std.proofs.Common.{◌≡◌, ◌≢◌, ◌<◌, Bool, true, false, List, [], ◌∷◌, None, ◌⊎◌, inl, inr, subst, sym, refl, ap, ◌∙◌, if◌then◌else◌}
 use Rattle.std.proofs.lemmas.Bool.{cases_order}
-use Rattle.fabric_map.specs.Routes.{Registers}
+use Rattle.fabric_map.specs.Routes.{AllRegisters}
 use Rattle.link_watch.specs.Sides.{other_side}
 use Rattle.link_watch.specs.declared.side.Side.{Side}
 use Rattle.link_watch.specs.declared.side.Side.TheVariants.{A, B}
@@ -83,7 +83,7 @@ alone_holds both earlier turns side alone =
 
 -- ---- a walker that has ended
 
-ended_step : (w : Walker) (old : Registers) → wants w ≡ None → stepped w old ≡ state_of w old
+ended_step : (w : Walker) (old : AllRegisters) → wants w ≡ None → stepped w old ≡ state_of w old
 ended_step w old none = ap (λ o. reaches w old o) none
 
 none_wanted : (w : Walker) (stage : Stage) → w.stage ≡ stage → w.todo ≡ []
@@ -91,7 +91,7 @@ none_wanted : (w : Walker) (stage : Stage) → w.stage ≡ stage → w.todo ≡ 
 none_wanted w stage is clear none =
     ap (λ t. wants_with w t) clear ∙ (ap (λ s. wants_at w s) is ∙ none)
 
-pub ended_turn : (w : Walker) (old : Registers) (stage : Stage) → w.stage ≡ stage → w.todo ≡ []
+pub ended_turn : (w : Walker) (old : AllRegisters) (stage : Stage) → w.stage ≡ stage → w.todo ≡ []
     → ((v : Walker) → wants_at v stage ≡ None) → is_locking stage ≡ false
     → ((walker_turned w old).walker.stage ≡ stage) × ((walker_turned w old).walker.todo ≡ [])
 ended_turn w old stage is clear none no_lock = go w.begun

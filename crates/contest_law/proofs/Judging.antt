@@ -6,7 +6,7 @@ use Rattle.fabric_script.specs.declared.ports.PortRef.{PortRef}
 use Rattle.fabric_map.specs.declared.map.Kind.TheVariants.{Endpoint}
 use Rattle.fabric_map.specs.declared.map.Device.{Device}
 use Rattle.fabric_map.specs.Topology.{entered}
-use Rattle.fabric_map.specs.Routes.{Registers}
+use Rattle.fabric_map.specs.Routes.{AllRegisters}
 use Rattle.fabric_map.specs.Numbered.{paths_of}
 use Rattle.fabric_map.proofs.Lists.{Contains-first, Contains-cases, not_in_empty}
 use Rattle.host_enumerate.specs.declared.maint.Access.TheVariants.{Read, Write}
@@ -157,7 +157,7 @@ module _ (id : ℕ) (locks : List ℕ) (w : Walker) (is : w.id ≡ id) (none : �
       go false other = judged_judged id locks (record w { stage = Check }) lock is none
 
 -- one access
-module _ (id : ℕ) (locks : List ℕ) (w : Walker) (old : Registers) where
+module _ (id : ℕ) (locks : List ℕ) (w : Walker) (old : AllRegisters) where
   abbrev After : Walker → Type 0
   After after = IsJudged id (locks ++ []) after
 
@@ -252,7 +252,7 @@ module _ (id : ℕ) (locks : List ℕ) (w : Walker) (old : Registers) where
   stage_judged Done holds = none_read (between Done) holds
   stage_judged Lost holds = none_read (between Lost) holds
 
-step_judged : (id : ℕ) (locks : List ℕ) (w : Walker) (old : Registers) → IsJudged id locks w
+step_judged : (id : ℕ) (locks : List ℕ) (w : Walker) (old : AllRegisters) → IsJudged id locks w
     → IsJudged id (locks ++ lock_next (state_of w old)) (stepped w old).walker
 step_judged id locks w old holds = go w.todo w.stage holds
   where

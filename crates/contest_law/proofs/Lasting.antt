@@ -3,14 +3,13 @@
 use Rattle.std.proofs.Common.{◌≡◌, ℕ, ◌+◌, ◌*◌, ◌/◌, ◌%◌, nat_lt, Bool, true, false, eqb, List, [], ◌∷◌, ◌++◌, Option, Some, None, subst, sym, refl, ◌∙◌, if◌then◌else◌}
 use Rattle.std.proofs.lemmas.Bool.{eqb-true}
 use Rattle.fabric_script.specs.declared.ports.PortRef.{PortRef}
-use Rattle.maint_registers.specs.Devices as registers
-use Rattle.maint_registers.specs.Devices.{IsSameDevice}
+use Rattle.maint_registers.specs.Devices.{Registers, IsSameDevice}
 use Rattle.maint_registers.specs.Access.{value_at, written_at}
 use Rattle.maint_registers.proofs.SameLaws.{same_device, written_same}
 use Rattle.fabric_map.specs.declared.map.Kind.TheVariants.{Endpoint}
 use Rattle.fabric_map.specs.declared.map.Device.{Device}
 use Rattle.fabric_map.specs.Topology.{entered}
-use Rattle.fabric_map.specs.Routes.{Registers}
+use Rattle.fabric_map.specs.Routes.{AllRegisters}
 use Rattle.host_enumerate.specs.declared.maint.Access.{Access}
 use Rattle.host_enumerate.specs.declared.maint.Access.TheVariants.{Read, Write}
 use Rattle.host_enumerate.specs.Accesses.{after_read, after_write, answered, after_access}
@@ -170,28 +169,28 @@ told_keeps w value = go w.todo w.stage w.path
 
 -- ---- the devices
 
-abbrev pub AreSameDevices : Registers → Registers → Type 0
+abbrev pub AreSameDevices : AllRegisters → AllRegisters → Type 0
 AreSameDevices before now = (node : ℕ) → IsSameDevice (before node) (now node)
 
-written_is : (device : registers.Device) (o : Option registers.Device)
-    → ((next : registers.Device) → o ≡ Some next → IsSameDevice device next)
+written_is : (device : Registers) (o : Option Registers)
+    → ((next : Registers) → o ≡ Some next → IsSameDevice device next)
     → IsSameDevice device (after_write device o).device
 written_is device None some = same_device device
 written_is device (Some next) some = some next refl
 
-read_is : (device : registers.Device) (o : Option ℕ)
+read_is : (device : Registers) (o : Option ℕ)
     → IsSameDevice device (after_read device o).device
 read_is device None = same_device device
 read_is device (Some value) = same_device device
 
-pub access_is : (device : registers.Device) (port : ℕ) (access : Access)
+pub access_is : (device : Registers) (port : ℕ) (access : Access)
     → IsSameDevice device (answered device port access).device
 access_is device port (Read offset) = read_is device (value_at device offset port)
 access_is device port (Write offset value) =
     written_is device (written_at device offset value)
     (λ next is. written_same device next offset value is)
 
-access_same : (before now : Registers) (at : PortRef) (access : Access)
+access_same : (before now : AllRegisters) (at : PortRef) (access : Access)
     → AreSameDevices before now → AreSameDevices before (after_access now at access)
 access_same before now at access same node = go (eqb node at.node) refl
   where
@@ -215,7 +214,7 @@ access_same before now at access same node = go (eqb node at.node) refl
 
 -- ---- one access
 
-pub step_lasts : (w : Walker) (old : Registers) → IsSameWalker w (stepped w old).walker
+pub step_lasts : (w : Walker) (old : AllRegisters) → IsSameWalker w (stepped w old).walker
 step_lasts w old = go (wants w)
   where
     at : (ask : Asked) (o : Option PortRef) → IsSameWalker w (reached w old ask o).walker
@@ -226,7 +225,8 @@ step_lasts w old = go (wants w)
     go None = same_walker w
     go (Some ask) = at ask (entered w.view ask.path)
 
-pub step_same : (before : Registers) (w : Walker) (old : Registers) → AreSameDevices before old
+pub step_same : (before : AllRegisters) (w : Walker) (old : AllRegisters)
+    → AreSameDevices before old
     → AreSameDevices before (stepped w old).registers
 step_same before w old same = go (wants w)
   where

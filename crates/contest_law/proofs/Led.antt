@@ -6,7 +6,7 @@ use Rattle.fabric_script.specs.declared.ports.PortRef.{PortRef}
 use Rattle.fabric_map.specs.declared.map.Kind.TheVariants.{Endpoint}
 use Rattle.fabric_map.specs.declared.map.Device.{Device}
 use Rattle.fabric_map.specs.Topology.{Topology, IsTopology, entered}
-use Rattle.fabric_map.specs.Routes.{Registers}
+use Rattle.fabric_map.specs.Routes.{AllRegisters}
 use Rattle.fabric_map.specs.Fitting.{Fits}
 use Rattle.host_enumerate.specs.declared.maint.Access.TheVariants.{Read, Write}
 use Rattle.host_enumerate.specs.Accesses.{answered}
@@ -108,7 +108,7 @@ module _ (w : Walker) (proper : IsTopology w.view) where
 
 -- ---- one access
 
-module _ (w : Walker) (before old : Registers) (proper : IsTopology w.view)
+module _ (w : Walker) (before old : AllRegisters) (proper : IsTopology w.view)
     (fits : Fits w.view before) (same : AreSameDevices before old) where
   reached_led : (w0 : Walker) (ask : Asked) → IsLed w0
       → ((at : PortRef) → entered w0.view ask.path ≡ Some at
@@ -245,7 +245,7 @@ settled_led w p rest stage path proper all led = go rest stage path led
     go [] Done path led = (all, led)
     go [] Lost path led = absurd (some_left p [] led.0)
 
-pub step_led : (w : Walker) (before old : Registers) → IsTopology w.view → Fits w.view before
+pub step_led : (w : Walker) (before old : AllRegisters) → IsTopology w.view → Fits w.view before
     → AreSameDevices before old → IsLed w → IsLed (stepped w old).walker
 step_led w before old proper fits same led = go w.todo w.stage w.path led
   where

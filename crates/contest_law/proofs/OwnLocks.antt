@@ -3,7 +3,7 @@ use Rattle.std.proofs.Common.{◌≡◌, ◌≢◌, ℕ, Bool, true, false, List
 use Rattle.std.proofs.lemmas.List.Elements.{Contains-append_cases}
 use Rattle.fabric_script.specs.declared.ports.PortRef.{PortRef}
 use Rattle.fabric_map.specs.Topology.{entered}
-use Rattle.fabric_map.specs.Routes.{Registers}
+use Rattle.fabric_map.specs.Routes.{AllRegisters}
 use Rattle.fabric_map.specs.Numbered.{paths_of}
 use Rattle.fabric_map.proofs.Lists.{Contains-cases, not_in_empty}
 use Rattle.link_watch.specs.Sides.{other_side}
@@ -41,9 +41,9 @@ own_append id first second own also lock found =
     go (inl here) = own lock here
     go (inr there) = also lock there
 
-module _ (before : Registers) (o : Walker) (lost : o.stage ≡ Lost)
+module _ (before : AllRegisters) (o : Walker) (lost : o.stage ≡ Lost)
     (unlocked : IsUnlocked before) where
-  free_or_own : (w : Walker) (now : Registers) → AreFair before w o now → (node : ℕ)
+  free_or_own : (w : Walker) (now : AllRegisters) → AreFair before w o now → (node : ℕ)
       → ((now node).lock ≡ 0xffff) ⊎ ((now node).lock ≡ w.id)
   free_or_own w now fair node = go (keeps_or_not w node)
     where
@@ -124,7 +124,8 @@ module _ (before : Registers) (o : Walker) (lost : o.stage ≡ Lost)
       go true = step_alone id state alone
       go false = alone
 
-  own_locks : (w : Walker) (old : Registers) → AreFair before w o old → AreOwn w.id (locks_in w old)
+  own_locks : (w : Walker) (old : AllRegisters) → AreFair before w o old
+      → AreOwn w.id (locks_in w old)
   own_locks w old fair = go w.begun
     where
       first : State
@@ -150,7 +151,7 @@ module _ (before : Registers) (o : Walker) (lost : o.stage ≡ Lost)
           (own_next_on w.id (locked_on (stepped (record w { begun = true }) old))
           (locked_alone w.id (stepped (record w { begun = true }) old) two)))
 
-  no_lesser : (w : Walker) (old : Registers) → AreFair before w o old
+  no_lesser : (w : Walker) (old : AllRegisters) → AreFair before w o old
       → ¬ HasLesser w.id (locks_in w old)
   no_lesser w old fair found = go (own_locks w old fair found.0 found.1)
     where
@@ -168,7 +169,7 @@ module _ (before : Registers) (o : Walker) (lost : o.stage ≡ Lost)
 abbrev pub OtherIsLost : Both → Side → Type 0
 OtherIsLost both side = (walker_of both (other_side side)).stage ≡ Lost
 
-pub lost_stays : (before : Registers) (both : Both) (side turn : Side) → FairFor before both side
+pub lost_stays : (before : AllRegisters) (both : Both) (side turn : Side) → FairFor before both side
     → OtherIsLost both side → OtherIsLost (turn_of both turn) side
 lost_stays before both A A fair lost = lost
 lost_stays before both A B fair lost =
@@ -179,7 +180,7 @@ lost_stays before both B A fair lost =
     (subst (IsLedAt both.first) lost fair.second.led.1).0 (λ v. refl) refl).0
 lost_stays before both B B fair lost = lost
 
-pub no_lesser_for : (before : Registers) (both : Both) (side : Side) → IsUnlocked before
+pub no_lesser_for : (before : AllRegisters) (both : Both) (side : Side) → IsUnlocked before
     → FairFor before both side → OtherIsLost both side
     → ¬ HasLesser (walker_of both side).id (locks_in_turn both side side)
 no_lesser_for before both A unlocked fair lost =

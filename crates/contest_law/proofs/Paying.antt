@@ -8,7 +8,7 @@ use Rattle.maint_registers.proofs.SameLaws.{same_kind}
 use Rattle.fabric_map.specs.declared.map.Kind.TheVariants.{Endpoint}
 use Rattle.fabric_map.specs.declared.map.Device.{Device}
 use Rattle.fabric_map.specs.Topology.{Topology, IsTopology, device_ports, entered, node_at}
-use Rattle.fabric_map.specs.Routes.{Registers}
+use Rattle.fabric_map.specs.Routes.{AllRegisters}
 use Rattle.fabric_map.specs.Fitting.{Fits}
 use Rattle.fabric_map.specs.Numbered.{paths_of}
 use Rattle.fabric_map.proofs.Few.{entered-inside, entered-port}
@@ -51,7 +51,7 @@ same_port : (o : Option PortRef) (p q : PortRef) → o ≡ Some p → o ≡ Some
 same_port o p q first second = cc
 
 -- a switch tells how many ports it has
-ports_few : (view : Topology) (before now : Registers) → IsTopology view → Fits view before
+ports_few : (view : Topology) (before now : AllRegisters) → IsTopology view → Fits view before
     → AreSameDevices before now → (path : List ℕ) (at : PortRef) → entered view path ≡ Some at
     → IsAtSwitch view path
     → (answered (now at.node) at.port (Read 0x14)).answer.value / 0x100 % 0x100 ≤ 16
@@ -81,7 +81,7 @@ ports_few view before now proper shown same path at enters (there, ports, leads,
     most : device_ports view at.node ≤ 16
     most = proper.most_ports at.node
 
-module _ (w : Walker) (before old : Registers) (fits : w.id < 0xff) (shown : Fits w.view before)
+module _ (w : Walker) (before old : AllRegisters) (fits : w.id < 0xff) (shown : Fits w.view before)
     (same : AreSameDevices before old) where
   abbrev between : Stage → Walker
   between stage = record w { todo = []; stage = stage }
@@ -223,7 +223,7 @@ module _ (w : Walker) (before old : Registers) (fits : w.id < 0xff) (shown : Fit
   }
 
 -- a write is left less
-settled_spends : (w : Walker) (old new : Registers) (p : Pending) (rest : List Pending)
+settled_spends : (w : Walker) (old new : AllRegisters) (p : Pending) (rest : List Pending)
     (stage : Stage) (path : List ℕ)
     → WalkerIsWithin (record w { todo = p ∷ rest; stage = stage; path = path })
     → IsMine (record w { todo = p ∷ rest; stage = stage; path = path }) old
@@ -322,7 +322,7 @@ settled_spends w old new p rest stage path within mine led = go rest stage path 
     go rest Lost path within mine led = absurd (some_left p rest led.0)
 
 -- One access: fewer turns are left, if it goes on.
-pub step_spends : (w : Walker) (before old : Registers) → w.id < 0xff → Fits w.view before
+pub step_spends : (w : Walker) (before old : AllRegisters) → w.id < 0xff → Fits w.view before
     → AreSameDevices before old → IsMine w old → WalkerIsWithin w → IsLed w
     → Spends w old (stepped w old).walker (stepped w old).registers
 step_spends w before old fits shown same mine within led =

@@ -3,13 +3,12 @@ use Rattle.std.proofs.Common.{◌≡◌, ◌≢◌, ℕ, ◌+◌, ◌*◌, ◌/�
 use Rattle.std.proofs.lemmas.Bool.{cases_eq, eqb-true, eqb-false}
 use Rattle.std.proofs.lemmas.List.{length-map}
 use Rattle.fabric_script.specs.declared.ports.PortRef.{PortRef}
-use Rattle.maint_registers.specs.Devices as registers
-use Rattle.maint_registers.specs.Devices.{is_switch}
+use Rattle.maint_registers.specs.Devices.{Registers, is_switch}
 use Rattle.maint_registers.specs.Access.{locked}
 use Rattle.fabric_map.specs.declared.map.Kind.TheVariants.{Endpoint, Switch}
 use Rattle.fabric_map.specs.declared.map.Device.{Device}
 use Rattle.fabric_map.specs.Topology.{entered, node_at}
-use Rattle.fabric_map.specs.Routes.{Registers}
+use Rattle.fabric_map.specs.Routes.{AllRegisters}
 use Rattle.fabric_map.specs.Fitting.{Fits}
 use Rattle.fabric_map.specs.Numbered.{paths_of}
 use Rattle.host_enumerate.specs.declared.maint.Access.TheVariants.{Read, Write}
@@ -34,14 +33,15 @@ use Rattle.contest_law.proofs.Costing.{room, lock_is, if_failed, turns_left, if_
 
 -- What an access leaves: fewer turns, if it goes on, and no more locks to take; if it takes one,
 -- fewer.
-pub record Spends (w : Walker) (old : Registers) (after : Walker) (new : Registers) : Type 0 where
+pub record Spends (w : Walker) (old : AllRegisters) (after : Walker)
+    (new : AllRegisters) : Type 0 where
   pub turns : turns_left after new + going_one (came_of w after) ≤ turns_left w old
   pub claims : claims_left after new ≤ claims_left w old
   pub takes : (node : ℕ) → HasClaimed after new node → (old node).lock ≡ 0xffff
       → claims_left after new + 1 ≤ claims_left w old
 
 -- a read, which takes no lock
-read_spends : (w after : Walker) (old : Registers) (at : PortRef) (offset : ℕ) → after.id < 0xff
+read_spends : (w after : Walker) (old : AllRegisters) (at : PortRef) (offset : ℕ) → after.id < 0xff
     → turns_left after old + going_one (came_of w after) ≤ turns_left w old
     → claims_left after old ≤ claims_left w old
     → Spends w old after (after_access old at (Read offset))
@@ -59,18 +59,18 @@ one_less w after left before less =
     let one = going_most (came_of w after) in
     omega (arith, less, one)
 
-is_lock : (now : Registers) (lock : ℕ) (at : PortRef) (o : Option PortRef) → o ≡ Some at
+is_lock : (now : AllRegisters) (lock : ℕ) (at : PortRef) (o : Option PortRef) → o ≡ Some at
     → (now at.node).lock ≡ lock → lock_is now lock o ≡ true
 is_lock now lock at o is held =
     ap (λ p. lock_is now lock p) is ∙ eq-eqb (now at.node).lock lock held
 
-not_lock : (now : Registers) (lock : ℕ) (at : PortRef) (o : Option PortRef) → o ≡ Some at
+not_lock : (now : AllRegisters) (lock : ℕ) (at : PortRef) (o : Option PortRef) → o ≡ Some at
     → (now at.node).lock ≢ lock → lock_is now lock o ≡ false
 not_lock now lock at o is other =
     ap (λ p. lock_is now lock p) is ∙ ne_eqb (now at.node).lock lock other
 
 -- no more devices are kept than there are
-pub few_kept : (w : Walker) (old : Registers) → WalkerIsWithin w → IsMine w old
+pub few_kept : (w : Walker) (old : AllRegisters) → WalkerIsWithin w → IsMine w old
     → length (kept w) ≤ 64
 few_kept w old within mine =
     let few = once_few w.view within.proper (kept w) within.leading mine.once in
@@ -85,7 +85,7 @@ few_devices devices last few =
     omega (arith, few, all, same)
 
 -- one access at one stage, once no write is left
-module _ (w : Walker) (before old : Registers) (fits : w.id < 0xff) (shown : Fits w.view before)
+module _ (w : Walker) (before old : AllRegisters) (fits : w.id < 0xff) (shown : Fits w.view before)
     (same : AreSameDevices before old) where
   abbrev between : Stage → Walker
   between stage = record w { todo = []; stage = stage }
@@ -206,12 +206,12 @@ module _ (w : Walker) (before old : Registers) (fits : w.id < 0xff) (shown : Fit
       → Spends (between Claim) old (between Check) (after_access old at (Write 0x68 w.id))
   claim_spends at enters other few = go (cases_eq (old at.node).lock 0xffff)
     where
-      new : Registers
+      new : AllRegisters
       new = after_access old at (Write 0x68 w.id)
 
       left : (new at.node).lock ≡ locked (old at.node).lock
           (w.id % 0x10000)
-      left = ap (λ (d : registers.Device). d.lock)
+      left = ap (λ (d : Registers). d.lock)
           (with_device-at old at.node _ ∙ lock_left (old at.node) at.port w.id)
 
       go : ((old at.node).lock ≡ 0xffff) ⊎ ((old at.node).lock ≢ 0xffff)
@@ -360,7 +360,7 @@ module _ (w : Walker) (before old : Registers) (fits : w.id < 0xff) (shown : Fit
           (gone_claims w0 old (top ∷ rest))
 
   -- the last device is freed
-  pub free_spends : (new : Registers) → w.devices ≢ [] → length w.devices ≤ 64
+  pub free_spends : (new : AllRegisters) → w.devices ≢ [] → length w.devices ≤ 64
       → Spends (between Free) old (freeing (between Free) (but_last w.devices)) new
   free_spends new some few = record {
     turns =

@@ -2,7 +2,7 @@
 use Rattle.std.proofs.Common.{◌≡◌, ◌≢◌, ℕ, ◌+◌, ◌*◌, Bool, true, false, nat_lt, List, [], ◌∷◌, ◌++◌, append-nil, arith, subst, sym, refl, ap, ◌∙◌, if◌then◌else◌, ne_eqb}
 use Rattle.std.proofs.lemmas.List.{append_assoc}
 use Rattle.fabric_map.specs.Topology.{entered}
-use Rattle.fabric_map.specs.Routes.{Registers}
+use Rattle.fabric_map.specs.Routes.{AllRegisters}
 use Rattle.link_watch.specs.declared.side.Side.{Side}
 use Rattle.link_watch.specs.declared.side.Side.TheVariants.{A, B}
 use Rattle.contest_machine.specs.declared.stages.Tried.{Tried}
@@ -29,7 +29,7 @@ gone_by P w (top ∷ rest) status done =
     go false on = on
 
 -- the status of a port is no lock
-pub status_reads_none : (w : Walker) (old : Registers) (top : Tried) (rest : List Tried)
+pub status_reads_none : (w : Walker) (old : AllRegisters) (top : Tried) (rest : List Tried)
     → lock_next (state_of (record w { todo = []; stage = Status; tried = top ∷ rest }) old) ≡ []
 status_reads_none w old top rest =
     ap (λ b. if b then lock_at old (entered w.view top.path) else [])
@@ -38,7 +38,7 @@ status_reads_none w old top rest =
 -- ---- what holds of a walker and the locks that it has read
 
 module _ (P : List ℕ → Walker → Type 0)
-    (step : (locks : List ℕ) (w : Walker) (old : Registers) → P locks w
+    (step : (locks : List ℕ) (w : Walker) (old : AllRegisters) → P locks w
     → P (locks ++ lock_next (state_of w old)) (stepped w old).walker) where
   locked : (locks : List ℕ) (state : State) → P locks state.walker
       → P (locks ++ lock_next_on state) (locked_on state).walker
@@ -49,7 +49,7 @@ module _ (P : List ℕ → Walker → Type 0)
       go true = step locks state.walker state.registers holds
       go false = subst (λ l. P l state.walker) (sym (append-nil locks)) holds
 
-  first : (locks : List ℕ) (w : Walker) (old : Registers) → P locks w
+  first : (locks : List ℕ) (w : Walker) (old : AllRegisters) → P locks w
       → P (locks ++ locks_at_first (state_of w old)) (locked_on (locked_on (stepped w old))).walker
   first locks w old holds =
       subst (λ l. P l (locked_on (locked_on one)).walker)
@@ -64,7 +64,7 @@ module _ (P : List ℕ → Walker → Type 0)
       two : State
       two = locked_on one
 
-  pub turned_with : (locks : List ℕ) (w : Walker) (old : Registers) → P locks w
+  pub turned_with : (locks : List ℕ) (w : Walker) (old : AllRegisters) → P locks w
       → P locks (record w { begun = true })
       → P (locks ++ locks_in w old) (walker_turned w old).walker
   turned_with locks w old holds begun = go w.begun

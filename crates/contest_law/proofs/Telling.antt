@@ -4,7 +4,7 @@ use Rattle.std.specs.Option.{option_and_then}
 use Rattle.std.proofs.lemmas.Bool.{cases_lt, lt-ltb}
 use Rattle.fabric_script.specs.declared.ports.PortRef.{PortRef}
 use Rattle.fabric_script.specs.Ports.{port_at}
-use Rattle.maint_registers.specs.Devices.{Device, is_switch}
+use Rattle.maint_registers.specs.Devices.{Registers, is_switch}
 use Rattle.maint_registers.specs.Table.{status_offset}
 use Rattle.maint_registers.specs.Access.{value_at}
 use Rattle.maint_registers.proofs.AccessLaws.{features-read, status-read}
@@ -12,7 +12,7 @@ use Rattle.maint_registers.proofs.StatusLaws.{status_port-none}
 use Rattle.maint_registers.proofs.SameLaws.{same_kind}
 use Rattle.fabric_map.specs.Topology.{Topology, IsTopology, ports_followed, behind_port, entered}
 use Rattle.fabric_map.specs.Walked.{onward}
-use Rattle.fabric_map.specs.Routes.{Registers}
+use Rattle.fabric_map.specs.Routes.{AllRegisters}
 use Rattle.fabric_map.specs.Fitting.{Fits}
 use Rattle.fabric_map.proofs.Few.{entered-inside}
 use Rattle.fabric_map.proofs.Leading.{followed-host, along-onward}
@@ -26,7 +26,7 @@ IsAtSwitch view path = (at : PortRef) × (ports : ℕ) × (entered view path ≡
     × (view.switch_ports at.node ≡ Some ports)
 
 -- a port that the device does not have shows nothing
-status-none : (device : Device) (n port : ℕ) → device.ports ≤ n
+status-none : (device : Registers) (n port : ℕ) → device.ports ≤ n
     → value_at device (status_offset n) port ≡ None
 status-none device n port past =
     rw (
@@ -46,13 +46,13 @@ status-none device n port past =
     ) refl
 
 -- what the features tell
-pub features_told : (device : Device) (port : ℕ)
+pub features_told : (device : Registers) (port : ℕ)
     → (answered device port (Read 0x10)).answer.value
     ≡ (if is_switch device then 0x10000118 else 0x18)
 features_told device port =
     ap (λ o. (after_read device o).answer.value) (features-read device port)
 
-switch_told : (device : Device) (port : ℕ)
+switch_told : (device : Registers) (port : ℕ)
     → (answered device port (Read 0x10)).answer.value / 0x10000000 % 2 ≡ 1
     → is_switch device ≡ true
 switch_told device port bit =
@@ -70,7 +70,7 @@ switch_told device port bit =
 
 -- ---- of the fabric as it was, and as it is
 
-module _ (view : Topology) (before now : Registers) (proper : IsTopology view)
+module _ (view : Topology) (before now : AllRegisters) (proper : IsTopology view)
     (fits : Fits view before) (same : AreSameDevices before now) (path : List ℕ) (at : PortRef)
     (enters : entered view path ≡ Some at) where
   inside : at.node < view.nodes

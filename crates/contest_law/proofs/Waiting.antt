@@ -5,7 +5,7 @@ use Rattle.fabric_script.specs.declared.ports.PortRef.{PortRef}
 use Rattle.fabric_map.specs.declared.map.Kind.TheVariants.{Endpoint}
 use Rattle.fabric_map.specs.declared.map.Device.{Device}
 use Rattle.fabric_map.specs.Topology.{entered}
-use Rattle.fabric_map.specs.Routes.{Registers}
+use Rattle.fabric_map.specs.Routes.{AllRegisters}
 use Rattle.fabric_map.proofs.Lists.{Contains-first, Contains-cases, not_in_empty}
 use Rattle.host_enumerate.specs.declared.maint.Access.TheVariants.{Read, Write}
 use Rattle.host_enumerate.specs.Accesses.{answered}
@@ -143,7 +143,7 @@ module _ (w : Walker) (fits : w.id < 0xff) where
 
   -- ---- one access
 
-  module _ (old : Registers) where
+  module _ (old : AllRegisters) where
     lock_waits : (stage : Stage) → IsSome (entered w.view w.path)
         → ((lock : ℕ) → Waits w.id (between stage) (told_at (between stage) lock stage)
         (lock ∷ []))
@@ -242,7 +242,7 @@ module _ (w : Walker) (fits : w.id < 0xff) where
     stage_waits Done led = quiet (between Done) (λ e. cc)
     stage_waits Lost led = quiet (between Lost) (λ e. cc)
 
-pub step_waits : (w : Walker) (old : Registers) → w.id < 0xff → IsLed w
+pub step_waits : (w : Walker) (old : AllRegisters) → w.id < 0xff → IsLed w
     → Waits w.id w (stepped w old).walker (lock_next (state_of w old))
 step_waits w old fits led = go w.todo w.stage led
   where

@@ -3,7 +3,7 @@ use Rattle.std.proofs.Common.{◌≡◌, ◌≢◌, ℕ, ◌<◌, ◌↔◌, Boo
 use Rattle.std.proofs.lemmas.List.{append_assoc}
 use Rattle.std.proofs.lemmas.List.Elements.{Contains-append_right, Contains-append_cases}
 use Rattle.fabric_map.specs.Topology.{Topology, IsTopology}
-use Rattle.fabric_map.specs.Routes.{Registers}
+use Rattle.fabric_map.specs.Routes.{AllRegisters}
 use Rattle.fabric_map.specs.Fitting.{Fits}
 use Rattle.link_watch.specs.declared.side.Side.{Side}
 use Rattle.link_watch.specs.declared.side.Side.TheVariants.{A, B}
@@ -37,18 +37,19 @@ came_same w v after Done same = refl
 came_same w v after Lost same = refl
 
 -- what stands of a walker and the registers between two accesses
-pub record IsStanding (before : Registers) (view : Topology) (id : ℕ) (state : State) : Type 0 where
+pub record IsStanding (before : AllRegisters) (view : Topology) (id : ℕ)
+    (state : State) : Type 0 where
   pub led : IsLed state.walker
   pub view_is : state.walker.view ≡ view
   pub id_is : state.walker.id ≡ id
   pub same : AreSameDevices before state.registers
 
-module _ (before : Registers) (view : Topology) (id : ℕ) (proper : IsTopology view)
+module _ (before : AllRegisters) (view : Topology) (id : ℕ) (proper : IsTopology view)
     (shown : Fits view before) (fits : id < 0xff) where
   abbrev Stands : State → Type 0
   Stands = IsStanding before view id
 
-  step_stands : (w : Walker) (old : Registers) → Stands (state_of w old) → Stands (stepped w old)
+  step_stands : (w : Walker) (old : AllRegisters) → Stands (state_of w old) → Stands (stepped w old)
   step_stands w old stands = record {
     led = step_led w before old (subst IsTopology (sym stands.view_is) proper)
         (subst (λ v. Fits v before) (sym stands.view_is) shown) stands.same stands.led;
@@ -129,7 +130,7 @@ module _ (before : Registers) (view : Topology) (id : ℕ) (proper : IsTopology 
       go true = step_stands state.walker state.registers stands
       go false = stands
 
-  first_waits : (w : Walker) (old : Registers) → w.todo ≡ [] → Stands (state_of w old)
+  first_waits : (w : Walker) (old : AllRegisters) → w.todo ≡ [] → Stands (state_of w old)
       → Waits id w (locked_on (locked_on (stepped w old))).walker (locks_at_first (state_of w old))
   first_waits w old clear stands =
       subst (λ l. Waits id w (locked_on two).walker l)
@@ -145,7 +146,7 @@ module _ (before : Registers) (view : Topology) (id : ℕ) (proper : IsTopology 
       two : State
       two = locked_on one
 
-  begun_stands : (w : Walker) (old : Registers) → Stands (state_of w old)
+  begun_stands : (w : Walker) (old : AllRegisters) → Stands (state_of w old)
       → Stands (state_of (record w { begun = true }) old)
   begun_stands w old stands = record {
     led = (stands.led.0, begun_led w w.stage stands.led.1);
@@ -154,7 +155,7 @@ module _ (before : Registers) (view : Topology) (id : ℕ) (proper : IsTopology 
     same = stands.same;
   }
 
-  turned_waits : (w : Walker) (old : Registers) → (w.begun ≡ false → w.todo ≡ [])
+  turned_waits : (w : Walker) (old : AllRegisters) → (w.begun ≡ false → w.todo ≡ [])
       → Stands (state_of w old) → Waits id w (walker_turned w old).walker (locks_in w old)
   turned_waits w old clear stands = go w.begun refl
     where
@@ -177,7 +178,7 @@ module _ (before : Registers) (view : Topology) (id : ℕ) (proper : IsTopology 
 
   -- ---- over all turns
 
-  turned_begun : (w : Walker) (old : Registers) → (walker_turned w old).walker.begun ≡ true
+  turned_begun : (w : Walker) (old : AllRegisters) → (walker_turned w old).walker.begun ≡ true
   turned_begun w old = go w.begun refl
     where
       begun : Walker
@@ -198,11 +199,11 @@ module _ (before : Registers) (view : Topology) (id : ℕ) (proper : IsTopology 
           (step_lasts begun old).begun)
 
   -- a walker between two turns has begun, or has nothing to write
-  pub record IsBetweenTurns (w : Walker) (old : Registers) : Type 0 where
+  pub record IsBetweenTurns (w : Walker) (old : AllRegisters) : Type 0 where
     pub stands : Stands (state_of w old)
     pub clear : w.begun ≡ false → w.todo ≡ []
 
-  own_turn : (w : Walker) (old : Registers) → IsBetweenTurns w old
+  own_turn : (w : Walker) (old : AllRegisters) → IsBetweenTurns w old
       → IsBetweenTurns (walker_turned w old).walker (walker_turned w old).registers
   own_turn w old between = record {
     stands = turned_by Stands step_stands w old between.stands (begun_stands w old between.stands);
@@ -212,7 +213,7 @@ module _ (before : Registers) (view : Topology) (id : ℕ) (proper : IsTopology 
       clash : false ≡ true → ⊥
       clash e = absurd (cc)
 
-  their_turn : (w o : Walker) (old : Registers) → IsBetweenTurns w old
+  their_turn : (w o : Walker) (old : AllRegisters) → IsBetweenTurns w old
       → IsBetweenTurns w (walker_turned o old).registers
   their_turn w o old between = record {
     stands = record {
@@ -247,7 +248,7 @@ module _ (before : Registers) (view : Topology) (id : ℕ) (proper : IsTopology 
   turn_waits both B between =
       turned_waits both.second both.registers between.clear between.stands
 
-pub new_between : (before : Registers) (view : Topology) (id : ℕ) (proper : IsTopology view)
+pub new_between : (before : AllRegisters) (view : Topology) (id : ℕ) (proper : IsTopology view)
     (shown : Fits view before) (fits : id < 0xff) (w : Walker) → w.view ≡ view → w.id ≡ id
     → IsNew w → IsBetweenTurns before view id proper shown fits w before
 new_between before view id proper shown fits w view_is id_is new = record {

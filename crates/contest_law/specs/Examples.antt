@@ -1,6 +1,6 @@
 -- Two hosts that are linked to each other: the least fabric that two contest.
 use Rattle.std.specs.Prelude.{ℕ, true, false, List, [], ◌∷◌, ◌++◌}
-use Rattle.maint_registers.specs.Devices.{Device, new_endpoint}
+use Rattle.maint_registers.specs.Devices.{Registers, new_endpoint}
 use Rattle.fabric_map.specs.Plain.{topology_of, registers_of}
 use Rattle.host_enumerate.specs.Examples.{pair_links}
 use Rattle.link_watch.specs.declared.side.Side.{Side}
@@ -10,7 +10,7 @@ use Rattle.contest_machine.specs.Machine.{Walker}
 use Rattle.contest_machine.specs.Turns.{Both}
 
 -- an endpoint with a link, and a lock in it
-abbrev pub endpoint_locked : ℕ → ℕ → Device
+abbrev pub endpoint_locked : ℕ → ℕ → Registers
 endpoint_locked id lock = record (new_endpoint id true) { lock = lock }
 
 -- the host of a node, with an ID, that has asked nothing yet

@@ -1,7 +1,7 @@
 -- How many turns of a host go on, and how two hosts begin.
 use Rattle.std.specs.Prelude.{◌≡◌, ◌≢◌, ℕ, ◌+◌, ◌<◌, ◌≤◌, List, [], ◌∷◌, ◌++◌}
 use Rattle.fabric_map.specs.Topology.{IsTopology}
-use Rattle.fabric_map.specs.Routes.{Registers}
+use Rattle.fabric_map.specs.Routes.{AllRegisters}
 use Rattle.fabric_map.specs.Fitting.{Fits}
 use Rattle.link_watch.specs.Sides.{other_side}
 use Rattle.link_watch.specs.declared.side.Side.{Side}
@@ -52,7 +52,7 @@ GoingIsBounded = (both : Both) (turns : List Side) (side : Side) → AreBegun bo
 -- ---- once the other is lost
 
 -- nothing is locked
-abbrev pub IsUnlocked : Registers → Type 0
+abbrev pub IsUnlocked : AllRegisters → Type 0
 IsUnlocked registers = (node : ℕ) → (registers node).lock ≡ 0xffff
 
 -- how many of these turns are those of a side

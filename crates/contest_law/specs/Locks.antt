@@ -2,7 +2,7 @@
 use Rattle.std.specs.Prelude.{ℕ, ◌==◌, Bool, true, false, List, [], ◌∷◌, ◌++◌, Option, Some, None, if◌then◌else◌}
 use Rattle.fabric_script.specs.declared.ports.PortRef.{PortRef}
 use Rattle.fabric_map.specs.Topology.{entered}
-use Rattle.fabric_map.specs.Routes.{Registers}
+use Rattle.fabric_map.specs.Routes.{AllRegisters}
 use Rattle.host_enumerate.specs.declared.maint.Access.{Access}
 use Rattle.host_enumerate.specs.declared.maint.Access.TheVariants.{Read, Write}
 use Rattle.link_watch.specs.declared.side.Side.{Side}
@@ -29,7 +29,7 @@ reads_lock (Read offset) = offset == 0x68
 reads_lock (Write offset value) = false
 
 -- the lock of the device of a port
-abbrev pub lock_at : Registers → Option PortRef → List ℕ
+abbrev pub lock_at : AllRegisters → Option PortRef → List ℕ
 lock_at registers None = []
 lock_at registers (Some at) = (registers at.node).lock ∷ []
 
@@ -49,7 +49,7 @@ lock_next state = lock_told_to state (wants state.walker)
 abbrev pub lock_next_on : State → List ℕ
 lock_next_on state = if is_locking state.walker.stage then lock_next state else []
 
-abbrev pub state_of : Walker → Registers → State
+abbrev pub state_of : Walker → AllRegisters → State
 state_of w registers = record { walker = w; registers = registers }
 
 -- the locks that the first turn reads: those of its accesses, three at most
@@ -59,7 +59,7 @@ locks_at_first state =
     ++ lock_next_on (locked_on (stepped state.walker state.registers)))
 
 -- the locks that a turn of a walker reads, in order
-abbrev pub locks_in : Walker → Registers → List ℕ
+abbrev pub locks_in : Walker → AllRegisters → List ℕ
 locks_in w registers =
     if w.begun then lock_next (state_of w registers)
     else locks_at_first (state_of (record w { begun = true }) registers)

@@ -2,7 +2,7 @@
 use Rattle.std.proofs.Common.{◌≡◌, ◌≢◌, ℕ, ◌+◌, ◌*◌, ◌/◌, ◌%◌, ◌<◌, Bool, true, false, List, [], ◌∷◌, ◌++◌, Option, Some, None, Contains, arith, inl, inr, subst, sym, refl, ap, ◌∙◌, if◌then◌else◌}
 use Rattle.fabric_script.specs.declared.ports.PortRef.{PortRef}
 use Rattle.fabric_map.specs.Topology.{entered}
-use Rattle.fabric_map.specs.Routes.{Registers}
+use Rattle.fabric_map.specs.Routes.{AllRegisters}
 use Rattle.fabric_map.specs.Numbered.{paths_of}
 use Rattle.host_enumerate.specs.declared.maint.Access.TheVariants.{Read, Write}
 use Rattle.host_enumerate.specs.Accesses.{answered, after_access}
@@ -24,7 +24,7 @@ use Rattle.contest_machine.proofs.Stepped.{at_stage, write_leaves, ask_leaves, c
 use Rattle.contest_machine.proofs.Staged.{host_less, host_more, host_mine, features_leaves, information_leaves, status_leaves}
 use Rattle.contest_machine.proofs.Freed.{free_leaves}
 
-idle_leaves : (w : Walker) (old : Registers) → IsMine w old → Leaves w old w old
+idle_leaves : (w : Walker) (old : AllRegisters) → IsMine w old → Leaves w old w old
 idle_leaves w old mine = (
   record {
     id = refl;
@@ -37,14 +37,14 @@ idle_leaves w old mine = (
 )
 
 -- the registers after a read are the same
-read_leaves : (w after : Walker) (old : Registers) (at : PortRef) (offset : ℕ)
+read_leaves : (w after : Walker) (old : AllRegisters) (at : PortRef) (offset : ℕ)
     → Leaves w old after old → Leaves w old after (after_access old at (Read offset))
 read_leaves w after old at offset leaves =
     subst (λ r. Leaves w old after r) (sym (read-same old at offset)) leaves
 
 -- The host is taken in as soon as it has its marks.
-settled_leaves : (w : Walker) (old : Registers) → w.id < 0xff → (p : Pending)
-    (rest : List Pending) (stage : Stage) (path : List ℕ) (new : Registers)
+settled_leaves : (w : Walker) (old : AllRegisters) → w.id < 0xff → (p : Pending)
+    (rest : List Pending) (stage : Stage) (path : List ℕ) (new : AllRegisters)
     → Leaves (record w { todo = p ∷ rest; stage = stage; path = path }) old
     (record w { todo = rest; stage = stage; path = path }) new
     → Leaves (record w { todo = p ∷ rest; stage = stage; path = path }) old
@@ -69,7 +69,7 @@ settled_leaves w old fits p [] Free path new leaves = leaves
 settled_leaves w old fits p [] Done path new leaves = leaves
 settled_leaves w old fits p [] Lost path new leaves = leaves
 
-module _ (w : Walker) (old : Registers) (fits : w.id < 0xff) where
+module _ (w : Walker) (old : AllRegisters) (fits : w.id < 0xff) where
   reached_leaves : (w0 : Walker) (ask : Asked) → IsMine w0 old
       → ((at : PortRef) → entered w0.view ask.path ≡ Some at
       → Leaves w0 old (reached w0 old ask (Some at)).walker (reached w0 old ask
@@ -140,7 +140,7 @@ module _ (w : Walker) (old : Registers) (fits : w.id < 0xff) where
 
 -- One access: the walker knows what it keeps, and changes a lock from free to its ID or back, or
 -- another register of a device that it keeps.
-pub step_leaves : (w : Walker) (old : Registers) → w.id < 0xff → IsMine w old
+pub step_leaves : (w : Walker) (old : AllRegisters) → w.id < 0xff → IsMine w old
     → Leaves w old (stepped w old).walker (stepped w old).registers
 step_leaves w old fits mine = go w.todo w.stage w.path mine
   where
@@ -157,14 +157,14 @@ step_leaves w old fits mine = go w.todo w.stage w.path mine
         (after_access old at (Write p.offset p.value))
         (write_leaves (record w { stage = stage; path = path }) old p rest mine at enters))
 
-swap_lock : (w o : Walker) (before now : Registers) (node : ℕ) → IsLockOfNone w o before now node
+swap_lock : (w o : Walker) (before now : AllRegisters) (node : ℕ) → IsLockOfNone w o before now node
     → IsLockOfNone o w before now node
 swap_lock w o before now node (inl free) = inl free
 swap_lock w o before now node (inr (inl first)) = inr (inl first)
 swap_lock w o before now node (inr (inr (inl claimed))) = inr (inr (inr claimed))
 swap_lock w o before now node (inr (inr (inr claimed))) = inr (inr (inl claimed))
 
-pub swap : (w o : Walker) (before now : Registers) → IsContest w o before now
+pub swap : (w o : Walker) (before now : AllRegisters) → IsContest w o before now
     → IsContest o w before now
 swap w o before now contest = record {
   differ = λ same. contest.differ (sym same);
@@ -177,16 +177,16 @@ swap w o before now contest = record {
   stale_second = λ node none not. contest.stale_first node not none;
 }
 
-abbrev pub Holds : Registers → Both → Type 0
+abbrev pub Holds : AllRegisters → Both → Type 0
 Holds before both = IsContest both.first both.second before both.registers
 
 -- ---- what stays at each access stays in a turn
 
-abbrev state_of : Walker → Registers → State
+abbrev state_of : Walker → AllRegisters → State
 state_of w old = record { walker = w; registers = old }
 
 module _ (P : State → Type 0)
-    (step : (w : Walker) (old : Registers) → P (state_of w old) → P (stepped w old)) where
+    (step : (w : Walker) (old : AllRegisters) → P (state_of w old) → P (stepped w old)) where
   locked_by : (state : State) → P state → P (locked_on state)
   locked_by state holds = go (is_locking state.walker.stage)
     where
@@ -194,7 +194,7 @@ module _ (P : State → Type 0)
       go true = step state.walker state.registers holds
       go false = holds
 
-  pub turned_by : (w : Walker) (old : Registers) → P (state_of w old)
+  pub turned_by : (w : Walker) (old : AllRegisters) → P (state_of w old)
       → P (state_of (record w { begun = true }) old) → P (walker_turned w old)
   turned_by w old holds begun = go w.begun
     where
@@ -208,17 +208,17 @@ module _ (P : State → Type 0)
 
 -- ---- a turn of the first
 
-abbrev pub HoldsFor : Walker → Registers → State → Type 0
+abbrev pub HoldsFor : Walker → AllRegisters → State → Type 0
 HoldsFor o before state = IsContest state.walker o before state.registers
 
-pub step_holds : (o : Walker) (before : Registers) (w : Walker) (old : Registers)
+pub step_holds : (o : Walker) (before : AllRegisters) (w : Walker) (old : AllRegisters)
     → IsContest w o before old → HoldsFor o before (stepped w old)
 step_holds o before w old contest =
     let leaves = step_leaves w old contest.first_id contest.first in
     contest-stays w (stepped w old).walker o before old (stepped w old).registers contest
     leaves.0 leaves.1
 
-pub begun_mine : (w : Walker) (now : Registers) → IsMine w now
+pub begun_mine : (w : Walker) (now : AllRegisters) → IsMine w now
     → IsMine (record w { begun = true }) now
 begun_mine w now mine = record {
   locks = mine.locks;
@@ -241,7 +241,7 @@ begun_mine w now mine = record {
     known Done knows = tt
     known Lost knows = tt
 
-pub begun_contest : (w o : Walker) (before now : Registers) → IsContest w o before now
+pub begun_contest : (w o : Walker) (before now : AllRegisters) → IsContest w o before now
     → IsContest (record w { begun = true }) o before now
 begun_contest w o before now contest = record {
   differ = contest.differ;
@@ -254,19 +254,19 @@ begun_contest w o before now contest = record {
   stale_second = contest.stale_second;
 }
 
-pub turned_holds : (o : Walker) (before : Registers) (w : Walker) (old : Registers)
+pub turned_holds : (o : Walker) (before : AllRegisters) (w : Walker) (old : AllRegisters)
     → IsContest w o before old → HoldsFor o before (walker_turned w old)
 turned_holds o before w old contest =
     turned_by (HoldsFor o before) (step_holds o before) w old contest
     (begun_contest w o before old contest)
 
 -- what `w` keeps is as it was in `old`, while the other makes a turn
-abbrev LeavesKept : Walker → Registers → Registers → State → Type 0
+abbrev LeavesKept : Walker → AllRegisters → AllRegisters → State → Type 0
 LeavesKept w before old state = IsContest state.walker w before state.registers
     × ((node : ℕ) → Keeps w node → state.registers node ≡ old node)
 
-module _ (w : Walker) (before old : Registers) where
-  step_leaves_kept : (o : Walker) (now : Registers)
+module _ (w : Walker) (before old : AllRegisters) where
+  step_leaves_kept : (o : Walker) (now : AllRegisters)
       → LeavesKept w before old (record { walker = o; registers = now })
       → LeavesKept w before old (stepped o now)
   step_leaves_kept o now holds =
@@ -288,7 +288,7 @@ module _ (w : Walker) (before old : Registers) where
 
 -- ---- turns of both
 
-pub turn_holds : (before : Registers) (both : Both) (side : Side) → Holds before both
+pub turn_holds : (before : AllRegisters) (both : Both) (side : Side) → Holds before both
     → Holds before (turn_of both side)
 turn_holds before both A contest =
     turned_holds both.second before both.first both.registers contest
@@ -297,7 +297,7 @@ turn_holds before both B contest =
     (turned_holds both.first before both.second both.registers
     (swap both.first both.second before both.registers contest))
 
-pub turns_hold : (before : Registers) (both : Both) (turns : List Side) → Holds before both
+pub turns_hold : (before : AllRegisters) (both : Both) (turns : List Side) → Holds before both
     → Holds before (after_turns both turns)
 turns_hold before both [] contest = contest
 turns_hold before both (side ∷ turns) contest =
@@ -307,7 +307,7 @@ new_keeps : (w : Walker) → IsNew w → kept w ≡ []
 new_keeps w new =
     ap (λ d. paths_of d ++ fresh w.stage w.path) new.devices ∙ ap (λ s. fresh s w.path) new.stage
 
-new_mine : (w : Walker) (now : Registers) → IsNew w → IsMine w now
+new_mine : (w : Walker) (now : AllRegisters) → IsNew w → IsMine w now
 new_mine w now new = record {
   locks = λ node keeps.
       absurd (none keeps.0 (subst (λ l. Contains l keeps.0) (new_keeps w new) keeps.1));
@@ -322,7 +322,7 @@ new_mine w now new = record {
     none : (path : List ℕ) → ¬ Contains [] path
     none path found = omega (arith, found.1)
 
-pub step_id : (w : Walker) (old : Registers) → w.id < 0xff → IsMine w old
+pub step_id : (w : Walker) (old : AllRegisters) → w.id < 0xff → IsMine w old
     → (stepped w old).walker.id ≡ w.id
 step_id w old fits mine = (step_leaves w old fits mine).0.id
 

@@ -4,7 +4,7 @@ use Rattle.std.proofs.lemmas.List.Elements.{Contains-append_left, Contains-appen
 use Rattle.fabric_script.specs.declared.ports.PortRef.{PortRef}
 use Rattle.fabric_map.specs.declared.map.Device.{Device}
 use Rattle.fabric_map.specs.Topology.{IsTopology, entered, node_at}
-use Rattle.fabric_map.specs.Routes.{Registers}
+use Rattle.fabric_map.specs.Routes.{AllRegisters}
 use Rattle.fabric_map.specs.Numbered.{paths_of}
 use Rattle.fabric_map.proofs.Growing.{node_at-entered}
 use Rattle.fabric_map.proofs.Lists.{Contains-first}
@@ -32,7 +32,7 @@ between w stage proper leading bounded = record {
   bounded = bounded;
 }
 
-module _ (w : Walker) (old : Registers) where
+module _ (w : Walker) (old : AllRegisters) where
   reached_within : (w0 : Walker) (ask : Asked) → WalkerIsWithin w0
       → ((at : PortRef) → entered w0.view ask.path ≡ Some at
       → WalkerIsWithin (walker_told w0 (answered (old at.node) at.port ask.access).answer.value))
@@ -212,7 +212,7 @@ settled_within w p rest stage path within = go rest stage path within
     go [] Done path within = same [] Done path within
     go [] Lost path within = same [] Lost path within
 
-pub stepped_within : (w : Walker) (old : Registers) → WalkerIsWithin w
+pub stepped_within : (w : Walker) (old : AllRegisters) → WalkerIsWithin w
     → WalkerIsWithin (stepped w old).walker
 stepped_within w old within = go w.todo w.stage w.path within
   where

@@ -3,11 +3,11 @@ use Rattle.std.proofs.Common.{◌≡◌, ◌≢◌, ℕ, ◌+◌, ◌<◌, List,
 use Rattle.std.proofs.lemmas.Bool.{cases_eq}
 use Rattle.std.proofs.lemmas.List.Elements.{Contains-append_left, Contains-append_right, Contains-append_cases}
 use Rattle.fabric_script.specs.declared.ports.PortRef.{PortRef}
-use Rattle.maint_registers.specs.Devices as registers
+use Rattle.maint_registers.specs.Devices.{Registers}
 use Rattle.maint_registers.specs.Access.{locked}
 use Rattle.fabric_map.specs.declared.map.Device.{Device}
 use Rattle.fabric_map.specs.Topology.{entered, node_at}
-use Rattle.fabric_map.specs.Routes.{Registers}
+use Rattle.fabric_map.specs.Routes.{AllRegisters}
 use Rattle.fabric_map.specs.Numbered.{paths_of}
 use Rattle.fabric_map.proofs.Growing.{node_at-entered}
 use Rattle.fabric_map.proofs.Lists.{Contains-first, Contains-cases}
@@ -24,10 +24,10 @@ use Rattle.contest_machine.proofs.Turning.{Leaves, freeing_mine}
 use Rattle.contest_machine.proofs.Stepped.{at_stage, one_node}
 
 -- the last device is freed
-module _ (w : Walker) (old : Registers) (fits : w.id < 0xff) (at : PortRef)
+module _ (w : Walker) (old : AllRegisters) (fits : w.id < 0xff) (at : PortRef)
     (enters : entered w.view (last_path w.devices) ≡ Some at) (mine : IsMine (at_stage w Free) old)
   where
-    abbrev new : Registers
+    abbrev new : AllRegisters
     new = after_access old at (Write 0x68 w.id)
 
     parts : paths_of w.devices ++ [] ≡ paths_of (but_last w.devices) ++ last_path w.devices ∷ []
@@ -41,7 +41,7 @@ module _ (w : Walker) (old : Registers) (fits : w.id < 0xff) (at : PortRef)
 
     freed : (new at.node).lock ≡ 0xffff
     freed =
-        ap (λ (d : registers.Device). d.lock)
+        ap (λ (d : Registers). d.lock)
         (with_device-at old at.node _ ∙ lock_left (old at.node) at.port w.id)
         ∙ locked-own (old at.node).lock w.id (mine.locks at.node last) fits
       where
@@ -174,7 +174,7 @@ module _ (w : Walker) (old : Registers) (fits : w.id < 0xff) (at : PortRef)
         locks : (node : ℕ) → Leads w.view (paths_of (but_last w.devices) ++ []) node
             → (new node).lock ≡ w.id
         locks node leads =
-            ap (λ (d : registers.Device). d.lock) (stays node leads)
+            ap (λ (d : Registers). d.lock) (stays node leads)
             ∙ mine.locks node (to_more node leads)
 
         all_kept : (path : List ℕ) → Contains (paths_of (but_last w.devices)) path
@@ -186,7 +186,7 @@ module _ (w : Walker) (old : Registers) (fits : w.id < 0xff) (at : PortRef)
             → node_at w.view path ≡ Some node → (new node).tag ≢ 0
         tags path node listed leads none =
             mine.tags path node (all_kept path listed) leads
-            (ap (λ (d : registers.Device). d.tag) (sym (beside node (apart path node listed leads)))
+            (ap (λ (d : Registers). d.tag) (sym (beside node (apart path node listed leads)))
             ∙ none)
 
         fewer : AreOnce w.view (paths_of (but_last w.devices) ++ [])

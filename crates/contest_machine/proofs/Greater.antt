@@ -3,7 +3,7 @@ use Rattle.std.proofs.Common.{◌≡◌, ◌≢◌, ℕ, ◌+◌, ◌*◌, ◌/�
 use Rattle.std.proofs.lemmas.Bool.{eqb-false, ltb-true}
 use Rattle.fabric_script.specs.declared.ports.PortRef.{PortRef}
 use Rattle.fabric_map.specs.Topology.{entered}
-use Rattle.fabric_map.specs.Routes.{Registers}
+use Rattle.fabric_map.specs.Routes.{AllRegisters}
 use Rattle.fabric_map.specs.declared.map.Kind.TheVariants.{Endpoint}
 use Rattle.host_enumerate.specs.Underway.{id_after, met_as}
 use Rattle.host_enumerate.specs.declared.maint.Access.TheVariants.{Read, Write}
@@ -116,7 +116,7 @@ module _ (w : Walker) (value : ℕ) where
   told_holds Done on small = tt
   told_holds Lost on small = absurd on
 
-module _ (w : Walker) (old : Registers) (small : (node : ℕ) → IsNoGreater w.id (old node).lock)
+module _ (w : Walker) (old : AllRegisters) (small : (node : ℕ) → IsNoGreater w.id (old node).lock)
   where
     reached_holds : (w0 : Walker) (ask : Asked) → HoldsOn w0.stage
         → ((at : PortRef) → HoldsOn (walker_told w0
@@ -180,7 +180,7 @@ settled_holds w [] Free path on = on
 settled_holds w [] Done path on = tt
 settled_holds w [] Lost path on = on
 
-stepped_holds : (w : Walker) (old : Registers)
+stepped_holds : (w : Walker) (old : AllRegisters)
     → ((node : ℕ) → IsNoGreater w.id (old node).lock) → HoldsOn w.stage
     → HoldsOn (stepped w old).walker.stage
 stepped_holds w old small on = go w.todo w.stage on
@@ -194,7 +194,7 @@ stepped_holds w old small on = go w.todo w.stage on
         (λ at. settled_holds (record w { todo = p ∷ rest }) rest stage w.path on)
 
 -- every lock is free or no greater
-no_greater : (w o : Walker) (before now : Registers) → IsContest w o before now → o.id < w.id
+no_greater : (w o : Walker) (before now : AllRegisters) → IsContest w o before now → o.id < w.id
     → ((node : ℕ) → (before node).lock ≡ 0xffff) → (node : ℕ) → IsNoGreater w.id (now node).lock
 no_greater w o before now contest less free node = go (keeps_or_not w node) (keeps_or_not o node)
   where
@@ -212,13 +212,13 @@ no_greater w o before now contest less free node = go (keeps_or_not w node) (kee
     go (inr not) (inr also) = none (contest.others node not also)
 
 -- the first has the greater ID, and holds on
-abbrev IsGreater : Walker → Registers → State → Type 0
+abbrev IsGreater : Walker → AllRegisters → State → Type 0
 IsGreater o before state = IsContest state.walker o before state.registers
     × (o.id < state.walker.id) × HoldsOn state.walker.stage
 
-module _ (o : Walker) (before : Registers) (free : (node : ℕ) → (before node).lock ≡ 0xffff)
+module _ (o : Walker) (before : AllRegisters) (free : (node : ℕ) → (before node).lock ≡ 0xffff)
   where
-    step_on : (w : Walker) (old : Registers)
+    step_on : (w : Walker) (old : AllRegisters)
         → IsGreater o before (record { walker = w; registers = old })
         → IsGreater o before (stepped w old)
     step_on w old (contest, less, on) = (
@@ -227,7 +227,7 @@ module _ (o : Walker) (before : Registers) (free : (node : ℕ) → (before node
       stepped_holds w old (no_greater w o before old contest less free) on,
     )
 
-    turn_on : (w : Walker) (old : Registers)
+    turn_on : (w : Walker) (old : AllRegisters)
         → IsGreater o before (record { walker = w; registers = old })
         → IsGreater o before (walker_turned w old)
     turn_on w old (contest, less, on) =
@@ -235,7 +235,8 @@ module _ (o : Walker) (before : Registers) (free : (node : ℕ) → (before node
         (begun_contest w o before old contest, less, on)
 
 -- the other's ID is the same after its turn
-other_id : (w : Walker) (before : Registers) (o : Walker) (old : Registers) → IsContest o w before
+other_id : (w : Walker) (before : AllRegisters) (o : Walker) (old : AllRegisters)
+    → IsContest o w before
     old
     → (walker_turned o old).walker.id ≡ o.id
 other_id w before o old contest =
@@ -247,7 +248,7 @@ other_id w before o old contest =
     ))
     o old (contest, refl) (begun_contest o w before old contest, refl)).1
 
-turns_hold_on : (before : Registers) (both : Both) (turns : List Side) → Holds before both
+turns_hold_on : (before : AllRegisters) (both : Both) (turns : List Side) → Holds before both
     → both.second.id < both.first.id → ((node : ℕ) → (before node).lock ≡ 0xffff)
     → HoldsOn both.first.stage → HoldsOn (after_turns both turns).first.stage
 turns_hold_on before both [] holds less free on = on

@@ -5,7 +5,7 @@ use Rattle.fabric_map.specs.declared.map.Kind.{Kind}
 use Rattle.fabric_map.specs.declared.map.Kind.TheVariants.{Endpoint, Switch}
 use Rattle.fabric_map.specs.declared.map.Device.{Device}
 use Rattle.fabric_map.specs.Topology.{node_at}
-use Rattle.fabric_map.specs.Routes.{Registers}
+use Rattle.fabric_map.specs.Routes.{AllRegisters}
 use Rattle.fabric_map.specs.Numbered.{paths_of}
 use Rattle.fabric_map.proofs.Growing.{paths_of-push}
 use Rattle.fabric_map.proofs.Lists.{Contains-first, Contains-cases}
@@ -20,7 +20,7 @@ use Rattle.contest_machine.proofs.Lists.{Leads, writes-more, listed-more}
 use Rattle.contest_machine.proofs.Turning.{Leaves, quiet, routes_own, entry_own, home_own}
 use Rattle.contest_machine.proofs.Stepped.{at_stage, gone_leaves}
 
-module _ (w : Walker) (old : Registers) (fits : w.id < 0xff) where
+module _ (w : Walker) (old : AllRegisters) (fits : w.id < 0xff) where
   abbrev more : Kind → List Device
   more kind = w.devices ++ met_as w.devices kind w.path ∷ []
 

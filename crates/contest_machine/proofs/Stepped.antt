@@ -4,11 +4,11 @@ use Rattle.std.proofs.lemmas.Bool.{cases_eq, eqb-true, eqb-false}
 use Rattle.std.proofs.lemmas.Option.{same_Some}
 use Rattle.std.proofs.lemmas.List.Elements.{Contains-append_left, Contains-append_right, Contains-append_cases}
 use Rattle.fabric_script.specs.declared.ports.PortRef.{PortRef}
-use Rattle.maint_registers.specs.Devices as registers
+use Rattle.maint_registers.specs.Devices.{Registers}
 use Rattle.maint_registers.specs.Access.{locked}
 use Rattle.fabric_map.specs.declared.map.Device.{Device}
 use Rattle.fabric_map.specs.Topology.{Topology, entered, node_at}
-use Rattle.fabric_map.specs.Routes.{Registers}
+use Rattle.fabric_map.specs.Routes.{AllRegisters}
 use Rattle.fabric_map.specs.Numbered.{paths_of}
 use Rattle.fabric_map.proofs.Growing.{node_at-entered}
 use Rattle.fabric_map.proofs.Lists.{Contains-first, Contains-cases}
@@ -44,13 +44,13 @@ one_node view path at node enters leads =
     same_Some node at.node (sym leads ∙ node_at-entered view path at enters)
 
 -- a write of the walker's own
-module _ (w : Walker) (old : Registers) (p : Pending) (rest : List Pending)
+module _ (w : Walker) (old : AllRegisters) (p : Pending) (rest : List Pending)
     (mine : IsMine (record w { todo = p ∷ rest }) old) (at : PortRef)
     (enters : entered w.view p.path ≡ Some at) where
-  abbrev written : Registers
+  abbrev written : AllRegisters
   written = after_access old at (Write p.offset p.value)
 
-  abbrev device_written : registers.Device
+  abbrev device_written : Registers
   device_written = (answered (old at.node) at.port (Write p.offset p.value)).device
 
   at_it : written at.node ≡ device_written
@@ -63,20 +63,20 @@ module _ (w : Walker) (old : Registers) (p : Pending) (rest : List Pending)
       → (written node).lock ≡ (old node).lock
   same_lock node (inl same) =
       ap (λ n. (written n).lock) same
-      ∙ (ap (λ (d : registers.Device). d.lock) at_it
+      ∙ (ap (λ (d : Registers). d.lock) at_it
       ∙ (write_keeps_lock (old at.node) at.port p.offset p.value mine.own.0.1
       ∙ ap (λ n. (old n).lock) (sym same)))
-  same_lock node (inr apart) = ap (λ (d : registers.Device). d.lock) (beside node apart)
+  same_lock node (inr apart) = ap (λ (d : Registers). d.lock) (beside node apart)
 
   still_tagged : (node : ℕ) → (node ≡ at.node) ⊎ (node ≢ at.node) → (old node).tag ≢ 0
       → (written node).tag ≢ 0
   still_tagged node (inl same) tagged none =
       write_keeps_tag (old at.node) at.port p.offset p.value mine.own.0.2
       (λ no. tagged (ap (λ n. (old n).tag) same ∙ no))
-      (ap (λ (d : registers.Device). d.tag) (sym at_it)
+      (ap (λ (d : Registers). d.tag) (sym at_it)
       ∙ (ap (λ n. (written n).tag) (sym same) ∙ none))
   still_tagged node (inr apart) tagged none =
-      tagged (ap (λ (d : registers.Device). d.tag) (sym (beside node apart)) ∙ none)
+      tagged (ap (λ (d : Registers). d.tag) (sym (beside node apart)) ∙ none)
 
   keeps_it : Keeps (record w { todo = p ∷ rest }) at.node
   keeps_it = (p.path, mine.own.0.0, node_at-entered w.view p.path at enters)
@@ -115,7 +115,7 @@ module _ (w : Walker) (old : Registers) (p : Pending) (rest : List Pending)
           let same = one_node w.view p.path at node enters
           (ap (λ l. node_at w.view l) last.0 ∙ leads) in
           last.2 (sym (tag_given (old at.node) at.port p.offset p.value last.1)
-          ∙ (ap (λ (d : registers.Device). d.tag) (sym at_it)
+          ∙ (ap (λ (d : Registers). d.tag) (sym at_it)
           ∙ (ap (λ n. (written n).tag) (sym same) ∙ none)))
       comes (q ∷ more) is node leads last =
           tag-irrelevant w.path q more (old node).tag (written node).tag last
@@ -133,7 +133,7 @@ module _ (w : Walker) (old : Registers) (p : Pending) (rest : List Pending)
       knows Done known = tt
       knows Lost known = tt
 
-module _ (w : Walker) (old : Registers) where
+module _ (w : Walker) (old : AllRegisters) where
   -- a port was tried, and nothing else
   pub gone_leaves : (w0 : Walker) (todo : List Pending) (stage : Stage) → w0.view ≡ w.view → w0.id
       ≡ w.id
@@ -167,7 +167,7 @@ module _ (w : Walker) (old : Registers) where
       )
 
 -- one access to the device on a walker's path, or to another
-module _ (w : Walker) (old : Registers) (fits : w.id < 0xff) (at : PortRef)
+module _ (w : Walker) (old : AllRegisters) (fits : w.id < 0xff) (at : PortRef)
     (enters : entered w.view w.path ≡ Some at) where
   -- what is kept between two devices
   abbrev Between : ℕ → Type 0
@@ -336,10 +336,10 @@ module _ (w : Walker) (old : Registers) (fits : w.id < 0xff) (at : PortRef)
     },
     record {
       locks = λ node keeps.
-          ap (λ (d : registers.Device). d.lock) (stays node keeps) ∙ mine.locks node keeps;
+          ap (λ (d : Registers). d.lock) (stays node keeps) ∙ mine.locks node keeps;
       tags = λ path node listed leads none.
           mine.tags path node listed leads
-          (ap (λ (d : registers.Device). d.tag)
+          (ap (λ (d : Registers). d.tag)
           (sym (stays node
           (path, Contains-append_left (paths_of w.devices) [] path listed, leads))) ∙ none);
       once = mine.once;
@@ -353,7 +353,7 @@ module _ (w : Walker) (old : Registers) (fits : w.id < 0xff) (at : PortRef)
     },
   )
     where
-      new : Registers
+      new : AllRegisters
       new = after_access old at (Write 0x68 w.id)
 
       other : (old at.node).lock ≢ w.id
@@ -378,7 +378,7 @@ module _ (w : Walker) (old : Registers) (fits : w.id < 0xff) (at : PortRef)
           Takes (ap (λ n. (old n).lock) same ∙ free) (
             refl,
             leads_here ∙ ap (λ n. Some n) (sym same),
-            ap (λ n. (new n).lock) same ∙ (ap (λ (d : registers.Device). d.lock) left
+            ap (λ n. (new n).lock) same ∙ (ap (λ (d : Registers). d.lock) left
                 ∙ locked-free (old at.node).lock w.id free fits),
           )
       does node (inl same) (inr taken) =

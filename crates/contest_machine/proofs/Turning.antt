@@ -4,13 +4,13 @@ use Rattle.std.proofs.lemmas.Bool.{cases_eq, eqb-true, eqb-false}
 use Rattle.std.proofs.lemmas.Option.{same_Some}
 use Rattle.std.proofs.lemmas.List.Elements.{Contains-append_left, Contains-append_right, Contains-append_cases}
 use Rattle.fabric_script.specs.declared.ports.PortRef.{PortRef}
-use Rattle.maint_registers.specs.Devices as registers
+use Rattle.maint_registers.specs.Devices.{Registers}
 use Rattle.fabric_map.specs.declared.map.Kind.{Kind}
 use Rattle.fabric_map.specs.declared.map.Kind.TheVariants.{Endpoint, Switch}
 use Rattle.fabric_map.specs.declared.map.Device.{Device}
 use Rattle.fabric_map.specs.Topology.{Topology, entered, node_at}
 use Rattle.fabric_map.specs.Walked.{onward}
-use Rattle.fabric_map.specs.Routes.{Registers}
+use Rattle.fabric_map.specs.Routes.{AllRegisters}
 use Rattle.fabric_map.specs.Numbered.{paths_of, toward}
 use Rattle.fabric_map.proofs.Growing.{paths_of-push, node_at-entered}
 use Rattle.fabric_map.proofs.Lists.{Contains-first, Contains-rest, Contains-cases}
@@ -25,7 +25,7 @@ use Rattle.contest_machine.proofs.Lists.{Leads, once-push, writes-more, writes-a
 use Rattle.contest_machine.proofs.Frame.{Does, Nothing, IsTurn}
 
 -- what a turn is shown to leave
-abbrev pub Leaves : Walker → Registers → Walker → Registers → Type 0
+abbrev pub Leaves : Walker → AllRegisters → Walker → AllRegisters → Type 0
 Leaves w old after new = IsTurn w after old new × IsMine after new
 
 -- writes of the walker's own
@@ -108,7 +108,7 @@ gone-cases P w (top ∷ rest) listed status done =
     go false on = on
 
 -- a walker that takes in or frees nothing
-module _ (w : Walker) (now : Registers) where
+module _ (w : Walker) (now : AllRegisters) where
   -- a device more or less, of which nothing was just claimed
   pub quiet : (after : Walker) → after.id ≡ w.id
       → ((node : ℕ) → Keeps after node → Keeps w node)
@@ -123,7 +123,7 @@ module _ (w : Walker) (now : Registers) where
   }
 
 -- Of a walker between two devices: what it keeps is in its list. `stage` is one of those.
-module _ (w : Walker) (now : Registers) (fits : w.id < 0xff)
+module _ (w : Walker) (now : AllRegisters) (fits : w.id < 0xff)
     (locks : (node : ℕ) → Leads w.view (paths_of w.devices ++ []) node → (now node).lock ≡ w.id)
     (tags : (path : List ℕ) (node : ℕ) → Contains (paths_of w.devices) path
     → node_at w.view path ≡ Some node → (now node).tag ≢ 0)

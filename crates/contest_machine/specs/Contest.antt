@@ -1,7 +1,7 @@
 -- What stands after each turn of two walkers.
 use Rattle.std.specs.Prelude.{◌≡◌, ◌≢◌, ℕ, ◌<◌, ◌⊎◌, List, [], ◌∷◌, Contains, Some}
 use Rattle.fabric_map.specs.Topology.{Topology, node_at}
-use Rattle.fabric_map.specs.Routes.{Registers}
+use Rattle.fabric_map.specs.Routes.{AllRegisters}
 use Rattle.fabric_map.specs.Numbered.{paths_of}
 use Rattle.contest_machine.specs.declared.stages.Pending.{Pending}
 use Rattle.contest_machine.specs.declared.stages.Tried.{Tried}
@@ -24,7 +24,7 @@ TagComes path (p ∷ []) tag = (p.path ≡ path) × (p.offset ≡ 0x6c) × (p.va
 TagComes path (p ∷ q ∷ rest) tag = TagComes path (q ∷ rest) tag
 
 -- what a walker knows of the device on its path between two accesses
-abbrev pub Knows : Walker → Registers → Stage → Type 0
+abbrev pub Knows : Walker → AllRegisters → Stage → Type 0
 Knows w now Ask = Unit {0}
 Knows w now Claim = (w.todo ≡ []) × ((node : ℕ) → IsAtPath w node → (now node).lock ≢ w.id)
 Knows w now Check = (w.todo ≡ []) × ((node : ℕ) → IsAtPath w node → ¬ Keeps w node)
@@ -60,7 +60,7 @@ AreOnce view (path ∷ rest) =
     × AreOnce view rest
 
 -- what a walker keeps bears its ID, and what was taken in has a tag
-pub record IsMine (w : Walker) (now : Registers) : Type 0 where
+pub record IsMine (w : Walker) (now : AllRegisters) : Type 0 where
   pub locks : (node : ℕ) → Keeps w node → (now node).lock ≡ w.id
   pub tags : (path : List ℕ) (node : ℕ) → Contains (paths_of w.devices) path
       → node_at w.view path ≡ Some node → (now node).tag ≢ 0
@@ -70,22 +70,22 @@ pub record IsMine (w : Walker) (now : Registers) : Type 0 where
   pub knows : Knows w now w.stage
 
 -- the last turn of the walker wrote its ID to the lock of this device
-abbrev pub HasClaimed : Walker → Registers → ℕ → Type 0
+abbrev pub HasClaimed : Walker → AllRegisters → ℕ → Type 0
 HasClaimed w now node = (w.stage ≡ Check) × IsAtPath w node × ((now node).lock ≡ w.id)
 
 -- the lock of a device that nobody keeps: free, as it first was, or just claimed
-abbrev pub IsLockOfNone : Walker → Walker → Registers → Registers → ℕ → Type 0
+abbrev pub IsLockOfNone : Walker → Walker → AllRegisters → AllRegisters → ℕ → Type 0
 IsLockOfNone w o before now node =
     ((now node).lock ≡ 0xffff) ⊎ ((now node).lock ≡ (before node).lock)
     ⊎ HasClaimed w now node ⊎ HasClaimed o now node
 
 -- a device that nobody keeps and that bears the ID of a walker, which did not just claim it, is
 -- wholly as it first was
-abbrev pub IsStale : Walker → Registers → Registers → ℕ → Type 0
+abbrev pub IsStale : Walker → AllRegisters → AllRegisters → ℕ → Type 0
 IsStale w before now node =
     (now node).lock ≡ w.id → ¬ HasClaimed w now node → now node ≡ before node
 
-pub record IsContest (w o : Walker) (before now : Registers) : Type 0 where
+pub record IsContest (w o : Walker) (before now : AllRegisters) : Type 0 where
   pub differ : w.id ≢ o.id
   pub first_id : w.id < 0xff
   pub second_id : o.id < 0xff

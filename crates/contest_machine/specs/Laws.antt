@@ -1,6 +1,6 @@
 -- What holds after each turn of two walkers.
 use Rattle.std.specs.Prelude.{◌≡◌, ◌≢◌, ℕ, ◌<◌, ◌≤◌, List, [], length}
-use Rattle.fabric_map.specs.Routes.{Registers}
+use Rattle.fabric_map.specs.Routes.{AllRegisters}
 use Rattle.link_watch.specs.declared.side.Side.{Side}
 use Rattle.contest_machine.specs.declared.stages.Stage.{Stage}
 use Rattle.contest_machine.specs.declared.stages.Stage.TheVariants.{Ask, Claim, Check, Test, Features, Information, Status, Free, Done, Lost}
@@ -19,7 +19,7 @@ pub record IsNew (w : Walker) : Type 0 where
 
 -- No device is kept by both. What is kept bears the ID of its host. The lock of any other is free,
 -- as it first was, or was written by the last turn of a host.
-pub record KeepsApart (before : Registers) (both : Both) : Type 0 where
+pub record KeepsApart (before : AllRegisters) (both : Both) : Type 0 where
   pub apart : (node : ℕ) → Keeps both.first node → ¬ Keeps both.second node
   pub first : (node : ℕ) → Keeps both.first node
       → (both.registers node).lock ≡ both.first.id
@@ -58,7 +58,7 @@ GreaterHoldsOn = (both : Both) (turns : List Side)
 -- An access leaves a walker within its bounds.
 abbrev pub StaysWithin : Type 0
 StaysWithin =
-    (w : Walker) (old : Registers) → WalkerIsWithin w → WalkerIsWithin (stepped w old).walker
+    (w : Walker) (old : AllRegisters) → WalkerIsWithin w → WalkerIsWithin (stepped w old).walker
 
 -- No more devices are kept than there are.
 abbrev pub KeepsFew : Type 0

@@ -8,7 +8,7 @@ use Rattle.fabric_map.specs.declared.map.Kind.TheVariants.{Endpoint, Switch}
 use Rattle.fabric_map.specs.declared.map.Device.{Device}
 use Rattle.fabric_map.specs.Topology.{Topology, entered}
 use Rattle.fabric_map.specs.Walked.{onward}
-use Rattle.fabric_map.specs.Routes.{Registers}
+use Rattle.fabric_map.specs.Routes.{AllRegisters}
 use Rattle.fabric_map.specs.Numbered.{paths_of, toward}
 use Rattle.host_enumerate.specs.declared.maint.Access.{Access}
 use Rattle.host_enumerate.specs.declared.maint.Access.TheVariants.{Read, Write}
@@ -233,10 +233,10 @@ walker_told w value = told_with w value w.todo
 -- a walker, and the registers of all devices
 pub record State : Type 0 where
   pub walker : Walker
-  pub registers : Registers
+  pub registers : AllRegisters
 
 -- the device that is reached answers
-abbrev pub reached : Walker → Registers → Asked → Option PortRef → State
+abbrev pub reached : Walker → AllRegisters → Asked → Option PortRef → State
 reached w registers ask None = record { walker = w; registers = registers }
 reached w registers ask (Some at) = record {
   walker = walker_told w (answered (registers at.node) at.port ask.access).answer.value;
@@ -244,10 +244,10 @@ reached w registers ask (Some at) = record {
 }
 
 -- what it asks is answered by the device to which its path leads
-abbrev pub reaches : Walker → Registers → Option Asked → State
+abbrev pub reaches : Walker → AllRegisters → Option Asked → State
 reaches w registers None = record { walker = w; registers = registers }
 reaches w registers (Some ask) = reached w registers ask (entered w.view ask.path)
 
 -- One access, which the device on the path answers.
-abbrev pub stepped : Walker → Registers → State
+abbrev pub stepped : Walker → AllRegisters → State
 stepped w registers = reaches w registers (wants w)

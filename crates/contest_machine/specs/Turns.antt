@@ -2,7 +2,7 @@
 use Rattle.std.specs.Prelude.{Bool, true, false, List, [], ◌∷◌, if◌then◌else◌}
 use Rattle.link_watch.specs.declared.side.Side.{Side}
 use Rattle.link_watch.specs.declared.side.Side.TheVariants.{A, B}
-use Rattle.fabric_map.specs.Routes.{Registers}
+use Rattle.fabric_map.specs.Routes.{AllRegisters}
 use Rattle.contest_machine.specs.declared.stages.Pending.{Pending}
 use Rattle.contest_machine.specs.declared.stages.Stage.{Stage}
 use Rattle.contest_machine.specs.declared.stages.Stage.TheVariants.{Ask, Claim, Check, Test, Features, Information, Status, Free, Done, Lost}
@@ -33,7 +33,7 @@ locked_on state =
 -- A turn is one access. But in its first turn a walker makes all accesses that lock its host: at
 -- most
 -- three, since nobody is between.
-abbrev pub walker_turned : Walker → Registers → State
+abbrev pub walker_turned : Walker → AllRegisters → State
 walker_turned w registers =
     if w.begun then stepped w registers
     else locked_on (locked_on (stepped (record w { begun = true }) registers))
@@ -73,7 +73,7 @@ came_of w after = came_at w after after.stage
 pub record Both : Type 0 where
   pub first : Walker
   pub second : Walker
-  pub registers : Registers
+  pub registers : AllRegisters
 
 -- side A is the first
 abbrev pub turn_of : Both → Side → Both

@@ -3,7 +3,7 @@
 use Rattle.std.proofs.Common.{◌≡◌, ◌≢◌, ℕ, ◌+◌, nat_lt, Bool, true, false, List, [], ◌∷◌, inl, sym, refl, ◌∙◌, if◌then◌else◌}
 use Rattle.std.proofs.lemmas.Bool.{ltb-false}
 use Rattle.fabric_map.specs.Walked.{onward}
-use Rattle.fabric_map.specs.Routes.{Registers}
+use Rattle.fabric_map.specs.Routes.{AllRegisters}
 use Rattle.host_enumerate.specs.Underway.{IsUnderway}
 use Rattle.host_enumerate.proofs.Meeting.{IsMember}
 use Rattle.contest_machine.specs.declared.stages.Tried.{Tried}
@@ -31,7 +31,7 @@ IsHereAt w Free = Unit {0}
 IsHereAt w Done = Unit {0}
 IsHereAt w Lost = Unit {0}
 
-pub record IsAlong (w : Walker) (now : Registers) : Type 0 where
+pub record IsAlong (w : Walker) (now : AllRegisters) : Type 0 where
   pub way : IsOnWay w now
   pub host : IsMember w.view w.devices w.view.host
   pub chained : AreChained w.view w.devices w.tried
@@ -68,7 +68,7 @@ first_of path (x ∷ front) port is = (x, onward front port, is)
 -- ---- a walker that goes on
 
 -- the walker as it stands, on its way past the port that is tried, goes on
-pub gone_along : (w : Walker) (before seen now : Registers)
+pub gone_along : (w : Walker) (before seen now : AllRegisters)
     → IsMember w.view w.devices w.view.host
     → ((node : ℕ) → seen node ≡ performed w.view now w.todo node)
     → (tried : List Tried) → AreChained w.view w.devices tried

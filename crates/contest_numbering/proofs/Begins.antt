@@ -3,10 +3,10 @@ use Rattle.std.proofs.Common.{◌≡◌, ◌≢◌, ℕ, ◌*◌, ◌<◌, Bool,
 use Rattle.std.proofs.lemmas.Bool.{cases_eq}
 use Rattle.std.proofs.lemmas.Option.{same_Some}
 use Rattle.fabric_script.specs.Ports.{port_at}
-use Rattle.maint_registers.specs.Devices as registers
+use Rattle.maint_registers.specs.Devices.{Registers}
 use Rattle.fabric_map.specs.declared.map.Kind.TheVariants.{Endpoint}
 use Rattle.fabric_map.specs.Topology.{Topology, IsTopology}
-use Rattle.fabric_map.specs.Routes.{Registers}
+use Rattle.fabric_map.specs.Routes.{AllRegisters}
 use Rattle.fabric_map.specs.Fitting.{Fits}
 use Rattle.fabric_map.proofs.Lists.{Contains-first}
 use Rattle.host_enumerate.specs.declared.maint.Access.TheVariants.{Write}
@@ -46,11 +46,11 @@ starter view id begun stage todo = record {
 }
 
 -- no device that bears its ID has a tag, its host's aside
-abbrev pub AreOthersUntagged : Topology → Registers → ℕ → Type 0
+abbrev pub AreOthersUntagged : Topology → AllRegisters → ℕ → Type 0
 AreOthersUntagged view now id = (node : ℕ) → node < view.nodes → node ≢ view.host
     → (now node).lock ≡ id → (now node).tag ≡ 0
 
-abbrev pub StartKnows : Walker → Registers → Stage → Type 0
+abbrev pub StartKnows : Walker → AllRegisters → Stage → Type 0
 StartKnows w now Ask = (w.todo ≡ []) × AreOwnUntagged w.view now w.id
 StartKnows w now Claim = (w.todo ≡ []) × AreOwnUntagged w.view now w.id
 StartKnows w now Check = (w.todo ≡ []) × AreOthersUntagged w.view now w.id
@@ -62,19 +62,19 @@ StartKnows w now Free = ⊥
 StartKnows w now Done = ⊥
 StartKnows w now Lost = ⊥
 
-pub record IsStarting (w : Walker) (now : Registers) : Type 0 where
+pub record IsStarting (w : Walker) (now : AllRegisters) : Type 0 where
   pub is : w ≡ starter w.view w.id w.begun w.stage w.todo
   pub knows : StartKnows w now w.stage
 
-module _ (view : Topology) (id : ℕ) (begun : Bool) (now : Registers) (proper : IsTopology view)
+module _ (view : Topology) (id : ℕ) (begun : Bool) (now : AllRegisters) (proper : IsTopology view)
     (shown : Fits view now) (fits : id < 0xff) where
   abbrev host : ℕ
   host = view.host
 
-  abbrev was : ℕ → registers.Device
+  abbrev was : ℕ → Registers
   was lock = record (now view.host) { base_id = id; lock = lock }
 
-  abbrev before_it : ℕ → Registers
+  abbrev before_it : ℕ → AllRegisters
   before_it lock = registers_with now view.host (was lock)
 
   at_host : (lock : ℕ) → before_it lock view.host ≡ was lock
@@ -109,7 +109,7 @@ module _ (view : Topology) (id : ℕ) (begun : Bool) (now : Registers) (proper :
     seen = before_it lock;
     underway = record {
       proper = proper;
-      id = ap (λ (d : registers.Device). d.base_id) (at_host lock);
+      id = ap (λ (d : Registers). d.base_id) (at_host lock);
       host_has_id = fits;
       untagged = λ node inside own. untagged_at node inside own (cases_eq node view.host);
       walked = begins view;
@@ -149,13 +149,13 @@ module _ (view : Topology) (id : ℕ) (begun : Bool) (now : Registers) (proper :
           → (node ≡ view.host) ⊎ (node ≢ view.host) → (before_it lock node).tag ≡ 0
       untagged_at node inside own (inl same) =
           ap (λ n. (before_it lock n).tag) same
-          ∙ (ap (λ (d : registers.Device). d.tag) (at_host lock)
-          ∙ own_tag takable (ap (λ (d : registers.Device). d.lock) (sym (at_host lock))
+          ∙ (ap (λ (d : Registers). d.tag) (at_host lock)
+          ∙ own_tag takable (ap (λ (d : Registers). d.lock) (sym (at_host lock))
           ∙ (ap (λ n. (before_it lock n).lock) (sym same) ∙ own)))
       untagged_at node inside own (inr apart) =
-          ap (λ (d : registers.Device). d.tag) (beside lock node apart)
+          ap (λ (d : Registers). d.tag) (beside lock node apart)
           ∙ untagged node inside apart
-          (ap (λ (d : registers.Device). d.lock) (sym (beside lock node apart)) ∙ own)
+          (ap (λ (d : Registers). d.lock) (sym (beside lock node apart)) ∙ own)
 
   -- the host has its marks: it is in the list, and its neighbour is tried next
   pub host_along : IsOnWay (starter view id begun Features []) now
@@ -165,7 +165,7 @@ module _ (view : Topology) (id : ℕ) (begun : Bool) (now : Registers) (proper :
       before = way.before;
       seen = now;
       underway = underway-host view way.before way.seen now id way.underway is_taken
-          (ap (λ (d : registers.Device). d.base_id) is.1)
+          (ap (λ (d : Registers). d.base_id) is.1)
           (λ node apart. sym (way.seen_is node
           (λ here. apart (sym (same_Some view.host node here)))));
       seen_is = λ node beside. refl;

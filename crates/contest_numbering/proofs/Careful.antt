@@ -3,12 +3,11 @@ use Rattle.std.proofs.Common.{◌≡◌, ◌≢◌, ℕ, ◌+◌, ◌*◌, ◌/�
 use Rattle.std.proofs.lemmas.Bool.{cases_eq}
 use Rattle.std.proofs.lemmas.Option.{same_Some}
 use Rattle.fabric_script.specs.declared.ports.PortRef.{PortRef}
-use Rattle.maint_registers.specs.Devices as registers
-use Rattle.maint_registers.specs.Devices.{IsDevice, is_switch}
+use Rattle.maint_registers.specs.Devices.{Registers, IsDevice, is_switch}
 use Rattle.fabric_map.specs.declared.map.Kind.TheVariants.{Endpoint}
 use Rattle.fabric_map.specs.declared.map.Device.{Device}
 use Rattle.fabric_map.specs.Topology.{Topology, entered}
-use Rattle.fabric_map.specs.Routes.{Registers}
+use Rattle.fabric_map.specs.Routes.{AllRegisters}
 use Rattle.host_enumerate.specs.declared.maint.Access.TheVariants.{Read, Write}
 use Rattle.host_enumerate.specs.Accesses.{answered, after_access}
 use Rattle.host_enumerate.specs.Underway.{id_after, met_as}
@@ -31,13 +30,13 @@ use Rattle.contest_numbering.proofs.Entries.{entry_left}
 use Rattle.contest_numbering.proofs.Pairing.{AreLinked, HeadOk, IsOrderly, starts_head, entry_orderly, one_orderly, orderly_append, routes_orderly, home_orderly, taken_orderly}
 
 module _ (dest : ℕ) (far : 62 < dest) (not_all : dest ≢ 255) where
-  abbrev pub IsCareful : Walker → Registers → Type 0
+  abbrev pub IsCareful : Walker → AllRegisters → Type 0
   IsCareful w now = AreLinked dest w.todo × HeadOk dest w.view now w.todo
 
-  orderly_is : (w : Walker) (now : Registers) → IsOrderly dest w.todo → IsCareful w now
+  orderly_is : (w : Walker) (now : AllRegisters) → IsOrderly dest w.todo → IsCareful w now
   orderly_is w now orderly = (orderly.0, starts_head dest w.view now w.todo orderly.1)
 
-  gone_careful : (w : Walker) (now : Registers) (tried : List Tried) → IsOrderly dest w.todo
+  gone_careful : (w : Walker) (now : AllRegisters) (tried : List Tried) → IsOrderly dest w.todo
       → IsCareful (gone_on w tried) now
   gone_careful w now tried orderly =
       gone_by (λ a. IsCareful a now) w tried (λ t some. orderly_is w now orderly)
@@ -46,7 +45,7 @@ module _ (dest : ℕ) (far : 62 < dest) (not_all : dest ≢ 255) where
   all_other : dest ≢ 255 % 0x400
   all_other e = not_all e
 
-  freeing_careful : (w : Walker) (now : Registers) (devices : List Device)
+  freeing_careful : (w : Walker) (now : AllRegisters) (devices : List Device)
       → IsCareful (freeing w devices) now
   freeing_careful w now [] = (tt, tt)
   freeing_careful w now (device ∷ rest) =
@@ -54,16 +53,16 @@ module _ (dest : ℕ) (far : 62 < dest) (not_all : dest ≢ 255) where
       (routes_orderly dest (device ∷ rest) (last_path (device ∷ rest)) 255 all_other)
 
   -- what an access leaves of the entry
-  abbrev pub LeavesEntry : Registers → Registers → Type 0
+  abbrev pub LeavesEntry : AllRegisters → AllRegisters → Type 0
   LeavesEntry old new = (node : ℕ) → entry_of (new node) dest ≡ entry_of (old node) dest
 
-  pub record IsKeeping (w : Walker) (old : Registers) (after : Walker) (new : Registers)
+  pub record IsKeeping (w : Walker) (old : AllRegisters) (after : Walker) (new : AllRegisters)
       : Type 0 where
     pub careful : IsCareful after new
     pub left : LeavesEntry old new
 
   -- a write at this port
-  pub left_by : (old : Registers) (at : PortRef) (offset value : ℕ)
+  pub left_by : (old : AllRegisters) (at : PortRef) (offset value : ℕ)
       → (offset ≡ 0x74 → is_switch (old at.node) ≡ true → dest ≢ (old at.node).select)
       → LeavesEntry old (after_access old at (Write offset value))
   left_by old at offset value apart node = go (cases_eq node at.node)
@@ -78,7 +77,7 @@ module _ (dest : ℕ) (far : 62 < dest) (not_all : dest ≢ 255) where
           ∙ ap (λ n. entry_of (old n) dest) (sym same)))
       go (inr other) = ap (λ d. entry_of d dest) (with_device-other old at.node node _ other)
 
-  module _ (w : Walker) (old : Registers) (fits : w.id < 0xff) (own : dest ≢ w.id) where
+  module _ (w : Walker) (old : AllRegisters) (fits : w.id < 0xff) (own : dest ≢ w.id) where
     abbrev between : Stage → Walker
     between stage = record w { todo = []; stage = stage }
 
@@ -228,7 +227,7 @@ module _ (dest : ℕ) (far : 62 < dest) (not_all : dest ≢ 255) where
     stage_keeping Lost small = record { careful = (tt, tt); left = λ node. refl }
 
   -- what is written next was selected
-  pub head_after : (view : Topology) (old : Registers) (p : Pending) (rest : List Pending)
+  pub head_after : (view : Topology) (old : AllRegisters) (p : Pending) (rest : List Pending)
       (at : PortRef) → entered view p.path ≡ Some at → AreLinked dest (p ∷ rest)
       → HeadOk dest view (after_access old at (Write p.offset p.value)) rest
   head_after view old p [] at enters linked = tt
@@ -236,10 +235,10 @@ module _ (dest : ℕ) (far : 62 < dest) (not_all : dest ≢ 255) where
       let pair = linked.1 is in
       let same : to ≡ at =
       same_Some to at (sym leads ∙ (ap (λ l. entered view l) (sym pair.1) ∙ enters)) in
-      subst (λ (d : registers.Device). dest ≢ d.select)
+      subst (λ (d : Registers). dest ≢ d.select)
       (sym (ap (λ (r : PortRef). after_access old at (Write p.offset p.value) r.node) same
       ∙ with_device-at old at.node _))
-      (selected pair.0 (subst (λ (d : registers.Device). is_switch d ≡ true)
+      (selected pair.0 (subst (λ (d : Registers). is_switch d ≡ true)
       (ap (λ (r : PortRef). after_access old at (Write p.offset p.value) r.node) same
       ∙ with_device-at old at.node _) switch))
     where

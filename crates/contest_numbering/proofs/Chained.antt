@@ -6,7 +6,7 @@ use Rattle.fabric_script.specs.Ports.{port_at}
 use Rattle.fabric_map.specs.declared.map.Device.{Device}
 use Rattle.fabric_map.specs.Topology.{Topology, entered}
 use Rattle.fabric_map.specs.Walked.{onward, after_all_paths}
-use Rattle.fabric_map.specs.Routes.{Registers}
+use Rattle.fabric_map.specs.Routes.{AllRegisters}
 use Rattle.fabric_map.specs.Numbered.{paths_of}
 use Rattle.fabric_map.proofs.Steps.{closes}
 use Rattle.fabric_map.proofs.Leading.{onward_is_followed}
@@ -45,7 +45,7 @@ abbrev pub past_top : List Tried → List ℕ
 past_top [] = after_all_paths
 past_top (top ∷ rest) = onward top.path (top.port + 1)
 
-module _ (view : Topology) (before seen : Registers) (id next : ℕ) (devices : List Device) where
+module _ (view : Topology) (before seen : AllRegisters) (id next : ℕ) (devices : List Device) where
   abbrev On : List ℕ → Type 0
   On bound = IsUnderway view before seen id devices next bound
 

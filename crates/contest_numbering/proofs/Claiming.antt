@@ -3,11 +3,11 @@ use Rattle.std.proofs.Common.{◌≡◌, ◌≢◌, ℕ, ◌+◌, ◌%◌, ◌<�
 use Rattle.std.proofs.lemmas.Bool.{cases_eq}
 use Rattle.std.proofs.lemmas.List.Elements.{Contains-append_left}
 use Rattle.fabric_script.specs.declared.ports.PortRef.{PortRef}
-use Rattle.maint_registers.specs.Devices as registers
+use Rattle.maint_registers.specs.Devices.{Registers}
 use Rattle.maint_registers.specs.Access.{locked}
 use Rattle.maint_registers.proofs.AccessLaws.{tag-written}
 use Rattle.fabric_map.specs.Topology.{entered, node_at}
-use Rattle.fabric_map.specs.Routes.{Registers}
+use Rattle.fabric_map.specs.Routes.{AllRegisters}
 use Rattle.fabric_map.specs.Numbered.{paths_of}
 use Rattle.fabric_map.proofs.Growing.{path_listed, node_at-entered}
 use Rattle.host_enumerate.specs.declared.maint.Access.TheVariants.{Write}
@@ -27,7 +27,7 @@ use Rattle.contest_machine.proofs.Reading.{lock_left, locked-free, locked-other}
 use Rattle.contest_numbering.proofs.OnWays.{with_lock}
 use Rattle.contest_numbering.proofs.Settling.{device_after, performed-one}
 
-module _ (w : Walker) (old : Registers) (fits : w.id < 0xff) (at : PortRef)
+module _ (w : Walker) (old : AllRegisters) (fits : w.id < 0xff) (at : PortRef)
     (enters : entered w.view w.path ≡ Some at) where
   leads_here : node_at w.view w.path ≡ Some at.node
   leads_here = node_at-entered w.view w.path at enters
@@ -57,7 +57,7 @@ module _ (w : Walker) (old : Registers) (fits : w.id < 0xff) (at : PortRef)
         (cases_eq (old at.node).lock 0xffff);
   }
     where
-      new : Registers
+      new : AllRegisters
       new = after_access old at (Write 0x68 w.id)
 
       other : (old at.node).lock ≢ w.id
@@ -86,12 +86,12 @@ module _ (w : Walker) (old : Registers) (fits : w.id < 0xff) (at : PortRef)
           let lock = locked-free (old at.node).lock w.id free fits in
           let whole : new node ≡ with_lock w.id (old at.node) =
           ap (λ n. new n) same ∙ (left ∙ ap (λ n. with_lock n (old at.node)) lock) in (
-            inl (ap (λ (d : registers.Device). d.lock) is ∙ free),
+            inl (ap (λ (d : Registers). d.lock) is ∙ free),
             whole ∙ ap (with_lock w.id) (sym is),
           )
       won node same held (inr taken) =
           absurd (other (sym (locked-other (old at.node).lock w.id taken other fits)
-          ∙ (ap (λ (d : registers.Device). d.lock) (sym left)
+          ∙ (ap (λ (d : Registers). d.lock) (sym left)
           ∙ (ap (λ n. (new n).lock) (sym same) ∙ held))))
 
       hosted : IsMember w.view w.devices w.view.host ⊎ ⊥
@@ -100,7 +100,7 @@ module _ (w : Walker) (old : Registers) (fits : w.id < 0xff) (at : PortRef)
       hosted (inr none) = absurd none
 
   -- A device other than the host is kept, and is given its tag next.
-  pub keep_on_way : (stage : Stage) (before seen : Registers) (first : ℕ) (rest : List ℕ)
+  pub keep_on_way : (stage : Stage) (before seen : AllRegisters) (first : ℕ) (rest : List ℕ)
       → w.path ≡ first ∷ rest
       → IsUnderway w.view before seen w.id w.devices w.next w.path
       → ((node : ℕ) → ¬ IsAtPath w node → seen node ≡ old node)
@@ -131,7 +131,7 @@ module _ (w : Walker) (old : Registers) (fits : w.id < 0xff) (at : PortRef)
         );
   }
     where
-      with_tag : ℕ → registers.Device → registers.Device
+      with_tag : ℕ → Registers → Registers
       with_tag n device = record device { tag = n }
 
       one : List Pending

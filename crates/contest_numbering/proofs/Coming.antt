@@ -4,11 +4,10 @@ use Rattle.std.proofs.lemmas.Bool.{eqb-true, eqb-false}
 use Rattle.std.proofs.lemmas.Option.{same_Some}
 use Rattle.fabric_script.specs.declared.ports.PortRef.{PortRef}
 use Rattle.fabric_script.specs.Ports.{port_at}
-use Rattle.maint_registers.specs.Devices as registers
-use Rattle.maint_registers.specs.Devices.{IsDevice, is_switch}
+use Rattle.maint_registers.specs.Devices.{Registers, IsDevice, is_switch}
 use Rattle.fabric_map.specs.declared.map.Device.{Device}
 use Rattle.fabric_map.specs.Topology.{IsTopology, along, entered}
-use Rattle.fabric_map.specs.Routes.{Registers}
+use Rattle.fabric_map.specs.Routes.{AllRegisters}
 use Rattle.fabric_map.specs.Fitting.{Fits}
 use Rattle.fabric_map.proofs.Growing.{node_at-entered}
 use Rattle.host_enumerate.specs.declared.maint.Access.TheVariants.{Read, Write}
@@ -47,7 +46,7 @@ IsOver Free = Unit {0}
 IsOver Done = ⊥
 IsOver Lost = Unit {0}
 
-abbrev pub IsComing : Walker → Registers → Type 0
+abbrev pub IsComing : Walker → AllRegisters → Type 0
 IsComing w now = IsOver w.stage ⊎ (IsStarting w now ⊎ IsAlong w now)
 
 pub freeing_over : (w : Walker) (devices : List Device) → IsOver (freeing w devices).stage
@@ -57,7 +56,7 @@ freeing_over w (device ∷ rest) = tt
 same_lock : (lock : ℕ) (o : Option PortRef) (p q : PortRef) → o ≡ Some p → o ≡ Some q → p ≡ q
 same_lock lock o p q one two = same_Some p q (sym one ∙ two)
 
-endpoint_told : (device : registers.Device) (port : ℕ)
+endpoint_told : (device : Registers) (port : ℕ)
     → eqb ((answered device port (Read 0x10)).answer.value / 0x10000000 % 2) 1 ≡ false
     → is_switch device ≡ false
 endpoint_told device port bit = go (is_switch device) refl
@@ -70,7 +69,7 @@ endpoint_told device port bit = go (is_switch device) refl
         absurd (eqb-false ((answered device port (Read 0x10)).answer.value / 0x10000000 % 2) 1 bit
         (ap (λ n. n / 0x10000000 % 2) value))
 
-module _ (w : Walker) (old : Registers) (fits : w.id < 0xff) (proper : IsTopology w.view)
+module _ (w : Walker) (old : AllRegisters) (fits : w.id < 0xff) (proper : IsTopology w.view)
     (shown : Fits w.view old) where
   abbrev between : Stage → Walker
   between stage = record w { todo = []; stage = stage }
@@ -232,7 +231,7 @@ module _ (w : Walker) (old : Registers) (fits : w.id < 0xff) (proper : IsTopolog
   stage_along Lost few mine led along = inl tt
 
 -- a write of a walker that is along its way
-write_along : (w : Walker) (p : Pending) (rest : List Pending) (old : Registers) (at : PortRef)
+write_along : (w : Walker) (p : Pending) (rest : List Pending) (old : AllRegisters) (at : PortRef)
     (stage : Stage) (path : List ℕ)
     → IsMine (record w { todo = p ∷ rest; stage = stage; path = path }) old
     → entered w.view p.path ≡ Some at
@@ -286,7 +285,8 @@ write_along w p rest old at stage path mine enters along = go rest stage path mi
     go [] Lost path mine along = one [] Lost path mine along tt
 
 -- one access of such a walker
-pub step_along : (w : Walker) (old : Registers) → w.id < 0xff → IsTopology w.view → Fits w.view old
+pub step_along : (w : Walker) (old : AllRegisters) → w.id < 0xff → IsTopology w.view
+    → Fits w.view old
     → (w.stage ≡ Features → w.next ≤ 65) → IsMine w old → IsLed w → IsAlong w old
     → IsComing (stepped w old).walker (stepped w old).registers
 step_along w old fits proper shown few mine led along =

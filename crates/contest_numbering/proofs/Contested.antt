@@ -8,7 +8,7 @@ use Rattle.fabric_map.specs.declared.map.Kind.TheVariants.{Endpoint, Switch}
 use Rattle.fabric_map.specs.declared.map.Device.{Device}
 use Rattle.fabric_map.specs.Topology.{along, entered, node_at}
 use Rattle.fabric_map.specs.Walked.{Before, Walked}
-use Rattle.fabric_map.specs.Routes.{Registers}
+use Rattle.fabric_map.specs.Routes.{AllRegisters}
 use Rattle.fabric_map.specs.Numbered.{paths_of}
 use Rattle.fabric_map.proofs.Growing.{device_on, described-listed}
 use Rattle.fabric_map.proofs.Lists.{Contains-first}
@@ -39,7 +39,7 @@ use Rattle.contest_numbering.proofs.Careful.{IsCareful, IsKeeping, left_by, stag
 
 -- ---- the ID that is given is below 63
 
-module _ (w : Walker) (now : Registers) (along : IsAlong (at_stage w Features) now)
+module _ (w : Walker) (now : AllRegisters) (along : IsAlong (at_stage w Features) now)
     (mine : IsMine (at_stage w Features) now) (few : length w.devices + 1 ≤ 64) where
   -- if the port is that of a switch, fewer IDs are given than devices are met
   below_switch : (tried : List Tried) → AreChained w.view w.devices tried → tried ≢ []
@@ -109,7 +109,7 @@ module _ (w : Walker) (now : Registers) (along : IsAlong (at_stage w Features) n
           let less = below_switch (top ∷ rest) chained (λ e. cc) in
           omega (arith, most, less, few)
 
-small_at : (w : Walker) (now : Registers) → WalkerIsWithin (at_stage w Features)
+small_at : (w : Walker) (now : AllRegisters) → WalkerIsWithin (at_stage w Features)
     → IsMine (at_stage w Features) now → IsLed (at_stage w Features)
     → IsComing (at_stage w Features) now → id_after w.id w.next < 63
 small_at w now within mine led (inl over) = absurd over
@@ -123,7 +123,7 @@ small_at w now within mine led (inr (inr along)) =
 -- ---- one access
 
 module _ (dest : ℕ) (far : 62 < dest) (not_all : dest ≢ 255) where
-  write_keeping : (w : Walker) (p : Pending) (rest : List Pending) (old : Registers)
+  write_keeping : (w : Walker) (p : Pending) (rest : List Pending) (old : AllRegisters)
       (at : PortRef) (stage : Stage) (path : List ℕ) → entered w.view p.path ≡ Some at
       → IsCareful dest far not_all (record w { todo = p ∷ rest; stage = stage; path = path }) old
       → IsKeeping dest far not_all w old
@@ -162,7 +162,8 @@ module _ (dest : ℕ) (far : 62 < dest) (not_all : dest ≢ 255) where
       go [] Done path careful = (tt, tt)
       go [] Lost path careful = (tt, tt)
 
-  pub step_keeping : (w : Walker) (old : Registers) → w.id < 0xff → dest ≢ w.id → WalkerIsWithin w
+  pub step_keeping : (w : Walker) (old : AllRegisters) → w.id < 0xff → dest ≢ w.id
+      → WalkerIsWithin w
       → IsMine w old → IsLed w → IsComing w old → IsCareful dest far not_all w old
       → IsKeeping dest far not_all w old (stepped w old).walker (stepped w old).registers
   step_keeping w old fits own within mine led coming careful =
@@ -182,7 +183,7 @@ module _ (dest : ℕ) (far : 62 < dest) (not_all : dest ≢ 255) where
           keeping (stage_keeping dest far not_all (record w { path = path }) old fits own stage
           (small stage within mine led coming))
         where
-          keeping : {a : Walker} {n : Registers}
+          keeping : {a : Walker} {n : AllRegisters}
               → IsKeeping dest far not_all (record w { path = path }) old a n
               → IsKeeping dest far not_all w old a n
           keeping k = record { careful = k.careful; left = k.left }

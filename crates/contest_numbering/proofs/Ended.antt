@@ -3,7 +3,7 @@ use Rattle.std.proofs.Common.{◌≡◌, ℕ, [], subst, sym, ap, ◌∙◌}
 use mathlib.Core.Path.{fun_ext}
 use Rattle.fabric_map.specs.Topology.{IsReached}
 use Rattle.fabric_map.specs.Walked.{after_all_paths}
-use Rattle.fabric_map.specs.Routes.{Registers}
+use Rattle.fabric_map.specs.Routes.{AllRegisters}
 use Rattle.fabric_map.specs.Fitting.{Fits}
 use Rattle.fabric_map.specs.Numbered.{paths_of, entries_of, IsNumbered}
 use Rattle.fabric_map.proofs.Leading.{each_is_reached}
@@ -15,7 +15,7 @@ use Rattle.contest_machine.specs.Machine.{Walker, fresh}
 use Rattle.contest_machine.specs.Contest.{Keeps}
 use Rattle.contest_numbering.proofs.OnWay.{performed, bound_at, IsApart, IsOnWay}
 
-module _ (w : Walker) (now : Registers) (is : w.stage ≡ Done) (none : w.todo ≡ [])
+module _ (w : Walker) (now : AllRegisters) (is : w.stage ≡ Done) (none : w.todo ≡ [])
     (way : IsOnWay w now) where
   finished : IsUnderway w.view way.before way.seen w.id w.devices w.next after_all_paths
   finished =

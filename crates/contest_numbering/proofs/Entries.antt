@@ -5,7 +5,7 @@ use Rattle.std.proofs.lemmas.Bool.{eqb-true}
 use Rattle.std.proofs.lemmas.Option.{same_Some}
 use Rattle.maint_registers.specs.declared.registers.Kind.{Kind}
 use Rattle.maint_registers.specs.declared.registers.Kind.TheVariants as kinds
-use Rattle.maint_registers.specs.Devices.{Device, is_switch}
+use Rattle.maint_registers.specs.Devices.{Registers, is_switch}
 use Rattle.maint_registers.specs.Table.{Row, table, column, in_rows, status_port}
 use Rattle.maint_registers.specs.Access.{written_to, written_at}
 use Rattle.maint_registers.specs.Routes.{entry_of}
@@ -14,18 +14,18 @@ use Rattle.host_enumerate.specs.declared.maint.Access.TheVariants.{Write}
 use Rattle.host_enumerate.specs.Accesses.{after_write, answered}
 use Rattle.contest_numbering.proofs.Sound.{or_else, map_none}
 
-module _ (dest : ℕ) (device : Device) (offset value : ℕ)
+module _ (dest : ℕ) (device : Registers) (offset value : ℕ)
     (apart : offset ≡ 0x74 → is_switch device ≡ true → dest ≢ device.select) where
-  abbrev Leaves : Device → Type 0
+  abbrev Leaves : Registers → Type 0
   Leaves next = entry_of next dest ≡ entry_of device dest
 
-  abbrev Left : Option Device → Type 0
-  Left o = (next : Device) → o ≡ Some next → Leaves next
+  abbrev Left : Option Registers → Type 0
+  Left o = (next : Registers) → o ≡ Some next → Leaves next
 
   none_left : Left None
   none_left next is = absurd (cc)
 
-  one_left : (written : Device) → Leaves written → Left (Some written)
+  one_left : (written : Registers) → Leaves written → Left (Some written)
   one_left written leaves next is = subst Leaves (same_Some written next is) leaves
 
   -- what each row leaves, if it stands at this offset
@@ -113,7 +113,7 @@ module _ (dest : ℕ) (device : Device) (offset value : ℕ)
   pub entry_left : Leaves (answered device 0 (Write offset value)).device
   entry_left = go (written_at device offset value) refl
     where
-      go : (o : Option Device) → written_at device offset value ≡ o
+      go : (o : Option Registers) → written_at device offset value ≡ o
           → Leaves (after_write device o).device
       go None is = refl
       go (Some next) is =

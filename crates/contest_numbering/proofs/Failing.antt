@@ -1,9 +1,9 @@
 -- A claim that was not won, and a device that bore the walker's ID from the first.
 use Rattle.std.proofs.Common.{◌≡◌, ◌≢◌, ℕ, ◌<◌, List, ◌∷◌, Some, ◌⊎◌, inl, inr, sym, ap, ◌∙◌}
 use Rattle.fabric_script.specs.declared.ports.PortRef.{PortRef}
-use Rattle.maint_registers.specs.Devices as registers
+use Rattle.maint_registers.specs.Devices.{Registers}
 use Rattle.fabric_map.specs.Topology.{entered}
-use Rattle.fabric_map.specs.Routes.{Registers}
+use Rattle.fabric_map.specs.Routes.{AllRegisters}
 use Rattle.host_enumerate.specs.Underway.{IsUnmet}
 use Rattle.host_enumerate.proofs.Meeting.{IsMember, unmet-untagged}
 use Rattle.contest_machine.specs.declared.stages.Stage.TheVariants.{Ask, Check, Test}
@@ -14,7 +14,7 @@ use Rattle.contest_machine.proofs.Stepped.{at_stage, one_node}
 use Rattle.contest_numbering.proofs.OnWays.{with_lock, at_path_or_not, underway-stays, mixed_is}
 use Rattle.contest_numbering.proofs.Claiming.{keep_on_way}
 
-module _ (w : Walker) (now : Registers) (fits : w.id < 0xff) (at : PortRef)
+module _ (w : Walker) (now : AllRegisters) (fits : w.id < 0xff) (at : PortRef)
     (enters : entered w.view w.path ≡ Some at) where
   -- The lock is not the walker's: the device is one among others again.
   pub lost_on_way : IsOnWay (at_stage w Check) now → (now at.node).lock ≢ w.id
@@ -54,14 +54,14 @@ module _ (w : Walker) (now : Registers) (fits : w.id < 0xff) (at : PortRef)
       keep_on_way w now fits at enters Test way.before way.seen first rest whole way.underway
       (λ node beside. way.seen_is node (λ a. a)) unmet host
       (inr (
-        ap (λ (d : registers.Device). d.lock) was ∙ held,
-        ap (λ (d : registers.Device). d.tag) was ∙ none,
+        ap (λ (d : Registers). d.lock) was ∙ held,
+        ap (λ (d : Registers). d.tag) was ∙ none,
       ))
       (marked ∙ ap (with_lock w.id) (sym was))
     where
       unmet : IsUnmet w.view w.devices at.node
       unmet = unmet-untagged w.view way.before way.seen w.id w.next w.devices w.path way.underway
-          at.node (ap (λ (d : registers.Device). d.tag) (way.seen_is at.node (λ a. a)) ∙ none)
+          at.node (ap (λ (d : Registers). d.tag) (way.seen_is at.node (λ a. a)) ∙ none)
 
       was : way.before at.node ≡ now at.node
       was = sym (way.underway.others at.node unmet) ∙ way.seen_is at.node (λ a. a)

@@ -5,14 +5,13 @@ use Rattle.std.proofs.lemmas.Option.{same_Some}
 use Rattle.std.proofs.lemmas.List.Elements.{Contains-append_left, Contains-append_right}
 use Rattle.fabric_script.specs.declared.ports.PortRef.{PortRef}
 use Rattle.fabric_script.specs.Ports.{port_at}
-use Rattle.maint_registers.specs.Devices as registers
-use Rattle.maint_registers.specs.Devices.{IsDevice, is_switch}
+use Rattle.maint_registers.specs.Devices.{Registers, IsDevice, is_switch}
 use Rattle.maint_registers.proofs.AccessLaws.{port_information-read, status-read}
 use Rattle.fabric_map.specs.declared.map.Kind.TheVariants.{Switch}
 use Rattle.fabric_map.specs.declared.map.Device.{Device}
 use Rattle.fabric_map.specs.Topology.{IsTopology, entered, node_at}
 use Rattle.fabric_map.specs.Walked.{onward}
-use Rattle.fabric_map.specs.Routes.{Registers}
+use Rattle.fabric_map.specs.Routes.{AllRegisters}
 use Rattle.fabric_map.specs.Fitting.{Fits}
 use Rattle.fabric_map.specs.Numbered.{paths_of}
 use Rattle.fabric_map.proofs.Few.{entered-inside, entered-port}
@@ -38,7 +37,7 @@ use Rattle.contest_numbering.proofs.Moving.{chain_more, front_listed}
 
 -- ---- a switch is set up
 
-module _ (w : Walker) (now : Registers) (at : PortRef) (ports : ℕ)
+module _ (w : Walker) (now : AllRegisters) (at : PortRef) (ports : ℕ)
     (enters : entered w.view w.path ≡ Some at)
     (along : IsAlong (at_stage w Information) now) (fits : Fits w.view now)
     (switch : w.view.switch_ports at.node ≡ Some ports) where
@@ -150,7 +149,7 @@ module _ (w : Walker) (now : Registers) (at : PortRef) (ports : ℕ)
 
 -- ---- the status of a port
 
-module _ (w : Walker) (now : Registers) (top : Tried) (rest : List Tried) (at : PortRef)
+module _ (w : Walker) (now : AllRegisters) (top : Tried) (rest : List Tried) (at : PortRef)
     (enters : entered w.view top.path ≡ Some at)
     (along : IsAlong (record w { todo = []; stage = Status; tried = top ∷ rest }) now)
     (fits : Fits w.view now) where
@@ -221,7 +220,7 @@ module _ (w : Walker) (now : Registers) (top : Tried) (rest : List Tried) (at : 
       ∙ ap (λ d. with_entry d 255 top.port) (sym (along.way.seen_is at.node (λ a. a))))
       ∙ go (cases_eq node at.node))
     where
-      d : registers.Device
+      d : Registers
       d = with_entry (along.way.seen at.node) 255 top.port
 
       go : (node ≡ at.node) ⊎ (node ≢ at.node)

@@ -3,10 +3,9 @@ use Rattle.std.proofs.Common.{◌≡◌, ◌≢◌, ℕ, ◌≤◌, ◌<◌, nat
 use Rattle.std.proofs.lemmas.Bool.{cases_eq, eqb-true, eqb-false}
 use Rattle.fabric_script.specs.declared.ports.PortRef.{PortRef}
 use Rattle.fabric_script.specs.Ports.{port_at}
-use Rattle.maint_registers.specs.Devices as registers
-use Rattle.maint_registers.specs.Devices.{IsDevice, is_switch}
+use Rattle.maint_registers.specs.Devices.{Registers, IsDevice, is_switch}
 use Rattle.fabric_map.specs.Topology.{Topology, IsTopology, along, entered}
-use Rattle.fabric_map.specs.Routes.{Registers}
+use Rattle.fabric_map.specs.Routes.{AllRegisters}
 use Rattle.fabric_map.specs.Fitting.{Fits}
 use Rattle.host_enumerate.specs.declared.maint.Access.TheVariants.{Write}
 use Rattle.host_enumerate.specs.Accesses.{answered, after_access}
@@ -31,7 +30,7 @@ use Rattle.contest_numbering.proofs.Coming.{IsOver, IsComing, freeing_over, reac
 
 -- ---- a walker that is over
 
-over_at : (w : Walker) (old : Registers) (o : Option PortRef) (ask : Asked)
+over_at : (w : Walker) (old : AllRegisters) (o : Option PortRef) (ask : Asked)
     → IsOver w.stage
     → ((at : PortRef) → IsOver (walker_told w
     (answered (old at.node) at.port ask.access).answer.value).stage)
@@ -54,7 +53,7 @@ settled_over w rest Information path over = absurd over
 settled_over w rest Status path over = absurd over
 settled_over w rest Done path over = absurd over
 
-step_over : (w : Walker) (old : Registers) → IsOver w.stage → IsOver (stepped w old).walker.stage
+step_over : (w : Walker) (old : AllRegisters) → IsOver w.stage → IsOver (stepped w old).walker.stage
 step_over w old over = go w.todo w.stage over
   where
     stages : (stage : Stage) → IsOver stage
@@ -83,7 +82,7 @@ step_over w old over = go w.todo w.stage over
 
 -- ---- a walker that has its host to take in
 
-module _ (view : Topology) (id : ℕ) (begun : Bool) (old : Registers) (fits : id < 0xff)
+module _ (view : Topology) (id : ℕ) (begun : Bool) (old : AllRegisters) (fits : id < 0xff)
     (proper : IsTopology view) (shown : Fits view old) where
   abbrev first : Stage → Walker
   first stage = starter view id begun stage []
@@ -167,8 +166,8 @@ module _ (view : Topology) (id : ℕ) (begun : Bool) (old : Registers) (fits : i
       others node inside apart own =
           let same = with_device-other old view.host node
           (answered (old view.host) 0 (Write 0x68 id)).device apart in
-          ap (λ (d : registers.Device). d.tag) same
-          ∙ untagged node inside (ap (λ (d : registers.Device). d.lock) (sym same) ∙ own)
+          ap (λ (d : Registers). d.tag) same
+          ∙ untagged node inside (ap (λ (d : Registers). d.lock) (sym same) ∙ own)
 
   -- a write of its marks
   mark_first : (p : Pending) (rest : List Pending) (to : PortRef) → entered view p.path ≡ Some to
@@ -233,7 +232,7 @@ module _ (view : Topology) (id : ℕ) (begun : Bool) (old : Registers) (fits : i
   step_first Lost todo knows mine led = absurd knows
 
 -- one access of a walker that has its host to take in
-pub step_starting : (w : Walker) (old : Registers) → w.id < 0xff → IsTopology w.view
+pub step_starting : (w : Walker) (old : AllRegisters) → w.id < 0xff → IsTopology w.view
     → Fits w.view old → IsMine w old → IsLed w → IsStarting w old
     → IsComing (stepped w old).walker (stepped w old).registers
 step_starting w old fits proper shown mine led starting =
@@ -254,7 +253,7 @@ step_starting w old fits proper shown mine led starting =
     go stage todo knows mine led back =
         back (step_first w.view w.id w.begun old fits proper shown stage todo knows mine led)
 
-pub step_coming : (w : Walker) (old : Registers) → w.id < 0xff → IsTopology w.view
+pub step_coming : (w : Walker) (old : AllRegisters) → w.id < 0xff → IsTopology w.view
     → Fits w.view old → (w.stage ≡ Features → w.next ≤ 65) → IsMine w old → IsLed w
     → IsComing w old
     → IsComing (stepped w old).walker (stepped w old).registers
@@ -266,7 +265,7 @@ step_coming w old fits proper shown few mine led (inr (inr along)) =
 
 -- ---- a turn of the other
 
-module _ (w o after : Walker) (old new : Registers) (turn : IsTurn o after old new)
+module _ (w o after : Walker) (old new : AllRegisters) (turn : IsTurn o after old new)
     (theirs : IsMine o old) (mine : IsMine w old) (differ : o.id ≢ w.id) (fits : w.id < 0xff)
   where
     same_of : (node : ℕ) → (new node).lock ≡ w.id → new node ≡ old node
@@ -275,14 +274,14 @@ module _ (w o after : Walker) (old new : Registers) (turn : IsTurn o after old n
     pub untagged_stays : AreOwnUntagged w.view old w.id → AreOwnUntagged w.view new w.id
     untagged_stays untagged node inside held =
         let same = same_of node held in
-        ap (λ (d : registers.Device). d.tag) same
-        ∙ untagged node inside (ap (λ (d : registers.Device). d.lock) (sym same) ∙ held)
+        ap (λ (d : Registers). d.tag) same
+        ∙ untagged node inside (ap (λ (d : Registers). d.lock) (sym same) ∙ held)
 
     others_stay : AreOthersUntagged w.view old w.id → AreOthersUntagged w.view new w.id
     others_stay untagged node inside apart held =
         let same = same_of node held in
-        ap (λ (d : registers.Device). d.tag) same
-        ∙ untagged node inside apart (ap (λ (d : registers.Device). d.lock) (sym same) ∙ held)
+        ap (λ (d : Registers). d.tag) same
+        ∙ untagged node inside apart (ap (λ (d : Registers). d.lock) (sym same) ∙ held)
 
     starting_stays : IsStarting w old → IsStarting w new
     starting_stays starting = record { is = starting.is; knows = go w.stage starting.knows }

@@ -2,14 +2,13 @@
 use Rattle.std.proofs.Common.{◌≡◌, ◌≢◌, ℕ, ◌+◌, ◌*◌, ◌<◌, true, false, List, [], ◌∷◌, ◌++◌, length, Some, None, Contains, arith, subst, sym, refl, ap, ◌∙◌}
 use Rattle.std.proofs.lemmas.Option.{same_Some}
 use Rattle.fabric_script.specs.declared.ports.PortRef.{PortRef}
-use Rattle.maint_registers.specs.Devices as registers
-use Rattle.maint_registers.specs.Devices.{is_switch}
+use Rattle.maint_registers.specs.Devices.{Registers, is_switch}
 use Rattle.maint_registers.proofs.AccessLaws.{base_id-written}
 use Rattle.fabric_map.specs.declared.map.Kind.TheVariants.{Endpoint}
 use Rattle.fabric_map.specs.declared.map.Device.{Device}
 use Rattle.fabric_map.specs.Topology.{entered, node_at}
 use Rattle.fabric_map.specs.Walked.{onward}
-use Rattle.fabric_map.specs.Routes.{Registers}
+use Rattle.fabric_map.specs.Routes.{AllRegisters}
 use Rattle.fabric_map.specs.Fitting.{Fits}
 use Rattle.fabric_map.specs.Locked.{IsNext}
 use Rattle.fabric_map.specs.Numbered.{paths_of}
@@ -30,7 +29,7 @@ use Rattle.contest_numbering.proofs.OnWay.{one_performed, performed, taken_as, I
 use Rattle.contest_machine.proofs.Stepped.{at_stage}
 use Rattle.contest_numbering.proofs.Routed.{routes_are_routed}
 
-module _ (w : Walker) (now : Registers) (at : PortRef) (first : ℕ) (rest : List ℕ)
+module _ (w : Walker) (now : AllRegisters) (at : PortRef) (first : ℕ) (rest : List ℕ)
     (whole : w.path ≡ first ∷ rest)
     (way : IsOnWay (at_stage w Features) now) (fits : Fits w.view way.seen)
     (enters : entered w.view (first ∷ rest) ≡ Some at)
@@ -41,7 +40,7 @@ module _ (w : Walker) (now : Registers) (at : PortRef) (first : ℕ) (rest : Lis
     (few : id_after w.id w.next < 256)
     (host_kind : (device : Device) → Contains w.devices device → device.path ≡ []
     → (given : ℕ) × (device.kind ≡ Endpoint given))
-    (switches : (mid : Registers) → ((node : ℕ) → node ≢ at.node → mid node ≡ now node)
+    (switches : (mid : AllRegisters) → ((node : ℕ) → node ≢ at.node → mid node ≡ now node)
     → (front later : List ℕ) (port : ℕ) (on : PortRef)
     → first ∷ rest ≡ front ++ port ∷ later → front ≢ [] → entered w.view front ≡ Some on
     → (is_switch (mid on.node) ≡ true) × (port < 256) × (on.node ≢ w.view.host)) where
@@ -51,13 +50,13 @@ module _ (w : Walker) (now : Registers) (at : PortRef) (first : ℕ) (rest : Lis
   abbrev todo : List Pending
   todo = write (first ∷ rest) 0x60 (id * 0x10000) ∷ routes_to w.devices (first ∷ rest) id
 
-  abbrev mid : Registers
+  abbrev mid : AllRegisters
   mid = after_access now at (Write 0x60 (id * 0x10000))
 
   beside : (node : ℕ) → node ≢ at.node → mid node ≡ now node
   beside node apart = with_device-other now at.node node _ apart
 
-  abbrev with_id : registers.Device → registers.Device
+  abbrev with_id : Registers → Registers
   with_id device = record device { base_id = id }
 
   numbered : mid at.node ≡ record (now at.node) { base_id = id }
@@ -119,7 +118,7 @@ module _ (w : Walker) (now : Registers) (at : PortRef) (first : ℕ) (rest : Lis
       w.devices at underway is_next enters (way.new at.node at_path) kind fits refl seen_beside
       (routes_are_routed w.view w.id id first rest w.devices mid at underway.walked
       underway.described once is_next enters host_kind few (switches mid beside)) taken
-      (ap (λ (d : registers.Device). d.base_id) numbered))
+      (ap (λ (d : Registers). d.base_id) numbered))
 
   -- and the port behind which it is is done
   pub endpoint_past : (path : List ℕ) (port : ℕ) → first ∷ rest ≡ onward path port

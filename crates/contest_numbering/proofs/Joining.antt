@@ -4,12 +4,12 @@ use Rattle.std.proofs.Common.{◌≡◌, ℕ, zero, suc, ◌+◌, ◌<◌, ◌==
 use Rattle.std.proofs.lemmas.Bool.{eqb-true}
 use Rattle.std.proofs.lemmas.List.Elements.{Contains-append_left, Contains-append_right}
 use Rattle.fabric_script.specs.declared.ports.PortRef.{PortRef}
-use Rattle.maint_registers.specs.Devices as registers
+use Rattle.maint_registers.specs.Devices.{Registers}
 use Rattle.fabric_map.specs.declared.map.Kind.TheVariants.{Switch}
 use Rattle.fabric_map.specs.declared.map.Device.{Device}
 use Rattle.fabric_map.specs.Topology.{entered}
 use Rattle.fabric_map.specs.Walked.{onward}
-use Rattle.fabric_map.specs.Routes.{Registers}
+use Rattle.fabric_map.specs.Routes.{AllRegisters}
 use Rattle.fabric_map.specs.Fitting.{Fits}
 use Rattle.fabric_map.specs.Locked.{IsNext}
 use Rattle.fabric_map.specs.Numbered.{paths_of}
@@ -53,7 +53,7 @@ at-home path host_id entry = (
       (at-cleared path host_id 63) (refl, (refl, tt)),
 )
 
-module _ (w : Walker) (now : Registers) (at : PortRef) (ports : ℕ)
+module _ (w : Walker) (now : AllRegisters) (at : PortRef) (ports : ℕ)
     (way : IsOnWay (at_stage w Information) now) (fits : Fits w.view now)
     (small : w.id < 255)
     (enters : entered w.view w.path ≡ Some at)
@@ -77,7 +77,7 @@ module _ (w : Walker) (now : Registers) (at : PortRef) (ports : ℕ)
         };
       })
     where
-      behind : (front : List ℕ) (by : ℕ) (device : registers.Device)
+      behind : (front : List ℕ) (by : ℕ) (device : Registers)
           → taken_as (onward front by) w.id (length w.devices + 1) device
           ≡ record device { lock = w.id; tag = length w.devices + 1 }
       behind [] by device = refl

@@ -4,7 +4,7 @@ use Rattle.fabric_script.specs.declared.ports.PortRef.{PortRef}
 use Rattle.maint_registers.specs.Devices.{is_switch}
 use Rattle.fabric_map.specs.declared.map.Device.{Device}
 use Rattle.fabric_map.specs.Topology.{Topology, entered, node_at}
-use Rattle.fabric_map.specs.Routes.{Registers}
+use Rattle.fabric_map.specs.Routes.{AllRegisters}
 use Rattle.fabric_map.specs.Ways.{IsOpened}
 use Rattle.fabric_map.specs.Numbered.{paths_of, toward}
 use Rattle.fabric_map.proofs.Growing.{path_listed, node_at-entered}
@@ -22,7 +22,7 @@ use Rattle.contest_numbering.proofs.Performing.{performed-beside}
 use Rattle.contest_numbering.proofs.Settling.{performed-one, after-entry}
 
 -- The way to a path stays open if the switches that it passes stay.
-pub opened-stays : (view : Topology) (old new : Registers) (host_id : ℕ) (path : List ℕ)
+pub opened-stays : (view : Topology) (old new : AllRegisters) (host_id : ℕ) (path : List ℕ)
     → ((first : ℕ) (front rest : List ℕ) (port : ℕ) (at : PortRef)
     → path ≡ first ∷ front ++ port ∷ rest → entered view (first ∷ front) ≡ Some at
     → new at.node ≡ old at.node)
@@ -37,7 +37,7 @@ opened-stays view old new host_id path stays opened = record {
   not_host = opened.not_host;
 }
 
-pub performed-append : (view : Topology) (now : Registers) (first second : List Pending)
+pub performed-append : (view : Topology) (now : AllRegisters) (first second : List Pending)
     → performed view now (first ++ second) ≡ performed view (performed view now first) second
 performed-append view now [] second = refl
 performed-append view now (p ∷ rest) second =
@@ -45,14 +45,14 @@ performed-append view now (p ∷ rest) second =
 
 module _ (view : Topology) (path : List ℕ) (id : ℕ) where
   -- a device that has none of these writes
-  pub routes-beside : (devices : List Device) (now : Registers) (node : ℕ)
+  pub routes-beside : (devices : List Device) (now : AllRegisters) (node : ℕ)
       → ¬ Leads view (paths_of devices) node
       → performed view now (routes_to devices path id) node ≡ now node
   routes-beside devices now node none =
       performed-beside view (paths_of devices) (routes_to devices path id) now
       (routes_own (paths_of devices) devices path id (λ p listed. listed)) node none
 
-  pub one-beside : (device : Device) (now : Registers) (node : ℕ)
+  pub one-beside : (device : Device) (now : AllRegisters) (node : ℕ)
       → node_at view device.path ≢ Some node
       → performed view now (route_pending path id device) node ≡ now node
   one-beside device now node other =
@@ -67,7 +67,7 @@ module _ (view : Topology) (path : List ℕ) (id : ℕ) where
 
   -- the device that has them
   pub routes-passed : (devices : List Device) (device : Device) (at : PortRef) (port : ℕ)
-      (now : Registers) → AreOnce view (paths_of devices) → Contains devices device
+      (now : AllRegisters) → AreOnce view (paths_of devices) → Contains devices device
       → entered view device.path ≡ Some at
       → route_pending path id device ≡ entry_set device.path id port
       → is_switch (now at.node) ≡ true → id < 256 → port < 256
@@ -80,14 +80,14 @@ module _ (view : Topology) (path : List ℕ) (id : ℕ) where
       ∙ go (Contains-cases first rest device listed)
       (λ now later. routes-passed rest device at port now once.1 later enters is)
     where
-      middle : Registers
+      middle : AllRegisters
       middle = performed view now (route_pending path id first)
 
       leads : node_at view device.path ≡ Some at.node
       leads = node_at-entered view device.path at enters
 
       go : (first ≡ device) ⊎ Contains rest device
-          → ((now : Registers) → Contains rest device → is_switch (now at.node) ≡ true → id < 256
+          → ((now : AllRegisters) → Contains rest device → is_switch (now at.node) ≡ true → id < 256
           → port < 256
           → performed view now (routes_to rest path id) at.node ≡ with_entry (now at.node) id port)
           → performed view middle (routes_to rest path id) at.node

@@ -3,7 +3,7 @@ use Rattle.std.proofs.Common.{◌≡◌, ℕ, List, [], ◌∷◌, Option, Some,
 use Rattle.fabric_script.specs.declared.ports.PortRef.{PortRef}
 use Rattle.maint_registers.proofs.SameLaws.{same_device}
 use Rattle.fabric_map.specs.Topology.{Topology, entered, IsReached}
-use Rattle.fabric_map.specs.Routes.{Registers}
+use Rattle.fabric_map.specs.Routes.{AllRegisters}
 use Rattle.fabric_map.proofs.Growing.{node_at-entered}
 use Rattle.host_enumerate.proofs.Frames.{with_device-other}
 use Rattle.link_watch.specs.declared.side.Side.{Side}
@@ -16,7 +16,7 @@ use Rattle.contest_law.specs.Locks.{state_of}
 use Rattle.contest_law.proofs.Lasting.{AreSameDevices, step_lasts, step_same}
 
 -- a device to which no path of a walker leads
-step_outside : (w : Walker) (old : Registers) (node : ℕ) → ¬ IsReached w.view node
+step_outside : (w : Walker) (old : AllRegisters) (node : ℕ) → ¬ IsReached w.view node
     → (stepped w old).registers node ≡ old node
 step_outside w old node apart = go (wants w)
   where
@@ -36,12 +36,12 @@ step_outside w old node apart = go (wants w)
     go (Some ask) = at ask (entered w.view ask.path) refl
 
 -- what an access of a walker with this view leaves
-record IsLeft (before : Registers) (view : Topology) (state : State) : Type 0 where
+record IsLeft (before : AllRegisters) (view : Topology) (state : State) : Type 0 where
   view_is : state.walker.view ≡ view
   outside : (node : ℕ) → ¬ IsReached view node → state.registers node ≡ before node
   same : AreSameDevices before state.registers
 
-step_left : (before : Registers) (view : Topology) (w : Walker) (old : Registers)
+step_left : (before : AllRegisters) (view : Topology) (w : Walker) (old : AllRegisters)
     → IsLeft before view (state_of w old) → IsLeft before view (stepped w old)
 step_left before view w old left = record {
   view_is = (step_lasts w old).view ∙ left.view_is;
@@ -51,7 +51,7 @@ step_left before view w old left = record {
   same = step_same before w old left.same;
 }
 
-turned_left : (w : Walker) (old : Registers) → IsLeft old w.view (walker_turned w old)
+turned_left : (w : Walker) (old : AllRegisters) → IsLeft old w.view (walker_turned w old)
 turned_left w old =
     turned_by (IsLeft old w.view) (step_left old w.view) w old start (record {
       view_is = refl;
@@ -78,7 +78,7 @@ record AreLeft (both after : Both) : Type 0 where
   second : after.second.view ≡ both.second.view
   leaves : LeavesDevices both after
 
-more_left : (before middle after : Registers) → AreSameDevices before middle
+more_left : (before middle after : AllRegisters) → AreSameDevices before middle
     → AreSameDevices middle after → AreSameDevices before after
 more_left before middle after one two node = record {
   kind = (two node).kind ∙ (one node).kind;

@@ -1,12 +1,11 @@
 -- Each access leaves a walker along its way.
 use Rattle.std.proofs.Common.{◌≡◌, ◌≢◌, ◌⊎◌, inl, inr, ℕ, ◌<◌, List, [], ◌∷◌, Some, Contains, refl, subst, sym, ap, ◌∙◌}
 use Rattle.fabric_script.specs.declared.ports.PortRef.{PortRef}
-use Rattle.maint_registers.specs.Devices as registers
-use Rattle.maint_registers.specs.Devices.{IsDevice, is_switch}
+use Rattle.maint_registers.specs.Devices.{Registers, IsDevice, is_switch}
 use Rattle.fabric_map.specs.declared.map.Device.{Device}
 use Rattle.fabric_map.specs.Topology.{Topology, along, entered}
 use Rattle.fabric_map.specs.Walked.{Before, IsMet, Walked}
-use Rattle.fabric_map.specs.Routes.{Registers}
+use Rattle.fabric_map.specs.Routes.{AllRegisters}
 use Rattle.fabric_map.specs.Numbered.{paths_of}
 use Rattle.fabric_map.proofs.Growing.{node_at-entered}
 use Rattle.host_enumerate.specs.declared.maint.Access.TheVariants.{Write}
@@ -54,7 +53,7 @@ front_listed view devices path [] chained walked here =
     walked.host_met (subst (Before []) (sym here) tt)
 front_listed view devices path (top ∷ rest) chained walked here = chained.0.listed
 
-module _ (w : Walker) (now : Registers) (fits : w.id < 0xff) where
+module _ (w : Walker) (now : AllRegisters) (fits : w.id < 0xff) where
   -- at another stage, with the same bound and the same devices apart
   restaged : (stage next : Stage)
       → bound_at (at_stage w next) next ≡ bound_at (at_stage w stage) stage
@@ -156,8 +155,8 @@ module _ (w : Walker) (now : Registers) (fits : w.id < 0xff) where
         (front_listed w.view w.devices w.path w.tried along.chained way.underway.walked along.here)
         (λ leads. subst (IsMet w.view (paths_of w.devices)) whole
         (met-tagged w.view way.before way.seen w.id w.next w.devices w.path way.underway at enters
-        (ap (λ (d : registers.Device). d.lock) is ∙ held)
-        (λ none. tagged (ap (λ (d : registers.Device). d.tag) (sym is) ∙ none))))))
+        (ap (λ (d : Registers). d.lock) is ∙ held)
+        (λ none. tagged (ap (λ (d : Registers). d.tag) (sym is) ∙ none))))))
 
     -- it is a switch
     pub information_along : IsAlong (at_stage w Features) now → IsAlong (at_stage w Information) now

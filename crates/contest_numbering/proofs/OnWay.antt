@@ -2,11 +2,11 @@
 use Rattle.std.specs.Prelude.{◌≡◌, ℕ, ◌+◌, ◌⊎◌, List, [], ◌∷◌, length, Contains, Option, Some, None}
 use Rattle.std.proofs.Common.{inl, inr}
 use Rattle.fabric_script.specs.declared.ports.PortRef.{PortRef}
-use Rattle.maint_registers.specs.Devices as registers
+use Rattle.maint_registers.specs.Devices.{Registers}
 use Rattle.fabric_map.specs.declared.map.Device.{Device}
 use Rattle.fabric_map.specs.Topology.{Topology, entered, node_at}
 use Rattle.fabric_map.specs.Walked.{onward, after_all_paths}
-use Rattle.fabric_map.specs.Routes.{Registers}
+use Rattle.fabric_map.specs.Routes.{AllRegisters}
 use Rattle.fabric_map.specs.Locked.{IsForeign}
 use Rattle.host_enumerate.specs.declared.maint.Access.TheVariants.{Write}
 use Rattle.host_enumerate.specs.Accesses.{after_access}
@@ -20,18 +20,18 @@ use Rattle.contest_machine.specs.Machine.{Walker}
 use Rattle.contest_machine.specs.Contest.{IsAtPath}
 
 -- what may be taken belongs to no other
-pub not_foreign : (id : ℕ) (device : registers.Device) → IsTakable id device
+pub not_foreign : (id : ℕ) (device : Registers) → IsTakable id device
     → ¬ IsForeign id device.lock
 not_foreign id device (inl free) foreign = foreign.0 free
 not_foreign id device (inr own) foreign = foreign.1 own.0
 
 -- the registers after one write to the device that a path enters
-abbrev pub one_performed : Registers → Pending → Option PortRef → Registers
+abbrev pub one_performed : AllRegisters → Pending → Option PortRef → AllRegisters
 one_performed now p None = now
 one_performed now p (Some at) = after_access now at (Write p.offset p.value)
 
 -- and after all
-abbrev pub performed : Topology → Registers → List Pending → Registers
+abbrev pub performed : Topology → AllRegisters → List Pending → AllRegisters
 performed view now [] = now
 performed view now (p ∷ rest) =
     performed view (one_performed now p (entered view p.path)) rest
@@ -68,11 +68,11 @@ IsApart w Done node = ⊥
 IsApart w Lost node = ⊥
 
 -- a device that is kept, as it was before, with the marks of its host
-abbrev pub taken_as : List ℕ → ℕ → ℕ → registers.Device → registers.Device
+abbrev pub taken_as : List ℕ → ℕ → ℕ → Registers → Registers
 taken_as [] id tag device = record device { base_id = id; lock = id; tag = tag }
 taken_as (port ∷ path) id tag device = record device { lock = id; tag = tag }
 
-abbrev pub IsTakenAs : Walker → Registers → Registers → Type 0
+abbrev pub IsTakenAs : Walker → AllRegisters → AllRegisters → Type 0
 IsTakenAs w before now = (node : ℕ) → IsAtPath w node
     → IsTakable w.id (before node)
     × (performed w.view now w.todo node
@@ -80,7 +80,7 @@ IsTakenAs w before now = (node : ℕ) → IsAtPath w node
 
 -- A device that was claimed is as it was before, if the claim was won, but for its lock; and one
 -- that is kept but not in the list, but for the marks of its host.
-abbrev pub IsFresh : Walker → Registers → Registers → Stage → Type 0
+abbrev pub IsFresh : Walker → AllRegisters → AllRegisters → Stage → Type 0
 IsFresh w before now Ask = Unit {0}
 IsFresh w before now Claim = Unit {0}
 IsFresh w before now Check = (node : ℕ) → IsAtPath w node → (now node).lock ≡ w.id
@@ -101,9 +101,9 @@ IsListed topology devices node =
 -- A walker has come so far. `before` are the registers of what it took in, as they were when it
 -- did, and of all else as they are. `seen` are those that its writes will make, but for the device
 -- that it is about to take in.
-pub record IsOnWay (w : Walker) (now : Registers) : Type 0 where
-  pub before : Registers
-  pub seen : Registers
+pub record IsOnWay (w : Walker) (now : AllRegisters) : Type 0 where
+  pub before : AllRegisters
+  pub seen : AllRegisters
   pub underway : IsUnderway w.view before seen w.id w.devices w.next (bound_at w w.stage)
   pub seen_is : (node : ℕ) → ¬ IsApart w w.stage node
       → seen node ≡ performed w.view now w.todo node

@@ -3,10 +3,10 @@ use Rattle.std.proofs.Common.{◌≡◌, ◌≢◌, ℕ, ◌+◌, ◌<◌, List,
 use Rattle.std.proofs.lemmas.Bool.{cases_eq}
 use Rattle.std.proofs.lemmas.List.Elements.{Contains-append_left, Contains-append_right}
 use Rattle.fabric_script.specs.declared.ports.PortRef.{PortRef}
-use Rattle.maint_registers.specs.Devices as registers
+use Rattle.maint_registers.specs.Devices.{Registers}
 use Rattle.fabric_map.specs.declared.map.Device.{Device}
 use Rattle.fabric_map.specs.Topology.{Topology, entered, node_at}
-use Rattle.fabric_map.specs.Routes.{Registers}
+use Rattle.fabric_map.specs.Routes.{AllRegisters}
 use Rattle.fabric_map.specs.Numbered.{paths_of}
 use Rattle.fabric_map.proofs.Growing.{path_listed}
 use Rattle.fabric_map.proofs.Lists.{Contains-first}
@@ -29,32 +29,32 @@ use Rattle.contest_numbering.proofs.Performing.{performed-agree, performed-besid
 
 -- A host stays underway, whatever happens to devices that it has not met, if none of them comes to
 -- bear its ID or is changed while it does.
-module _ (topology : Topology) (before seen : Registers) (host_id next : ℕ)
+module _ (topology : Topology) (before seen : AllRegisters) (host_id next : ℕ)
     (devices : List Device) (bound : List ℕ)
     (underway : IsUnderway topology before seen host_id devices next bound)
-    (new : Registers) (Apart : ℕ → Type 0) (decide : (node : ℕ) → Apart node ⊎ (¬ Apart node))
+    (new : AllRegisters) (Apart : ℕ → Type 0) (decide : (node : ℕ) → Apart node ⊎ (¬ Apart node))
     (unmet_apart : (node : ℕ) → Apart node → IsUnmet topology devices node)
     (met_stays : (node : ℕ) → IsMember topology devices node → new node ≡ seen node)
     (own_stays : (node : ℕ) → ¬ Apart node → (new node).lock ≡ host_id → new node ≡ seen node)
     (hosted : IsMember topology devices topology.host ⊎ Apart topology.host) where
-  abbrev pick : registers.Device → registers.Device → (node : ℕ)
+  abbrev pick : Registers → Registers → (node : ℕ)
       → IsMember topology devices node ⊎ IsUnmet topology devices node
-      → Apart node ⊎ (¬ Apart node) → registers.Device
+      → Apart node ⊎ (¬ Apart node) → Registers
   pick was is node (inl member) apart = was
   pick was is node (inr unmet) (inl apart) = was
   pick was is node (inr unmet) (inr beside) = is
 
-  abbrev mixed : Registers → Registers → Registers
+  abbrev mixed : AllRegisters → AllRegisters → AllRegisters
   mixed was is node =
       pick (was node) (is node) node (member_or_unmet topology devices node) (decide node)
 
-  pick-member : (was is : registers.Device) (node : ℕ) → IsMember topology devices node
+  pick-member : (was is : Registers) (node : ℕ) → IsMember topology devices node
       → (m : IsMember topology devices node ⊎ IsUnmet topology devices node)
       → (d : Apart node ⊎ (¬ Apart node)) → pick was is node m d ≡ was
   pick-member was is node member (inl also) d = refl
   pick-member was is node member (inr unmet) d = absurd (unmet member.0 member.1 member.2)
 
-  pick-was : (was is : registers.Device) (node : ℕ)
+  pick-was : (was is : Registers) (node : ℕ)
       → IsMember topology devices node ⊎ Apart node
       → (m : IsMember topology devices node ⊎ IsUnmet topology devices node)
       → (d : Apart node ⊎ (¬ Apart node)) → pick was is node m d ≡ was
@@ -80,15 +80,15 @@ module _ (topology : Topology) (before seen : Registers) (host_id next : ℕ)
   pick-untagged node inside (inr unmet) (inl apart) own = underway.untagged node inside own
   pick-untagged node inside (inr unmet) (inr beside) own =
       let same = own_stays node beside own ∙ underway.others node unmet in
-      ap (λ (d : registers.Device). d.tag) same
-      ∙ underway.untagged node inside (ap (λ (d : registers.Device). d.lock) (sym same) ∙ own)
+      ap (λ (d : Registers). d.tag) same
+      ∙ underway.untagged node inside (ap (λ (d : Registers). d.lock) (sym same) ∙ own)
 
   pub underway-stays : IsUnderway topology (mixed before new) (mixed seen new) host_id devices
       next bound
   underway-stays =
       underway-elsewhere topology before seen host_id next devices bound underway
       (mixed before new) (mixed seen new)
-      (ap (λ (d : registers.Device). d.base_id)
+      (ap (λ (d : Registers). d.base_id)
       (pick-was (before topology.host) (new topology.host) topology.host hosted
       (member_or_unmet topology devices topology.host) (decide topology.host)) ∙ underway.id)
       (λ member node listed leads. (
@@ -134,11 +134,11 @@ apart_or_not w Free node = inr (λ a. a)
 apart_or_not w Done node = inr (λ a. a)
 apart_or_not w Lost node = inr (λ a. a)
 
-abbrev pub with_lock : ℕ → registers.Device → registers.Device
+abbrev pub with_lock : ℕ → Registers → Registers
 with_lock id device = record device { lock = id }
 
 -- The other has a turn: the walker is as far as before.
-pub theirs_on_way : (w o after : Walker) (old new : Registers) → IsTurn o after old new
+pub theirs_on_way : (w o after : Walker) (old new : AllRegisters) → IsTurn o after old new
     → IsMine o old → IsMine w old → o.id ≢ w.id → w.id < 0xff → IsOnWay w old → IsOnWay w new
 theirs_on_way w o after old new turn theirs mine differ fits way = record {
   before = _;
@@ -186,7 +186,7 @@ theirs_on_way w o after old new turn theirs mine differ fits way = record {
         go (inl keeps) = kept_stays o after w old new turn theirs mine differ fits node keeps
         go (inr none) =
             unchanged o after old new turn theirs w.id differ fits node
-            (ap (λ (d : registers.Device). d.lock)
+            (ap (λ (d : Registers). d.lock)
             (sym (performed-beside w.view (kept w) w.todo new mine.own node none)) ∙ own)
 
     -- of a device that is apart, what it was is as before
@@ -202,7 +202,7 @@ theirs_on_way w o after old new turn theirs mine differ fits way = record {
         (performed w.view new w.todo node) node (inr apart)
         (member_or_unmet w.view w.devices node) (apart_or_not w w.stage node)
 
-    claimed : (stage : Stage) → w.stage ≡ stage → (mix : Registers)
+    claimed : (stage : Stage) → w.stage ≡ stage → (mix : AllRegisters)
         → ((node : ℕ) → IsApart w stage node → mix node ≡ way.before node)
         → ((node : ℕ) → IsApart w stage node → Contains (fresh stage w.path) w.path
         → new node ≡ old node)
@@ -211,7 +211,7 @@ theirs_on_way w o after old new turn theirs mine differ fits way = record {
     claimed Claim is mix was stays so = tt
     claimed Check is mix was stays so = λ node at held.
         let same = unchanged o after old new turn theirs w.id differ fits node held in
-        let told = so node at (ap (λ (d : registers.Device). d.lock) (sym same) ∙ held) in (
+        let told = so node at (ap (λ (d : Registers). d.lock) (sym same) ∙ held) in (
           subst (λ d. IsTakable w.id d) (sym (was node at)) told.0,
           same ∙ (told.1 ∙ ap (with_lock w.id) (sym (was node at))),
         )
@@ -255,7 +255,8 @@ theirs_on_way w o after old new turn theirs mine differ fits way = record {
     at_path Lost node apart = absurd apart
 
 -- The walker makes a write that is left: it is as far as before, too.
-pub write_on_way : (w : Walker) (p : Pending) (rest : List Pending) (old : Registers) (at : PortRef)
+pub write_on_way : (w : Walker) (p : Pending) (rest : List Pending) (old : AllRegisters)
+    (at : PortRef)
     → IsMine (record w { todo = p ∷ rest }) old → entered w.view p.path ≡ Some at
     → IsOnWay (record w { todo = p ∷ rest }) old
     → IsOnWay (record w { todo = rest }) (after_access old at (Write p.offset p.value))

@@ -6,7 +6,7 @@ use Rattle.fabric_map.specs.declared.map.Kind.{Kind}
 use Rattle.fabric_map.specs.declared.map.Kind.TheVariants.{Endpoint, Switch}
 use Rattle.fabric_map.specs.declared.map.Device.{Device}
 use Rattle.fabric_map.specs.Topology.{Topology, entered}
-use Rattle.fabric_map.specs.Routes.{Registers}
+use Rattle.fabric_map.specs.Routes.{AllRegisters}
 use Rattle.fabric_map.specs.Numbered.{toward}
 use Rattle.contest_machine.specs.declared.stages.Pending.{Pending}
 use Rattle.contest_machine.specs.Machine.{Walker, write, entry_set, route_of, route_pending, routes_to, cleared_below, home_set, own_id, taken}
@@ -28,12 +28,12 @@ AreLinked dest (p ∷ rest) =
     (p.offset ≡ 0x70 → dest ≢ p.value % 0x400) × Follows p rest × AreLinked dest rest
 
 -- the entry that is written first is another
-abbrev pub HeadOk : ℕ → Topology → Registers → List Pending → Type 0
+abbrev pub HeadOk : ℕ → Topology → AllRegisters → List Pending → Type 0
 HeadOk dest view now [] = Unit {0}
 HeadOk dest view now (p ∷ rest) = p.offset ≡ 0x74 → (at : PortRef) → entered view p.path ≡ Some at
     → is_switch (now at.node) ≡ true → dest ≢ (now at.node).select
 
-pub starts_head : (dest : ℕ) (view : Topology) (now : Registers) (todo : List Pending)
+pub starts_head : (dest : ℕ) (view : Topology) (now : AllRegisters) (todo : List Pending)
     → StartsOk todo → HeadOk dest view now todo
 starts_head dest view now [] ok = tt
 starts_head dest view now (p ∷ rest) ok = λ is. absurd (ok is)

@@ -3,7 +3,7 @@ use Rattle.std.proofs.Common.{◌≡◌, ◌≢◌, ℕ, List, [], ◌∷◌, Op
 use Rattle.std.proofs.lemmas.Bool.{cases_eq}
 use Rattle.fabric_script.specs.declared.ports.PortRef.{PortRef}
 use Rattle.fabric_map.specs.Topology.{Topology, entered}
-use Rattle.fabric_map.specs.Routes.{Registers}
+use Rattle.fabric_map.specs.Routes.{AllRegisters}
 use Rattle.fabric_map.proofs.Growing.{node_at-entered}
 use Rattle.host_enumerate.specs.declared.maint.Access.TheVariants.{Write}
 use Rattle.host_enumerate.specs.Accesses.{answered, after_access}
@@ -15,7 +15,7 @@ use Rattle.contest_machine.proofs.Lists.{Leads}
 
 -- writes to devices on which two fabrics agree leave them agreeing
 pub performed-agree : (view : Topology) (paths : List (List ℕ)) (todo : List Pending)
-    (old new : Registers) → AreOwnWrites paths todo
+    (old new : AllRegisters) → AreOwnWrites paths todo
     → ((node : ℕ) → Leads view paths node → new node ≡ old node)
     → (node : ℕ) → new node ≡ old node
     → performed view new todo node ≡ performed view old todo node
@@ -24,7 +24,7 @@ performed-agree view paths (p ∷ rest) old new own agree node same =
     go (entered view p.path) refl (λ old new. performed-agree view paths rest old new own.1)
   where
     go : (o : Option PortRef) → entered view p.path ≡ o
-        → ((one other : Registers)
+        → ((one other : AllRegisters)
         → ((node : ℕ) → Leads view paths node → other node ≡ one node)
         → (node : ℕ) → other node ≡ one node
         → performed view other rest node ≡ performed view one rest node)
@@ -55,7 +55,7 @@ performed-agree view paths (p ∷ rest) old new own agree node same =
 
 -- and do not change others
 pub performed-beside : (view : Topology) (paths : List (List ℕ)) (todo : List Pending)
-    (now : Registers) → AreOwnWrites paths todo → (node : ℕ) → ¬ Leads view paths node
+    (now : AllRegisters) → AreOwnWrites paths todo → (node : ℕ) → ¬ Leads view paths node
     → performed view now todo node ≡ now node
 performed-beside view paths [] now own node none = refl
 performed-beside view paths (p ∷ rest) now own node none =
@@ -63,7 +63,7 @@ performed-beside view paths (p ∷ rest) now own node none =
     (λ next. performed-beside view paths rest next own.1 node none)
   where
     go : (o : Option PortRef) → entered view p.path ≡ o
-        → ((next : Registers) → performed view next rest node ≡ next node)
+        → ((next : AllRegisters) → performed view next rest node ≡ next node)
         → performed view (one_performed now p o) rest node ≡ now node
     go None is on = on now
     go (Some at) is on =

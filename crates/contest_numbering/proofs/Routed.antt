@@ -9,7 +9,7 @@ use Rattle.fabric_map.specs.declared.map.Kind.TheVariants.{Endpoint, Switch}
 use Rattle.fabric_map.specs.declared.map.Device.{Device}
 use Rattle.fabric_map.specs.Topology.{Topology, entered, node_at}
 use Rattle.fabric_map.specs.Walked.{Walked}
-use Rattle.fabric_map.specs.Routes.{Registers}
+use Rattle.fabric_map.specs.Routes.{AllRegisters}
 use Rattle.fabric_map.specs.Locked.{IsNext}
 use Rattle.fabric_map.specs.Numbered.{paths_of, toward, AreDescribed}
 use Rattle.fabric_map.proofs.Branches.{toward-further, further_from_toward}
@@ -25,7 +25,8 @@ use Rattle.contest_numbering.proofs.OnWay.{performed}
 use Rattle.contest_numbering.proofs.Leading.{performed-append, one-beside, routes-passed}
 
 -- a device none of whose entries in a list of devices has such a write
-routes-none : (view : Topology) (path : List ℕ) (id : ℕ) (devices : List Device) (now : Registers)
+routes-none : (view : Topology) (path : List ℕ) (id : ℕ) (devices : List Device)
+    (now : AllRegisters)
     (node : ℕ)
     → ((device : Device) → Contains devices device → node_at view device.path ≡ Some node
     → route_pending path id device ≡ [])
@@ -55,7 +56,7 @@ routes-none view path id (first ∷ rest) now node none =
     go (Some n) is = at n is (cases_eq n node)
 
 module _ (view : Topology) (host_id id first : ℕ) (rest : List ℕ) (devices : List Device)
-    (mid : Registers) (end : PortRef)
+    (mid : AllRegisters) (end : PortRef)
     (walked : Walked view (paths_of devices) (first ∷ rest))
     (described : AreDescribed view host_id [] devices)
     (once : AreOnce view (paths_of devices))

@@ -2,11 +2,11 @@
 use Rattle.std.proofs.Common.{◌≡◌, ◌≢◌, ℕ, zero, suc, ◌+◌, ◌%◌, ◌<◌, ◌≤◌, ◌==◌, Bool, true, false, eqb, List, [], ◌∷◌, ◌++◌, length, Some, arith, ◌⊎◌, inl, inr, subst, sym, refl, ap, ◌∙◌, if◌then◌else◌}
 use Rattle.std.proofs.lemmas.Bool.{cases_eq, eqb-true}
 use Rattle.fabric_script.specs.declared.ports.PortRef.{PortRef}
-use Rattle.maint_registers.specs.Devices.{Device, is_switch}
+use Rattle.maint_registers.specs.Devices.{Registers, is_switch}
 use Rattle.maint_registers.proofs.AccessLaws.{select-written, entry-written, default_port-written}
 use Rattle.maint_registers.proofs.RouteLaws.{entry-set_same, entry-set_other}
 use Rattle.fabric_map.specs.Topology.{Topology, entered}
-use Rattle.fabric_map.specs.Routes.{Registers}
+use Rattle.fabric_map.specs.Routes.{AllRegisters}
 use Rattle.host_enumerate.specs.declared.maint.Access.TheVariants.{Write}
 use Rattle.host_enumerate.specs.Accesses.{after_write, answered, registers_with, after_access}
 use Rattle.host_enumerate.specs.Setting.{with_entry, IsCleared, SwitchIsSetUp}
@@ -17,7 +17,7 @@ use Rattle.contest_machine.specs.Machine.{entry_set, cleared_below, home_set}
 use Rattle.contest_numbering.proofs.OnWay.{one_performed, performed}
 
 -- one device after writes to it
-abbrev pub device_after : Device → ℕ → List Pending → Device
+abbrev pub device_after : Registers → ℕ → List Pending → Registers
 device_after device port [] = device
 device_after device port (p ∷ rest) =
     device_after (answered device port (Write p.offset p.value)).device port rest
@@ -27,7 +27,7 @@ AreAt path [] = Unit {0}
 AreAt path (p ∷ rest) = (p.path ≡ path) × AreAt path rest
 
 pub performed-one : (view : Topology) (path : List ℕ) (at : PortRef) (todo : List Pending)
-    (now : Registers) → entered view path ≡ Some at → AreAt path todo
+    (now : AllRegisters) → entered view path ≡ Some at → AreAt path todo
     → (node : ℕ) → performed view now todo node
     ≡ registers_with now at.node (device_after (now at.node) at.port todo) node
 performed-one view path at [] now enters are node =
@@ -38,7 +38,7 @@ performed-one view path at (p ∷ rest) now enters are node =
     ∙ (performed-one view path at rest (after_access now at (Write p.offset p.value)) enters are.1
     node ∙ go (cases_eq node at.node))
   where
-    next : Registers
+    next : AllRegisters
     next = after_access now at (Write p.offset p.value)
 
     here : next at.node ≡ (answered (now at.node) at.port (Write p.offset p.value)).device
@@ -59,7 +59,7 @@ performed-one view path at (p ∷ rest) now enters are node =
         ∙ (with_device-other now at.node node _ apart
         ∙ sym (with_device-other now at.node node _ apart))
 
-after-append : (device : Device) (port : ℕ) (first second : List Pending)
+after-append : (device : Registers) (port : ℕ) (first second : List Pending)
     → device_after device port (first ++ second)
     ≡ device_after (device_after device port first) port second
 after-append device port [] second = refl
@@ -67,7 +67,7 @@ after-append device port (p ∷ rest) second =
     after-append (answered device port (Write p.offset p.value)).device port rest second
 
 -- the two writes of an entry
-pub entry_after : (device : Device) (port : ℕ) (path : List ℕ) (id value : ℕ)
+pub entry_after : (device : Registers) (port : ℕ) (path : List ℕ) (id value : ℕ)
     → is_switch device ≡ true → id < 256
     → device_after device port (entry_set path id value) ≡ with_entry device id (value % 0x100)
 entry_after device port path id value is few =
@@ -81,16 +81,16 @@ entry_after device port path id value is few =
         ∙ ap (λ n. record device { select = n }) (omega (arith, few))
 
 -- of a port that fits
-pub after-entry : (device : Device) (port : ℕ) (path : List ℕ) (id value : ℕ)
+pub after-entry : (device : Registers) (port : ℕ) (path : List ℕ) (id value : ℕ)
     → is_switch device ≡ true → id < 256 → value < 256
     → device_after device port (entry_set path id value) ≡ with_entry device id value
 after-entry device port path id value is few small =
     entry_after device port path id value is few
     ∙ ap (λ n. with_entry device id n) (omega (arith, small))
 
-module _ (device : Device) (port : ℕ) (path : List ℕ) (host_id : ℕ)
+module _ (device : Registers) (port : ℕ) (path : List ℕ) (host_id : ℕ)
     (is : is_switch device ≡ true) (destinations : length device.routes ≡ 1024) where
-  abbrev cleared_to : ℕ → Device
+  abbrev cleared_to : ℕ → Registers
   cleared_to n = device_after device port (cleared_below path host_id n)
 
   pub after-cleared : (n : ℕ) → n ≤ 63 → IsCleared host_id n device (cleared_to n)
@@ -112,13 +112,13 @@ module _ (device : Device) (port : ℕ) (path : List ℕ) (host_id : ℕ)
       go rest false other =
           subst (λ d. IsCleared host_id (n + 1) device d)
           (sym (after-entry (cleared_to n) port path n 255
-          (is_switch-kind (cleared_to n) device (ap (λ (d : Device). d.kind) rest.same.rest)
+          (is_switch-kind (cleared_to n) device (ap (λ (d : Registers). d.kind) rest.same.rest)
           ∙ is) (omega (arith, most))
           (omega arith)))
           (cleared-next host_id n device (cleared_to n) destinations (omega (arith, most)) rest)
 
 -- a switch is set up
-pub after-home : (device : Device) (port : ℕ) (path : List ℕ) (host_id entry : ℕ)
+pub after-home : (device : Registers) (port : ℕ) (path : List ℕ) (host_id entry : ℕ)
     → is_switch device ≡ true → length device.routes ≡ 1024 → host_id < 255 → entry < 256
     → SwitchIsSetUp host_id entry device (device_after device port (home_set path host_id entry))
 after-home device port path host_id entry is destinations fits small =
@@ -136,10 +136,10 @@ after-home device port path host_id entry is destinations fits small =
           ∙ clear.kept id (omega (arith, more));
     })
   where
-    first : Device
+    first : Registers
     first = record device { default_port = entry }
 
-    cleared : Device
+    cleared : Registers
     cleared = device_after first port (cleared_below path host_id 63)
 
     clear : IsCleared host_id 63 first cleared
@@ -157,5 +157,5 @@ after-home device port path host_id entry is destinations fits small =
         (cleared_below path host_id 63 ++ entry_set path host_id entry)) defaulted
         ∙ (after-append first port (cleared_below path host_id 63) (entry_set path host_id entry)
         ∙ after-entry cleared port path host_id entry
-        (is_switch-kind cleared first (ap (λ (d : Device). d.kind) clear.same.rest) ∙ is)
+        (is_switch-kind cleared first (ap (λ (d : Registers). d.kind) clear.same.rest) ∙ is)
         (omega (arith, fits)) small)

@@ -5,19 +5,19 @@ use Rattle.std.proofs.lemmas.Option.{same_Some}
 use Rattle.fabric_script.specs.declared.ports.PortRef.{PortRef}
 use Rattle.maint_registers.specs.declared.registers.Kind.{Kind}
 use Rattle.maint_registers.specs.declared.registers.Kind.TheVariants as kinds
-use Rattle.maint_registers.specs.Devices.{Device, is_switch}
+use Rattle.maint_registers.specs.Devices.{Registers, is_switch}
 use Rattle.maint_registers.specs.Table.{Row, table, column, in_rows, status_port}
 use Rattle.maint_registers.specs.Access.{value_at, written_to, written_at, locked}
 use Rattle.maint_registers.proofs.SameLaws.{same_device}
 use Rattle.fabric_map.specs.Topology.{Topology}
-use Rattle.fabric_map.specs.Routes.{Registers}
+use Rattle.fabric_map.specs.Routes.{AllRegisters}
 use Rattle.fabric_map.specs.Fitting.{Fits}
 use Rattle.host_enumerate.specs.declared.maint.Access.{Access}
 use Rattle.host_enumerate.specs.declared.maint.Access.TheVariants.{Read, Write}
 use Rattle.host_enumerate.specs.Accesses.{after_read, after_write, answered, after_access}
 use Rattle.host_enumerate.proofs.Accessed.{Keeps, fits-with}
 
-keeps_itself : (device : Device) → Keeps device device
+keeps_itself : (device : Registers) → Keeps device device
 keeps_itself device = record {
   same = same_device device;
   device = λ is. is;
@@ -35,14 +35,14 @@ locked_small lock id small = go (lock == 0xffff) (lock == id % 0x10000)
 
 -- ---- one write
 
-module _ (device : Device) (value : ℕ) where
-  abbrev Stays : Option Device → Type 0
-  Stays o = (next : Device) → o ≡ Some next → Keeps device next
+module _ (device : Registers) (value : ℕ) where
+  abbrev Stays : Option Registers → Type 0
+  Stays o = (next : Registers) → o ≡ Some next → Keeps device next
 
   none_stays : Stays None
   none_stays next is = absurd (cc)
 
-  one_stays : (written : Device) → Keeps device written → Stays (Some written)
+  one_stays : (written : Registers) → Keeps device written → Stays (Some written)
   one_stays written keeps next is = subst (Keeps device) (same_Some written next is) keeps
 
   -- a device whose kind, ports and links stay, with these numbers
@@ -242,7 +242,8 @@ pub map_none : {X Y Z : Type 0} (f : X → Option Y) (g : Z → X) (P : Y → Ty
 map_none f g P None each y is = absurd (cc)
 map_none f g P (Some z) each y is = each z y is
 
-write_stays : (device next : Device) (offset value : ℕ) → written_at device offset value ≡ Some next
+write_stays : (device next : Registers) (offset value : ℕ)
+    → written_at device offset value ≡ Some next
     → Keeps device next
 write_stays device next offset value is =
     or_else (written_to device value) (Keeps device) (in_rows device.kind table offset) _
@@ -253,7 +254,7 @@ write_stays device next offset value is =
 
 -- ---- one access
 
-access_stays : (device : Device) (port : ℕ) (access : Access)
+access_stays : (device : Registers) (port : ℕ) (access : Access)
     → Keeps device (answered device port access).device
 access_stays device port (Read offset) = go (value_at device offset port)
   where
@@ -262,12 +263,12 @@ access_stays device port (Read offset) = go (value_at device offset port)
     go (Some value) = keeps_itself device
 access_stays device port (Write offset value) = go (written_at device offset value) refl
   where
-    go : (o : Option Device) → written_at device offset value ≡ o
+    go : (o : Option Registers) → written_at device offset value ≡ o
         → Keeps device (after_write device o).device
     go None is = keeps_itself device
     go (Some next) is = write_stays device next offset value is
 
-pub fits_after : (view : Topology) (now : Registers) (at : PortRef) (access : Access)
+pub fits_after : (view : Topology) (now : AllRegisters) (at : PortRef) (access : Access)
     → Fits view now → Fits view (after_access now at access)
 fits_after view now at access fits =
     fits-with view now at.node (answered (now at.node) at.port access).device fits

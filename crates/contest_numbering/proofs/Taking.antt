@@ -6,13 +6,12 @@ use Rattle.std.proofs.lemmas.Option.{same_Some}
 use Rattle.std.proofs.lemmas.List.Elements.{Contains-append_left}
 use Rattle.fabric_script.specs.declared.ports.PortRef.{PortRef}
 use Rattle.fabric_script.specs.Ports.{port_at}
-use Rattle.maint_registers.specs.Devices as registers
-use Rattle.maint_registers.specs.Devices.{IsDevice, is_switch}
+use Rattle.maint_registers.specs.Devices.{Registers, IsDevice, is_switch}
 use Rattle.fabric_map.specs.declared.map.Kind.TheVariants.{Endpoint}
 use Rattle.fabric_map.specs.declared.map.Device.{Device}
 use Rattle.fabric_map.specs.Topology.{Topology, IsTopology, device_ports, behind_port, along, ports_followed, entered, node_at}
 use Rattle.fabric_map.specs.Walked.{Walked}
-use Rattle.fabric_map.specs.Routes.{Registers}
+use Rattle.fabric_map.specs.Routes.{AllRegisters}
 use Rattle.fabric_map.specs.Fitting.{Fits}
 use Rattle.fabric_map.specs.Locked.{IsNext}
 use Rattle.fabric_map.specs.Numbered.{paths_of, AreDescribed}
@@ -37,7 +36,7 @@ use Rattle.contest_numbering.proofs.Moving.{chain_more, front_listed, not_host}
 
 -- ---- what is seen of the fabric
 
-module _ (w : Walker) (now : Registers) (first : ℕ) (rest : List ℕ) (at : PortRef)
+module _ (w : Walker) (now : AllRegisters) (first : ℕ) (rest : List ℕ) (at : PortRef)
     (enters : entered w.view (first ∷ rest) ≡ Some at)
     (way : IsOnWay (at_stage (record w { path = first ∷ rest }) Features) now)
     (fits : Fits w.view now) where
@@ -57,7 +56,7 @@ module _ (w : Walker) (now : Registers) (first : ℕ) (rest : List ℕ) (at : Po
   lock_small (inl free) small = omega (arith, free)
   lock_small (inr own) small = let same = own.0 in omega (arith, same, small)
 
-  shown_of : (d : registers.Device) (lock tag : ℕ) (e : registers.Device)
+  shown_of : (d : Registers) (lock tag : ℕ) (e : Registers)
       → e ≡ record d { lock = lock; tag = tag } → IsDevice e → IsDevice d
   shown_of d lock tag e same device =
       let it = subst IsDevice same device in
@@ -75,18 +74,18 @@ module _ (w : Walker) (now : Registers) (first : ℕ) (rest : List ℕ) (at : Po
 
   now_is : now at.node
       ≡ record (way.seen at.node) { lock = w.id; tag = length w.devices + 1 }
-  now_is = is.1 ∙ ap (λ (d : registers.Device). record d
+  now_is = is.1 ∙ ap (λ (d : Registers). record d
       { lock = w.id; tag = length w.devices + 1 }) (sym was)
 
   beside : (node : ℕ) → node ≢ at.node → way.seen node ≡ now node
   beside node apart = way.seen_is node (λ here. apart (same_Some node at.node (sym here ∙ leads)))
 
-  abbrev Shows : (registers.Device → Type 0) → Type 0
+  abbrev Shows : (Registers → Type 0) → Type 0
   Shows P = (node : ℕ) → P (now node) → P (way.seen node)
 
   -- what holds of a device whatever its lock and its tag are
-  either : (P : registers.Device → Type 0)
-      → ((d : registers.Device) (lock tag : ℕ) → P (record d { lock = lock; tag = tag }) → P d)
+  either : (P : Registers → Type 0)
+      → ((d : Registers) (lock tag : ℕ) → P (record d { lock = lock; tag = tag }) → P d)
       → Shows P
   either P back node holds = go (cases_eq node at.node)
     where
@@ -130,15 +129,15 @@ module _ (w : Walker) (now : Registers) (first : ℕ) (rest : List ℕ) (at : Po
           → (way.seen node).lock < 65536
       lock_of node (inl same) inside =
           subst (λ n. (way.seen n).lock < 65536) (sym same)
-          (subst (λ (d : registers.Device). d.lock < 65536) (sym was)
+          (subst (λ (d : Registers). d.lock < 65536) (sym was)
           (lock_small is.0 small))
       lock_of node (inr apart) inside =
-          subst (λ (d : registers.Device). d.lock < 65536) (sym (beside node apart))
+          subst (λ (d : Registers). d.lock < 65536) (sym (beside node apart))
           (fits.locks node inside)
 
 -- ---- the switches that a path passes
 
-module _ (view : Topology) (devices : List Device) (now : Registers) (first : ℕ) (rest : List ℕ)
+module _ (view : Topology) (devices : List Device) (now : AllRegisters) (first : ℕ) (rest : List ℕ)
     (at : PortRef) (proper : IsTopology view) (fits : Fits view now)
     (enters : entered view (first ∷ rest) ≡ Some at)
     (walked : Walked view (paths_of devices) (first ∷ rest))
@@ -198,7 +197,7 @@ module _ (view : Topology) (devices : List Device) (now : Registers) (first : �
             (ne_eqb on.node view.host not_host)) refl,
       )
 
-  pub switches_passed : (mid : Registers) → ((node : ℕ) → node ≢ at.node → mid node ≡ now node)
+  pub switches_passed : (mid : AllRegisters) → ((node : ℕ) → node ≢ at.node → mid node ≡ now node)
       → (front later : List ℕ) (port : ℕ) (on : PortRef)
       → first ∷ rest ≡ front ++ port ∷ later → front ≢ [] → entered view front ≡ Some on
       → (is_switch (mid on.node) ≡ true) × (port < 256) × (on.node ≢ view.host)
@@ -231,7 +230,7 @@ few_after id next few = go (eqb next id)
 
 -- ---- an endpoint is taken in
 
-module _ (w : Walker) (now : Registers) (first : ℕ) (rest : List ℕ) (at : PortRef)
+module _ (w : Walker) (now : AllRegisters) (first : ℕ) (rest : List ℕ) (at : PortRef)
     (enters : entered w.view (first ∷ rest) ≡ Some at)
     (along : IsAlong (at_stage (record w { path = first ∷ rest }) Features) now)
     (mine : IsMine (at_stage (record w { path = first ∷ rest }) Features) now)

@@ -1,9 +1,8 @@
 -- What the two hosts together leave of the first registers.
 use Rattle.std.proofs.Common.{◌≡◌, ◌≢◌, ℕ, ◌<◌, Bool, true, false, List, [], ◌∷◌, Contains, subst, sym, refl, ap, ◌∙◌, if◌then◌else◌}
-use Rattle.maint_registers.specs.Devices as registers
-use Rattle.maint_registers.specs.Devices.{IsSameDevice, is_switch}
+use Rattle.maint_registers.specs.Devices.{Registers, IsSameDevice, is_switch}
 use Rattle.maint_registers.specs.Routes.{entry_of}
-use Rattle.fabric_map.specs.Routes.{Registers}
+use Rattle.fabric_map.specs.Routes.{AllRegisters}
 use Rattle.fabric_map.proofs.Growing.{node_at-entered}
 use Rattle.fabric_map.proofs.Lists.{Contains-first, Contains-rest}
 use Rattle.host_enumerate.specs.Underway.{AreOwnUntagged}
@@ -26,12 +25,12 @@ use Rattle.contest_numbering.proofs.Contested.{step_keeping}
 use Rattle.contest_numbering.proofs.Leaving.{devices_left}
 use Rattle.contest_numbering.proofs.Whole.{IsSound, IsReady, ReadyFor, sound_later, sound_first, step_sound, turn_ready, begun_ready}
 
-module _ (dest : ℕ) (far : 62 < dest) (not_all : dest ≢ 255) (before : Registers) where
-  abbrev Careful : Walker → Registers → Type 0
+module _ (dest : ℕ) (far : 62 < dest) (not_all : dest ≢ 255) (before : AllRegisters) where
+  abbrev Careful : Walker → AllRegisters → Type 0
   Careful w now = IsCareful dest far not_all w now
 
   -- what the other is about to write does not change while the walker makes an access
-  head_stays : (w after o : Walker) (old new : Registers) → IsTurn w after old new
+  head_stays : (w after o : Walker) (old new : AllRegisters) → IsTurn w after old new
       → IsMine w old → IsMine o old → w.id ≢ o.id → o.id < 0xff → Careful o old → Careful o new
   head_stays w after o old new turn mine theirs differ small careful =
       (careful.0, go o.todo theirs.own careful.1)
@@ -42,9 +41,9 @@ module _ (dest : ℕ) (far : 62 < dest) (not_all : dest ≢ 255) (before : Regis
       go (p ∷ rest) own head = λ is at enters switch.
           let same = kept_stays w after o old new turn mine theirs differ small at.node
           (p.path, own.0.0, node_at-entered o.view p.path at enters) in
-          subst (λ (d : registers.Device). dest ≢ d.select) (sym same)
+          subst (λ (d : Registers). dest ≢ d.select) (sym same)
           (head is at enters
-          (subst (λ (d : registers.Device). is_switch d ≡ true) same switch))
+          (subst (λ (d : Registers). is_switch d ≡ true) same switch))
 
   -- what stands at each access of a walker, beside another
   record IsAside (o : Walker) (state : State) : Type 0 where
@@ -80,7 +79,7 @@ module _ (dest : ℕ) (far : 62 < dest) (not_all : dest ≢ 255) (before : Regis
       go true = step_aside o state aside
       go false = aside
 
-  turned_aside : (w o : Walker) (old : Registers) → IsReady before w o old → Careful w old
+  turned_aside : (w o : Walker) (old : AllRegisters) → IsReady before w o old → Careful w old
       → Careful o old → LeavesEntry dest far not_all before old → dest ≢ w.id
       → IsAside o (walker_turned w old)
   turned_aside w o old ready careful theirs left own = go w.begun refl
@@ -146,7 +145,7 @@ module _ (dest : ℕ) (far : 62 < dest) (not_all : dest ≢ 255) (before : Regis
   turns_aside both (side ∷ turns) aside =
       turns_aside (turn_of both side) turns (turn_aside both side aside)
 
-  new_careful : (w : Walker) (now : Registers) → IsNew w → Careful w now
+  new_careful : (w : Walker) (now : AllRegisters) → IsNew w → Careful w now
   new_careful w now new =
       subst (λ (t : List Pending). Careful (record w { todo = t }) now) (sym new.todo) (tt, tt)
 
@@ -170,7 +169,7 @@ entry_stays both turns dest begun untagged far not_all one two node =
     })).left node
 
 -- a device that is the same differs in the other registers alone
-rest_only : (old new : registers.Device) → IsSameDevice old new → new ≡ record old {
+rest_only : (old new : Registers) → IsSameDevice old new → new ≡ record old {
   lock = new.lock;
   tag = new.tag;
   base_id = new.base_id;

@@ -2,7 +2,7 @@
 use Rattle.std.proofs.Common.{◌≡◌, ◌≢◌, ◌≤◌, Bool, true, false, List, [], ◌∷◌, Option, Some, None, arith, ◌⊎◌, inl, inr, subst, sym, refl, ap, ◌∙◌, if◌then◌else◌}
 use Rattle.fabric_script.specs.declared.ports.PortRef.{PortRef}
 use Rattle.fabric_map.specs.Topology.{Topology, entered}
-use Rattle.fabric_map.specs.Routes.{Registers}
+use Rattle.fabric_map.specs.Routes.{AllRegisters}
 use Rattle.fabric_map.specs.Fitting.{Fits}
 use Rattle.host_enumerate.specs.Underway.{AreOwnUntagged}
 use Rattle.link_watch.specs.declared.side.Side.{Side}
@@ -31,7 +31,7 @@ use Rattle.contest_numbering.proofs.Firsts.{step_coming, theirs_coming, untagged
 use Rattle.contest_numbering.proofs.Ended.{done_numbered, done_keeps}
 
 -- what a walker leaves of the registers goes on to show the fabric
-step_shown : (view : Topology) (w : Walker) (old : Registers) → Fits view old
+step_shown : (view : Topology) (w : Walker) (old : AllRegisters) → Fits view old
     → Fits view (stepped w old).registers
 step_shown view w old shown = go (wants w)
   where
@@ -44,7 +44,8 @@ step_shown view w old shown = go (wants w)
     go (Some ask) = at ask (entered w.view ask.path)
 
 -- the ID that is given next is small
-pub few_next : (w : Walker) (old : Registers) → WalkerIsWithin w → IsMine w old → w.stage ≡ Features
+pub few_next : (w : Walker) (old : AllRegisters) → WalkerIsWithin w → IsMine w old
+    → w.stage ≡ Features
     → w.next ≤ 65
 few_next w old within mine is =
     let bounded = subst (λ s. IsBoundedAt s w.devices w.id w.next w.path w.tried) is
@@ -55,13 +56,13 @@ few_next w old within mine is =
 
 -- ---- the walker's own accesses
 
-pub record IsSound (before : Registers) (o : Walker) (state : State) : Type 0 where
+pub record IsSound (before : AllRegisters) (o : Walker) (state : State) : Type 0 where
   pub fair : AreFair before state.walker o state.registers
   pub shown : Fits state.walker.view state.registers
   pub coming : IsComing state.walker state.registers
   pub begun : state.walker.begun ≡ true
 
-module _ (before : Registers) (o : Walker) where
+module _ (before : AllRegisters) (o : Walker) where
   pub step_sound : (state : State) → IsSound before o state
       → IsSound before o (stepped state.walker state.registers)
   step_sound state sound =
@@ -86,11 +87,11 @@ module _ (before : Registers) (o : Walker) where
       go false = sound
 
 -- it has come so far, or has not begun
-abbrev pub HasCome : Walker → Registers → Type 0
+abbrev pub HasCome : Walker → AllRegisters → Type 0
 HasCome w now = ((w.begun ≡ true) × IsComing w now)
     ⊎ ((w ≡ starter w.view w.id false Ask []) × AreOwnUntagged w.view now w.id)
 
-pub record IsReady (before : Registers) (w o : Walker) (now : Registers) : Type 0 where
+pub record IsReady (before : AllRegisters) (w o : Walker) (now : AllRegisters) : Type 0 where
   pub fair : AreFair before w o now
   pub shown : Fits w.view now
   pub come : HasCome w now
@@ -98,7 +99,7 @@ pub record IsReady (before : Registers) (w o : Walker) (now : Registers) : Type 
 clash : {b : Bool} → b ≡ true → b ≡ false → ⊥
 clash is not = absurd (cc)
 
-ready_from : (before : Registers) (o : Walker) (state : State) → IsSound before o state
+ready_from : (before : AllRegisters) (o : Walker) (state : State) → IsSound before o state
     → IsReady before state.walker o state.registers
 ready_from before o state sound = record {
   fair = sound.fair;
@@ -106,7 +107,8 @@ ready_from before o state sound = record {
   come = inl (sound.begun, sound.coming);
 }
 
-module _ (before : Registers) (w o : Walker) (old : Registers) (ready : IsReady before w o old)
+module _ (before : AllRegisters) (w o : Walker) (old : AllRegisters)
+    (ready : IsReady before w o old)
   where
     -- a walker that has begun
     pub sound_later : w.begun ≡ true → IsSound before o (state_of w old)
@@ -159,11 +161,11 @@ module _ (before : Registers) (w o : Walker) (old : Registers) (ready : IsReady 
 
 -- ---- the other's accesses
 
-module _ (before : Registers) (w : Walker) where
+module _ (before : AllRegisters) (w : Walker) where
   abbrev Waits : State → Type 0
   Waits state = IsReady before w state.walker state.registers
 
-  their_step : (o : Walker) (old : Registers) → Waits (state_of o old) → Waits (stepped o old)
+  their_step : (o : Walker) (old : AllRegisters) → Waits (state_of o old) → Waits (stepped o old)
   their_step o old ready =
       let fair = swap_fair before w o old ready.fair in
       let leaves = step_leaves o old fair.contest.first_id fair.contest.first in
@@ -174,7 +176,7 @@ module _ (before : Registers) (w : Walker) where
         come = come (stepped o old).walker (stepped o old).registers leaves.0 ready.come;
       }
     where
-      come : (after : Walker) (new : Registers)
+      come : (after : Walker) (new : AllRegisters)
           → IsTurn o after old new → HasCome w old
           → HasCome w new
       come after new turn (inl (begun, coming)) =
@@ -192,7 +194,7 @@ module _ (before : Registers) (w : Walker) where
                 ready.fair.contest.first_id untagged,
           )
 
-  their_ready : (o : Walker) (old : Registers) → Waits (state_of o old)
+  their_ready : (o : Walker) (old : AllRegisters) → Waits (state_of o old)
       → Waits (walker_turned o old)
   their_ready o old ready =
       turned_by Waits their_step o old ready (record {
@@ -204,18 +206,19 @@ module _ (before : Registers) (w : Walker) where
 
 -- ---- all turns
 
-abbrev pub ReadyFor : Registers → Both → Side → Type 0
+abbrev pub ReadyFor : AllRegisters → Both → Side → Type 0
 ReadyFor before both A = IsReady before both.first both.second both.registers
 ReadyFor before both B = IsReady before both.second both.first both.registers
 
-pub turn_ready : (before : Registers) (both : Both) (side turn : Side) → ReadyFor before both side
+pub turn_ready : (before : AllRegisters) (both : Both) (side turn : Side)
+    → ReadyFor before both side
     → ReadyFor before (turn_of both turn) side
 turn_ready before both A A ready = own_ready before both.first both.second both.registers ready
 turn_ready before both A B ready = their_ready before both.first both.second both.registers ready
 turn_ready before both B A ready = their_ready before both.second both.first both.registers ready
 turn_ready before both B B ready = own_ready before both.second both.first both.registers ready
 
-turns_ready : (before : Registers) (both : Both) (side : Side) (turns : List Side)
+turns_ready : (before : AllRegisters) (both : Both) (side : Side) (turns : List Side)
     → ReadyFor before both side → ReadyFor before (after_turns both turns) side
 turns_ready before both side [] ready = ready
 turns_ready before both side (turn ∷ turns) ready =
@@ -239,7 +242,7 @@ new_is w new next =
       stage = s;
     }) new.stage))))
 
-new_come : (w : Walker) (now : Registers) → IsNew w → w.next ≡ 0
+new_come : (w : Walker) (now : AllRegisters) → IsNew w → w.next ≡ 0
     → AreOwnUntagged w.view now w.id → HasCome w now
 new_come w now new next untagged = go w.begun refl
   where
@@ -271,7 +274,7 @@ begun_ready both B begun untagged = record {
 
 -- ---- once it is done
 
-done_map : (before : Registers) (w o : Walker) (now : Registers) → IsReady before w o now
+done_map : (before : AllRegisters) (w o : Walker) (now : AllRegisters) → IsReady before w o now
     → HasNumbered w → KeepsItsMap w now
 done_map before w o now ready done = come ready.come
   where
@@ -295,7 +298,7 @@ done_map before w o now ready done = come ready.come
     come (inr (new, untagged)) =
         absurd (asks (ap (λ (v : Walker). v.stage) (sym new) ∙ done.0))
 
-done_for : (before : Registers) (both : Both) (side : Side) → ReadyFor before both side
+done_for : (before : AllRegisters) (both : Both) (side : Side) → ReadyFor before both side
     → HasNumbered (walker_of both side) → KeepsItsMap (walker_of both side) both.registers
 done_for before both A ready done =
     done_map before both.first both.second both.registers ready done

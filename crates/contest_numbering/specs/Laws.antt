@@ -1,7 +1,7 @@
 -- What a host that is done has numbered, whatever the other does.
 use Rattle.std.specs.Prelude.{◌≡◌, ℕ, List, [], ◌∷◌}
 use Rattle.fabric_map.specs.Topology.{IsReached}
-use Rattle.fabric_map.specs.Routes.{Registers}
+use Rattle.fabric_map.specs.Routes.{AllRegisters}
 use Rattle.fabric_map.specs.Numbered.{entries_of, ChangesOnly, IsNumbered}
 use Rattle.host_enumerate.specs.Underway.{AreOwnUntagged}
 use Rattle.link_watch.specs.declared.side.Side.{Side}
@@ -13,9 +13,9 @@ use Rattle.contest_law.specs.Going.{AreBegun, HasNumbered}
 
 -- A walker keeps every device that it reaches, and its list is the map of a numbered fabric. The
 -- registers before are those that each device had when it was taken in.
-pub record KeepsItsMap (w : Walker) (now : Registers) : Type 0 where
+pub record KeepsItsMap (w : Walker) (now : AllRegisters) : Type 0 where
   pub keeps : (node : ℕ) → IsReached w.view node → Keeps w node
-  pub before : Registers
+  pub before : AllRegisters
   pub numbered : IsNumbered w.view w.devices (entries_of w.devices) before now
 
 -- A host that is done keeps its map, whatever turns came and come. At first no device that bears

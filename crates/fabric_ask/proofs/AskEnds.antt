@@ -4,7 +4,7 @@ use Rattle.std.specs.List.{AllByRecursion}
 use Rattle.rio_packets.specs.Fields.{prio_of, is_request}
 use Rattle.rio_packets.specs.LinkForm.{Passes, LinkForm}
 use Rattle.rio_packets.proofs.FormLaws.{Passes-from_form}
-use Rattle.maint_registers.specs.Devices.{Device}
+use Rattle.maint_registers.specs.Devices.{Registers}
 use Rattle.maint_registers.specs.Within.{IsWithin}
 use Rattle.maint_packets.specs.declared.request.Request.{Request}
 use Rattle.maint_packets.specs.declared.response.Response.{Response}
@@ -15,7 +15,7 @@ use Rattle.maint_packets.proofs.AnswerLaws.{responses_pass}
 use Rattle.switch_core.specs.EndpointSteps.{collected}
 use Rattle.link_wires.specs.declared.edits.Edit.{Edit}
 use Rattle.fabric_script.specs.declared.ports.PortRef.{PortRef}
-use Rattle.fabric_map.specs.Routes.{Registers, walk}
+use Rattle.fabric_map.specs.Routes.{AllRegisters, walk}
 use Rattle.std.proofs.lemmas.List.{same_from_push}
 use Rattle.fabric_model.specs.Network.{Item, port_of, peer_in, room_out}
 use Rattle.fabric_model.specs.Steps.{Take, Leave, AtNode, item_of}
@@ -63,7 +63,7 @@ module _ (host : ℕ) (request : Request) (noise : List Edit) (s : Seen) (lines 
   abbrev topo : Topology
   topo = topology_of s.network.registers s.network.links host
 
-  abbrev table : Registers
+  abbrev table : AllRegisters
   table = registers_of s.network.registers
 
   parts : Split (Asks s host request) (AskRounds host most_rounds noise) s lines
@@ -204,12 +204,12 @@ module _ (host : ℕ) (request : Request) (noise : List Edit) (s : Seen) (lines 
               left_not_asked v host p arrived.passed v_good there leaves asks_still
 
       module _ (away : at.node ≢ host) where
-        abbrev device : Device
+        abbrev device : Registers
         device = port.device
 
         h : IsHeard host most_rounds t parts.rest at request device
         h = is_heard host most_rounds t parts.rest at item request device asked
-            (ap (λ (r : List Device). slice_get r at.node) t_regs ∙ port.stands) away low hops
+            (ap (λ (r : List Registers). slice_get r at.node) t_regs ∙ port.stands) away low hops
             arrived
 
         abbrev u : Seen
@@ -218,11 +218,11 @@ module _ (host : ℕ) (request : Request) (noise : List Edit) (s : Seen) (lines 
         u_good : IsGood u
         u_good = (made_keeps t_good h.made).good
 
-        abbrev regs : List Device
+        abbrev regs : List Registers
         regs = after_request s.network.registers at request
 
         u_regs : u.network.registers ≡ regs
-        u_regs = h.registers ∙ ap (λ (r : List Device). after_request r at request) t_regs
+        u_regs = h.registers ∙ ap (λ (r : List Registers). after_request r at request) t_regs
 
         u_links : u.network.links ≡ s.network.links
         u_links = h.links ∙ t_links
@@ -358,7 +358,7 @@ module _ (host : ℕ) (request : Request) (noise : List Edit) (s : Seen) (lines 
               moved_response response home.item.now home.moves left response_passes response_low
               back.formed (subst (λ p. IsAfterMoves p home.moves home.item.now) h.response
               home.same_packet) home.on.hop
-              ∙ ap (λ (d : Device). Some (record (request_answered d request at.port).response
+              ∙ ap (λ (d : Registers). Some (record (request_answered d request at.port).response
               { hop = left }))
               (sym device_is)
 

@@ -1,7 +1,7 @@
 -- An ask is answered where the walks of its request and of its response end.
 use Rattle.std.proofs.Common.{◌≡◌, ◌≢◌, ℕ, zero, suc, ◌+◌, ◌<◌, ◌≤◌, Bool, true, false, List, [], ◌∷◌, ◌++◌, length, Option, Some, None, option_map, option_and_then, slice_get, refl, sym, ap, ◌∙◌, subst, arith, if◌then◌else◌, MatchBool, lt-ltb}
 use Rattle.rio_packets.specs.Fields.{prio_of, is_request}
-use Rattle.maint_registers.specs.Devices.{Device}
+use Rattle.maint_registers.specs.Devices.{Registers}
 use Rattle.maint_packets.specs.declared.request.Request.{Request}
 use Rattle.maint_packets.specs.declared.next_hop.Next.TheVariants.{Nowhere, RegisterUnit}
 use Rattle.maint_packets.specs.Requests.{request_of}
@@ -44,7 +44,7 @@ use Rattle.fabric_ask.proofs.Packets.{answered_alike}
 
 -- The request came to a device, which answered it.
 pub record IsHeard (host rounds : ℕ) (s : Seen) (lines : List TraceLine) (at : PortRef)
-    (request : Request) (device : Device) : Type 0 where
+    (request : Request) (device : Registers) : Type 0 where
   pub front : List TraceLine
   pub rest : List TraceLine
   pub whole : lines ≡ front ++ rest
@@ -66,14 +66,14 @@ some_back : (o : Option Request) (request : Request) → option_map anyhow o ≡
 some_back None request is = absurd cc
 some_back (Some other) request is = (other, (refl, cc))
 
-response_there : (net : Network) (q : PortRef) (packet response : List ℕ) (device : Device)
+response_there : (net : Network) (q : PortRef) (packet response : List ℕ) (device : Registers)
     (request : Request) → slice_get net.registers q.node ≡ Some device
     → request_of packet ≡ Some request → response_at net q packet ≡ Some response
     → response ≡ response_bytes (request_answered device request q.port).response
 response_there net q packet response device request stands is answer =
     let own : response_at net q packet ≡ Some
     (response_bytes (request_answered device request q.port).response) =
-    ap (option_and_then (λ (d : Device). option_map
+    ap (option_and_then (λ (d : Registers). option_map
     (λ (r : Request). response_bytes (request_answered d r q.port).response) (request_of packet)))
     stands
     ∙ ap (option_map (λ (r : Request). response_bytes (request_answered device r q.port).response))
@@ -83,16 +83,17 @@ response_there net q packet response device request stands is answer =
     sym answer ∙ own in
     cc
 
-same_change : (devices : List Device) (n : ℕ) (first second : Device → Device)
-    → ((device : Device) → first device ≡ second device) → with_device devices n first ≡ with_device
+same_change : (devices : List Registers) (n : ℕ) (first second : Registers → Registers)
+    → ((device : Registers) → first device ≡ second device)
+    → with_device devices n first ≡ with_device
     devices n second
 same_change [] n first second same = refl
-same_change (x ∷ devices) zero first second same = ap (λ (d : Device). d ∷ devices) (same x)
+same_change (x ∷ devices) zero first second same = ap (λ (d : Registers). d ∷ devices) (same x)
 same_change (x ∷ devices) (suc n) first second same =
-    ap (λ (l : List Device). x ∷ l) (same_change devices n first second same)
+    ap (λ (l : List Registers). x ∷ l) (same_change devices n first second same)
 
 module _ (host rounds : ℕ) (s : Seen) (lines : List TraceLine) (at : PortRef) (item : Item)
-    (request : Request) (device : Device) (is : request_of item.now ≡ Some request)
+    (request : Request) (device : Registers) (is : request_of item.now ≡ Some request)
     (stands : slice_get s.network.registers at.node ≡ Some device)
     (away : at.node ≢ host) (low : request.hop < 256)
     (left : ℕ) (a : HasCome host rounds request.dest request.hop left s lines at item) where
@@ -120,7 +121,7 @@ module _ (host rounds : ℕ) (s : Seen) (lines : List TraceLine) (at : PortRef) 
   by_final (HasLeft endpoint not clear regs) = let bad : true ≡ false = sym asked ∙ not in absurd cc
   by_final (WasHeard response answer only regs) =
       let known : slice_get a.mid.registers at.node ≡ Some device =
-      ap (λ (r : List Device). slice_get r at.node) a.registers ∙ stands in
+      ap (λ (r : List Registers). slice_get r at.node) a.registers ∙ stands in
       let alike : request_answered device other.0 at.port
       ≡ request_answered device request at.port =
       answered_alike device other.0 request at.port other.1.1 in
@@ -136,7 +137,7 @@ module _ (host rounds : ℕ) (s : Seen) (lines : List TraceLine) (at : PortRef) 
         response = response_there a.mid at a.passed.now response device other.0 known other.1.0
             answer ∙ ap (λ (x : RequestAnswered). response_bytes x.response) alike;
         only = only;
-        registers = regs ∙ ap (λ (r : List Device). with_device r at.node
+        registers = regs ∙ ap (λ (r : List Registers). with_device r at.node
             (device_after at.port (request_of a.passed.now))) a.registers
             ∙ same_change s.network.registers at.node _ _
             (λ d. ap (λ (o : Option Request). device_after at.port o d) other.1.0
@@ -168,7 +169,7 @@ none_answers net q packet is = by_device (slice_get net.registers q.node)
     none : request_of packet ≡ None
     none = rw is refl
 
-    by_device : (o : Option Device) → option_and_then (λ (d : Device). option_map
+    by_device : (o : Option Registers) → option_and_then (λ (d : Registers). option_map
         (λ (r : Request). response_bytes (request_answered d r q.port).response)
         (request_of packet)) o
         ≡ None
@@ -207,7 +208,7 @@ holds_it host t item only few = lt-ltb 0 (held t.network (port_of host)) some
             (subst (λ (l : List Item). 0 < length l) (sym is) (omega arith))
 
 -- It travels by the tables as the answer left them.
-module _ (host dest : ℕ) (regs : List Device) (links : List (PortRef × PortRef))
+module _ (host dest : ℕ) (regs : List Registers) (links : List (PortRef × PortRef))
     (laid : IsLaid regs links host) where
   pub comes_home : (rounds : ℕ) (noise : List Edit) (s : Seen) (lines : List TraceLine)
       (at : PortRef) (item : Item) → 255 < rounds → IsGood s → s.unfaithful ≡ None

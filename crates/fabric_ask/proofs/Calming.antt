@@ -21,7 +21,7 @@ use Rattle.fabric_trace.specs.Served.{face_in, collect_lines, IsCollect}
 use Rattle.switch_core.specs.declared.endpoint.Collected.{Collected}
 use Rattle.switch_core.specs.declared.endpoint.Collected.TheVariants as Collects
 use Rattle.switch_core.specs.EndpointSteps.{collected}
-use Rattle.maint_registers.specs.Devices.{Device, is_switch}
+use Rattle.maint_registers.specs.Devices.{Registers, is_switch}
 use Rattle.fabric_trace.specs.Rounds.{Follows, NamesNothing, Joined, ServesAll, ServeRests, ServeGoes, ServeNodes}
 use Rattle.fabric_trace.proofs.Folding.{seen-append}
 use Rattle.fabric_trace.proofs.Keeping.{IsGood, made_keeps, legal_links}
@@ -278,7 +278,7 @@ joined_made First More s lines good none one more joined =
     (more t joined.1 (made_keeps good own.0).good still
     (subst (λ f. Follows f (More t) NamesNothing joined.1) still joined.4)))
 
-pub serve_made : (devices : List Device) (k : ℕ) (s : Seen) (lines : List TraceLine) → IsGood s
+pub serve_made : (devices : List Registers) (k : ℕ) (s : Seen) (lines : List TraceLine) → IsGood s
     → s.unfaithful ≡ None → ServeNodes k devices s lines → Made s lines
 serve_made [] k s lines good none is = Done is
 serve_made (device ∷ devices) k s lines good none is =
@@ -288,7 +288,7 @@ serve_made (device ∷ devices) k s lines good none is =
     (λ t rest g still more. serve_made devices (suc k) t rest g still more) joined)
     (λ more. serve_made devices (suc k) s lines good none more) is
 
-pub collect_made : (host : ℕ) (devices : List Device) (k : ℕ) (s : Seen) (lines : List TraceLine)
+pub collect_made : (host : ℕ) (devices : List Registers) (k : ℕ) (s : Seen) (lines : List TraceLine)
     → IsGood s → s.unfaithful ≡ None → CollectNodes host k devices s lines → Made s lines
 collect_made host [] k s lines good none is = Done is
 collect_made host (device ∷ devices) k s lines good none is =

@@ -3,7 +3,7 @@ use Rattle.std.proofs.Common.{◌≡◌, ℕ, zero, suc, ◌+◌, ◌<◌, ◌�
 use Rattle.std.specs.Bool.{⊤}
 use Rattle.rio_packets.specs.Fields.{prio_of, is_request}
 use Rattle.rio_packets.specs.LinkForm.{Passes}
-use Rattle.maint_registers.specs.Devices.{Device, is_switch}
+use Rattle.maint_registers.specs.Devices.{Registers, is_switch}
 use Rattle.maint_packets.specs.declared.request.Request.{Request}
 use Rattle.maint_packets.specs.Requests.{request_of}
 use Rattle.maint_packets.specs.Responses.{response_bytes}
@@ -105,7 +105,7 @@ is_empty node (Collects.Answered request response) is = absurd cc
 is_empty node Collects.Empty is = refl
 is_empty node Collects.Full is = absurd cc
 
-pub none_first_held : (device : Device) (face : Face) → collected device face ≡ Collects.Empty
+pub none_first_held : (device : Registers) (face : Face) → collected device face ≡ Collects.Empty
     → first_held face ≡ None
 none_first_held device face is = by_head (first_held face) refl is
   where
@@ -155,7 +155,7 @@ is_full node (Collects.Answered request response) is = absurd cc
 is_full node Collects.Empty is = absurd cc
 is_full node Collects.Full is = refl
 
-full_held : (device : Device) (face : Face) → collected device face ≡ Collects.Full → IsFull face
+full_held : (device : Registers) (face : Face) → collected device face ≡ Collects.Full → IsFull face
 full_held device face is = by_head (first_held face) refl is
   where
     by_room : (packet : List ℕ) (r : ℕ) (room : Bool) (request response : List ℕ)
@@ -265,7 +265,8 @@ collects_own s node lines q item good still only passes here
 
 -- ---- all endpoints but the host
 
-pub collect_quiet : (host : ℕ) (devices : List Device) (k : ℕ) (s : Seen) (lines : List TraceLine)
+pub collect_quiet : (host : ℕ) (devices : List Registers) (k : ℕ) (s : Seen)
+    (lines : List TraceLine)
     → ((node : ℕ) (own : List TraceLine) → k ≤ node → (node == host) ≡ false
     → CollectsAll s node own → own ≡ []) → CollectNodes host k devices s lines
     → (seen s lines).unfaithful ≡ None → lines ≡ []
@@ -294,8 +295,8 @@ collect_quiet host (device ∷ devices) k s lines quiet collects still =
         ∙ still))
 
 -- The endpoint that has received the packet collects it, and no other has anything to collect.
-pub collect_endpoint : (host n : ℕ) (devices : List Device) (k : ℕ) (s : Seen)
-    (lines : List TraceLine) (q : PortRef) (item : Item) (device : Device)
+pub collect_endpoint : (host n : ℕ) (devices : List Registers) (k : ℕ) (s : Seen)
+    (lines : List TraceLine) (q : PortRef) (item : Item) (device : Registers)
     → slice_get devices n ≡ Some device → is_switch device ≡ false → q.node ≡ n + k
     → (q.node == host) ≡ false
     → IsGood s → s.unfaithful ≡ None → IsOnly s.network (Held q) item → Passes item.now

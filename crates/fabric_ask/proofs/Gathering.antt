@@ -1,7 +1,7 @@
 -- What an endpoint collects, one packet after another.
 use Rattle.std.proofs.Common.{◌≡◌, ℕ, zero, suc, ◌+◌, ◌<◌, ◌==◌, ◌||◌, Bool, true, false, List, [], ◌∷◌, Option, Some, None, MatchBool, option_map, slice_get, arith, refl, sym, ap, ◌∙◌, subst}
 use Rattle.rio_packets.specs.Fields.{prio_of}
-use Rattle.maint_registers.specs.Devices.{Device, is_switch}
+use Rattle.maint_registers.specs.Devices.{Registers, is_switch}
 use Rattle.switch_core.specs.declared.endpoint.Collected.{Collected}
 use Rattle.switch_core.specs.declared.endpoint.Collected.TheVariants as Collects
 use Rattle.switch_core.specs.EndpointSteps.{collected}
@@ -40,7 +40,7 @@ first_fewer net p packet first few =
 
 -- what an endpoint collects
 pub record HasCollect (net : Network) (node : ℕ) : Type 0 where
-  pub device : Device
+  pub device : Registers
   pub is : IsCollect net node
       (collect_lines node (collected device (face_in net (port_of node))))
 
@@ -48,7 +48,7 @@ pub collect_exists : (s : Seen) (node : ℕ) → IsReady s → IsEndpoint s.netw
     → HasCollect s.network node
 collect_exists s node ready endpoint = by_device (slice_get s.network.registers node) refl endpoint
   where
-    by_device : (o : Option Device) → slice_get s.network.registers node ≡ o
+    by_device : (o : Option Registers) → slice_get s.network.registers node ≡ o
         → option_map is_switch o ≡ Some false → HasCollect s.network node
     by_device None stands kind = absurd cc
     by_device (Some device) stands kind = record {
@@ -142,7 +142,7 @@ collects_exist s node ready none endpoint =
     (omega arith)
 
 -- Of these devices, one endpoint after another but the host.
-pub others_exist : (host : ℕ) (devices : List Device) (node : ℕ) (kinds : ℕ → Option Bool)
+pub others_exist : (host : ℕ) (devices : List Registers) (node : ℕ) (kinds : ℕ → Option Bool)
     (s : Seen) → IsReady s → s.unfaithful ≡ None → ((n : ℕ) → switch_at s.network n ≡ kinds n)
     → AreKinds kinds node devices → Exists s (CollectNodes host node devices s)
 others_exist host [] node kinds s ready none same are =

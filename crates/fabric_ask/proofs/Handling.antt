@@ -2,7 +2,7 @@
 use Rattle.std.proofs.Common.{◌≡◌, ℕ, zero, suc, ◌+◌, ◌≤◌, true, false, List, [], ◌∷◌, ◌++◌, Some, None, slice_get, sym, ap, ◌∙◌, subst, arith, MatchBool, append-nil}
 use Rattle.rio_packets.specs.Fields.{prio_of}
 use Rattle.rio_packets.specs.LinkForm.{Passes}
-use Rattle.maint_registers.specs.Devices.{Device, is_switch}
+use Rattle.maint_registers.specs.Devices.{Registers, is_switch}
 use Rattle.fabric_script.specs.declared.ports.PortRef.{PortRef}
 use Rattle.fabric_model.specs.Network.{Item, Network, IsEndpoint, IsSwitch, switch_at}
 use Rattle.fabric_model.specs.Steps.{DeviceStep, ByDevice}
@@ -99,7 +99,7 @@ pub nothing_by : (first rest lines : List TraceLine) → lines ≡ first ++ rest
 nothing_by first rest lines whole one two = whole ∙ (λ i. one i ++ two i)
 
 -- no switch from one on makes a step
-pub serve_quiet : (devices : List Device) (k : ℕ) (s : Seen) (lines : List TraceLine)
+pub serve_quiet : (devices : List Registers) (k : ℕ) (s : Seen) (lines : List TraceLine)
     → ((node : ℕ) (own : List TraceLine) → k ≤ node → ServesAll s node own → own ≡ [])
     → ServeNodes k devices s lines → (seen s lines).unfaithful ≡ None → lines ≡ []
 serve_quiet [] k s lines quiet serves still = serves
@@ -119,8 +119,8 @@ serve_quiet (device ∷ devices) k s lines quiet serves still =
     (λ node own above. quiet node own (omega (arith, above))) more still) serves
 
 -- The switch that has received the packet serves it, and no other makes a step.
-pub serve_switch : (n : ℕ) (devices : List Device) (k : ℕ) (s : Seen) (lines : List TraceLine)
-    (q : PortRef) (item : Item) (device : Device) → slice_get devices n ≡ Some device
+pub serve_switch : (n : ℕ) (devices : List Registers) (k : ℕ) (s : Seen) (lines : List TraceLine)
+    (q : PortRef) (item : Item) (device : Registers) → slice_get devices n ≡ Some device
     → is_switch device ≡ true → q.node ≡ n + k
     → IsGood s → IsOnly s.network (Held q) item → Passes item.now
     → IsDevicePort s.network.registers q
@@ -163,7 +163,7 @@ serve_switch (suc n) (head ∷ devices) k s lines q item device stands kind here
     good only passes port more still) serves
 
 -- No switch makes a step where an endpoint has received the packet, or nothing is received.
-pub serve_endpoint : (devices : List Device) (s : Seen) (lines : List TraceLine) (q : PortRef)
+pub serve_endpoint : (devices : List Registers) (s : Seen) (lines : List TraceLine) (q : PortRef)
     (item : Item) → IsGood s → IsOnly s.network (Held q) item → IsEndpoint s.network q.node
     → ServeNodes 0 devices s lines → (seen s lines).unfaithful ≡ None → lines ≡ []
 serve_endpoint devices s lines q item good only endpoint serves still =
@@ -171,7 +171,7 @@ serve_endpoint devices s lines q item good only endpoint serves still =
     (λ switch same. two_kinds (switch_at s.network node)
     (subst (λ n. switch_at s.network n ≡ Some false) same endpoint) switch)) serves still
 
-pub serve_nothing : (devices : List Device) (s : Seen) (lines : List TraceLine) → IsGood s
+pub serve_nothing : (devices : List Registers) (s : Seen) (lines : List TraceLine) → IsGood s
     → NoneHeld s.network → ServeNodes 0 devices s lines → (seen s lines).unfaithful ≡ None
     → lines ≡ []
 serve_nothing devices s lines good none serves still =

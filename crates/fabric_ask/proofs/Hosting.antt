@@ -1,7 +1,7 @@
 -- What a host collects, and that its request is taken.
 use Rattle.std.proofs.Common.{◌≡◌, ℕ, ◌+◌, ◌<◌, nat_lt, true, false, List, [], ◌∷◌, length, filter, ◌==◌, Option, Some, None, refl, sym, ap, ◌∙◌}
 use Rattle.rio_packets.specs.Fields.{prio_of, is_request}
-use Rattle.maint_registers.specs.Devices.{Device}
+use Rattle.maint_registers.specs.Devices.{Registers}
 use Rattle.maint_packets.specs.Requests.{request_of}
 use Rattle.switch_core.specs.declared.endpoint.Collected.{Collected}
 use Rattle.switch_core.specs.declared.endpoint.Collected.TheVariants as Collects
@@ -29,7 +29,7 @@ module _ (net : Network) (host : ℕ) (item : Item) (good : ByPriority net)
   not_asked : request_of item.now ≡ None
   not_asked = rw answer refl
 
-  left_is : (device : Device) → collected device (face_in net (port_of host)) ≡ Collects.Left
+  left_is : (device : Registers) → collected device (face_in net (port_of host)) ≡ Collects.Left
       item.now
   left_is device = by_head (first_held (face_in net (port_of host))) refl
     where

@@ -1,6 +1,6 @@
 -- A fabric stays laid out as it is when a device answers.
 use Rattle.std.proofs.Common.{◌≡◌, ℕ, zero, suc, ◌<◌, List, [], ◌∷◌, Some, option_map, slice_get, refl, sym, ap, ◌∙◌, subst}
-use Rattle.maint_registers.specs.Devices.{Device, is_switch}
+use Rattle.maint_registers.specs.Devices.{Registers, is_switch}
 use Rattle.maint_registers.proofs.SameLaws.{same_kind}
 use Rattle.maint_packets.specs.declared.request.Request.{Request}
 use Rattle.maint_packets.specs.Answers.{request_answered}
@@ -15,19 +15,20 @@ use Rattle.fabric_ask.specs.Answered.{after_request}
 
 -- ---- all devices
 
-ports_at : (devices : List Device) (n m : ℕ) (change : Device → Device) (device : Device)
-    → ((d : Device) → (change d).ports ≡ d.ports) → slice_get devices m ≡ Some device
-    → (next : Device) × (slice_get (with_device devices n change) m ≡ Some next)
+ports_at : (devices : List Registers) (n m : ℕ) (change : Registers → Registers)
+    (device : Registers)
+    → ((d : Registers) → (change d).ports ≡ d.ports) → slice_get devices m ≡ Some device
+    → (next : Registers) × (slice_get (with_device devices n change) m ≡ Some next)
     × (next.ports ≡ device.ports)
 ports_at [] n m change device same stands = absurd cc
 ports_at (x ∷ devices) zero zero change device same stands = let here : x ≡ device = cc in
-    (change x, refl, same x ∙ ap (λ (d : Device). d.ports) here)
+    (change x, refl, same x ∙ ap (λ (d : Registers). d.ports) here)
 ports_at (x ∷ devices) zero (suc m) change device same stands = (device, stands, refl)
 ports_at (x ∷ devices) (suc n) zero change device same stands = (device, stands, refl)
 ports_at (x ∷ devices) (suc n) (suc m) change device same stands =
     ports_at devices n m change device same stands
 
-pub laid_heard : (registers : List Device) (links : List (PortRef × PortRef)) (host : ℕ)
+pub laid_heard : (registers : List Registers) (links : List (PortRef × PortRef)) (host : ℕ)
     (at : PortRef) (request : Request) → IsLaid registers links host
     → IsLaid (after_request registers at request) links host
 laid_heard registers links host at request laid = record {

@@ -1,6 +1,6 @@
 -- A packet whose walk ends nowhere comes to no host.
 use Rattle.std.proofs.Common.{◌≡◌, ℕ, zero, suc, false, List, ◌++◌, Option, Some, None, refl, sym, ap, ◌∙◌, subst, MatchBool, append-nil}
-use Rattle.maint_registers.specs.Devices.{Device}
+use Rattle.maint_registers.specs.Devices.{Registers}
 use Rattle.link_wires.specs.declared.edits.Edit.{Edit}
 use Rattle.fabric_script.specs.declared.ports.PortRef.{PortRef}
 use Rattle.fabric_script.specs.Ports.{port_at}
@@ -78,7 +78,7 @@ clear_rounds host (suc k) noise s lines good none is clear asks still =
           more.nothing);
     }
 
-module _ (host dest : ℕ) (regs : List Device) (links : List (PortRef × PortRef))
+module _ (host dest : ℕ) (regs : List Registers) (links : List (PortRef × PortRef))
     (laid : IsLaid regs links host) where
   -- what a round makes of a packet whose walk ends nowhere
   pub data Loses (n : ℕ) (s t : Seen) (p : PortRef) (item : Item) : Type 0 where

@@ -3,7 +3,7 @@ use Rattle.std.proofs.Common.{◌≡◌, ◌≢◌, ℕ, zero, suc, false, List,
 use Rattle.std.proofs.lemmas.Bool.{cases_eq}
 use Rattle.rio_chars.specs.declared.chars.Char.{Char}
 use Rattle.rio_packets.specs.Fields.{prio_of}
-use Rattle.maint_registers.specs.Devices.{Device, is_switch}
+use Rattle.maint_registers.specs.Devices.{Registers, is_switch}
 use Rattle.maint_packets.specs.declared.next_hop.Next.{Next}
 use Rattle.maint_packets.specs.declared.request.Request.{Request}
 use Rattle.maint_packets.specs.NextHops.{next_of}
@@ -32,7 +32,7 @@ use Rattle.fabric_ask.specs.Own.{with_own, NoAnswer, NeverAnswers}
 
 -- ---- devices
 
-own_at : (devices : List Device) (host : ℕ) (device : Device) (n : ℕ) → n ≢ host
+own_at : (devices : List Registers) (host : ℕ) (device : Registers) (n : ℕ) → n ≢ host
     → slice_get (with_device devices host (λ other. device)) n ≡ slice_get devices n
 own_at [] host device n apart = refl
 own_at (x ∷ devices) zero device zero apart = absurd (apart refl)
@@ -41,13 +41,14 @@ own_at (x ∷ devices) (suc host) device zero apart = refl
 own_at (x ∷ devices) (suc host) device (suc n) apart =
     own_at devices host device n (λ same. apart (ap suc same))
 
-own_host : (devices : List Device) (host : ℕ) (device : Device) → IsEndpointIn devices host
+own_host : (devices : List Registers) (host : ℕ) (device : Registers) → IsEndpointIn devices host
     → slice_get (with_device devices host (λ other. device)) host ≡ Some device
 own_host [] host device is = absurd cc
 own_host (x ∷ devices) zero device is = refl
 own_host (x ∷ devices) (suc host) device is = own_host devices host device is
 
-commute : (devices : List Device) (host n : ℕ) (device : Device) (change : Device → Device)
+commute : (devices : List Registers) (host n : ℕ) (device : Registers)
+    (change : Registers → Registers)
     → n ≢ host
     → with_device (with_device devices host (λ other. device)) n change ≡ with_device
     (with_device devices n change) host (λ other. device)
@@ -56,10 +57,10 @@ commute (x ∷ devices) zero zero device change apart = absurd (apart refl)
 commute (x ∷ devices) zero (suc n) device change apart = refl
 commute (x ∷ devices) (suc host) zero device change apart = refl
 commute (x ∷ devices) (suc host) (suc n) device change apart =
-    ap (λ (l : List Device). x ∷ l) (commute devices host n device change
+    ap (λ (l : List Registers). x ∷ l) (commute devices host n device change
     (λ same. apart (ap suc same)))
 
-module _ (host : ℕ) (device : Device) (endpoint : is_switch device ≡ false) where
+module _ (host : ℕ) (device : Registers) (endpoint : is_switch device ≡ false) where
   abbrev own : Network → Network
   own net = with_change net host (λ other. device)
 
@@ -83,12 +84,13 @@ module _ (host : ℕ) (device : Device) (endpoint : is_switch device ≡ false) 
     | inl same ↦
         let none : next_at (own net) n packet ≡ None =
         ap (λ k. next_at (own net) k packet) same
-        ∙ ap (option_and_then (λ (d : Device). if is_switch d then Some (next_of d packet) else
+        ∙ ap (option_and_then (λ (d : Registers). if is_switch d then Some (next_of d packet) else
         None)) (own_host net.registers host device is)
         ∙ ap (λ b. if b then Some (next_of device packet) else None) endpoint in
         absurd (some_none (next_at (own net) n packet) none named)
     | inr other ↦
-        ap (option_and_then (λ (d : Device). if is_switch d then Some (next_of d packet) else None))
+        ap (option_and_then
+            (λ (d : Registers). if is_switch d then Some (next_of d packet) else None))
         (sym (own_at net.registers host device n (λ same. omega (arith, other, same)))) ∙ named
   ]
     where
@@ -98,7 +100,7 @@ module _ (host : ℕ) (device : Device) (endpoint : is_switch device ≡ false) 
   response_own : (net : Network) (p : PortRef) (packet response : List ℕ) → p.node ≢ host
       → response_at (own net) p packet ≡ Some response → response_at net p packet ≡ Some response
   response_own net p packet response apart answer =
-      ap (option_and_then (λ (d : Device). option_map
+      ap (option_and_then (λ (d : Registers). option_map
       (λ (r : Request). response_bytes (request_answered d r p.port).response) (request_of packet)))
       (sym (own_at net.registers host device p.node apart)) ∙ answer
 
@@ -138,7 +140,7 @@ module _ (host : ℕ) (device : Device) (endpoint : is_switch device ≡ false) 
   after_own net (ByDevice (Move p q packet)) apart = refl
   after_own net (ByDevice (Drop p packet)) apart = refl
   after_own net (ByDevice (Answer p packet response)) apart =
-      ap (λ (l : List Device). record (after net (ByDevice (Answer p packet response)))
+      ap (λ (l : List Registers). record (after net (ByDevice (Answer p packet response)))
       { registers = l }) (commute net.registers host p.node device
       (device_after p.port (request_of packet)) apart)
 
@@ -223,14 +225,15 @@ module _ (host : ℕ) (device : Device) (endpoint : is_switch device ≡ false) 
   made_own s lines is never made = made_from s (with_own host device s) lines refl is never made
 
 -- What stands in lanes stands well whatever the host's registers are.
-own_well : (host : ℕ) (device : Device) (s : Seen) → AreWell s.network
+own_well : (host : ℕ) (device : Registers) (s : Seen) → AreWell s.network
     → AreWell (with_own host device s).network
 own_well host device s well (ReceivedAt p r) = well (ReceivedAt p r)
 own_well host device s well (WaitingAt p r) = well (WaitingAt p r)
 own_well host device s well (Over e) = tt
 
 -- What is known stays good.
-pub own_good : (host : ℕ) (device : Device) (s : Seen) → IsGood s → IsGood (with_own host device s)
+pub own_good : (host : ℕ) (device : Registers) (s : Seen) → IsGood s
+    → IsGood (with_own host device s)
 own_good host device s good = record {
   well = own_well host device s good.well;
   proper = good.proper;
@@ -238,7 +241,8 @@ own_good host device s good = record {
       record { sound = is.sound; stands = is.stands; kept_a = is.kept_a; kept_b = is.kept_b };
 }
 
-all_changed : (P : Device → Type 0) (devices : List Device) (n : ℕ) (device : Device) → P device
+all_changed : (P : Registers → Type 0) (devices : List Registers) (n : ℕ) (device : Registers)
+    → P device
     → AllByRecursion P devices → AllByRecursion P (with_device devices n (λ other. device))
 all_changed P [] n device own all = tt
 all_changed P (x ∷ devices) zero device own all = (own, all.1)
@@ -246,7 +250,7 @@ all_changed P (x ∷ devices) (suc n) device own all =
     (all.0, all_changed P devices n device own all.1)
 
 -- And a trace may go on from it.
-pub own_ready : (host : ℕ) (device : Device) (s : Seen) → IsWithin device → IsReady s
+pub own_ready : (host : ℕ) (device : Registers) (s : Seen) → IsWithin device → IsReady s
     → IsReady (with_own host device s)
 own_ready host device s within ready = record {
   formed = record {
@@ -263,7 +267,7 @@ own_ready host device s within ready = record {
 }
 
 -- The host is an endpoint whatever its registers are, if they are those of one.
-pub own_endpoint : (host : ℕ) (device : Device) (s : Seen) → is_switch device ≡ false
+pub own_endpoint : (host : ℕ) (device : Registers) (s : Seen) → is_switch device ≡ false
     → IsEndpoint s.network host → IsEndpoint (with_own host device s).network host
 own_endpoint host device s kind is =
     ap (option_map is_switch) (own_host s.network.registers host device is) ∙ ap Some kind

@@ -6,7 +6,7 @@ use Rattle.rio_packets.specs.Hops.{closed, message_ended}
 use Rattle.rio_packets.specs.LinkForm.{IsBody, LinkForm, Passes}
 use Rattle.rio_packets.specs.Making.{made}
 use Rattle.rio_packets.proofs.FormLaws.{LinkForm-made}
-use Rattle.maint_registers.specs.Devices.{Device}
+use Rattle.maint_registers.specs.Devices.{Registers}
 use Rattle.maint_registers.specs.Access.{value_at, written_at}
 use Rattle.maint_packets.specs.declared.request.Op.{Op}
 use Rattle.maint_packets.specs.declared.request.Op.TheVariants.{Read, Write, BadRead, BadWrite}
@@ -21,7 +21,7 @@ use Rattle.fabric_ask.proofs.Lowering.{unhopped, anyhow, responses_same}
 
 -- ---- what answers it
 
-answered_anyhow : (device : Device) (request : Request) (port : ℕ)
+answered_anyhow : (device : Registers) (request : Request) (port : ℕ)
     → request_answered device request port ≡ request_answered device (anyhow request) port
 answered_anyhow device request port = by_op request.op
   where
@@ -29,7 +29,7 @@ answered_anyhow device request port = by_op request.op
     read None = refl
     read (Some value) = refl
 
-    write : (o : Option Device)
+    write : (o : Option Registers)
         → request_written device request o ≡ request_written device (anyhow request)
         o
     write None = refl
@@ -43,7 +43,7 @@ answered_anyhow device request port = by_op request.op
     by_op BadWrite = refl
 
 -- requests that differ in their hop counts alone are answered alike
-pub answered_alike : (device : Device) (first second : Request) (port : ℕ)
+pub answered_alike : (device : Registers) (first second : Request) (port : ℕ)
     → anyhow first ≡ anyhow second
     → request_answered device first port ≡ request_answered device second port
 answered_alike device first second port same =
@@ -59,7 +59,7 @@ pub record IsBack (request : Request) (response : Response) : Type 0 where
   pub status : response.status < 16
   pub formed : IsResponseForm response.write response.status response.words
 
-pub is_back : (device : Device) (request : Request) (port : ℕ)
+pub is_back : (device : Registers) (request : Request) (port : ℕ)
     → IsBack request (request_answered device request port).response
 is_back device request port = by_op request.op
   where
@@ -69,7 +69,7 @@ is_back device request port = by_op request.op
     read (Some value) =
         record { dest = refl; hop = refl; prio = refl; status = omega arith; formed = refl }
 
-    write : (o : Option Device) → IsBack request (request_written device request o).response
+    write : (o : Option Registers) → IsBack request (request_written device request o).response
     write None =
         record { dest = refl; hop = refl; prio = refl; status = omega arith; formed = inr refl }
     write (Some next) =

@@ -4,7 +4,7 @@ use Rattle.std.specs.Bool.{⊤}
 use Rattle.link_model.specs.Places.{at_rest}
 use Rattle.link_rest.specs.Rest.{IsQuiet}
 use Rattle.link_wires.specs.declared.edits.Edit.{Edit}
-use Rattle.maint_registers.specs.Devices.{Device, is_switch}
+use Rattle.maint_registers.specs.Devices.{Registers, is_switch}
 use Rattle.fabric_script.specs.declared.ports.PortRef.{PortRef}
 use Rattle.fabric_model.specs.Network.{same_port, peer_in, link_in}
 use Rattle.fabric_model.specs.Steps.{Step, ByDevice}
@@ -134,7 +134,7 @@ collects_steps {s} {node} {lines} (CollectStops move is) = steps_by is full_step
 collects_steps {s} {node} {lines} (CollectGoes step rest move is more) =
     steps_by is (one_step step rest (collects_steps more))
 
-pub serve_steps : (devices : List Device) (k : ℕ) (s : Seen) (lines : List TraceLine)
+pub serve_steps : (devices : List Registers) (k : ℕ) (s : Seen) (lines : List TraceLine)
     → ServeNodes k devices s lines → OnlySteps lines
 serve_steps [] k s lines is = steps_none lines is
 serve_steps (device ∷ devices) k s lines is =
@@ -143,7 +143,7 @@ serve_steps (device ∷ devices) k s lines is =
     (λ t rest more. serve_steps devices (suc k) t rest more) joined)
     (λ more. serve_steps devices (suc k) s lines more) is
 
-collect_steps : (host : ℕ) (devices : List Device) (k : ℕ) (s : Seen) (lines : List TraceLine)
+collect_steps : (host : ℕ) (devices : List Registers) (k : ℕ) (s : Seen) (lines : List TraceLine)
     → CollectNodes host k devices s lines → OnlySteps lines
 collect_steps host [] k s lines is = steps_none lines is
 collect_steps host (device ∷ devices) k s lines is =

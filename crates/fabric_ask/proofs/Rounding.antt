@@ -1,7 +1,7 @@
 -- One round and the one packet.
 use Rattle.std.proofs.Common.{◌≡◌, ◌≢◌, ℕ, ◌==◌, Bool, true, false, List, [], ◌++◌, Option, Some, None, option_map, slice_get, refl, sym, ap, ◌∙◌, subst, arith, append-nil, eqb-true, eq-eqb}
 use Rattle.rio_packets.specs.LinkForm.{Passes}
-use Rattle.maint_registers.specs.Devices.{Device, is_switch}
+use Rattle.maint_registers.specs.Devices.{Registers, is_switch}
 use Rattle.link_wires.specs.declared.edits.Edit.{Edit}
 use Rattle.fabric_script.specs.declared.ports.PortRef.{PortRef}
 use Rattle.fabric_model.specs.Network.{Item, Network, peer_in}
@@ -30,7 +30,8 @@ run_then s first rest lines Is whole made run same good =
 
 -- ---- behind the links
 
-clash : (registers : List Device) (n m : ℕ) (device : Device) → slice_get registers n ≡ Some device
+clash : (registers : List Registers) (n m : ℕ) (device : Registers)
+    → slice_get registers n ≡ Some device
     → is_switch device ≡ true → IsEndpointIn registers m → n ≡ m → ⊥
 clash registers n m device stands kind endpoint same =
     let other : Some (is_switch device) ≡ Some false = sym (ap (option_map is_switch) stands)

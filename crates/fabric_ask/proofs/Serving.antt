@@ -4,7 +4,7 @@ use Rattle.std.specs.Bool.{⊤}
 use Rattle.std.proofs.lemmas.Bool.{and_parts, cases_eq}
 use Rattle.rio_packets.specs.Fields.{prio_of, is_request, dest_of}
 use Rattle.rio_packets.specs.LinkForm.{Passes}
-use Rattle.maint_registers.specs.Devices.{Device}
+use Rattle.maint_registers.specs.Devices.{Registers}
 use Rattle.maint_registers.specs.Routes.{next_port}
 use Rattle.maint_packets.specs.declared.next_hop.Next.{Next}
 use Rattle.maint_packets.specs.declared.next_hop.Next.TheVariants.{Nowhere, RegisterUnit, Port}
@@ -65,7 +65,7 @@ put_only net q r items item clear one prio = record {
 }
 
 -- the same with other registers, and one more number given out
-again : (net : Network) (spot : Spot) (item : Item) (given : ℕ) (devices : List Device)
+again : (net : Network) (spot : Spot) (item : Item) (given : ℕ) (devices : List Registers)
     → IsOnly net spot item → IsOnly (record net { given = given; registers = devices }) spot item
 again net spot item given devices only =
     record { received = only.received; waiting = only.waiting; lent = only.lent }
@@ -239,7 +239,7 @@ IsSome_step (Some (Moved from to packet)) = ⊤
 IsSome_step (Some (Dropped from packet)) = ⊤
 IsSome_step (Some (Answered port request response)) = ⊤
 
-module _ (device : Device) (faces : List Face) where
+module _ (device : Registers) (faces : List Face) where
   if_step : (test : Bool) (made : switch.Step) → IsSome_step (Some made)
       → IsSome_step (if test then Some made else None)
   unfolding IsSome_step
@@ -290,7 +290,7 @@ module _ (device : Device) (faces : List Face) where
       below
 
 -- a packet that goes to the registers is a request
-is_asked : (device : Device) (packet : List ℕ) → next_of device packet ≡ RegisterUnit
+is_asked : (device : Registers) (packet : List ℕ) → next_of device packet ≡ RegisterUnit
     → is_request packet ≡ true
 is_asked device packet is = by_tests (is_foreign packet) (is_at_end packet) (is_request packet)
     (option_and_then (next_port device) (dest_of packet)) is
@@ -320,7 +320,7 @@ head_is net q item only few =
     ap (λ (l : List (List ℕ)). slice_get l 0) (lane_at (net.received q) (prio_of item.now) few)
     ∙ ap (λ (l : List Item). slice_get (map (λ (x : Item). x.now) l) 0) (first_only net q item only)
 
-module _ (net : Network) (node : ℕ) (q : PortRef) (item : Item) (device : Device)
+module _ (net : Network) (node : ℕ) (q : PortRef) (item : Item) (device : Registers)
     (only : IsOnly net (Held q) item) (few : prio_of item.now < 4) (here : q.node ≡ node)
     (below : q.port < device.ports) where
   same_port_here : port_at node q.port ≡ q
@@ -382,9 +382,9 @@ pub switch_rests : (net : Network) (node : ℕ) (q : PortRef) (item : Item) → 
     → IsMove net node (Lacked NoStep ∷ []) → ⊥
 switch_rests net node q item only few port here move =
     rests_not net node q item move.device only few here
-    (subst (λ (d : Device). q.port < d.ports) same port.below) (no_step node _ move.lines)
+    (subst (λ (d : Registers). q.port < d.ports) same port.below) (no_step node _ move.lines)
   where
-    some_is : (o : Option Device) (x y : Device) → o ≡ Some x → o ≡ Some y → x ≡ y
+    some_is : (o : Option Registers) (x y : Registers) → o ≡ Some x → o ≡ Some y → x ≡ y
     some_is None x y first second = absurd cc
     some_is (Some z) x y first second = cc
 

@@ -3,7 +3,7 @@ use Rattle.std.proofs.Common.{◌≡◌, ◌≢◌, ℕ, zero, suc, ◌<◌, nat
 use Rattle.std.specs.Option.{option_and_then}
 use Rattle.std.proofs.lemmas.Bool.{ne_eqb}
 use Rattle.rio_packets.specs.Fields.{is_request}
-use Rattle.maint_registers.specs.Devices.{Device, is_switch, new_endpoint}
+use Rattle.maint_registers.specs.Devices.{Registers, is_switch, new_endpoint}
 use Rattle.maint_registers.specs.Routes.{next_port}
 use Rattle.maint_packets.specs.declared.next_hop.Next.TheVariants.{Nowhere, RegisterUnit, Port}
 use Rattle.maint_packets.specs.NextHops.{to_port, moved, is_spent}
@@ -11,7 +11,7 @@ use Rattle.link_wires.specs.declared.edits.Edit.{Edit}
 use Rattle.fabric_script.specs.declared.ports.PortRef.{PortRef}
 use Rattle.fabric_script.specs.Ports.{port_at}
 use Rattle.fabric_map.specs.Topology.{Topology}
-use Rattle.fabric_map.specs.Routes.{Registers, walk}
+use Rattle.fabric_map.specs.Routes.{AllRegisters, walk}
 use Rattle.fabric_model.specs.Network.{Item, Network, port_of, peer_in, in_turn}
 use Rattle.fabric_model.specs.Steps.{moved_item}
 use Rattle.fabric_model.specs.Laws.Leaving.{IsAfterMoves, MovesTo}
@@ -91,15 +91,16 @@ arrival_behind host rounds dest h left s first rest lines at item whole run noth
     after_one old mid new (suc n) one (OnceMore before last) =
         OnceMore (after_one old mid _ n one before) last
 
-module _ (host dest : ℕ) (regs : List Device) (links : List (PortRef × PortRef))
+module _ (host dest : ℕ) (regs : List Registers) (links : List (PortRef × PortRef))
     (laid : IsLaid regs links host) where
   abbrev topo : Topology
   topo = topology_of regs links host
 
-  abbrev table : Registers
+  abbrev table : AllRegisters
   table = registers_of regs
 
-  kind_switch : (n : ℕ) (device : Device) → slice_get regs n ≡ Some device → is_switch device ≡ true
+  kind_switch : (n : ℕ) (device : Registers) → slice_get regs n ≡ Some device
+      → is_switch device ≡ true
       → topo.switch_ports n ≡ Some device.ports
   kind_switch n device stands kind = ap (option_and_then ports_of_switch) stands
       ∙ ap (λ b. if b then Some device.ports else None) kind
@@ -107,7 +108,8 @@ module _ (host dest : ℕ) (regs : List Device) (links : List (PortRef × PortRe
   pub kind_endpoint : (n : ℕ) → IsEndpointIn regs n → topo.switch_ports n ≡ None
   kind_endpoint n endpoint = by_device (slice_get regs n) refl endpoint
     where
-      by_device : (o : Option Device) → slice_get regs n ≡ o → option_map is_switch o ≡ Some false
+      by_device : (o : Option Registers) → slice_get regs n ≡ o
+          → option_map is_switch o ≡ Some false
           → option_and_then ports_of_switch (slice_get regs n) ≡ None
       by_device None stands is = absurd cc
       by_device (Some device) stands is =
@@ -115,10 +117,10 @@ module _ (host dest : ℕ) (regs : List Device) (links : List (PortRef × PortRe
           ap (option_and_then ports_of_switch) stands
           ∙ ap (λ b. if b then Some device.ports else None) other
 
-  pub table_is : (n : ℕ) (device : Device) → slice_get regs n ≡ Some device → table n ≡ device
+  pub table_is : (n : ℕ) (device : Registers) → slice_get regs n ≡ Some device → table n ≡ device
   table_is n device stands = index_is regs n device stands
     where
-      index_is : (l : List Device) (n : ℕ) (device : Device) → slice_get l n ≡ Some device
+      index_is : (l : List Registers) (n : ℕ) (device : Registers) → slice_get l n ≡ Some device
           → slice_index_or l n (new_endpoint 0 false) ≡ device
       index_is [] n device stands = absurd cc
       index_is (x ∷ l) zero device stands = cc

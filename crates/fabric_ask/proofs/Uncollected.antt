@@ -1,6 +1,6 @@
 -- In the rounds of an ask the host collects nothing, but in the last of them.
 use Rattle.std.proofs.Common.{◌≡◌, ◌≢◌, ℕ, zero, suc, ◌||◌, ◌==◌, Bool, true, false, List, [], ◌∷◌, ◌++◌, Option, Some, None, refl, sym, ap, ◌∙◌, subst, MatchBool, eq-eqb, append_assoc, inl, inr, ◌⊎◌}
-use Rattle.maint_registers.specs.Devices.{Device, is_switch}
+use Rattle.maint_registers.specs.Devices.{Registers, is_switch}
 use Rattle.link_wires.specs.declared.edits.Edit.{Edit}
 use Rattle.fabric_script.specs.declared.ports.PortRef.{PortRef}
 use Rattle.fabric_model.specs.Network.{Network, IsEndpoint, IsSwitch, switch_at, link_in}
@@ -184,7 +184,7 @@ module _ (host : ℕ) where
         collects_never (made_keeps good one).good none away more,
       )
 
-  serve_never : (devices : List Device) (k : ℕ) (s : Seen) (lines : List TraceLine) → IsGood s
+  serve_never : (devices : List Registers) (k : ℕ) (s : Seen) (lines : List TraceLine) → IsGood s
       → IsEndpoint s.network host → ServeNodes k devices s lines → CollectsNothing host lines
   serve_never [] k s lines good is at = never_none host lines at
   serve_never (device ∷ devices) k s lines good is at =
@@ -197,7 +197,7 @@ module _ (host : ℕ) where
       (made_endpoint s first good made is) more))
       (λ more. serve_never devices (suc k) s lines good is more) at
 
-  collect_never : (devices : List Device) (k : ℕ) (s : Seen) (lines : List TraceLine) → IsGood s
+  collect_never : (devices : List Registers) (k : ℕ) (s : Seen) (lines : List TraceLine) → IsGood s
       → s.unfaithful ≡ None → CollectNodes host k devices s lines → CollectsNothing host lines
   collect_never [] k s lines good none at = never_none host lines at
   collect_never (device ∷ devices) k s lines good none at =

@@ -3,14 +3,14 @@ use Rattle.std.proofs.Common.{◌≡◌, ℕ, zero, suc, ◌==◌, ◌&&◌, not
 use Rattle.std.specs.Option.{option_and_then}
 use Rattle.std.proofs.lemmas.Bool.{ne_eqb, and_right}
 use Rattle.rio_packets.specs.Fields.{ftype_of, is_maintenance, is_request, Lowered, dest_of}
-use Rattle.maint_registers.specs.Devices.{Device}
+use Rattle.maint_registers.specs.Devices.{Registers}
 use Rattle.maint_registers.specs.Routes.{next_port}
 use Rattle.maint_packets.specs.declared.next_hop.Next.TheVariants.{Nowhere, RegisterUnit}
 use Rattle.maint_packets.specs.NextHops.{is_foreign, is_at_end, to_port, next_of, moved, is_spent}
 use Rattle.fabric_script.specs.declared.ports.PortRef.{PortRef}
 use Rattle.fabric_script.specs.Ports.{port_at}
 use Rattle.fabric_map.specs.Topology.{Topology}
-use Rattle.fabric_map.specs.Routes.{Registers, walk}
+use Rattle.fabric_map.specs.Routes.{AllRegisters, walk}
 use Rattle.fabric_model.specs.Network.{peer_in}
 use Rattle.fabric_model.specs.Laws.Leaving.{MovesTo}
 use Rattle.fabric_model.proofs.Moving.{moves_on}
@@ -28,7 +28,7 @@ not_foreign packet is = ap (λ b. (ftype_of packet == 8) && not b) is
     ∙ and_right (ftype_of packet == 8) false refl
 
 -- where a switch sends it, with no hop left, and with one
-pub next_ends : (device : Device) (packet : List ℕ) (dest : ℕ) → IsOn packet dest 0
+pub next_ends : (device : Registers) (packet : List ℕ) (dest : ℕ) → IsOn packet dest 0
     → next_of device packet ≡ (if is_request packet then RegisterUnit else Nowhere)
 next_ends device packet dest on =
     let foreign = not_foreign packet on.maintenance in
@@ -37,7 +37,7 @@ next_ends device packet dest on =
     else (if is_spent (hop i) then (if is_request packet then RegisterUnit else Nowhere)
     else to_port (option_and_then (next_port device) (dest_of packet)))
 
-pub next_goes : (device : Device) (packet : List ℕ) (dest h : ℕ) → IsOn packet dest (suc h)
+pub next_goes : (device : Registers) (packet : List ℕ) (dest h : ℕ) → IsOn packet dest (suc h)
     → next_of device packet ≡ to_port (next_port device dest)
 next_goes device packet dest h on =
     let foreign = not_foreign packet on.maintenance in
@@ -69,7 +69,7 @@ on_moves packet dest h on =
 
 -- ---- the walk
 
-module _ (topology : Topology) (registers : Registers) (dest : ℕ) where
+module _ (topology : Topology) (registers : AllRegisters) (dest : ℕ) where
   -- over a link to an endpoint
   pub walk_endpoint : (n : ℕ) (p q : PortRef) → topology.peer p ≡ Some q
       → topology.switch_ports q.node ≡ None → walk topology registers dest n p ≡ Some q
@@ -91,7 +91,7 @@ module _ (topology : Topology) (registers : Registers) (dest : ℕ) where
   walk_none zero p none = none
   walk_none (suc n) p none = rw none refl
 
-module _ (topology : Topology) (registers : Registers) (dest : ℕ) where
+module _ (topology : Topology) (registers : AllRegisters) (dest : ℕ) where
   pub left_endpoint : (n : ℕ) (p q : PortRef) → topology.peer p ≡ Some q
       → topology.switch_ports q.node ≡ None → hops_left topology registers dest n p ≡ n
   left_endpoint zero p q peer kind = refl
@@ -104,12 +104,12 @@ module _ (topology : Topology) (registers : Registers) (dest : ℕ) where
   left_switch n ports to p q peer kind port = rw peer (rw kind (rw port refl))
 
 -- A walk ends at the end of a link.
-module _ (regs : List Device) (links : List (PortRef × PortRef)) (host dest : ℕ)
+module _ (regs : List Registers) (links : List (PortRef × PortRef)) (host dest : ℕ)
     (proper : AreProper links) where
   abbrev way_topology : Topology
   way_topology = topology_of regs links host
 
-  abbrev way_table : Registers
+  abbrev way_table : AllRegisters
   way_table = registers_of regs
 
   pub walk_peer : (n : ℕ) (p at : PortRef)

@@ -1,6 +1,6 @@
 -- The lines of an ask: a request is taken, and then rounds are made until the host holds a packet.
 use Rattle.std.specs.Prelude.{◌≡◌, ℕ, zero, suc, ◌==◌, ◌||◌, nat_lt, Bool, false, List, [], ◌∷◌, MatchBool}
-use Rattle.maint_registers.specs.Devices.{Device, is_switch}
+use Rattle.maint_registers.specs.Devices.{Registers, is_switch}
 use Rattle.maint_packets.specs.declared.request.Request.{Request}
 use Rattle.link_wires.specs.declared.edits.Edit.{Edit}
 use Rattle.fabric_script.specs.declared.ports.PortRef.{PortRef}
@@ -33,7 +33,7 @@ pub data CollectsAll : Seen → ℕ → List TraceLine → Type 0 where
       → CollectsAll s node lines
 
 -- of these devices, of which the first is this node, one endpoint after another but the host
-abbrev pub CollectNodes : ℕ → ℕ → List Device → Seen → List TraceLine → Type 0
+abbrev pub CollectNodes : ℕ → ℕ → List Registers → Seen → List TraceLine → Type 0
 CollectNodes host node [] s lines = lines ≡ []
 CollectNodes host node (device ∷ devices) s lines = MatchBool (is_switch device || (node == host))
     (CollectNodes host (suc node) devices s lines)

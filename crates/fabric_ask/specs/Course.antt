@@ -1,7 +1,7 @@
 -- What a round makes of the one packet.
 use Rattle.std.specs.Prelude.{◌≡◌, ◌≢◌, ℕ, ◌<◌, false, List, Some, None, slice_get, option_map}
 use Rattle.rio_packets.specs.Fields.{is_request}
-use Rattle.maint_registers.specs.Devices.{Device, is_switch}
+use Rattle.maint_registers.specs.Devices.{Registers, is_switch}
 use Rattle.maint_packets.specs.declared.next_hop.Next.TheVariants.{Nowhere, Port}
 use Rattle.maint_packets.specs.Requests.{request_of}
 use Rattle.fabric_script.specs.declared.ports.PortRef.{PortRef}
@@ -12,13 +12,13 @@ use Rattle.fabric_model.specs.Steps.{IsForRegisters, moved_item, item_of}
 use Rattle.fabric_ask.specs.Only.{Held, Waits, IsOnly, IsClear, IsSame}
 
 -- it is a port of a device
-pub record IsDevicePort (registers : List Device) (q : PortRef) : Type 0 where
-  pub device : Device
+pub record IsDevicePort (registers : List Registers) (q : PortRef) : Type 0 where
+  pub device : Registers
   pub stands : slice_get registers q.node ≡ Some device
   pub below : q.port < device.ports
 
 -- the registers with those of the device that has answered
-abbrev pub answered_registers : Network → PortRef → List ℕ → List Device
+abbrev pub answered_registers : Network → PortRef → List ℕ → List Registers
 answered_registers net q packet = with_device net.registers q.node
     (device_after q.port (request_of packet))
 
@@ -38,11 +38,12 @@ pub data HandledAs (net : Network) (q : PortRef) (item : Item) (end : Network) :
       → end.registers ≡ net.registers → HandledAs net q item end
 
 -- a node is an endpoint
-abbrev pub IsEndpointIn : List Device → ℕ → Type 0
+abbrev pub IsEndpointIn : List Registers → ℕ → Type 0
 IsEndpointIn registers n = option_map is_switch (slice_get registers n) ≡ Some false
 
 -- Links join ports of devices, at an endpoint its one port. The host is an endpoint.
-pub record IsLaid (registers : List Device) (links : List (PortRef × PortRef)) (host : ℕ) : Type 0
+pub record IsLaid (registers : List Registers) (links : List (PortRef × PortRef))
+    (host : ℕ) : Type 0
   where
     pub ports : (q p : PortRef) → peer_in links q ≡ Some p → IsDevicePort registers q
     pub ends : (q p : PortRef) → peer_in links q ≡ Some p → IsEndpointIn registers q.node

@@ -1,13 +1,13 @@
 -- A host's own registers, which the host changes without a step.
 use Rattle.std.specs.Prelude.{◌≢◌, ℕ, List, [], ◌∷◌, ⊤}
-use Rattle.maint_registers.specs.Devices.{Device}
+use Rattle.maint_registers.specs.Devices.{Registers}
 use Rattle.fabric_model.specs.Steps.{Leave, Answer, AtNode, ByDevice}
 use Rattle.fabric_trace.specs.Known.{Seen}
 use Rattle.fabric_trace.specs.Settings.{with_change}
 use Rattle.fabric_trace.specs.Lines.{TraceLine, Stepped}
 
 -- what is known, with these registers for the host
-abbrev pub with_own : ℕ → Device → Seen → Seen
+abbrev pub with_own : ℕ → Registers → Seen → Seen
 with_own host device s = record s { network = with_change s.network host (λ other. device) }
 
 -- the registers of the host answer nothing

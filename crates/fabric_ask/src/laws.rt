@@ -1,7 +1,7 @@
 //! Laws of asks, each the contract of a function with an empty body.
 ghost use Rattle.std.specs.Prelude.{◌≡◌, ◌++◌, [], ◌∷◌, ℕ, ◌<◌, false, List, None, Some};
 ghost use Rattle.rio_packets.specs.LinkForm.{LinkForm, Passes};
-ghost use Rattle.maint_registers.specs.Devices.{Device, is_switch};
+ghost use Rattle.maint_registers.specs.Devices.{Registers, is_switch};
 ghost use Rattle.maint_registers.specs.Within.{IsWithin};
 ghost use Rattle.maint_packets.specs.Requests.{request_of, request_body};
 ghost use Rattle.maint_packets.specs.declared.request.Request.{Request};
@@ -63,13 +63,13 @@ pub fn a_round_carries_the_packet()
 /// Lines in which a host's registers answer nothing may follow whatever these registers are, and
 /// leave the same but for these registers.
 pub fn a_host_has_its_own_registers()
-    ensures made { (host : ℕ) (device : Device) (s : Seen) (lines : List TraceLine)
+    ensures made { (host : ℕ) (device : Registers) (s : Seen) (lines : List TraceLine)
         → is_switch device ≡ false → IsEndpoint s.network host → NeverAnswers host lines
         → Made (with_own host device s) lines → Made s lines }
-    ensures seen { (host : ℕ) (device : Device) (s : Seen) (lines : List TraceLine)
+    ensures seen { (host : ℕ) (device : Registers) (s : Seen) (lines : List TraceLine)
         → is_switch device ≡ false → IsEndpoint s.network host → NeverAnswers host lines
         → seen (with_own host device s) lines ≡ with_own host device (seen s lines) }
-    ensures ready { (host : ℕ) (device : Device) (s : Seen) → IsWithin device
+    ensures ready { (host : ℕ) (device : Registers) (s : Seen) → IsWithin device
         → IsReady s → IsReady (with_own host device s) }
 {}
 

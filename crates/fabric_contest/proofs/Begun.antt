@@ -1,10 +1,10 @@
 -- Two new walkers of the fabric of a script.
 use Rattle.std.proofs.Common.{◌≡◌, ◌≢◌, ℕ, ◌<◌, List, [], length, refl, ap, ◌∙◌}
-use Rattle.maint_registers.specs.Devices.{Device}
+use Rattle.maint_registers.specs.Devices.{Registers}
 use Rattle.fabric_script.specs.declared.lines.Numbered.{Numbered}
 use Rattle.fabric_script.specs.Scripts.{ScriptPasses}
 use Rattle.fabric_map.specs.Topology.{Topology, IsTopology}
-use Rattle.fabric_map.specs.Routes.{Registers}
+use Rattle.fabric_map.specs.Routes.{AllRegisters}
 use Rattle.fabric_map.specs.Fitting.{Fits}
 use Rattle.fabric_map.specs.Plain.{registers_of}
 use Rattle.fabric_trace.specs.Runs.{start}
@@ -96,7 +96,7 @@ module _ (contest : Contest)
   abbrev lines : List Numbered
   lines = contest_lines contest
 
-  abbrev Ids : Registers → Both
+  abbrev Ids : AllRegisters → Both
   Ids r = record {
     first = new_walker (view_of lines contest.first_node) (r contest.first_node).base_id;
     second = new_walker (view_of lines contest.second_node) (r contest.second_node).base_id;
@@ -115,7 +115,7 @@ module _ (contest : Contest)
       ∙ (ap (λ (w : Walker). with_both (Ids (both_of contest).registers).first w)
       (second_is (view_of lines contest.second_node)
       ∙ ap (new_walker (view_of lines contest.second_node)) second_id)
-      ∙ ap (λ (d : List Device). Ids (registers_of d))
+      ∙ ap (λ (d : List Registers). Ids (registers_of d))
       (devices_here contest.script.now.names.items lines contest.first_node contest.fabric passes
       host_f stands named))
 

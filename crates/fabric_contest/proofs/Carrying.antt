@@ -1,7 +1,7 @@
 -- The accesses of both hosts reach a device, and its answer comes back.
 use Rattle.std.proofs.Common.{◌≡◌, true, false, [], inl, inr, subst, sym, ap, ◌∙◌}
 use Rattle.fabric_map.specs.Topology.{Topology}
-use Rattle.fabric_map.specs.Routes.{Registers}
+use Rattle.fabric_map.specs.Routes.{AllRegisters}
 use Rattle.fabric_map.specs.Plain.{registers_of}
 use Rattle.link_watch.specs.declared.side.Side.{Side}
 use Rattle.link_watch.specs.declared.side.Side.TheVariants.{A, B}
@@ -28,7 +28,8 @@ new_at_host w is = record {
   stage = subst IsOfLock (ap (λ (v : Walker). v.stage) (sym is)) tt;
 }
 
-module _ (view : Topology) (machine : Machine) (before : Registers) (o : Walker) (now : Registers)
+module _ (view : Topology) (machine : Machine) (before : AllRegisters) (o : Walker)
+    (now : AllRegisters)
     (ready : IsReady before (machine_of view machine) o now) where
   abbrev w : Walker
   w = machine_of view machine
@@ -66,7 +67,7 @@ module _ (contest : Contest) (can : CanTurn contest) where
       subst (λ (b : Both). IsOpeningFor can.begun.registers b side) (sym can.both_is)
       (turns_open can.begun can.turns side can.start (can.untagged side))
 
-  abbrev now : Registers
+  abbrev now : AllRegisters
   now = registers_of contest.fabric.devices.items
 
   abbrev first_view : Topology

@@ -3,7 +3,7 @@ use Rattle.std.proofs.Common.{◌≡◌, ◌≢◌, ℕ, zero, suc, ◌<◌, ◌
 use Rattle.std.proofs.lemmas.Bool.{or_parts, eqb-true, eqb-false}
 use Rattle.std.proofs.lemmas.List.{map-append, length-map}
 use Rattle.std.proofs.lemmas.Option.{same_Some, slice_get-map, slice_get-get_or}
-use Rattle.maint_registers.specs.Devices.{Device, is_switch, new_endpoint}
+use Rattle.maint_registers.specs.Devices.{Registers, is_switch, new_endpoint}
 use Rattle.maint_registers.specs.Changes.{linked_at, routed, defaulted, held_by, large_set}
 use Rattle.maint_registers.proofs.ChangeLaws.{map-with_device}
 use Rattle.fabric_script.specs.declared.known.Node.{Node}
@@ -22,7 +22,7 @@ use Rattle.host_enumerate.proofs.Devised.{stage_after_all, first_stage}
 use Rattle.host_enumerate.proofs.NewFabrics.{devised_fabric}
 
 -- the ID of an endpoint
-abbrev id_in : Device → Option ℕ
+abbrev id_in : Registers → Option ℕ
 id_in device = if is_switch device then None else Some device.base_id
 
 abbrev id_at : Node → Option ℕ
@@ -76,7 +76,7 @@ no_id (ASwitch ports ∷ nodes) id none (suc n) = no_id nodes id none n
 
 -- ---- line by line
 
-ids_after : (known : Known) (devices : List Device) (line : Line)
+ids_after : (known : Known) (devices : List Registers) (line : Line)
     → map id_in devices ≡ map id_at known.nodes
     → map id_in (devices_after devices line) ≡ map id_at (nodes_after known.nodes line)
 ids_after known devices (Endpoint name id) same =
@@ -121,7 +121,7 @@ only_after known (Switch name ports) only free =
     (longer (map id_at known.nodes) None only (λ n other has is. absurd (cc)))
 only_after known _ only free = only
 
-only_at_end : (known : Known) (names : List (List ℕ)) (devices : List Device)
+only_at_end : (known : Known) (names : List (List ℕ)) (devices : List Registers)
     (lines : List Numbered) → map id_in devices ≡ map id_at known.nodes
     → AreOnly (map id_at known.nodes) → PassesFrom known names lines
     → AreOnly (map id_in (devices_after_all devices lines))

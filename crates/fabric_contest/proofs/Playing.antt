@@ -1,7 +1,7 @@
 -- A turn of one of two walkers of a fabric.
 use Rattle.std.proofs.Common.{◌≡◌, [], ◌∷◌, ◌++◌, sym, ap, ◌∙◌}
 use Rattle.fabric_map.specs.Topology.{Topology}
-use Rattle.fabric_map.specs.Routes.{Registers}
+use Rattle.fabric_map.specs.Routes.{AllRegisters}
 use Rattle.fabric_map.specs.Plain.{registers_of}
 use Rattle.link_watch.specs.declared.side.Side.{Side}
 use Rattle.link_watch.specs.declared.side.Side.TheVariants.{A, B}
@@ -31,7 +31,7 @@ abbrev turned_by : Side → Both → Both
 turned_by side both = turn_of both side
 
 -- what came of the turn is told by the machine
-pub last_turn : (view : Topology) (old new : Registers) (w after : walkers.Walker)
+pub last_turn : (view : Topology) (old new : AllRegisters) (w after : walkers.Walker)
     → state_in view new after.machine ≡ walker_turned (machine_in view w) old
     → after.last ≡ came_of (machine_in view w) (machine_in view after)
     → after.last ≡ came_of (machine_in view w) (walker_turned (machine_in view w) old).walker
@@ -40,10 +40,10 @@ last_turn view old new w after is last =
 
 module _ (contest : Contest) (can : CanTurn contest) (fabric : Fabric) (walker : walkers.Walker)
     (low : AreLow walker.machine.todo) (entries : HasEntries walker) where
-  abbrev was : Registers
+  abbrev was : AllRegisters
   was = registers_of contest.fabric.devices.items
 
-  abbrev new : Registers
+  abbrev new : AllRegisters
   new = registers_of fabric.devices.items
 
   abbrev by_first : Contest

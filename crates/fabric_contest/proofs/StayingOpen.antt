@@ -1,7 +1,7 @@
 -- No turn of a walker closes a way that passes only switches which the other keeps.
 use Rattle.std.proofs.Common.{map, sym, ap, subst, ◌∙◌}
 use Rattle.maint_registers.specs.Routes.{next_port}
-use Rattle.fabric_map.specs.Routes.{Registers}
+use Rattle.fabric_map.specs.Routes.{AllRegisters}
 use Rattle.link_watch.specs.declared.side.Side.TheVariants.{B}
 use Rattle.link_watch.specs.Sides.{other_side}
 use Rattle.contest_machine.specs.Machine.{Walker}
@@ -11,7 +11,7 @@ use Rattle.contest_machine.proofs.Apart.{swap, turns_hold, begun_holds, turn_lea
 use Rattle.fabric_contest.specs.Laws.{StaysOpen, FirstStaysOpen, SecondStaysOpen}
 use Rattle.fabric_contest.proofs.AllTurns.{flip, flip_turns}
 
-module _ (w : Walker) (before old : Registers) where
+module _ (w : Walker) (before old : AllRegisters) where
   -- a turn of the other leaves what this one keeps, and so the ways through it
   ways_open : (o : Walker) → IsContest o w before old
       → StaysOpen w old (walker_turned o old).registers

@@ -1,7 +1,7 @@
 -- Once both walkers have stopped, turns change nothing.
 use Rattle.std.proofs.Common.{◌≡◌, ℕ, suc, ◌+◌, ◌-◌, ◌<◌, true, ◌&&◌, List, [], ◌∷◌, None, arith, refl, sym, ap, ◌∙◌}
 use Rattle.std.proofs.lemmas.Bool.{and_parts}
-use Rattle.fabric_map.specs.Routes.{Registers}
+use Rattle.fabric_map.specs.Routes.{AllRegisters}
 use Rattle.link_watch.specs.declared.side.Side.{Side}
 use Rattle.link_watch.specs.declared.side.Side.TheVariants.{A, B}
 use Rattle.fabric_script.specs.Soak.{next_number, numbers_behind}
@@ -72,7 +72,7 @@ no_wants w last clear = go w.todo clear
     go [] is = ended_wants w w.stage last
     go (p ∷ rest) is = absurd (cc)
 
-stopped_turns : (w : Walker) (registers : Registers) → w.begun ≡ true
+stopped_turns : (w : Walker) (registers : AllRegisters) → w.begun ≡ true
     → (is_last_stage w.stage && is_clear w.todo) ≡ true
     → walker_turned w registers ≡ record { walker = w; registers = registers }
 stopped_turns w registers begun over =

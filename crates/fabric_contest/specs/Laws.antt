@@ -4,7 +4,7 @@ use Rattle.link_watch.specs.declared.side.Side.{Side}
 use Rattle.link_watch.specs.declared.side.Side.TheVariants.{A, B}
 use Rattle.fabric_script.specs.declared.ports.PortRef.{PortRef}
 use Rattle.fabric_map.specs.Topology.{entered}
-use Rattle.fabric_map.specs.Routes.{Registers}
+use Rattle.fabric_map.specs.Routes.{AllRegisters}
 use Rattle.fabric_map.specs.Ways.{IsOpened}
 use Rattle.contest_machine.specs.Machine.{Walker}
 use Rattle.contest_machine.specs.Contest.{Keeps}
@@ -61,7 +61,7 @@ PassesKept w path = (first : ℕ) (front rest : List ℕ) (port : ℕ) (at : Por
     → Keeps w at.node
 
 -- A walker that keeps all switches of a way, which is open to it, finds it open in these registers.
-abbrev pub StaysOpen : Walker → Registers → Registers → Type 0
+abbrev pub StaysOpen : Walker → AllRegisters → AllRegisters → Type 0
 StaysOpen w old new = (path : List ℕ) → PassesKept w path → IsOpened w.view old w.id path
     → IsOpened w.view new w.id path
 

@@ -2,7 +2,7 @@
 use Rattle.std.proofs.Common.{ℕ, List, Result, Ok, Err, sym, subst}
 use Rattle.fabric_map.specs.declared.map.Map.{Map}
 use Rattle.fabric_map.specs.Topology.{Topology}
-use Rattle.fabric_map.specs.Routes.{Registers}
+use Rattle.fabric_map.specs.Routes.{AllRegisters}
 use Rattle.fabric_map.specs.Locked.{IsForeign}
 use Rattle.fabric_map.proofs.Maps.{one_map}
 use Rattle.fabric_map.proofs.Firsts.{one_first_locked}
@@ -12,14 +12,15 @@ use Rattle.host_enumerate.specs.declared.ends.EnumEnd.TheVariants.{LockedBy, Und
 use Rattle.fabric_maint.specs.Enumerated.{IsEnumerated, Agrees}
 
 -- where a device is locked by another host, not all are free of it
-locked_not_free : (topology : Topology) (before after : Registers) (path : List ℕ) (id : ℕ)
+locked_not_free : (topology : Topology) (before after : AllRegisters) (path : List ℕ) (id : ℕ)
     → EndsAtLock topology before after path id → ¬ IsLockFree topology before
 locked_not_free topology before after path id ends free =
     free ends.first.node (path, ends.first.leads)
     (subst (λ n. IsForeign (before topology.host).base_id n) (sym ends.first.lock)
     ends.first.foreign)
 
-pub agrees : (topology : Topology) (before after other : Registers) (one two : Result Map EnumEnd)
+pub agrees : (topology : Topology) (before after other : AllRegisters)
+    (one two : Result Map EnumEnd)
     → IsEnumerated topology before after one → IsEnumerated topology before other two
     → Agrees one two
 agrees topology before after other (Ok one) (Ok two) first second =

@@ -1,7 +1,7 @@
 -- A host makes an ask that is answered.
 use Rattle.std.proofs.Common.{◌≡◌, ℕ, ◌+◌, ◌%◌, ◌^◌, ◌<◌, ◌≤◌, arith, false, List, [], ◌++◌, length, Option, Some, option_map, slice_get, refl, sym, ap, ◌∙◌, subst}
 use Rattle.std.proofs.lemmas.Option.{same_Some, slice_get-get_or}
-use Rattle.maint_registers.specs.Devices.{Device, new_endpoint}
+use Rattle.maint_registers.specs.Devices.{Registers, new_endpoint}
 use Rattle.maint_registers.specs.Within.{IsWithin}
 use Rattle.maint_registers.proofs.ChangeLaws.{device-changed}
 use Rattle.maint_packets.specs.declared.request.Request.{Request}
@@ -59,7 +59,7 @@ module _ {N K : Type 0} (old : FabricMaint N K) (whole : StandsWhole old) (dest 
   topology_at : (t : Seen) → CanAsk old.host t [] old.fabric.now
       → topology_of t.network.registers t.network.links old.host ≡ topology_in old
   topology_at t can =
-      ap (λ (devices : List Device). topology_of devices t.network.links old.host)
+      ap (λ (devices : List Registers). topology_of devices t.network.links old.host)
       (devices_at t can ∙ sym (devices_at whole.s whole.rests.can))
       ∙ ap (λ (links : List (PortRef × PortRef)). topology_of whole.s.network.registers links
       old.host) (sym can.stands.shows.links ∙ whole.rests.can.stands.shows.links)
@@ -67,7 +67,7 @@ module _ {N K : Type 0} (old : FabricMaint N K) (whole : StandsWhole old) (dest 
 
   source_at : (t : Seen) → CanAsk old.host t [] old.fabric.now
       → source ≡ (registers_of t.network.registers old.host).base_id
-  source_at t can = ap (λ (devices : List Device). (registers_of devices old.host).base_id)
+  source_at t can = ap (λ (devices : List Registers). (registers_of devices old.host).base_id)
       (sym (devices_at t can))
 
   -- the lines of its ask are those of the access
@@ -93,7 +93,7 @@ module _ {N K : Type 0} (old : FabricMaint N K) (whole : StandsWhole old) (dest 
     answered_at t can =
         subst (λ (topology : Topology). IsAnswered topology (registers_of t.network.registers)
         dest hops access at) (sym (topology_at t can))
-        (subst (λ (devices : List Device). IsAnswered (topology_in old) (registers_of devices)
+        (subst (λ (devices : List Registers). IsAnswered (topology_in old) (registers_of devices)
         dest hops access at) (sym (devices_at t can)) is)
 
     pub inside_at : (t : Seen) → CanAsk old.host t [] old.fabric.now
@@ -131,7 +131,7 @@ module _ {N K : Type 0} (old : FabricMaint N K) (whole : StandsWhole old) (dest 
           p) one_port)
           ∙ brought t.network.registers t.network.links old.host source old.tid dest hops access at
           (inside_at t can)
-          ∙ ap (λ (devices : List Device). (answered (registers_of devices at.node) at.port
+          ∙ ap (λ (devices : List Registers). (answered (registers_of devices at.node) at.port
           access).answer) (devices_at t can)
 
       pub reply_registers : registers_of fabric.devices.items
@@ -140,7 +140,7 @@ module _ {N K : Type 0} (old : FabricMaint N K) (whole : StandsWhole old) (dest 
           ap registers_of (sym replied.again.stands.shows.registers ∙ end_registers)
           ∙ after_same t.network.registers t.network.links old.host source old.tid dest hops access
           at (inside_at t can)
-          ∙ ap (λ (devices : List Device). after_access (registers_of devices) at access)
+          ∙ ap (λ (devices : List Registers). after_access (registers_of devices) at access)
           (devices_at t can)
 
       pub reply_rests : MaintRestsAt old.host (seen t replied.block) fabric
@@ -149,17 +149,17 @@ module _ {N K : Type 0} (old : FabricMaint N K) (whole : StandsWhole old) (dest 
         quiet = replied.quiet;
       }
 
-      device : Device
+      device : Registers
       device = registers_of t.network.registers at.node
 
       device_after : slice_get (seen t replied.block).network.registers at.node
           ≡ Some (packets.request_answered device request at.port).device
       unfolding device
       device_after =
-          ap (λ (devices : List Device). slice_get devices at.node) end_registers
+          ap (λ (devices : List Registers). slice_get devices at.node) end_registers
           ∙ device-changed t.network.registers at.node
           (λ d. (packets.request_answered d request at.port).device)
-          ∙ ap (option_map (λ (d : Device). (packets.request_answered d request at.port).device))
+          ∙ ap (option_map (λ (d : Registers). (packets.request_answered d request at.port).device))
           (slice_get-get_or t.network.registers at.node (new_endpoint 0 false) (inside_at t can))
 
       within_after : IsWithin (answered device at.port access).device
@@ -182,7 +182,7 @@ module _ {N K : Type 0} (old : FabricMaint N K) (whole : StandsWhole old) (dest 
           (seen t replied.block).network.links old.host
           ≡ topology_of t.network.registers t.network.links old.host
       reply_topology =
-          ap (λ (devices : List Device). topology_of devices
+          ap (λ (devices : List Registers). topology_of devices
           (seen t replied.block).network.links old.host) end_registers
           ∙ ap (λ (links : List (PortRef × PortRef)). topology_of
           (after_request t.network.registers at request) links old.host) replied.links

@@ -1,6 +1,6 @@
 -- An access as a request: what is answered, and where it goes, are the same.
 use Rattle.std.proofs.Common.{◌≡◌, ℕ, ◌<◌, Bool, true, false, List, length, Option, Some, None, if◌then◌else◌, refl, sym, ap, ◌∙◌}
-use Rattle.maint_registers.specs.Devices.{Device}
+use Rattle.maint_registers.specs.Devices.{Registers}
 use Rattle.maint_registers.specs.Access.{value_at, written_at}
 use Rattle.maint_packets.specs.declared.request.Request.{Request}
 use Rattle.maint_packets.specs.Requests.{names_second, in_half}
@@ -8,7 +8,7 @@ use Rattle.maint_packets.specs.Answers as packets
 use Rattle.maint_packets.proofs.AnswerLaws.{answered_same}
 use Rattle.fabric_script.specs.declared.ports.PortRef.{PortRef}
 use Rattle.fabric_map.specs.Topology.{Topology}
-use Rattle.fabric_map.specs.Routes.{Registers, walk}
+use Rattle.fabric_map.specs.Routes.{AllRegisters, walk}
 use Rattle.fabric_map.specs.Plain.{topology_of, registers_of}
 use Rattle.host_enumerate.specs.declared.maint.Access.{Access}
 use Rattle.host_enumerate.specs.declared.maint.Access.TheVariants.{Read, Write}
@@ -29,7 +29,7 @@ word_put offset value = go (names_second offset)
     go true = refl
     go false = refl
 
-module _ (device : Device) (source tid dest hops port : ℕ) where
+module _ (device : Registers) (source tid dest hops port : ℕ) where
   abbrev carried : Access → packets.RequestAnswered
   carried access = packets.request_answered device (request_for source tid dest hops access) port
 
@@ -44,7 +44,7 @@ module _ (device : Device) (source tid dest hops port : ℕ) where
       go (Some value) = refl
   device_same (Write offset value) = go (written_at device offset value)
     where
-      go : (o : Option Device) → (packets.request_written device
+      go : (o : Option Registers) → (packets.request_written device
           (request_for source tid dest hops (Write offset value)) o).device
           ≡ (after_write device o).device
       go None = refl
@@ -62,7 +62,7 @@ module _ (device : Device) (source tid dest hops port : ℕ) where
       go (Some value) = ap (λ (n : ℕ). record { status = 0; value = n }) (word_put offset value)
   answer_same (Write offset value) = go (written_at device offset value)
     where
-      go : (o : Option Device) → answer_in (packets.request_written device
+      go : (o : Option Registers) → answer_in (packets.request_written device
           (request_for source tid dest hops (Write offset value)) o).response offset
           ≡ (after_write device o).answer
       go None = refl
@@ -70,7 +70,7 @@ module _ (device : Device) (source tid dest hops port : ℕ) where
 
 -- ---- the registers of a fabric
 
-module _ (registers : List Device) (links : List (PortRef × PortRef))
+module _ (registers : List Registers) (links : List (PortRef × PortRef))
     (host source tid dest hops : ℕ) (access : Access) (at : PortRef)
     (inside : at.node < length registers) where
   abbrev request : Request
@@ -96,7 +96,8 @@ module _ (registers : List Device) (links : List (PortRef × PortRef))
       (after_access (registers_of registers) at access) source 255 at
   walk_same = ap (λ (t : Topology). walk t (registers_of (after_request registers at request))
       source 255 at) topology_same
-      ∙ ap (λ (r : Registers). walk (topology_of registers links host) r source 255 at) after_same
+      ∙ ap (λ (r : AllRegisters). walk
+      (topology_of registers links host) r source 255 at) after_same
 
   -- an access that is answered goes there and back as a request
   pub goes : source ≡ (registers_of registers host).base_id

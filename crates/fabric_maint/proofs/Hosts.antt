@@ -1,7 +1,7 @@
 -- A fabric that rests for one host of a script rests for each.
 use Rattle.std.proofs.Common.{◌≡◌, ℕ, ◌<◌, false, List, length, Some, option_map, arith, ap, ◌∙◌}
 use Rattle.std.proofs.lemmas.Option.{slice_get-get_or}
-use Rattle.maint_registers.specs.Devices.{Device, is_switch, new_endpoint}
+use Rattle.maint_registers.specs.Devices.{Registers, is_switch, new_endpoint}
 use Rattle.fabric_script.specs.declared.lines.Numbered.{Numbered}
 use Rattle.fabric_map.specs.Topology.{Topology}
 use Rattle.fabric_map.specs.Plain.{registers_of}
@@ -22,7 +22,7 @@ module _ (names : List (List ℕ)) (lines : List Numbered) (host other : ℕ) (f
   new_for : IsNewFabric (devices_of lines) (links_of lines) other
   new_for = devised_fabric names lines other stands.passes is
 
-  abbrev registers : List Device
+  abbrev registers : List Registers
   registers = stands.s.network.registers
 
   endpoint : is_switch (registers_of registers other) ≡ false

@@ -1,7 +1,7 @@
 -- Where the lines of asks lead, of a host that writes its own registers between.
 use Rattle.std.proofs.Common.{◌≡◌, ℕ, zero, suc, ◌<◌, false, List, [], ◌∷◌, ◌++◌, Option, Some, None, option_map, slice_get, refl, sym, ap, ◌∙◌, subst}
 use Rattle.std.proofs.lemmas.Option.{same_Some}
-use Rattle.maint_registers.specs.Devices.{Device, is_switch}
+use Rattle.maint_registers.specs.Devices.{Registers, is_switch}
 use Rattle.maint_registers.specs.Changes.{with_device}
 use Rattle.maint_packets.specs.declared.request.Request.{Request}
 use Rattle.maint_packets.specs.Requests.{IsGoodOp}
@@ -30,7 +30,7 @@ use Rattle.fabric_maint.specs.Going.{LeadsTo}
 
 -- ---- the registers of one device, set and set again
 
-set_twice : (devices : List Device) (node : ℕ) (first second : Device)
+set_twice : (devices : List Registers) (node : ℕ) (first second : Registers)
     → with_device (with_device devices node (λ other. first)) node (λ other. second)
     ≡ with_device devices node (λ other. second)
 set_twice [] node first second = refl
@@ -38,7 +38,7 @@ set_twice (device ∷ devices) zero first second = refl
 set_twice (device ∷ devices) (suc node) first second =
     ap (λ more. device ∷ more) (set_twice devices node first second)
 
-set_same : (devices : List Device) (node : ℕ) (device : Device)
+set_same : (devices : List Registers) (node : ℕ) (device : Registers)
     → slice_get devices node ≡ Some device
     → with_device devices node (λ other. device) ≡ devices
 set_same [] node device stands = refl
@@ -47,16 +47,16 @@ set_same (other ∷ devices) zero device stands =
 set_same (other ∷ devices) (suc node) device stands =
     ap (λ more. other ∷ more) (set_same devices node device stands)
 
-with_registers : Seen → List Device → Seen
+with_registers : Seen → List Registers → Seen
 with_registers s devices = record s { network = record s.network { registers = devices } }
 
-own_twice : (host : ℕ) (first second : Device) (s : Seen)
+own_twice : (host : ℕ) (first second : Registers) (s : Seen)
     → with_own host second (with_own host first s) ≡ with_own host second s
 unfolding with_registers
 own_twice host first second s =
     ap (with_registers s) (set_twice s.network.registers host first second)
 
-own_same : (host : ℕ) (device : Device) (s : Seen)
+own_same : (host : ℕ) (device : Registers) (s : Seen)
     → slice_get s.network.registers host ≡ Some device → with_own host device s ≡ s
 unfolding with_registers
 own_same host device s stands =
@@ -81,14 +81,14 @@ can_from host s lines fabric can = record {
 
 -- the device of an endpoint
 pub record IsHostDevice (host : ℕ) (s : Seen) : Type 0 where
-  pub device : Device
+  pub device : Registers
   pub stands : slice_get s.network.registers host ≡ Some device
   pub kind : is_switch device ≡ false
 
 pub host_device : (host : ℕ) (s : Seen) → IsEndpoint s.network host → IsHostDevice host s
 host_device host s is = go (slice_get s.network.registers host) refl
   where
-    go : (o : Option Device) → slice_get s.network.registers host ≡ o → IsHostDevice host s
+    go : (o : Option Registers) → slice_get s.network.registers host ≡ o → IsHostDevice host s
     go None at = let bad : None ≡ Some false = sym (ap (option_map is_switch) at) ∙ is in absurd cc
     go (Some device) at = record {
       device = device;
@@ -150,7 +150,7 @@ module _ (host : ℕ) (s end : Seen) (lines block : List TraceLine) (ready : IsR
 
 -- ---- the host writes a register
 
-pub leads_own : (host : ℕ) (s end : Seen) (lines : List TraceLine) (device : Device)
+pub leads_own : (host : ℕ) (s end : Seen) (lines : List TraceLine) (device : Registers)
     → is_switch device ≡ false → LeadsTo host s lines end
     → LeadsTo host s lines (with_own host device end)
 leads_own host s end lines device kind leads = record {

@@ -1,7 +1,7 @@
 -- A host of a new fabric.
 use Rattle.std.proofs.Common.{◌≡◌, ℕ, List, [], length, Option, arith, refl, sym, ap, ◌∙◌, subst}
 use Rattle.std.proofs.KnownBytes.{Appends-nil}
-use Rattle.maint_registers.specs.Devices.{Device}
+use Rattle.maint_registers.specs.Devices.{Registers}
 use Rattle.link_wires.specs.declared.edits.Edit.{Edit}
 use Rattle.fabric_script.specs.declared.ports.PortRef.{PortRef}
 use Rattle.fabric_script.specs.declared.lines.Numbered.{Numbered}
@@ -58,11 +58,12 @@ module _ (names : List (List ℕ)) (lines : List Numbered) (node : ℕ) (fabric 
     few = let most = new_here.topology.most in omega (arith, count, most);
     s = start lines;
     rests = rests_new names lines node fabric passes host stands;
-    topology = ap (λ (devices : List Device). topology_of devices (start lines).network.links node)
+    topology = ap
+        (λ (devices : List Registers). topology_of devices (start lines).network.links node)
         (start_devices lines)
         ∙ ap (λ (links : List (PortRef × PortRef)). topology_of (devices_of lines) links node)
         (start_links lines);
-    fits = subst (λ (devices : List Device). Fits
+    fits = subst (λ (devices : List Registers). Fits
         (topology_of (devices_of lines) (links_of lines) node) (registers_of devices))
         (sym (start_devices lines)) new_here.fits;
   }

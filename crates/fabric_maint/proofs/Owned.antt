@@ -1,7 +1,7 @@
 -- A host reads and writes its own registers.
 use Rattle.std.proofs.Common.{◌≡◌, ℕ, ◌<◌, Bool, true, false, List, [], length, is_some, Option, Some, None, option_map, slice_get, unwrap_or, refl, sym, ap, ◌∙◌, subst}
 use Rattle.std.proofs.lemmas.Option.{same_Some, slice_get_within, get_or_from_slice_get}
-use Rattle.maint_registers.specs.Devices.{Device, IsSameDevice, is_switch, new_endpoint}
+use Rattle.maint_registers.specs.Devices.{Registers, IsSameDevice, is_switch, new_endpoint}
 use Rattle.maint_registers.specs.Access.{value_at, written_at}
 use Rattle.maint_registers.specs.Changes.{with_device}
 use Rattle.maint_registers.specs.Within.{IsWithin}
@@ -11,7 +11,7 @@ use Rattle.link_wires.specs.declared.edits.Edit.{Edit}
 use Rattle.fabric_script.specs.declared.ports.PortRef.{PortRef}
 use Rattle.fabric_script.specs.Ports.{port_at}
 use Rattle.fabric_map.specs.Topology.{Topology}
-use Rattle.fabric_map.specs.Routes.{Registers}
+use Rattle.fabric_map.specs.Routes.{AllRegisters}
 use Rattle.fabric_map.specs.Fitting.{Fits}
 use Rattle.fabric_map.specs.Plain.{topology_of, registers_of}
 use Rattle.fabric_model.proofs.Forms.{device_at}
@@ -33,7 +33,7 @@ use Rattle.fabric_maint.proofs.Leading.{IsHostDevice, host_device, leads_own}
 
 -- ---- the device of the host
 
-pub registers_at : (devices : List Device) (node : ℕ) (device : Device)
+pub registers_at : (devices : List Registers) (node : ℕ) (device : Registers)
     → slice_get devices node ≡ Some device → registers_of devices node ≡ device
 registers_at devices node device stands =
     get_or_from_slice_get devices node device (new_endpoint 0 false) stands
@@ -44,7 +44,7 @@ module _ {N K : Type 0} (old : FabricMaint N K) (whole : StandsWhole old) where
 
   pub own_is : registers_in old old.host ≡ own_device.device
   own_is = registers_at old.fabric.now.devices.items old.host own_device.device
-      (subst (λ (devices : List Device). slice_get devices old.host ≡ Some own_device.device)
+      (subst (λ (devices : List Registers). slice_get devices old.host ≡ Some own_device.device)
       whole.rests.can.stands.shows.registers own_device.stands)
 
   -- ---- what it answers
@@ -54,7 +54,7 @@ module _ {N K : Type 0} (old : FabricMaint N K) (whole : StandsWhole old) where
       ≡ (answered (registers_in old old.host) 0 access).answer
   of_access access what is =
       ap (λ (a : Access). (answered own_device.device 0 a).answer) (sym is)
-      ∙ ap (λ (d : Device). (answered d 0 access).answer) (sym own_is)
+      ∙ ap (λ (d : Registers). (answered d 0 access).answer) (sym own_is)
 
   pub read_answer : (access : Access) (offset : ℕ) (o : Option ℕ) → access ≡ Read offset
       → o ≡ value_at own_device.device offset 0
@@ -68,7 +68,7 @@ module _ {N K : Type 0} (old : FabricMaint N K) (whole : StandsWhole old) where
       → registers_in old ≡ after_access (registers_in old) (port_at old.host 0) access
   read_registers access offset is =
       sym (with_device-itself (registers_in old) old.host)
-      ∙ ap (λ (d : Device). registers_with (registers_in old) old.host d)
+      ∙ ap (λ (d : Registers). registers_with (registers_in old) old.host d)
       (sym (same (value_at (registers_in old old.host) offset 0)))
       ∙ ap (λ (a : Access). after_access (registers_in old) (port_at old.host 0) a) (sym is)
     where
@@ -85,7 +85,7 @@ module _ {N K : Type 0} (old : FabricMaint N K) (whole : StandsWhole old) where
       sym (go (written_at own_device.device offset value) some)
       ∙ of_access access (Write offset value) is
     where
-      go : (o : Option Device) → is_some o ≡ true
+      go : (o : Option Registers) → is_some o ≡ true
           → (after_write own_device.device o).answer ≡ access_done 0
       go None is = absurd cc
       go (Some next) is = refl
@@ -97,20 +97,20 @@ module _ {N K : Type 0} (old : FabricMaint N K) (whole : StandsWhole old) where
       sym (go (written_at own_device.device offset value) none)
       ∙ of_access access (Write offset value) is
     where
-      go : (o : Option Device) → (is_some o ≡ true → ⊥)
+      go : (o : Option Registers) → (is_some o ≡ true → ⊥)
           → (after_write own_device.device o).answer ≡ access_failed
       go None is = refl
       go (Some next) is = absurd (is refl)
 
 -- ---- a write, from any state that the fabric stands for
 
-device_set : (devices : List Device) (node : ℕ) (device next : Device)
+device_set : (devices : List Registers) (node : ℕ) (device next : Registers)
     → slice_get devices node ≡ Some device
     → slice_get (with_device devices node (λ other. next)) node ≡ Some next
 device_set devices node device next stands =
     device-changed devices node (λ other. next) ∙ ap (option_map (λ other. next)) stands
 
-written_is : (device : Device) (offset value : ℕ) (o : Option Device)
+written_is : (device : Registers) (offset value : ℕ) (o : Option Registers)
     → (after_write device o).device ≡ unwrap_or o device
 written_is device offset value None = refl
 written_is device offset value (Some next) = refl
@@ -118,7 +118,7 @@ written_is device offset value (Some next) = refl
 module _ (host : ℕ) (t : Seen) (old new : Fabric) (rests : MaintRestsAt host t old)
     (own : IsHostDevice host t) (offset value : ℕ) (answer : Bool)
     (written : OwnWritten host own.device offset value t [] old new answer) where
-  abbrev next : Device
+  abbrev next : Registers
   next = device_with own.device offset value
 
   abbrev end : Seen
@@ -135,7 +135,7 @@ module _ (host : ℕ) (t : Seen) (old new : Fabric) (rests : MaintRestsAt host t
       written.stands.ready.formed.registers
 
   next_keeps : Keeps own.device next
-  next_keeps = subst (λ (d : Device). Keeps own.device d) next_is
+  next_keeps = subst (λ (d : Registers). Keeps own.device d) next_is
       (keeps own.device 0 (Write offset value)
       (subst IsWithin (sym next_is) next_within))
 
@@ -156,14 +156,14 @@ module _ (host : ℕ) (t : Seen) (old new : Fabric) (rests : MaintRestsAt host t
       → topology_of end.network.registers links host
       ≡ topology_of t.network.registers links host
   topology_on links = topology_of-changed t.network.registers links host host (λ other. next)
-      (λ device stands. subst (λ (d : Device). IsSameDevice d next)
+      (λ device stands. subst (λ (d : Registers). IsSameDevice d next)
       (same_Some own.device device (sym own.stands ∙ stands)) next_keeps.same)
 
   pub fits_on : (topology : Topology) → Fits topology (registers_of t.network.registers)
       → Fits topology (registers_of end.network.registers)
   fits_on topology fits = subst (Fits topology) (sym registers_on)
       (fits-with topology (registers_of t.network.registers) host next fits
-      (subst (λ (d : Device). Keeps d next)
+      (subst (λ (d : Registers). Keeps d next)
       (sym (registers_at t.network.registers host own.device own.stands)) next_keeps))
 
 -- ---- a write of a host that stands whole
@@ -176,7 +176,7 @@ module _ {N K : Type 0} (old : FabricMaint N K) (whole : StandsWhole old) (fabri
   abbrev host : ℕ
   host = old.host
 
-  abbrev device : Device
+  abbrev device : Registers
   device = (own_device old whole).device
 
   pub written_registers : (access : Access) → access ≡ Write offset value
@@ -187,11 +187,11 @@ module _ {N K : Type 0} (old : FabricMaint N K) (whole : StandsWhole old) (fabri
       ∙ registers_on host whole.s old.fabric.now fabric whole.rests (own_device old whole) offset
       value
       answer written
-      ∙ ap (λ (r : Registers). registers_with r host (device_with device offset value))
+      ∙ ap (λ (r : AllRegisters). registers_with r host (device_with device offset value))
       (ap registers_of whole.rests.can.stands.shows.registers)
-      ∙ ap (λ (d : Device). registers_with (registers_in old) host d)
+      ∙ ap (λ (d : Registers). registers_with (registers_in old) host d)
       (sym (written_is device offset value (written_at device offset value)))
-      ∙ ap (λ (d : Device). registers_with (registers_in old) host
+      ∙ ap (λ (d : Registers). registers_with (registers_in old) host
       (answered d 0 (Write offset value)).device) (sym (own_is old whole))
       ∙ ap (λ (a : Access). after_access (registers_in old) (port_at old.host 0) a) (sym is)
 
@@ -217,7 +217,7 @@ module _ {N K : Type 0} (old : FabricMaint N K) (whole : StandsWhole old) (fabri
 pub written_follows : {N K : Type 0} (edits : N → List Edit) (telling : K → Option (List ℕ))
     (faults : K → ℕ) (origin old : FabricMaint N K) (fabric : Fabric) (offset value : ℕ)
     (answer : Bool)
-    → ((t : Seen) (device : Device) → Stands t [] old.fabric.now
+    → ((t : Seen) (device : Registers) → Stands t [] old.fabric.now
     → slice_get t.network.registers old.host ≡ Some device
     → OwnWritten old.host device offset value t [] old.fabric.now fabric answer)
     → Followed edits telling faults origin old

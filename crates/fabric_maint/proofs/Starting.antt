@@ -1,7 +1,7 @@
 -- What a new fabric is for a host.
 use Rattle.std.proofs.Common.{◌≡◌, ℕ, ◌<◌, false, List, [], ◌∷◌, length, Option, Some, None, option_map, option_and_then, unwrap_or, slice_get, arith, refl, sym, ap, ◌∙◌, subst}
 use Rattle.std.proofs.lemmas.Option.{slice_get-get_or}
-use Rattle.maint_registers.specs.Devices.{Device, is_switch, new_endpoint}
+use Rattle.maint_registers.specs.Devices.{Registers, is_switch, new_endpoint}
 use Rattle.fabric_script.specs.declared.ports.PortRef.{PortRef}
 use Rattle.fabric_script.specs.declared.lines.Line.{Line}
 use Rattle.fabric_script.specs.declared.lines.Line.TheVariants.{Endpoint, Switch, Link, Buffers, Route, Default, Lock, Large}
@@ -44,7 +44,8 @@ all_devices_same : (net : Network) (lines : List Numbered)
     → (set_up_all net lines).registers ≡ devices_after_all net.registers lines
 all_devices_same net [] = refl
 all_devices_same net (line ∷ lines) = all_devices_same (set_up net line.line) lines
-    ∙ ap (λ (devices : List Device). devices_after_all devices lines) (devices_same net line.line)
+    ∙ ap (λ (devices : List Registers). devices_after_all devices lines)
+    (devices_same net line.line)
 
 all_links_same : (net : Network) (lines : List Numbered)
     → (set_up_all net lines).links ≡ links_after_all net.links lines
@@ -95,7 +96,7 @@ quiet_begun net (link ∷ links) = (
 
 -- ---- a fabric that can be numbered is laid out as asks want it
 
-module _ (devices : List Device) (links : List (PortRef × PortRef)) (host : ℕ)
+module _ (devices : List Registers) (links : List (PortRef × PortRef)) (host : ℕ)
     (new : IsNewFabric devices links host) where
   there : (q p : PortRef) → peer_in links q ≡ Some p → IsPortIn (topology_of devices links host) q
   there q p peer = new.topology.ports q p peer
@@ -108,11 +109,11 @@ module _ (devices : List Device) (links : List (PortRef × PortRef)) (host : ℕ
       → device_ports (topology_of devices links host) node ≡ 1
   one_port node is = go (slice_get devices node) is
     where
-      of_kind : (device : Device) → is_switch device ≡ false
+      of_kind : (device : Registers) → is_switch device ≡ false
           → unwrap_or (ports_of_switch device) 1 ≡ 1
       of_kind device kind = rw kind refl
 
-      go : (o : Option Device) → option_map is_switch o ≡ Some false
+      go : (o : Option Registers) → option_map is_switch o ≡ Some false
           → unwrap_or (option_and_then ports_of_switch o) 1 ≡ 1
       go None at = absurd cc
       go (Some device) at = let kind : is_switch device ≡ false = cc in of_kind device kind
@@ -141,7 +142,7 @@ rests_new names lines host fabric passes is stands = record {
   can = record {
     stands = stands;
     clear = clear_begun (set_up_all bare lines) (set_up_bare lines (may_set_up names lines passes));
-    laid = subst (λ (devices : List Device). IsLaid devices (start lines).network.links host)
+    laid = subst (λ (devices : List Registers). IsLaid devices (start lines).network.links host)
         (sym (start_devices lines))
         (subst (λ (links : List (PortRef × PortRef)). IsLaid (devices_of lines) links host)
         (sym (start_links lines))

@@ -3,7 +3,7 @@ use Rattle.std.proofs.Common.{◌≡◌, ℕ, zero, suc, ◌<◌, Bool, true, fa
 use Rattle.std.proofs.lemmas.Bool.{eqb-true, eqb-false}
 use Rattle.std.proofs.lemmas.Option.{slice_get-get_or, get_or_from_slice_get, unwrap_or-slice_get}
 use mathlib.Core.Path.{fun_ext}
-use Rattle.maint_registers.specs.Devices.{Device, IsSameDevice, new_endpoint}
+use Rattle.maint_registers.specs.Devices.{Registers, IsSameDevice, new_endpoint}
 use Rattle.maint_registers.specs.Changes.{with_device}
 use Rattle.maint_registers.proofs.ChangeLaws.{length-with_device, device-changed, device-kept}
 use Rattle.fabric_script.specs.declared.ports.PortRef.{PortRef}
@@ -13,14 +13,14 @@ use Rattle.host_enumerate.specs.Accesses.{registers_with}
 use Rattle.host_enumerate.proofs.Accessed.{ports_of_switch-same}
 
 -- the registers by number, with those of one device changed
-pub registers_of-changed : (devices : List Device) (node : ℕ) (change : Device → Device)
+pub registers_of-changed : (devices : List Registers) (node : ℕ) (change : Registers → Registers)
     → node < length devices
     → registers_of (with_device devices node change)
     ≡ registers_with (registers_of devices) node (change (registers_of devices node))
 registers_of-changed devices node change inside =
     fun_ext (λ other. at other (eqb other node) refl)
   where
-    first : Device
+    first : Registers
     first = new_endpoint 0 false
 
     at : (other : ℕ) (b : Bool) → eqb other node ≡ b
@@ -40,8 +40,8 @@ registers_of-changed devices node change inside =
         ∙ unwrap_or-slice_get devices other first
 
 -- which devices are switches, and of how many ports
-kinds-changed : (devices : List Device) (node : ℕ) (change : Device → Device)
-    → ((device : Device) → slice_get devices node ≡ Some device
+kinds-changed : (devices : List Registers) (node : ℕ) (change : Registers → Registers)
+    → ((device : Registers) → slice_get devices node ≡ Some device
     → IsSameDevice device (change device)) → (n : ℕ)
     → option_and_then ports_of_switch (slice_get (with_device devices node change) n)
     ≡ option_and_then ports_of_switch (slice_get devices n)
@@ -54,9 +54,9 @@ kinds-changed (device ∷ devices) (suc node) change same (suc n) =
     kinds-changed devices node change same n
 
 -- the devices and links are the same
-pub topology_of-changed : (devices : List Device) (links : List (PortRef × PortRef))
-    (host node : ℕ) (change : Device → Device)
-    → ((device : Device) → slice_get devices node ≡ Some device
+pub topology_of-changed : (devices : List Registers) (links : List (PortRef × PortRef))
+    (host node : ℕ) (change : Registers → Registers)
+    → ((device : Registers) → slice_get devices node ≡ Some device
     → IsSameDevice device (change device))
     → topology_of (with_device devices node change) links host ≡ topology_of devices links host
 topology_of-changed devices links host node change same =

@@ -4,7 +4,7 @@ use Rattle.std.specs.Option.{option_and_then, option_or}
 use Rattle.std.proofs.lemmas.Option.{same_Some}
 use Rattle.maint_registers.specs.declared.registers.Kind.{Kind}
 use Rattle.maint_registers.specs.declared.registers.Kind.TheVariants.{Switch}
-use Rattle.maint_registers.specs.Devices.{Device, IsSameDevice, is_switch}
+use Rattle.maint_registers.specs.Devices.{Registers, IsSameDevice, is_switch}
 use Rattle.maint_registers.specs.Table.{Row, table, column, in_rows, status_port}
 use Rattle.maint_registers.specs.Access.{value_at, written_to, written_at}
 use Rattle.maint_registers.specs.Within.{IsWithin}
@@ -30,7 +30,7 @@ map_then f g (Some z) y is = (z, is)
 
 -- ---- a switch has no ID to write
 
-module _ (device next : Device) (value : ℕ) where
+module _ (device next : Registers) (value : ℕ) where
   abbrev Leaves : Row → Type 0
   Leaves row = option_and_then (written_to device value) (column Switch row) ≡ Some next
       → next.base_id ≡ device.base_id
@@ -55,8 +55,8 @@ module _ (device next : Device) (value : ℕ) where
       go true more here = all.0 here
       go false more later = more later
 
-  of_id : (written : Device) → Some written ≡ Some next → next.base_id ≡ written.base_id
-  of_id written is = ap (λ (d : Device). d.base_id) (sym (same_Some written next is))
+  of_id : (written : Registers) → Some written ≡ Some next → next.base_id ≡ written.base_id
+  of_id written is = ap (λ (d : Registers). d.base_id) (sym (same_Some written next is))
 
   no_write : {A : Type 0} → None ≡ Some next → A
   no_write is = absurd cc
@@ -93,7 +93,7 @@ module _ (device next : Device) (value : ℕ) where
       none is = no_write is
 
 -- its ID stays whatever is written
-switch_id_stays : (device next : Device) (offset value : ℕ) → is_switch device ≡ true
+switch_id_stays : (device next : Registers) (offset value : ℕ) → is_switch device ≡ true
     → written_at device offset value ≡ Some next → next.base_id ≡ device.base_id
 switch_id_stays device next offset value kind is = elim
     (or_then (written_to device value) (in_rows device.kind table offset) _ next is) [
@@ -106,7 +106,7 @@ switch_id_stays device next offset value kind is = elim
 
 -- ---- an access
 
-pub keeps : (device : Device) (port : ℕ) (access : Access)
+pub keeps : (device : Registers) (port : ℕ) (access : Access)
     → IsWithin (answered device port access).device
     → Keeps device (answered device port access).device
 keeps device port access within = record {
@@ -128,7 +128,7 @@ keeps device port access within = record {
   lock = λ _. within.lock;
 }
   where
-    after : Access → Device
+    after : Access → Registers
     after what = (answered device port what).device
 
     same : (what : Access) → IsSameDevice device (answered device port what).device
@@ -139,7 +139,7 @@ keeps device port access within = record {
         read (Some value) = same_device device
     same (Write offset value) = write (written_at device offset value) refl
       where
-        write : (o : Option Device) → written_at device offset value ≡ o
+        write : (o : Option Registers) → written_at device offset value ≡ o
             → IsSameDevice device (after_write device o).device
         write None is = same_device device
         write (Some next) is = written_same device next offset value is
@@ -153,7 +153,7 @@ keeps device port access within = record {
         read (Some value) = refl
     id (Write offset value) kind = write (written_at device offset value) refl
       where
-        write : (o : Option Device) → written_at device offset value ≡ o
+        write : (o : Option Registers) → written_at device offset value ≡ o
             → (after_write device o).device.base_id ≡ device.base_id
         write None is = refl
         write (Some next) is = switch_id_stays device next offset value kind is

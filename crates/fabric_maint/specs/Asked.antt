@@ -1,6 +1,6 @@
 -- What a host does, one ask after another.
 use Rattle.std.specs.Prelude.{◌≡◌, ℕ, ◌+◌, ◌%◌, ◌^◌, ◌<◌, false, List, [], ◌++◌, None}
-use Rattle.maint_registers.specs.Devices.{Device, is_switch}
+use Rattle.maint_registers.specs.Devices.{Registers, is_switch}
 use Rattle.maint_registers.specs.Within.{IsWithin}
 use Rattle.maint_packets.specs.declared.request.Request.{Request}
 use Rattle.link_wires.specs.declared.edits.Edit.{Edit}
@@ -40,6 +40,6 @@ pub data Asked {N : Type 0} (edits : N → List Edit) (host : ℕ) (s : Seen) (t
       → IsAskOf edits host u number request block → (seen u block).unfaithful ≡ None
       → lines ≡ before ++ block → t ≡ seen u block → next ≡ (number + 1) % 256
       → Asked edits host s tid lines t next
-  Owns : {lines : List TraceLine} {t : Seen} {next : ℕ} (u : Seen) (device : Device)
+  Owns : {lines : List TraceLine} {t : Seen} {next : ℕ} (u : Seen) (device : Registers)
       → Asked edits host s tid lines u next → is_switch device ≡ false → IsWithin device
       → t ≡ with_own host device u → Asked edits host s tid lines t next

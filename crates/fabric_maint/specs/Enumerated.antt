@@ -2,7 +2,7 @@
 use Rattle.std.specs.Prelude.{◌≡◌, Result, Ok, Err, ⊤}
 use Rattle.fabric_map.specs.declared.map.Map.{Map}
 use Rattle.fabric_map.specs.Topology.{Topology}
-use Rattle.fabric_map.specs.Routes.{Registers}
+use Rattle.fabric_map.specs.Routes.{AllRegisters}
 use Rattle.fabric_map.specs.Numbered.{IsNumbered}
 use Rattle.host_enumerate.specs.Ends.{EndsAtLock, IsLockFree}
 use Rattle.host_enumerate.specs.declared.ends.EnumEnd.{EnumEnd}
@@ -10,7 +10,7 @@ use Rattle.host_enumerate.specs.declared.ends.EnumEnd.TheVariants.{LockedBy}
 
 -- What the clauses of `enumerate` say of its answer, by the devices and links and the registers
 -- before and after.
-abbrev pub IsEnumerated : Topology → Registers → Registers → Result Map EnumEnd → Type 0
+abbrev pub IsEnumerated : Topology → AllRegisters → AllRegisters → Result Map EnumEnd → Type 0
 IsEnumerated topology before after (Ok map) =
     IsNumbered topology map.devices.items map.entries.items before after
     × IsLockFree topology before

@@ -1,7 +1,7 @@
 -- What a host's asks over a fabric come to.
 use Rattle.std.specs.Prelude.{◌≡◌, ◌≤◌, ℕ, false, List, [], ◌++◌, Option, Some, None, length}
 use Rattle.std.specs.Io.KnownBytes.{Appends}
-use Rattle.maint_registers.specs.Devices.{Device, is_switch}
+use Rattle.maint_registers.specs.Devices.{Registers, is_switch}
 use Rattle.maint_packets.specs.declared.request.Request.{Request}
 use Rattle.link_model.specs.declared.event.Event.{Event}
 use Rattle.link_wires.specs.declared.edits.Edit.{Edit}
@@ -9,7 +9,7 @@ use Rattle.fabric_script.specs.declared.ports.PortRef.{PortRef}
 use Rattle.fabric_script.specs.declared.lines.Numbered.{Numbered}
 use Rattle.fabric_script.specs.Scripts.{ScriptPasses}
 use Rattle.fabric_map.specs.Topology.{Topology}
-use Rattle.fabric_map.specs.Routes.{Registers}
+use Rattle.fabric_map.specs.Routes.{AllRegisters}
 use Rattle.fabric_map.specs.Fitting.{Fits}
 use Rattle.fabric_map.specs.Plain.{topology_of, registers_of}
 use Rattle.fabric_model.specs.Network.{IsEndpoint}
@@ -39,7 +39,7 @@ topology_in maint = topology_of (devices_of maint.script.now.lines.items)
     (links_of maint.script.now.lines.items) maint.host
 
 -- the registers of the fabric
-abbrev pub registers_in : {N K : Type 0} → FabricMaint N K → Registers
+abbrev pub registers_in : {N K : Type 0} → FabricMaint N K → AllRegisters
 registers_in maint = registers_of maint.fabric.now.devices.items
 
 -- The fabric stands for a state in which a host can ask: no packet is in the network, and all links
@@ -83,7 +83,7 @@ pub record LeadsTo (host : ℕ) (s : Seen) (lines : List TraceLine) (end : Seen)
   pub made : Made s lines
   pub sent : (seen s lines).unfaithful ≡ None
   pub endpoint : IsEndpoint (seen s lines).network host
-  pub device : Device
+  pub device : Registers
   pub kind : is_switch device ≡ false
   pub end_is : end ≡ with_own host device (seen s lines)
 

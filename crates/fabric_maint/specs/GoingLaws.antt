@@ -1,7 +1,7 @@
 -- A fabric that a host can ask has a topology, which its registers show.
 use Rattle.std.proofs.Common.{ℕ, List, [], Option, refl, sym, subst, append-nil}
 use Rattle.std.specs.Io.KnownBytes.{Appends}
-use Rattle.maint_registers.specs.Devices.{Device}
+use Rattle.maint_registers.specs.Devices.{Registers}
 use Rattle.link_wires.specs.declared.edits.Edit.{Edit}
 use Rattle.fabric_map.specs.Topology.{IsTopology}
 use Rattle.fabric_map.specs.Fitting.{Fits}
@@ -20,7 +20,7 @@ has_topology maint whole =
 pub shows_kinds : {N K : Type 0} (maint : FabricMaint N K) → StandsWhole maint
     → Fits (topology_in maint) (registers_in maint)
 shows_kinds maint whole =
-    subst (λ (devices : List Device). Fits (topology_in maint) (registers_of devices))
+    subst (λ (devices : List Registers). Fits (topology_in maint) (registers_of devices))
     whole.rests.can.stands.shows.registers whole.fits
 
 -- whoever has come so far may leave off there

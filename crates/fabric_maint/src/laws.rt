@@ -3,7 +3,7 @@ ghost use Rattle.std.specs.Prelude.{◌≡◌, [], Result};
 ghost use Rattle.link_model.specs.declared.event.Event.{Event};
 ghost use Rattle.fabric_script.specs.declared.ports.PortRef.{PortRef};
 ghost use Rattle.fabric_map.specs.Topology.{Topology};
-ghost use Rattle.fabric_map.specs.Routes.{Registers};
+ghost use Rattle.fabric_map.specs.Routes.{AllRegisters};
 ghost use Rattle.fabric_map.specs.declared.map.Map.{Map};
 ghost use Rattle.host_enumerate.specs.declared.ends.EnumEnd.{EnumEnd};
 ghost use Rattle.fabric_maint.specs.Enumerated.{IsEnumerated, Agrees};
@@ -16,7 +16,8 @@ use rio_chars::Sink;
 /// a noise. Two maps of one fabric are the same. Two answers that another host holds a device name
 /// the same device and host. And of one fabric there are not both.
 pub fn noise_leaves_answers()
-    ensures { (topology : Topology) (before after other : Registers) (one two : Result Map EnumEnd)
+    ensures { (topology : Topology) (before after other : AllRegisters)
+        (one two : Result Map EnumEnd)
         → IsEnumerated topology before after one → IsEnumerated topology before other two
         → Agrees one two }
 {}

@@ -3,9 +3,9 @@ use Rattle.std.proofs.Common.{◌≡◌, ℕ, subst, sym}
 use Rattle.fabric_script.specs.declared.ports.PortRef.{PortRef}
 use Rattle.fabric_script.specs.Ports.{port_at}
 use Rattle.fabric_map.specs.Topology.{Topology}
-use Rattle.fabric_map.specs.Routes.{Registers, Arrives, AtEndpoint, ThroughSwitch}
+use Rattle.fabric_map.specs.Routes.{AllRegisters, Arrives, AtEndpoint, ThroughSwitch}
 
-pub one_endpoint : (topology : Topology) (registers : Registers)
+pub one_endpoint : (topology : Topology) (registers : AllRegisters)
     (id node other : ℕ) {at : PortRef} → Arrives topology registers id node at
     → Arrives topology registers id other at → node ≡ other
 one_endpoint topology registers id node other (AtEndpoint at next link is_end is)

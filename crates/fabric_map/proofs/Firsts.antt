@@ -2,14 +2,14 @@
 use Rattle.std.proofs.Common.{◌≡◌, ℕ, List, Some, ◌⊎◌, inl, inr, subst, sym, ap, ◌∙◌}
 use Rattle.fabric_map.specs.Topology.{Topology, node_at}
 use Rattle.fabric_map.specs.Walked.{Before}
-use Rattle.fabric_map.specs.Routes.{Registers}
+use Rattle.fabric_map.specs.Routes.{AllRegisters}
 use Rattle.fabric_map.specs.Locked.{IsForeign, IsNext, IsFirstLocked}
 use Rattle.fabric_map.proofs.Order.{compared}
 use Rattle.fabric_map.proofs.Walks.{met_before, included}
 use Rattle.fabric_map.proofs.Leading.{some_from_same}
 
 -- neither stands before the other
-not_before : (topology : Topology) (registers : Registers) (p q : List ℕ) (id other : ℕ)
+not_before : (topology : Topology) (registers : AllRegisters) (p q : List ℕ) (id other : ℕ)
     → IsFirstLocked topology registers p id → IsFirstLocked topology registers q other
     → ¬ Before p q
 not_before topology registers p q id other one two before =
@@ -29,7 +29,7 @@ not_before topology registers p q id other one two before =
       last.3,
     )
 
-pub one_first_locked : (topology : Topology) (registers : Registers) (p q : List ℕ)
+pub one_first_locked : (topology : Topology) (registers : AllRegisters) (p q : List ℕ)
     (id other : ℕ) → IsFirstLocked topology registers p id
     → IsFirstLocked topology registers q other → (p ≡ q) × (id ≡ other)
 one_first_locked topology registers p q id other one two = go (compared p q)

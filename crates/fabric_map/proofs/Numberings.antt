@@ -1,11 +1,11 @@
 -- What the registers of a numbered ring are.
 use Rattle.std.proofs.Common.{◌≡◌, ◌≢◌, ℕ, ◌<◌, [], ◌∷◌, Some, Contains, arith, ◌⊎◌, inl, inr, refl, ap, ◌∙◌}
 use Rattle.maint_registers.specs.Routes.{entry_of, next_port}
-use Rattle.fabric_map.specs.Routes.{Registers}
+use Rattle.fabric_map.specs.Routes.{AllRegisters}
 use Rattle.fabric_map.specs.Examples.{IsRing, example_endpoint, switch, entry}
 use Rattle.fabric_map.proofs.Lists.{Contains-cases, not_in_empty}
 
-module _ (before after : Registers) (is : IsRing before after) where
+module _ (before after : AllRegisters) (is : IsRing before after) where
   pub ring_tag : (after 4).tag ≡ 2
   ring_tag = (is.1.marked (switch 2 4 0 (0 ∷ [])) 4 (1, omega arith, refl) refl).tag
 

@@ -10,7 +10,7 @@ use Rattle.fabric_map.specs.declared.map.Kind.TheVariants.{Switch}
 use Rattle.fabric_map.specs.declared.map.Device.{Device}
 use Rattle.fabric_map.specs.Topology.{Topology, IsTopology, behind_port, along, entered, node_at}
 use Rattle.fabric_map.specs.Walked.{onward, Walked, after_all_paths}
-use Rattle.fabric_map.specs.Routes.{Registers, Arrives, AtEndpoint, ThroughSwitch, PacketComes}
+use Rattle.fabric_map.specs.Routes.{AllRegisters, Arrives, AtEndpoint, ThroughSwitch, PacketComes}
 use Rattle.fabric_map.specs.Numbered.{device_has_id, paths_of, toward, port_toward, port_for, AreDescribed}
 use Rattle.fabric_map.proofs.Walks.{last_port}
 use Rattle.fabric_map.proofs.Leading.{along-onward, along-append, port_of_entry, followed-host}
@@ -21,13 +21,13 @@ use Rattle.fabric_map.proofs.Given.{endpoint_from_id, found-by_id}
 use Rattle.fabric_map.proofs.Fronts.{some_port, front_listed}
 
 -- Each switch of the list sends packets for an ID down the tree, or home.
-abbrev pub SendsById : Topology → Registers → List Device → ℕ → Type 0
+abbrev pub SendsById : Topology → AllRegisters → List Device → ℕ → Type 0
 SendsById topology registers devices id =
     (member : Device) (ports entry node : ℕ) → Contains devices member
     → member.kind ≡ Switch ports entry → node_at topology member.path ≡ Some node
     → next_port (registers node) id ≡ Some (port_for devices member.path entry id)
 
-module _ (topology : Topology) (registers : Registers) (host_id id to : ℕ)
+module _ (topology : Topology) (registers : AllRegisters) (host_id id to : ℕ)
     (devices : List Device) (goal : Device) (proper : IsTopology topology)
     (walked : Walked topology (paths_of devices) after_all_paths)
     (described : AreDescribed topology host_id [] devices)

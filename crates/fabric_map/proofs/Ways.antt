@@ -5,12 +5,12 @@ use Rattle.fabric_script.specs.declared.ports.PortRef.{PortRef}
 use Rattle.fabric_script.specs.Ports.{port_at}
 use Rattle.maint_registers.specs.Routes.{next_port}
 use Rattle.fabric_map.specs.Topology.{Topology, IsTopology, ports_followed, behind_port, along, entered}
-use Rattle.fabric_map.specs.Routes.{Registers, passed, walk}
+use Rattle.fabric_map.specs.Routes.{AllRegisters, passed, walk}
 use Rattle.fabric_map.specs.Ways.{IsOpened}
 use Rattle.fabric_map.proofs.Leading.{followed-host, along-append}
 
 -- where a packet ends that came to a port
-abbrev arrive : Topology → Registers → ℕ → ℕ → PortRef → Option PortRef
+abbrev arrive : Topology → AllRegisters → ℕ → ℕ → PortRef → Option PortRef
 arrive topology registers dest zero at = Some at
 arrive topology registers dest (suc hops) at =
     passed topology registers dest (λ next. walk topology registers dest hops next) at
@@ -19,14 +19,14 @@ and_then_self : (o : Option PortRef) → o ≡ option_and_then (λ (p : PortRef)
 and_then_self None = refl
 and_then_self (Some p) = refl
 
-walk-arrive : (topology : Topology) (registers : Registers) (dest hops : ℕ) (at : PortRef)
+walk-arrive : (topology : Topology) (registers : AllRegisters) (dest hops : ℕ) (at : PortRef)
     → walk topology registers dest hops at
     ≡ option_and_then (λ next. arrive topology registers dest hops next) (topology.peer at)
 walk-arrive topology registers dest zero at = and_then_self (topology.peer at)
 walk-arrive topology registers dest (suc hops) at = refl
 
 -- over a link
-walk-linked : (topology : Topology) (registers : Registers) (dest hops : ℕ) (at next : PortRef)
+walk-linked : (topology : Topology) (registers : AllRegisters) (dest hops : ℕ) (at next : PortRef)
     → topology.peer at ≡ Some next
     → walk topology registers dest hops at ≡ arrive topology registers dest hops next
 walk-linked topology registers dest hops at next link =
@@ -34,12 +34,12 @@ walk-linked topology registers dest hops at next link =
     ∙ ap (λ o. option_and_then (λ next. arrive topology registers dest hops next) o) link
 
 -- through a switch
-abbrev through : Topology → Registers → ℕ → ℕ → PortRef → Option ℕ → Option ℕ → Option PortRef
+abbrev through : Topology → AllRegisters → ℕ → ℕ → PortRef → Option ℕ → Option ℕ → Option PortRef
 through topology registers dest hops at None by = Some at
 through topology registers dest hops at (Some ports) by =
     option_and_then (λ port. walk topology registers dest hops (port_at at.node port)) by
 
-arrive-through : (topology : Topology) (registers : Registers) (dest hops : ℕ) (at : PortRef)
+arrive-through : (topology : Topology) (registers : AllRegisters) (dest hops : ℕ) (at : PortRef)
     (kind : Option ℕ)
     → topology.switch_ports at.node ≡ kind
     → arrive topology registers dest (suc hops) at
@@ -48,7 +48,7 @@ arrive-through topology registers dest hops at None is = rw is refl
 arrive-through topology registers dest hops at (Some ports) is = rw is refl
 
 -- a switch is passed by the port that its table names
-arrive-passed : (topology : Topology) (registers : Registers) (dest hops ports port : ℕ)
+arrive-passed : (topology : Topology) (registers : AllRegisters) (dest hops ports port : ℕ)
     (at : PortRef)
     → topology.switch_ports at.node ≡ Some ports → next_port (registers at.node) dest ≡ Some port
     → arrive topology registers dest (suc hops) at
@@ -59,7 +59,7 @@ arrive-passed topology registers dest hops ports port at is by =
     (port_at at.node port)) o) by
 
 -- an endpoint is the end
-arrive-endpoint : (topology : Topology) (registers : Registers) (dest hops : ℕ) (at : PortRef)
+arrive-endpoint : (topology : Topology) (registers : AllRegisters) (dest hops : ℕ) (at : PortRef)
     → topology.switch_ports at.node ≡ None → arrive topology registers dest hops at ≡ Some at
 arrive-endpoint topology registers dest zero at is = refl
 arrive-endpoint topology registers dest (suc hops) at is =
@@ -102,7 +102,7 @@ first_link topology first at same =
     let zero_is : first ≡ 0 = omega (arith, less) in
     subst (λ n. topology.peer (port_at topology.host n) ≡ Some at) zero_is parts.0
 
-go_down : (topology : Topology) (registers : Registers) (host_id first : ℕ) (front rest : List ℕ)
+go_down : (topology : Topology) (registers : AllRegisters) (host_id first : ℕ) (front rest : List ℕ)
     (at end : PortRef)
     → IsOpened topology registers host_id (first ∷ front ++ rest)
     → entered topology (first ∷ front) ≡ Some at → along topology at rest ≡ Some end
@@ -134,7 +134,7 @@ go_down topology registers host_id first front (port ∷ rest) at end opened ent
         (along-append topology (port_at topology.host 0) (first ∷ front)
         (port ∷ []) at enters ∙ ap (λ o. option_and_then (λ (p : PortRef). Some p) o) is) leads)
 
-pub request_ends : (topology : Topology) (registers : Registers) (host_id first : ℕ)
+pub request_ends : (topology : Topology) (registers : AllRegisters) (host_id first : ℕ)
     (rest : List ℕ) (at : PortRef)
     → IsTopology topology → IsOpened topology registers host_id (first ∷ rest)
     → entered topology (first ∷ rest) ≡ Some at
@@ -153,12 +153,12 @@ request_ends topology registers host_id first rest at proper opened enters =
         (ap (λ o. option_and_then (λ (p : PortRef). Some p) o) is) leads
 
 -- A packet for the host that leaves a port comes home, if it has so many hops.
-abbrev ComesHome : Topology → Registers → ℕ → ℕ → PortRef → Type 0
+abbrev ComesHome : Topology → AllRegisters → ℕ → ℕ → PortRef → Type 0
 ComesHome topology registers host_id least at =
     (hops : ℕ) → least ≤ hops
     → walk topology registers host_id hops at ≡ Some (port_at topology.host 0)
 
-go_home : (topology : Topology) (registers : Registers) (host_id first least : ℕ)
+go_home : (topology : Topology) (registers : AllRegisters) (host_id first least : ℕ)
     (front rest : List ℕ) (at end : PortRef)
     → IsTopology topology → IsOpened topology registers host_id (first ∷ front ++ rest)
     → entered topology (first ∷ front) ≡ Some at → along topology at rest ≡ Some end
@@ -207,7 +207,7 @@ go_home topology registers host_id first least front
         (port ∷ []) at enters ∙ ap (λ o. option_and_then (λ (p : PortRef). Some p) o) is)
         leads (back next link.0 switch.0 switch.1) hops (omega (arith, enough))
 
-pub answer_returns : (topology : Topology) (registers : Registers) (host_id first : ℕ)
+pub answer_returns : (topology : Topology) (registers : AllRegisters) (host_id first : ℕ)
     (rest : List ℕ) (at : PortRef) (hops : ℕ)
     → IsTopology topology → IsOpened topology registers host_id (first ∷ rest)
     → entered topology (first ∷ rest) ≡ Some at → length rest ≤ hops

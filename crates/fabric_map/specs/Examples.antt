@@ -6,7 +6,7 @@ use Rattle.fabric_map.specs.declared.map.Entry.{Entry}
 use Rattle.fabric_script.specs.Peers.{peer_in}
 use Rattle.fabric_script.specs.Ports.{port_at}
 use Rattle.fabric_map.specs.Topology.{Topology}
-use Rattle.fabric_map.specs.Routes.{Registers}
+use Rattle.fabric_map.specs.Routes.{AllRegisters}
 use Rattle.fabric_map.specs.Numbered.{IsNumbered}
 
 -- The host 0, the endpoints 1 to 3, and a ring of the switches 4, 5 and 6, which have 4, 3 and 3
@@ -69,7 +69,7 @@ ring_entries =
     ∷ []
 
 -- the ring is numbered by the host, which has the ID 5
-abbrev pub IsRing : Registers → Registers → Type 0
+abbrev pub IsRing : AllRegisters → AllRegisters → Type 0
 IsRing before after =
     ((before 0).base_id ≡ 5) × IsNumbered ring ring_devices ring_entries before after
 

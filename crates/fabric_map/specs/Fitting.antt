@@ -3,12 +3,12 @@ use Rattle.std.specs.Prelude.{◌≡◌, ℕ, ◌<◌, ◌/◌, ◌%◌, ◌^◌
 use Rattle.fabric_script.specs.Ports.{port_at}
 use Rattle.maint_registers.specs.Devices.{IsDevice, is_switch}
 use Rattle.fabric_map.specs.Topology.{Topology, device_ports}
-use Rattle.fabric_map.specs.Routes.{Registers}
+use Rattle.fabric_map.specs.Routes.{AllRegisters}
 
 -- Each device shows whether it is a switch, how many ports it has, and which of them have a link.
 -- Its
 -- IDs and its lock fit their registers.
-pub record Fits (topology : Topology) (registers : Registers) : Type 0 where
+pub record Fits (topology : Topology) (registers : AllRegisters) : Type 0 where
   pub devices : (node : ℕ) → node < topology.nodes → IsDevice (registers node)
   pub ids : (node : ℕ) → node < topology.nodes → (registers node).base_id < 256
   pub large_ids : (node : ℕ) → node < topology.nodes → (registers node).large_id < 65536

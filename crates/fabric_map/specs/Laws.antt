@@ -6,7 +6,7 @@ use Rattle.fabric_map.specs.declared.map.Device.{Device}
 use Rattle.fabric_map.specs.declared.map.Entry.{Entry}
 use Rattle.fabric_map.specs.Topology.{Topology, node_at, IsReached}
 use Rattle.fabric_map.specs.Walked.{Before, onward, IsMet, Walked, after_all_paths}
-use Rattle.fabric_map.specs.Routes.{Registers, Arrives}
+use Rattle.fabric_map.specs.Routes.{AllRegisters, Arrives}
 use Rattle.fabric_map.specs.Numbered.{IsMap}
 use Rattle.fabric_map.specs.Locked.{IsNext, IsFirstLocked}
 
@@ -18,7 +18,7 @@ OneMap = (topology : Topology) (host_id : ℕ) (devices others : List Device)
     → (devices ≡ others) × (entries ≡ other_entries)
 
 abbrev pub OneFirstLocked : Type 0
-OneFirstLocked = (topology : Topology) (registers : Registers) (p q : List ℕ) (id other : ℕ)
+OneFirstLocked = (topology : Topology) (registers : AllRegisters) (p q : List ℕ) (id other : ℕ)
     → IsFirstLocked topology registers p id → IsFirstLocked topology registers q other
     → (p ≡ q) × (id ≡ other)
 
@@ -43,7 +43,7 @@ LaterIsBelow = (topology : Topology) (paths : List (List ℕ)) (first later : Li
 
 -- Packets for one ID that leave one port come to one endpoint.
 abbrev pub OneEndpoint : Type 0
-OneEndpoint = (topology : Topology) (registers : Registers) (id node other : ℕ) (at : PortRef)
+OneEndpoint = (topology : Topology) (registers : AllRegisters) (id node other : ℕ) (at : PortRef)
     → Arrives topology registers id node at → Arrives topology registers id other at
     → node ≡ other
 

@@ -2,7 +2,7 @@
 use Rattle.std.specs.Prelude.{◌≡◌, ◌≢◌, ℕ, ◌⊎◌, List, [], Contains, Some}
 use Rattle.fabric_map.specs.Topology.{Topology, node_at}
 use Rattle.fabric_map.specs.Walked.{onward, Walked}
-use Rattle.fabric_map.specs.Routes.{Registers}
+use Rattle.fabric_map.specs.Routes.{AllRegisters}
 
 -- the lock is that of another host
 abbrev pub IsForeign : ℕ → ℕ → Type 0
@@ -15,7 +15,7 @@ IsNext paths path = (path ≡ []) ⊎ ((front : List ℕ) × (port : ℕ) × Con
 
 -- The device on this path is the first that the walk of a host meets with the lock of another host,
 -- which is this ID. No device that is met before has such a lock.
-pub record IsFirstLocked (topology : Topology) (registers : Registers) (path : List ℕ)
+pub record IsFirstLocked (topology : Topology) (registers : AllRegisters) (path : List ℕ)
     (id : ℕ) : Type 0 where
   pub paths : List (List ℕ)
   pub walked : Walked topology paths path

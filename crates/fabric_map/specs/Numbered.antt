@@ -3,7 +3,7 @@ use Rattle.std.specs.Prelude.{◌≡◌, ◌≢◌, ℕ, zero, suc, ◌+◌, ◌
 use Rattle.std.specs.List.{list_any}
 use Rattle.std.specs.Option.{option_and_then}
 use Rattle.fabric_script.specs.declared.ports.PortRef.{PortRef}
-use Rattle.maint_registers.specs.Devices as registers
+use Rattle.maint_registers.specs.Devices.{Registers}
 use Rattle.maint_registers.specs.Routes.{entry_of, next_port}
 use Rattle.fabric_map.specs.declared.map.Kind.{Kind}
 use Rattle.fabric_map.specs.declared.map.Kind.TheVariants.{Endpoint, Switch}
@@ -11,7 +11,7 @@ use Rattle.fabric_map.specs.declared.map.Device.{Device}
 use Rattle.fabric_map.specs.declared.map.Entry.{Entry}
 use Rattle.fabric_map.specs.Topology.{Topology, entered, node_at, IsReached}
 use Rattle.fabric_map.specs.Walked.{Walked, after_all_paths}
-use Rattle.fabric_map.specs.Routes.{Registers, PacketComes}
+use Rattle.fabric_map.specs.Routes.{AllRegisters, PacketComes}
 
 abbrev pub paths_of : List Device → List (List ℕ)
 paths_of devices = map (λ (device : Device). device.path) devices
@@ -114,19 +114,19 @@ pub record IsMap (topology : Topology) (host_id : ℕ) (devices : List Device)
   pub listed : entries ≡ entries_of devices
 
 -- the base device ID of an endpoint is that of the map
-abbrev pub HasBaseId : registers.Device → Kind → Type 0
+abbrev pub HasBaseId : Registers → Kind → Type 0
 HasBaseId held (Endpoint id) = held.base_id ≡ id
 HasBaseId held (Switch ports entry) = Unit {0}
 
 -- the host holds a device of the map, which has its tag, and its ID if it is an endpoint
-pub record IsMarked (host_id : ℕ) (device : Device) (held : registers.Device) : Type 0 where
+pub record IsMarked (host_id : ℕ) (device : Device) (held : Registers) : Type 0 where
   pub lock : held.lock ≡ host_id
   pub tag : held.tag ≡ device.tag
   pub base_id : HasBaseId held device.kind
 
 -- Only these registers of a device may change: lock, tag, ID, selected destination, default port,
 -- and the entries 0 to 62, of these hosts' IDs and of 255.
-pub record ChangesOnly (host_ids : List ℕ) (old new : registers.Device) : Type 0 where
+pub record ChangesOnly (host_ids : List ℕ) (old new : Registers) : Type 0 where
   pub rest : new ≡ record old {
     lock = new.lock;
     tag = new.tag;
@@ -142,7 +142,7 @@ pub record ChangesOnly (host_ids : List ℕ) (old new : registers.Device) : Type
 -- each device of the map, `tables` of each entry; packets for a given ID come to its endpoint from
 -- each other device.
 pub record IsNumbered (topology : Topology) (devices : List Device) (entries : List Entry)
-    (before after : Registers) : Type 0 where
+    (before after : AllRegisters) : Type 0 where
   pub map : IsMap topology (before topology.host).base_id devices entries
   pub marked : (device : Device) (node : ℕ) → Contains devices device
       → node_at topology device.path ≡ Some node

@@ -4,17 +4,18 @@ use Rattle.std.specs.Prelude.{◌≡◌, ℕ, zero, suc, Option, Some, None}
 use Rattle.std.specs.Option.{option_and_then}
 use Rattle.fabric_script.specs.declared.ports.PortRef.{PortRef}
 use Rattle.fabric_script.specs.Ports.{port_at}
-use Rattle.maint_registers.specs.Devices.{Device}
+use Rattle.maint_registers.specs.Devices.{Registers}
 use Rattle.maint_registers.specs.Routes.{next_port}
 use Rattle.fabric_map.specs.Topology.{Topology}
 
 -- the registers of each device
-abbrev pub Registers : Type 0
-Registers = ℕ → Device
+abbrev pub AllRegisters : Type 0
+AllRegisters = ℕ → Registers
 
 -- what becomes of a packet that came to a port and has a hop left: it ends at an endpoint, and goes
 -- on behind a switch
-abbrev pub passed : Topology → Registers → ℕ → (PortRef → Option PortRef) → PortRef → Option PortRef
+abbrev pub passed : Topology → AllRegisters → ℕ → (PortRef → Option PortRef) → PortRef
+    → Option PortRef
 passed topology registers dest on next = of_kind (topology.switch_ports next.node)
   where
     of_kind : Option ℕ → Option PortRef
@@ -26,7 +27,7 @@ passed topology registers dest on next = of_kind (topology.switch_ports next.nod
 -- Where a maintenance packet ends that leaves a port: the port by which it enters its last device.
 -- That is an endpoint, or a switch at which the hop count is 0; each switch on the way lowers it by
 -- one. It ends nowhere if it comes to a port without a link or to a switch that discards it.
-abbrev pub walk : Topology → Registers → ℕ → ℕ → PortRef → Option PortRef
+abbrev pub walk : Topology → AllRegisters → ℕ → ℕ → PortRef → Option PortRef
 walk topology registers dest zero at = topology.peer at
 walk topology registers dest (suc hops) at =
     option_and_then
@@ -34,7 +35,7 @@ walk topology registers dest (suc hops) at =
     (topology.peer at)
 
 -- A packet for an ID, other than a maintenance packet, that leaves a port comes to this endpoint.
-pub data Arrives (topology : Topology) (registers : Registers) (id node : ℕ) : PortRef
+pub data Arrives (topology : Topology) (registers : AllRegisters) (id node : ℕ) : PortRef
     → Type 0 where
   AtEndpoint : (at next : PortRef) → topology.peer at ≡ Some next
       → topology.switch_ports next.node ≡ None → next.node ≡ node
@@ -47,7 +48,7 @@ pub data Arrives (topology : Topology) (registers : Registers) (id node : ℕ) :
 
 -- A packet for an ID comes from one device to another. An endpoint sends it by its port, a switch
 -- by its table.
-abbrev pub PacketComes : Topology → Registers → ℕ → ℕ → ℕ → Type 0
+abbrev pub PacketComes : Topology → AllRegisters → ℕ → ℕ → ℕ → Type 0
 PacketComes topology registers id from to = sent (topology.switch_ports from)
   where
     sent : Option ℕ → Type 0

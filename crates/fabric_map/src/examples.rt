@@ -1,7 +1,7 @@
 //! Small fabrics: that the definitions say what they should of known maps, and refuse wrong ones.
 ghost use Rattle.std.specs.Prelude.{◌≡◌, ◌≢◌, ◌<◌, ℕ, List, Some};
 ghost use Rattle.maint_registers.specs.Routes.{entry_of, next_port};
-ghost use Rattle.fabric_map.specs.Routes.{Registers};
+ghost use Rattle.fabric_map.specs.Routes.{AllRegisters};
 ghost use Rattle.fabric_map.specs.declared.map.Entry.{Entry};
 ghost use Rattle.fabric_map.specs.Walked.{Walked, after_all_paths};
 ghost use Rattle.fabric_map.specs.Numbered.{IsMap};
@@ -25,13 +25,13 @@ pub fn wrong_maps_are_none()
 /// a switch, the ID of an endpoint, and the port of an entry. Its links stay, and so does each entry
 /// from that of 63 on but that of 255.
 pub fn the_ring_has_its_registers()
-    ensures tag { (before after : Registers) → IsRing before after → (after 4).tag ≡ 2 }
-    ensures lock { (before after : Registers) → IsRing before after → (after 4).lock ≡ 5 }
-    ensures id { (before after : Registers) → IsRing before after → (after 3).base_id ≡ 0 }
-    ensures table { (before after : Registers) → IsRing before after
+    ensures tag { (before after : AllRegisters) → IsRing before after → (after 4).tag ≡ 2 }
+    ensures lock { (before after : AllRegisters) → IsRing before after → (after 4).lock ≡ 5 }
+    ensures id { (before after : AllRegisters) → IsRing before after → (after 3).base_id ≡ 0 }
+    ensures table { (before after : AllRegisters) → IsRing before after
         → next_port (after 4) 0 ≡ Some 1 }
-    ensures entries { (before after : Registers) → IsRing before after → (id : ℕ) → 62 < id
+    ensures entries { (before after : AllRegisters) → IsRing before after → (id : ℕ) → 62 < id
         → id ≢ 255 → entry_of (after 4) id ≡ entry_of (before 4) id }
-    ensures links { (before after : Registers) → IsRing before after
+    ensures links { (before after : AllRegisters) → IsRing before after
         → (after 4).linked ≡ (before 4).linked }
 {}

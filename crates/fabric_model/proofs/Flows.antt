@@ -3,7 +3,7 @@ use Rattle.std.proofs.Common.{◌≡◌, ◌⊎◌, inl, inr, ℕ, suc, ◌+◌,
 use Rattle.std.specs.List.{AllByRecursion}
 use Rattle.std.proofs.lemmas.Bool.{eq-eqb}
 use Rattle.rio_packets.specs.Fields.{prio_of, dest_of}
-use Rattle.maint_registers.specs.Devices.{Device, is_switch}
+use Rattle.maint_registers.specs.Devices.{Registers, is_switch}
 use Rattle.maint_registers.proofs.SameLaws.{same_kind}
 use Rattle.maint_packets.specs.declared.request.Request.{Request}
 use Rattle.maint_packets.specs.Requests.{request_of}
@@ -30,7 +30,7 @@ use Rattle.fabric_model.proofs.Order.{first_spot, WellEntry, IsOwn, Journal, Beh
 
 -- ---- which nodes are switches stays
 
-device_kind : (port : ℕ) (request : Option Request) (device : Device)
+device_kind : (port : ℕ) (request : Option Request) (device : Registers)
     → is_switch (device_after port request device) ≡ is_switch device
 device_kind port None device = refl
 device_kind port (Some request) device =

@@ -4,7 +4,7 @@ use Rattle.std.specs.Option.{option_and_then}
 use Rattle.std.specs.List.{AllByRecursion}
 use Rattle.rio_packets.specs.Fields.{prio_of}
 use Rattle.rio_packets.specs.LinkForm.{Passes}
-use Rattle.maint_registers.specs.Devices.{Device}
+use Rattle.maint_registers.specs.Devices.{Registers}
 use Rattle.maint_registers.specs.Within.{IsWithin}
 use Rattle.maint_packets.specs.declared.request.Request.{Request}
 use Rattle.maint_packets.specs.Requests.{request_of}
@@ -92,15 +92,15 @@ step_lent net (ByDevice (Answer p packet response)) needs formed q = formed.lent
 
 -- ---- registers
 
-pub AreWithin-with : (devices : List Device) (n : ℕ) (change : Device → Device)
-    → ((device : Device) → IsWithin device → IsWithin (change device))
+pub AreWithin-with : (devices : List Registers) (n : ℕ) (change : Registers → Registers)
+    → ((device : Registers) → IsWithin device → IsWithin (change device))
     → AllByRecursion IsWithin devices → AllByRecursion IsWithin (with_device devices n change)
 AreWithin-with [] n change keeps all = tt
 AreWithin-with (device ∷ devices) zero change keeps all = (keeps device all.0, all.1)
 AreWithin-with (device ∷ devices) (suc n) change keeps all =
     (all.0, AreWithin-with devices n change keeps all.1)
 
-device_stays : (packet : List ℕ) (port : ℕ) (device : Device) → Passes packet → IsWithin device
+device_stays : (packet : List ℕ) (port : ℕ) (device : Registers) → Passes packet → IsWithin device
     → IsWithin (device_after port (request_of packet) device)
 device_stays packet port device passes within = go (request_of packet) refl
   where
@@ -156,7 +156,7 @@ empty_formed start empty within = record {
 
 -- ---- answers
 
-pub device_at : (devices : List Device) (n : ℕ) (device : Device) → slice_get devices n
+pub device_at : (devices : List Registers) (n : ℕ) (device : Registers) → slice_get devices n
     ≡ Some device
     → AllByRecursion IsWithin devices → IsWithin device
 device_at [] n device is all = absurd (cc)
@@ -172,17 +172,17 @@ pub answer_passes : (net : Network) → IsFormed net → (p : PortRef) (packet r
 answer_passes net formed p packet response low passes = by_device (slice_get net.registers p.node)
     refl
   where
-    answer : Device → Request → List ℕ
+    answer : Registers → Request → List ℕ
     answer device request = response_bytes (request_answered device request p.port).response
 
-    by_request : (device : Device) (o : Option Request) → IsWithin device → request_of packet ≡ o
+    by_request : (device : Registers) (o : Option Request) → IsWithin device → request_of packet ≡ o
         → option_map (answer device) o ≡ Some response → Passes response
     by_request device None within asks is = absurd (cc)
     by_request device (Some request) within asks is =
         let same : answer device request ≡ response = cc in
         subst Passes same (responses_pass device packet request p.port within low passes asks)
 
-    by_device : (o : Option Device) → slice_get net.registers p.node ≡ o
+    by_device : (o : Option Registers) → slice_get net.registers p.node ≡ o
         → option_and_then (λ device. option_map (answer device) (request_of packet)) o
         ≡ Some response → Passes response
     by_device None found is = absurd (cc)

@@ -8,7 +8,7 @@ use Rattle.rio_packets.specs.LinkForm.{Passes}
 use Rattle.rio_packets.specs.Hops.{lowered}
 use Rattle.rio_packets.proofs.PlaceLaws.{places}
 use Rattle.rio_packets.proofs.LowerLaws.{Passes-lowered, Lowered-lowered}
-use Rattle.maint_registers.specs.Devices.{Device, is_switch}
+use Rattle.maint_registers.specs.Devices.{Registers, is_switch}
 use Rattle.maint_registers.specs.Routes.{next_port}
 use Rattle.maint_packets.specs.declared.next_hop.Next.{Next}
 use Rattle.maint_packets.specs.declared.next_hop.Next.TheVariants.{Nowhere, RegisterUnit, Port}
@@ -96,7 +96,7 @@ moves_on old passes goes = go (is_maintenance old) refl
     go false other = moves_as_is old passes other
 
 -- a packet for which a switch names a port is not at its end
-pub named_goes : (device : Device) (packet : List ℕ) (n : ℕ) → next_of device packet ≡ Port n
+pub named_goes : (device : Registers) (packet : List ℕ) (n : ℕ) → next_of device packet ≡ Port n
     → is_at_end packet ≡ false
 named_goes device packet n = go (is_foreign packet) (is_at_end packet) (is_request packet)
     (to_port (option_and_then (next_port device) (dest_of packet)))
@@ -142,7 +142,7 @@ agrees true true false zero route = tt
 agrees true true asks (suc hop) route =
     rw (ne_eqb (suc hop) 0 (λ same. omega arith)) (to_port_agrees route)
 
-pub next_agrees : (device : Device) (packet : List ℕ)
+pub next_agrees : (device : Registers) (packet : List ℕ)
     → Agrees (by_key (ftype_of packet == 8) (hop_of packet)
     (option_and_then (next_port device) (dest_of packet))) (next_of device packet)
 next_agrees device packet =
@@ -153,7 +153,7 @@ next_agrees device packet =
 
 -- the switch that sends a packet
 pub record SentBy (net : Network) (n : ℕ) (packet : List ℕ) (next : Next) : Type 0 where
-  pub device : Device
+  pub device : Registers
   pub known : slice_get net.registers n ≡ Some device
   pub switch : is_switch device ≡ true
   pub sends : next_of device packet ≡ next
@@ -162,7 +162,7 @@ pub sent_by : (net : Network) (n : ℕ) (packet : List ℕ) (next : Next) → ne
     ≡ Some next → SentBy net n packet next
 sent_by net n packet next named = go (slice_get net.registers n) refl named
   where
-    go : (o : Option Device) → slice_get net.registers n ≡ o
+    go : (o : Option Registers) → slice_get net.registers n ≡ o
         → option_and_then (λ device. cond (is_switch device) (Some (next_of device packet)) None) o
         ≡ Some next → SentBy net n packet next
     go None known is = absurd (cc)

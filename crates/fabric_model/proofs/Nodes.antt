@@ -5,7 +5,7 @@ use Rattle.std.proofs.lemmas.Bool.{eqb-true, ltb-true, and_parts}
 use Rattle.std.proofs.lemmas.Option.{slice_get-map}
 use Rattle.rio_packets.specs.Fields.{prio_of, dest_of, is_request}
 use Rattle.rio_packets.specs.LinkForm.{Passes}
-use Rattle.maint_registers.specs.Devices.{Device, is_switch}
+use Rattle.maint_registers.specs.Devices.{Registers, is_switch}
 use Rattle.maint_registers.specs.Routes.{port_named, next_port}
 use Rattle.maint_packets.specs.NextHops.{is_foreign, is_at_end, to_port, next_of}
 use Rattle.maint_packets.specs.Requests.{request_of}
@@ -34,13 +34,13 @@ few_prio packet is =
 
 -- ---- a device keeps its ports
 
-device_ports : (at : ℕ) (request : Option Request) (device : Device)
+device_ports : (at : ℕ) (request : Option Request) (device : Registers)
     → (device_after at request device).ports ≡ device.ports
 device_ports at None device = refl
 device_ports at (Some request) device = (answered_same device request at).ports
 
 -- how many ports each device has
-abbrev pub count_ports : Device → ℕ
+abbrev pub count_ports : Registers → ℕ
 count_ports device = device.ports
 
 pub counts_stay : (net : Network) (step : Step)
@@ -64,7 +64,7 @@ ports_stay net step n =
     ∙ ap (λ (l : List ℕ). slice_get l n) (counts_stay net step)
     ∙ slice_get-map count_ports net.registers n
 
-has_port : (o u : Option Device) (port : ℕ) → option_map count_ports u ≡ option_map count_ports o
+has_port : (o u : Option Registers) (port : ℕ) → option_map count_ports u ≡ option_map count_ports o
     → HasPort o port → HasPort u port
 has_port None u port same has = absurd has
 has_port (Some device) None port same has = absurd cc
@@ -112,12 +112,12 @@ all_behind P [] all = tt
 all_behind P (item ∷ items) all = all.1
 
 -- all items of lanes stand at spots
-abbrev AreThere : List Device → Lanes → Type 0
+abbrev AreThere : List Registers → Lanes → Type 0
 AreThere devices lanes =
     (p : PortRef) (r : ℕ) → AllByRecursion (λ item. IsSpot devices p r) (lanes p r)
 
 -- a lane is changed
-lane_there : (devices : List Device) (lanes : Lanes) (p : PortRef) (r : ℕ) (items : List Item)
+lane_there : (devices : List Registers) (lanes : Lanes) (p : PortRef) (r : ℕ) (items : List Item)
     → AreThere devices lanes → AllByRecursion (λ item. IsSpot devices p r) items
     → AreThere devices (with_lane lanes p r items)
 lane_there devices lanes p r items all own q s = by_test (same_port q p) (s == r) refl refl
@@ -145,7 +145,7 @@ lane_there devices lanes p r items all own q s = by_test (same_port q p) (s == r
 
 -- ---- a switch names one of its own ports
 
-named_low : (device : Device) (dest port : ℕ) (test : Bool)
+named_low : (device : Registers) (dest port : ℕ) (test : Bool)
     → is_switch device && nat_lt (port_named device dest) device.ports ≡ test
     → (if test then Some (port_named device dest) else None) ≡ Some port → port < device.ports
 named_low device dest port true is named =
@@ -155,7 +155,7 @@ named_low device dest port true is named =
     subst (λ x. x < device.ports) same low
 named_low device dest port false is named = absurd cc
 
-to_low : (device : Device) (dest port : ℕ) (o : Option ℕ) → next_port device dest ≡ o
+to_low : (device : Registers) (dest port : ℕ) (o : Option ℕ) → next_port device dest ≡ o
     → to_port o ≡ Port port → port < device.ports
 to_low device dest port None is to = absurd cc
 to_low device dest port (Some own) is to =
@@ -172,7 +172,7 @@ named_to false true true route port is = absurd cc
 named_to false true false route port is = absurd cc
 named_to false false asks route port is = is
 
-next_low : (device : Device) (packet : List ℕ) (port : ℕ) → next_of device packet ≡ Port port
+next_low : (device : Registers) (packet : List ℕ) (port : ℕ) → next_of device packet ≡ Port port
     → port < device.ports
 next_low device packet port is =
     by_dest (dest_of packet)
@@ -187,14 +187,14 @@ pub next_there : (net : Network) (n : ℕ) (packet : List ℕ) (port : ℕ)
     → next_at net n packet ≡ Some (Port port) → HasPort (slice_get net.registers n) port
 next_there net n packet port is = by_found (slice_get net.registers n) refl is
   where
-    by_kind : (device : Device) (kind : Bool)
+    by_kind : (device : Registers) (kind : Bool)
         → (if kind then Some (next_of device packet) else None) ≡ Some (Port port)
         → port < device.ports
     by_kind device true is =
         (let same : next_of device packet ≡ Port port = cc in next_low device packet port same)
     by_kind device false is = absurd cc
 
-    by_found : (o : Option Device) → slice_get net.registers n ≡ o
+    by_found : (o : Option Registers) → slice_get net.registers n ≡ o
         → option_and_then
         (λ device. if is_switch device then Some (next_of device packet) else None) o
         ≡ Some (Port port) → HasPort o port

@@ -4,7 +4,7 @@ use Rattle.std.proofs.Common.{◌≡◌, ℕ, zero, suc, ◌+◌, ◌<◌, ◌�
 use Rattle.std.proofs.lemmas.Bool.{eq-eqb, ne_eqb, cases_lt}
 use Rattle.std.proofs.lemmas.Bool.Decides.{eqb_tells}
 use Rattle.rio_packets.specs.Fields.{prio_of}
-use Rattle.maint_registers.specs.Devices.{Device}
+use Rattle.maint_registers.specs.Devices.{Registers}
 use Rattle.fabric_script.specs.declared.ports.PortRef.{PortRef}
 use Rattle.fabric_model.specs.Network.{Item, Lanes, Network, same_port, port_of, with_lane, peer_in, first_packet, in_turn}
 use Rattle.fabric_model.specs.Steps.{Hold, Free, Take, Leave, Move, Drop, Answer, Step, Linked, AtNode, ByDevice, Needs, behind_first, only_first, after_hold, moved_item, without_first, item_of, after, LegalFrom}
@@ -224,7 +224,7 @@ before_none p node (count ∷ counts) low =
     omega (arith, here, more, both)
 
 -- the port of a node, so many nodes behind the first
-ports_once : (p : PortRef) (node k : ℕ) (devices : List Device) → p.node ≡ node + k
+ports_once : (p : PortRef) (node k : ℕ) (devices : List Registers) → p.node ≡ node + k
     → HasPort (slice_get devices k) p.port
     → how_often_port p (ports_from node (map count_ports devices)) ≡ 1
 ports_once p node k [] is has = absurd has
@@ -242,7 +242,7 @@ ports_once p node (suc k) (device ∷ devices) is has =
     (ports_from (suc node) (map count_ports devices)) in
     omega (arith, here, more, both)
 
-pub all_once : (devices : List Device) (p : PortRef) → IsPortOf devices p
+pub all_once : (devices : List Registers) (p : PortRef) → IsPortOf devices p
     → how_often_port p (all_ports devices) ≡ 1
 all_once devices p is = ports_once p 0 p.node devices (omega arith) is
 

@@ -1,7 +1,7 @@
 -- The plain network: first-in first-out queues of packets, with no link protocol.
 use Rattle.std.specs.Prelude.{◌≡◌, ℕ, ◌+◌, ◌-◌, Bool, true, false, ◌&&◌, ◌==◌, nat_lt, List, [], ◌∷◌, ◌++◌, length, Option, Some, None, filter, slice_get, option_map, option_and_then, unwrap_or, if◌then◌else◌}
 use Rattle.rio_packets.specs.Fields.{prio_of}
-use Rattle.maint_registers.specs.Devices.{Device, is_switch}
+use Rattle.maint_registers.specs.Devices.{Registers, is_switch}
 use Rattle.maint_registers.specs.Routes.{next_port}
 pub use Rattle.maint_registers.specs.Changes.{with_device}
 use Rattle.fabric_script.specs.declared.ports.PortRef.{PortRef}
@@ -32,7 +32,7 @@ pub record Network : Type 0 where
   pub lent : PortRef → List Item
   pub buffers : PortRef → ℕ
   pub tells : PortRef → Bool
-  pub registers : List Device
+  pub registers : List Registers
   pub links : List (PortRef × PortRef)
   pub given : ℕ
 
@@ -112,13 +112,13 @@ abbrev pub IsSwitch : Network → ℕ → Type 0
 IsSwitch net n = switch_at net n ≡ Some true
 
 -- the ID with which a device sends packets, of 16 bits or of 8
-abbrev pub sender_id : Device → Bool → ℕ
+abbrev pub sender_id : Registers → Bool → ℕ
 sender_id device large = if large then device.large_id else device.base_id
 
 -- that of a node
 abbrev pub id_of : Network → ℕ → Bool → ℕ
 id_of net n large = unwrap_or
-    (option_map (λ (device : Device). sender_id device large) (slice_get net.registers n)) 0
+    (option_map (λ (device : Registers). sender_id device large) (slice_get net.registers n)) 0
 
 -- the port to which a node sends packets for a destination, if it is a switch that names one
 abbrev pub route_at : Network → Option ℕ → ℕ → Option ℕ

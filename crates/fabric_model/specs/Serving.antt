@@ -1,7 +1,7 @@
 -- What a device does with a packet that is first in one of its lists: where a switch sends it, and
 -- what the registers answer to a request.
 use Rattle.std.specs.Prelude.{ℕ, List, slice_get, Option, Some, None, option_map, option_and_then, if◌then◌else◌}
-use Rattle.maint_registers.specs.Devices.{Device, is_switch}
+use Rattle.maint_registers.specs.Devices.{Registers, is_switch}
 use Rattle.maint_packets.specs.declared.next_hop.Next.{Next}
 use Rattle.maint_packets.specs.declared.request.Request.{Request}
 use Rattle.maint_packets.specs.NextHops.{next_of}
@@ -27,6 +27,6 @@ response_at net p packet =
     (request_of packet)) (slice_get net.registers p.node)
 
 -- a device after it answered a request on a port
-abbrev pub device_after : ℕ → Option Request → Device → Device
+abbrev pub device_after : ℕ → Option Request → Registers → Registers
 device_after port None device = device
 device_after port (Some request) device = (request_answered device request port).device

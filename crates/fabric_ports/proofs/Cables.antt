@@ -7,7 +7,7 @@ use Rattle.std.proofs.lemmas.List.{length-set, get_or-set_other}
 use Rattle.std.proofs.lemmas.Option.{slice_get_within, get_or_from_slice_get, slice_get-get_or}
 use Rattle.link_port.specs.Ports.{PortState}
 use Rattle.link_machine.specs.States.{Wires, LinkState, link}
-use Rattle.maint_registers.specs.Devices.{Device, is_switch}
+use Rattle.maint_registers.specs.Devices.{Registers, is_switch}
 use Rattle.fabric_script.specs.declared.ports.PortRef.{PortRef}
 use Rattle.fabric_model.specs.Network.{Item, Network, IsEndpoint, same_port, peer_in}
 use Rattle.rio_chars.specs.declared.chars.Char.{Char}
@@ -126,7 +126,7 @@ wires_stay {s} {t} {a} {b} c d is_a is_b apart others =
     let second = (others.untouched c.b ba bb).wire in
     λ i. record { a = wire_state (first i); b = wire_state (second i) }
 
-other_shown : (devices : List Device) (s t : Seen) (c d : Cable) → AreApart c d
+other_shown : (devices : List Registers) (s t : Seen) (c d : Cable) → AreApart c d
     → AreOthers s t d.a d.b → ShowsCable devices s c → ShowsCable devices t c
 other_shown devices s t c d apart others shown = record {
   port_a = shown.port_a;
@@ -134,7 +134,7 @@ other_shown devices s t c d apart others shown = record {
   wires = shown.wires ∙ sym (wires_stay c d refl refl apart others);
 }
 
-own_shown : (devices : List Device) (s t : Seen) (d : Cable) (wires : Wires) (x y : PortState)
+own_shown : (devices : List Registers) (s t : Seen) (d : Cable) (wires : Wires) (x y : PortState)
     → link_at t d.a d.b ≡ link wires x y → ShowsCable devices s d
     → ShowsCable devices t (with_wires d wires)
 own_shown devices s t d wires x y is shown = record {
@@ -143,7 +143,7 @@ own_shown devices s t d wires x y is shown = record {
   wires = ap (λ (l : LinkState). record { a = l.wire_a; b = l.wire_b }) (sym is);
 }
 
-cables_shown : (devices : List Device) (cables : List Cable) (s t : Seen) (k : ℕ) (d : Cable)
+cables_shown : (devices : List Registers) (cables : List Cable) (s t : Seen) (k : ℕ) (d : Cable)
     (wires : Wires) (x y : PortState) → slice_get cables k ≡ Some d
     → AreProper (map ends_of cables) → AreOthers s t d.a d.b → link_at t d.a d.b ≡ link wires x y
     → All (ShowsCable devices s) cables
@@ -271,16 +271,16 @@ changed_shows old new s t k d wires x y shows at changed proper others registers
     (ap ends_of (sym (get_or_from_slice_get old.cables.items k d d at))) in
     record {
       firsts = subst (λ (l : List ℕ). AreFirsts 0 new.devices.items l) (sym changed.firsts)
-          (subst (λ (l : List Device). AreFirsts 0 l firsts) (sym changed.devices) shows.firsts);
+          (subst (λ (l : List Registers). AreFirsts 0 l firsts) (sym changed.devices) shows.firsts);
       count = ap (λ (l : List PortState). length l) changed.ports ∙ counted ∙ shows.count
           ∙ ap port_count (sym changed.devices);
       ports = subst (λ (l : List PortState). ArePorts new.devices.items new.firsts.items l t)
           (sym changed.ports)
           (subst (λ (l : List ℕ). ArePorts new.devices.items l two t) (sym changed.firsts)
-          (subst (λ (l : List Device). ArePorts l firsts two t) (sym changed.devices) ports));
+          (subst (λ (l : List Registers). ArePorts l firsts two t) (sym changed.devices) ports));
       cables = subst (λ (l : List Cable). All (ShowsCable new.devices.items t) l)
           (sym changed.cables)
-          (subst (λ (l : List Device). All (ShowsCable l t)
+          (subst (λ (l : List Registers). All (ShowsCable l t)
           (slice_set old.cables.items k (with_wires d wires))) (sym changed.devices) cables);
       links = ap (map ends_of) changed.cables ∙ same_ends ∙ shows.links ∙ sym others.links;
       lead = lead_same s.network.links t.network.links firsts new.firsts.items
@@ -290,8 +290,8 @@ changed_shows old new s t k d wires x y shows at changed proper others registers
           (registers ∙ shows.registers);
       endpoints = λ n is.
           let before : IsEndpoint s.network n =
-          subst (λ (l : List Device). option_map is_switch (slice_get l n) ≡ Some false)
+          subst (λ (l : List Registers). option_map is_switch (slice_get l n) ≡ Some false)
           registers is in
-          subst (λ (l : List Device). IsEndpointAt l n) (sym changed.devices)
+          subst (λ (l : List Registers). IsEndpointAt l n) (sym changed.devices)
           (shows.endpoints n before);
     }

@@ -3,7 +3,7 @@ use Rattle.std.proofs.Common.{◌≡◌, ℕ, Bool, zero, suc, ◌+◌, ◌<◌,
 use Rattle.std.proofs.lemmas.List.Elements.{All-cons, All-head, All-tail}
 use Rattle.std.proofs.lemmas.Option.{same_Some, slice_get_read}
 use Rattle.std.specs.List.{slice_get}
-use Rattle.maint_registers.specs.Devices.{Device, is_switch}
+use Rattle.maint_registers.specs.Devices.{Registers, is_switch}
 use Rattle.fabric_model.specs.Network.{Network, switch_at, with_device}
 use Rattle.fabric_model.proofs.Devices.{map-with_device}
 use Rattle.fabric_trace.proofs.KindLaws.{IsKindThere, kind_there}
@@ -12,23 +12,25 @@ use Rattle.fabric_ports.specs.Plans.{counts_of, HasPorts}
 use Rattle.fabric_ports.specs.Showing.{AreRegisters}
 
 -- a device has as many ports after a change
-abbrev pub KeepsPorts : (Device → Device) → Type 0
-KeepsPorts change = (device : Device) → (change device).ports ≡ device.ports
+abbrev pub KeepsPorts : (Registers → Registers) → Type 0
+KeepsPorts change = (device : Registers) → (change device).ports ≡ device.ports
 
-pub counts-change : (devices : List Device) (n : ℕ) (change : Device → Device) → KeepsPorts change
+pub counts-change : (devices : List Registers) (n : ℕ) (change : Registers → Registers)
+    → KeepsPorts change
     → counts_of (with_device devices n change) ≡ counts_of devices
 counts-change devices n change same =
-    map-with_device (λ (device : Device). device.ports) devices n change same
+    map-with_device (λ (device : Registers). device.ports) devices n change same
 
-pub count-change : (devices : List Device) (n : ℕ) (change : Device → Device) → KeepsPorts change
+pub count-change : (devices : List Registers) (n : ℕ) (change : Registers → Registers)
+    → KeepsPorts change
     → port_count (with_device devices n change) ≡ port_count devices
 count-change [] n change same = refl
 count-change (d ∷ devices) zero change same = ap (λ k. k + port_count devices) (same d)
 count-change (d ∷ devices) (suc n) change same =
     ap (λ k. d.ports + k) (count-change devices n change same)
 
-pub firsts-change : (place : ℕ) (devices : List Device) (firsts : List ℕ) (n : ℕ)
-    (change : Device → Device) → KeepsPorts change → AreFirsts place devices firsts
+pub firsts-change : (place : ℕ) (devices : List Registers) (firsts : List ℕ) (n : ℕ)
+    (change : Registers → Registers) → KeepsPorts change → AreFirsts place devices firsts
     → AreFirsts place (with_device devices n change) firsts
 firsts-change place [] firsts n change same are = are
 firsts-change place (d ∷ devices) [] zero change same are = absurd are
@@ -38,7 +40,7 @@ firsts-change place (d ∷ devices) (f ∷ firsts) zero change same are =
 firsts-change place (d ∷ devices) (f ∷ firsts) (suc n) change same are =
     (are.0, firsts-change (place + d.ports) devices firsts n change same are.1)
 
-pub have_ports-change : (devices : List Device) (n : ℕ) (change : Device → Device)
+pub have_ports-change : (devices : List Registers) (n : ℕ) (change : Registers → Registers)
     → KeepsPorts change → All HasPorts devices → All HasPorts (with_device devices n change)
 have_ports-change [] n change same have = have
 have_ports-change (d ∷ devices) zero change same have =
@@ -49,7 +51,8 @@ have_ports-change (d ∷ devices) (suc n) change same have =
     All-cons HasPorts d (with_device devices n change) (All-head HasPorts d devices have)
     (have_ports-change devices n change same (All-tail HasPorts d devices have))
 
-pub port-change : (devices : List Device) (n : ℕ) (change : Device → Device) → KeepsPorts change
+pub port-change : (devices : List Registers) (n : ℕ) (change : Registers → Registers)
+    → KeepsPorts change
     → (m port : ℕ) → HasPort (slice_get devices m) port
     → HasPort (slice_get (with_device devices n change) m) port
 port-change [] n change same m port has = has
@@ -60,7 +63,8 @@ port-change (d ∷ devices) (suc n) change same zero port has = has
 port-change (d ∷ devices) (suc n) change same (suc m) port has =
     port-change devices n change same m port has
 
-pub port-unchange : (devices : List Device) (n : ℕ) (change : Device → Device) → KeepsPorts change
+pub port-unchange : (devices : List Registers) (n : ℕ) (change : Registers → Registers)
+    → KeepsPorts change
     → (m port : ℕ) → HasPort (slice_get (with_device devices n change) m) port
     → HasPort (slice_get devices m) port
 port-unchange [] n change same m port has = has
@@ -72,7 +76,8 @@ port-unchange (d ∷ devices) (suc n) change same (suc m) port has =
 
 -- ---- a device that was read, changed and written back
 
-pub set-change : (devices : List Device) (n : ℕ) (read : Device) (change : Device → Device)
+pub set-change : (devices : List Registers) (n : ℕ) (read : Registers)
+    (change : Registers → Registers)
     → slice_get devices n ≡ Some read → set devices n (change read) ≡ with_device devices n change
 set-change [] n read change there = refl
 set-change (d ∷ devices) zero read change there =
@@ -80,8 +85,8 @@ set-change (d ∷ devices) zero read change there =
 set-change (d ∷ devices) (suc n) read change there =
     ap (λ more. d ∷ more) (set-change devices n read change there)
 
-pub changed_at : (devices : List Device) (node i : ℕ) (read written : Device)
-    (change : Device → Device) → i ≡ node → i < length devices → read ≡ get_or devices i read
+pub changed_at : (devices : List Registers) (node i : ℕ) (read written : Registers)
+    (change : Registers → Registers) → i ≡ node → i < length devices → read ≡ get_or devices i read
     → written ≡ change read → set devices i written ≡ with_device devices node change
 changed_at devices node i read written change same within value is =
     ap (set devices i) is
@@ -90,10 +95,10 @@ changed_at devices node i read written change same within value is =
     ∙ ap (λ n. with_device devices n change) same
 
 -- an endpoint or a switch of the network is one of its devices
-pub kind_of : (switch : Bool) (net : Network) (devices : List Device) (node : ℕ)
+pub kind_of : (switch : Bool) (net : Network) (devices : List Registers) (node : ℕ)
     → AreRegisters net devices → switch_at net node ≡ Some switch
     → IsKindThere switch devices node
 kind_of switch net devices node registers is =
     kind_there switch devices node
-    (subst (λ (x : List Device). option_map is_switch (slice_get x node) ≡ Some switch) registers
+    (subst (λ (x : List Registers). option_map is_switch (slice_get x node) ≡ Some switch) registers
     is)

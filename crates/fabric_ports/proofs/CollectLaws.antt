@@ -7,7 +7,7 @@ use Rattle.rio_packets.specs.LinkForm.{Passes}
 use Rattle.link_port.specs.Ports.{PortState, AreAlike}
 use Rattle.maint_packets.specs.declared.request.Request.{Request}
 use Rattle.maint_packets.specs.Requests.{request_of}
-use Rattle.maint_registers.specs.Devices.{Device, IsSameDevice, is_switch}
+use Rattle.maint_registers.specs.Devices.{Registers, IsSameDevice, is_switch}
 use Rattle.switch_core.specs.declared.endpoint.Collected.{Collected}
 use Rattle.switch_core.specs.declared.endpoint.Collected.TheVariants as Collects
 use Rattle.switch_core.specs.EndpointSteps.{collected, face_after, answered_on_0, endpoint_after}
@@ -103,12 +103,12 @@ collect_others net n (Collects.Answered request response) q apart =
 collect_others net n Collects.Empty q apart = refl
 collect_others net n Collects.Full q apart = refl
 
-pub answered_is : (device : Device) (request : Option Request)
+pub answered_is : (device : Registers) (request : Option Request)
     → device_after 0 request device ≡ answered_on_0 device request
 answered_is device None = refl
 answered_is device (Some request) = refl
 
-collect_registers : (net : Network) (n : ℕ) (device : Device) (told : Collected)
+collect_registers : (net : Network) (n : ℕ) (device : Registers) (told : Collected)
     → slice_get net.registers n ≡ Some device
     → (after_collect net n told).registers ≡ slice_set net.registers n (endpoint_after device told)
 unfolding after_collect
@@ -123,7 +123,8 @@ collect_registers net n device Collects.Full stands = sym (set_same net.register
 -- ---- afterwards
 
 -- what was collected, as the call was told
-pub record WasCollected (device next : Device) (x y : PortState) (told : Collected) : Type 0 where
+pub record WasCollected (device next : Registers) (x y : PortState)
+    (told : Collected) : Type 0 where
   pub by_lists : told ≡ collected device (face_of_port x)
   pub face : face_of_port y ≡ face_after (face_of_port x) told
   pub registers : next ≡ endpoint_after device told
@@ -133,7 +134,7 @@ pub record WasCollected (device next : Device) (x y : PortState) (told : Collect
 
 pub did_collect : (names : List (List ℕ)) {K : Type 0} (written : K → Option (List ℕ))
     (faults : K → ℕ) (b b2 : Outbox K) (s : Seen) (old new : Fabric) (n : ℕ)
-    (device next : Device) (x y : PortState) (told : Collected) (happens : Happened)
+    (device next : Registers) (x y : PortState) (told : Collected) (happens : Happened)
     → ShowsFabric old s → s.unfaithful ≡ None → IsEndpointAt old.devices.items n
     → slice_get old.devices.items n ≡ Some device → port_seen s (port_of n) ≡ x
     → WasCollected device next x y told → HasBoth old new n next (port_of n) y
@@ -148,7 +149,7 @@ did_collect names written faults b b2 s old new n device next x y told happens s
     let p = port_of n in
     let later = after_collect net n told in
     let t : Seen = record s { network = later } in
-    let known = ap (λ (l : List Device). slice_get l n) shows.registers ∙ stands in
+    let known = ap (λ (l : List Registers). slice_get l n) shows.registers ∙ stands in
     let whole : told ≡ collected device (face_in net p) =
     was.by_lists ∙ ap (λ (z : PortState). collected device (face_of_port z)) (sym is) in
     let own : face_of_port y ≡ face_in later p = was.face
@@ -168,7 +169,8 @@ did_collect names written faults b b2 s old new n device next x y told happens s
       prints = prints;
       is = (
         record {
-          endpoint = ap (λ (l : List Device). option_map is_switch (slice_get l n)) shows.registers
+          endpoint = ap
+              (λ (l : List Registers). option_map is_switch (slice_get l n)) shows.registers
               ∙ ap (option_map is_switch) at.stands ∙ ap Some at.kind;
           device = device;
           stands = known;

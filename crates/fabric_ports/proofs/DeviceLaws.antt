@@ -1,22 +1,22 @@
 -- Devices that were written to: they stay of their kinds, with their ports.
 use Rattle.std.proofs.Common.{◌≡◌, ℕ, zero, suc, ◌+◌, ◌<◌, true, false, List, [], ◌∷◌, Some, option_map, slice_get, slice_set, refl, sym, ap, ◌∙◌, subst, arith}
-use Rattle.maint_registers.specs.Devices.{Device, IsSameDevice, is_switch}
+use Rattle.maint_registers.specs.Devices.{Registers, IsSameDevice, is_switch}
 use Rattle.maint_registers.specs.declared.registers.Kind.{Kind}
 use Rattle.switch_core.specs.Faces.{AllAlike}
 use Rattle.fabric_ports.specs.Places.{AreFirsts, port_count, HasPort, IsEndpointAt, IsSwitchAt}
 
-abbrev pub AreSameDevices : List Device → List Device → Type 0
+abbrev pub AreSameDevices : List Registers → List Registers → Type 0
 AreSameDevices old new = AllAlike IsSameDevice old new
 
-pub same_device : (device : Device) → IsSameDevice device device
+pub same_device : (device : Registers) → IsSameDevice device device
 same_device device = record { kind = refl; ports = refl; linked = refl; large_id = refl }
 
-pub same_devices : (devices : List Device) → AreSameDevices devices devices
+pub same_devices : (devices : List Registers) → AreSameDevices devices devices
 same_devices [] = tt
 same_devices (device ∷ devices) = (same_device device, same_devices devices)
 
 -- one device was written to
-pub one_written : (devices : List Device) (n : ℕ) (device next : Device)
+pub one_written : (devices : List Registers) (n : ℕ) (device next : Registers)
     → slice_get devices n ≡ Some device → IsSameDevice device next
     → AreSameDevices devices (slice_set devices n next)
 one_written [] n device next stands same = tt
@@ -26,10 +26,10 @@ one_written (d ∷ devices) zero device next stands same =
 one_written (d ∷ devices) (suc n) device next stands same =
     (same_device d, one_written devices n device next stands same)
 
-kind_is : (d e : Device) → IsSameDevice d e → is_switch e ≡ is_switch d
+kind_is : (d e : Registers) → IsSameDevice d e → is_switch e ≡ is_switch d
 kind_is d e same = ap (λ (k : Kind). is_switch (record d { kind = k })) same.kind
 
-pub kinds_stay : (old new : List Device) (n : ℕ) → AreSameDevices old new
+pub kinds_stay : (old new : List Registers) (n : ℕ) → AreSameDevices old new
     → option_map is_switch (slice_get new n) ≡ option_map is_switch (slice_get old n)
 kinds_stay [] [] n same = refl
 kinds_stay (d ∷ old) (e ∷ new) zero same = ap Some (kind_is d e same.0)
@@ -37,7 +37,7 @@ kinds_stay (d ∷ old) (e ∷ new) (suc n) same = kinds_stay old new n same.1
 kinds_stay [] (e ∷ new) n same = absurd same
 kinds_stay (d ∷ old) [] n same = absurd same
 
-pub firsts_stay : (base : ℕ) (old new : List Device) (firsts : List ℕ) → AreSameDevices old new
+pub firsts_stay : (base : ℕ) (old new : List Registers) (firsts : List ℕ) → AreSameDevices old new
     → AreFirsts base old firsts → AreFirsts base new firsts
 firsts_stay base [] [] firsts same are = are
 firsts_stay base (d ∷ old) (e ∷ new) [] same are = absurd are
@@ -49,7 +49,7 @@ firsts_stay base (d ∷ old) (e ∷ new) (first ∷ firsts) same are = (
 firsts_stay base [] (e ∷ new) firsts same are = absurd same
 firsts_stay base (d ∷ old) [] firsts same are = absurd same
 
-pub count_stays : (old new : List Device) → AreSameDevices old new
+pub count_stays : (old new : List Registers) → AreSameDevices old new
     → port_count new ≡ port_count old
 count_stays [] [] same = refl
 count_stays (d ∷ old) (e ∷ new) same =
@@ -59,7 +59,7 @@ count_stays (d ∷ old) (e ∷ new) same =
 count_stays [] (e ∷ new) same = absurd same
 count_stays (d ∷ old) [] same = absurd same
 
-pub has_port_still : (old new : List Device) (n port : ℕ) → AreSameDevices old new
+pub has_port_still : (old new : List Registers) (n port : ℕ) → AreSameDevices old new
     → HasPort (slice_get old n) port → HasPort (slice_get new n) port
 has_port_still [] [] n port same has = absurd has
 has_port_still (d ∷ old) (e ∷ new) zero port same has =
@@ -69,7 +69,7 @@ has_port_still (d ∷ old) (e ∷ new) (suc n) port same has =
 has_port_still [] (e ∷ new) n port same has = absurd same
 has_port_still (d ∷ old) [] n port same has = absurd same
 
-pub had_port : (old new : List Device) (n port : ℕ) → AreSameDevices old new
+pub had_port : (old new : List Registers) (n port : ℕ) → AreSameDevices old new
     → HasPort (slice_get new n) port → HasPort (slice_get old n) port
 had_port [] [] n port same has = absurd has
 had_port (d ∷ old) (e ∷ new) zero port same has = subst (λ k. port < k) same.0.ports has
@@ -78,7 +78,8 @@ had_port [] (e ∷ new) n port same has = absurd same
 had_port (d ∷ old) [] n port same has = absurd same
 
 -- an endpoint stays one
-pub endpoint_stays : (old new : List Device) (n : ℕ) → AreSameDevices old new → IsEndpointAt old n
+pub endpoint_stays : (old new : List Registers) (n : ℕ) → AreSameDevices old new
+    → IsEndpointAt old n
     → IsEndpointAt new n
 endpoint_stays [] [] n same at = let stands = at.stands in absurd cc
 endpoint_stays (d ∷ old) (e ∷ new) zero same at =
@@ -87,7 +88,7 @@ endpoint_stays (d ∷ old) (e ∷ new) zero same at =
       device = e;
       stands = refl;
       kind = kind_is d e same.0 ∙ ap is_switch own ∙ at.kind;
-      has_port = subst (λ k. 0 < k) (ap (λ (x : Device). x.ports) (sym own) ∙ sym same.0.ports)
+      has_port = subst (λ k. 0 < k) (ap (λ (x : Registers). x.ports) (sym own) ∙ sym same.0.ports)
           at.has_port;
     }
 endpoint_stays (d ∷ old) (e ∷ new) (suc n) same at =
@@ -107,14 +108,14 @@ endpoint_stays [] (e ∷ new) n same at = absurd same
 endpoint_stays (d ∷ old) [] n same at = absurd same
 
 -- the device that stands where an endpoint does is one
-pub kind_read : (devices : List Device) (n : ℕ) (device : Device) → IsEndpointAt devices n
+pub kind_read : (devices : List Registers) (n : ℕ) (device : Registers) → IsEndpointAt devices n
     → slice_get devices n ≡ Some device → is_switch device ≡ false
 kind_read devices n device at stands =
     let same : at.device ≡ device = (let known = at.stands in cc) in
     ap is_switch (sym same) ∙ at.kind
 
 -- the same of a switch
-pub switch_read : (devices : List Device) (n : ℕ) (device : Device) → IsSwitchAt devices n
+pub switch_read : (devices : List Registers) (n : ℕ) (device : Registers) → IsSwitchAt devices n
     → slice_get devices n ≡ Some device → is_switch device ≡ true
 switch_read devices n device at stands =
     let same : at.device ≡ device = (let known = at.stands in cc) in

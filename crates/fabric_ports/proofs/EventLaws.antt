@@ -6,7 +6,7 @@ use Rattle.rio_chars.specs.Written.{Writes}
 use Rattle.rio_chars.specs.declared.outbox.Outbox.{Outbox}
 use Rattle.rio_chars.proofs.WrittenLaws.{Writes-then}
 use Rattle.rio_packets.specs.LinkForm.{LinkForm}
-use Rattle.maint_registers.specs.Devices.{Device, is_switch}
+use Rattle.maint_registers.specs.Devices.{Registers, is_switch}
 use Rattle.maint_packets.specs.Requests.{request_body}
 use Rattle.maint_packets.specs.declared.request.Op.TheVariants as Ops
 use Rattle.fabric_script.specs.declared.given_packets.Contents.{Contents}
@@ -50,9 +50,10 @@ pub record IsEnd (fabric : Fabric) (node : ℕ) : Type 0 where
 pub switch_of : (fabric : Fabric) (s : Seen) (node : ℕ) → ShowsFabric fabric s
     → IsSwitch s.network node → IsSwitchAt fabric.devices.items node
 switch_of fabric s node shows is = by_device (slice_get fabric.devices.items node) refl
-    (ap (λ (l : List Device). option_map is_switch (slice_get l node)) (sym shows.registers) ∙ is)
+    (ap (λ (l : List Registers). option_map is_switch (slice_get l node)) (sym shows.registers)
+        ∙ is)
   where
-    by_device : (o : Option Device) → slice_get fabric.devices.items node ≡ o
+    by_device : (o : Option Registers) → slice_get fabric.devices.items node ≡ o
         → option_map is_switch o ≡ Some true → IsSwitchAt fabric.devices.items node
     by_device None stands kind = absurd cc
     by_device (Some device) stands kind =
@@ -66,7 +67,7 @@ end_of fabric s node shows is = record {
 }
 
 -- the IDs that are read of an endpoint are those that are known
-pub ids_are : (fabric : Fabric) (s : Seen) (node place : ℕ) (device : Device)
+pub ids_are : (fabric : Fabric) (s : Seen) (node place : ℕ) (device : Registers)
     → ShowsFabric fabric s → IsEndpointAt fabric.devices.items node → place ≡ node
     → device ≡ get_or fabric.devices.items place device → sender_id device ≡ id_of s.network node
 ids_are fabric s node place device shows at same value =
@@ -75,13 +76,15 @@ ids_are fabric s node place device shows at same value =
     slice_get-get_or fabric.devices.items node device within
     ∙ ap Some (ap (λ n. get_or fabric.devices.items n device) (sym same) ∙ sym value) in
     let known : slice_get s.network.registers node ≡ Some device =
-    ap (λ (devices : List Device). slice_get devices node) shows.registers ∙ read in
+    ap (λ (devices : List Registers). slice_get devices node) shows.registers ∙ read in
     fun_ext (λ (large : Bool).
-    sym (ap (λ (o : Option Device). unwrap_or (option_map (λ (d : Device). sender_id d large) o) 0)
+    sym (ap
+        (λ (o : Option Registers). unwrap_or
+            (option_map (λ (d : Registers). sender_id d large) o) 0)
     known))
 
 -- the packet that a line gives is that of its contents
-pub given_form : (given : GivenPacket) (contents : Contents) (device : Device)
+pub given_form : (given : GivenPacket) (contents : Contents) (device : Registers)
     (body packet : List ℕ) → given.contents ≡ contents
     → body ≡ body_in (given_line given.node given.prio given.large given.dest contents)
     (sender_id device)

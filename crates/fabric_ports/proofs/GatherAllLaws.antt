@@ -2,7 +2,7 @@
 use Rattle.std.proofs.Common.{◌≡◌, ◌+◌, ◌==◌, ◌||◌, ℕ, suc, Bool, true, false, List, [], ◌∷◌, ◌++◌, length, take, Option, None, MatchBool, sym, ap, ◌∙◌, subst, arith}
 use Rattle.rio_chars.specs.declared.outbox.Outbox.{Outbox}
 use Rattle.link_wires.specs.declared.edits.Edit.{Edit}
-use Rattle.maint_registers.specs.Devices.{Device, is_switch}
+use Rattle.maint_registers.specs.Devices.{Registers, is_switch}
 use Rattle.fabric_trace.specs.Fold.{seen}
 use Rattle.fabric_trace.specs.Known.{Seen}
 use Rattle.fabric_trace.specs.Lines.{TraceLine}
@@ -20,7 +20,7 @@ use Rattle.fabric_ports.proofs.RoundLaws.{nodes_more, IsNode}
 use Rattle.fabric_ports.proofs.CarryAllLaws.{links_carry_made}
 use Rattle.fabric_ports.proofs.CarriedLaws.{ends_left}
 
-others_append : (host : ℕ) (xs ys : List Device) (node last : ℕ) (s : Seen)
+others_append : (host : ℕ) (xs ys : List Registers) (node last : ℕ) (s : Seen)
     (lines : List TraceLine) → node + length xs ≡ last → s.unfaithful ≡ None
     → Both (CollectNodes host node xs) (CollectNodes host last ys) s lines
     → CollectNodes host node (xs ++ ys) s lines
@@ -43,14 +43,14 @@ others_append host (x ∷ xs) ys node last s lines at still both =
     lines own)) both
 
 -- what one node does, by whether it is an endpoint other than the host
-node_collects : (host : ℕ) (device : Device) (node : ℕ) (s : Seen) (lines : List TraceLine)
+node_collects : (host : ℕ) (device : Registers) (node : ℕ) (s : Seen) (lines : List TraceLine)
     → (is_switch device || (node == host)) ≡ false → Collects node s lines
     → CollectNodes host node (device ∷ []) s lines
 node_collects host device node s lines is own =
     subst (λ b. MatchBool b (Nothing s lines) (Both (Collects node) Nothing s lines)) (sym is)
     (both_nothing (Collects node) s lines own)
 
-node_rests : (host : ℕ) (device : Device) (node : ℕ) (s : Seen) (lines : List TraceLine)
+node_rests : (host : ℕ) (device : Registers) (node : ℕ) (s : Seen) (lines : List TraceLine)
     → (is_switch device || (node == host)) ≡ true → Nothing s lines
     → CollectNodes host node (device ∷ []) s lines
 node_rests host device node s lines is none =
@@ -58,7 +58,7 @@ node_rests host device node s lines is none =
 
 module _ {K : Type 0} (written : K → Option (List ℕ)) (faults : K → ℕ) (names : List (List ℕ)) where
   gathered_on : (a b c : Outbox K) (from : Seen) (lines : List TraceLine) (old mid new : Fabric)
-      (host k : ℕ) (kind : Bool) (devices : List Device) → Stands from lines old
+      (host k : ℕ) (kind : Bool) (devices : List Registers) → Stands from lines old
       → (node : IsNode devices k kind)
       → (first : Ran (CollectNodes host 0 (take k devices)) names written faults a b from lines
       mid)
@@ -70,7 +70,7 @@ module _ {K : Type 0} (written : K → Option (List ℕ)) (faults : K → ℕ) (
       ran_as written faults names
       (Both (CollectNodes host 0 (take k devices)) (CollectNodes host k (node.device ∷ [])))
       (CollectNodes host 0 (take (k + 1) devices)) a c from lines new
-      (λ block both. subst (λ (l : List Device). CollectNodes host 0 l (seen from lines) block)
+      (λ block both. subst (λ (l : List Registers). CollectNodes host 0 l (seen from lines) block)
       (sym node.more)
       (others_append host (take k devices) (node.device ∷ []) 0 k (seen from lines) block at
       stands.sent both))
@@ -78,7 +78,7 @@ module _ {K : Type 0} (written : K → Option (List ℕ)) (faults : K → ℕ) (
       (CollectNodes host k (node.device ∷ [])) a b c from lines mid new first one)
 
   pub gathered_more : (a b c : Outbox K) (from : Seen) (lines : List TraceLine)
-      (old mid new : Fabric) (host k : ℕ) (devices : List Device) → Stands from lines old
+      (old mid new : Fabric) (host k : ℕ) (devices : List Registers) → Stands from lines old
       → IsNode devices k false → (k == host) ≡ false
       → (first : Ran (CollectNodes host 0 (take k devices)) names written faults a b from lines
       mid)
@@ -94,7 +94,7 @@ module _ {K : Type 0} (written : K → Option (List ℕ)) (faults : K → ℕ) (
       is collects) own)
 
   pub gathered_none : (a b : Outbox K) (from : Seen) (lines : List TraceLine) (old mid : Fabric)
-      (host k : ℕ) (kind : Bool) (devices : List Device) → Stands from lines old
+      (host k : ℕ) (kind : Bool) (devices : List Registers) → Stands from lines old
       → IsNode devices k kind → (kind || (k == host)) ≡ true
       → Ran (CollectNodes host 0 (take k devices)) names written faults a b from lines mid
       → Ran (CollectNodes host 0 (take (k + 1) devices)) names written faults a b from lines mid
@@ -110,13 +110,13 @@ module _ {K : Type 0} (written : K → Option (List ℕ)) (faults : K → ℕ) (
 
   -- all endpoints but the host have collected
   pub gathered_all : (a b : Outbox K) (from : Seen) (lines : List TraceLine) (old new : Fabric)
-      (host : ℕ) (devices : List Device) → Stands from lines old → devices ≡ old.devices.items
+      (host : ℕ) (devices : List Registers) → Stands from lines old → devices ≡ old.devices.items
       → Ran (CollectNodes host 0 devices) names written faults a b from lines new
       → Ran (OthersCollect host) names written faults a b from lines new
   gathered_all a b from lines old new host devices stands same ran =
       ran_as written faults names (CollectNodes host 0 devices) (OthersCollect host) a b from lines
       new
-      (λ block own. subst (λ (l : List Device). CollectNodes host 0 l (seen from lines) block)
+      (λ block own. subst (λ (l : List Registers). CollectNodes host 0 l (seen from lines) block)
       (same ∙ sym stands.shows.registers) own) ran
 
   -- ---- a round

@@ -3,7 +3,7 @@ use Rattle.std.proofs.Common.{◌≡◌, ◌≢◌, ◌<◌, ◌≤◌, ◌+◌,
 use Rattle.rio_chars.specs.declared.outbox.Outbox.{Outbox}
 use Rattle.link_buffers.specs.Queues.{list_at}
 use Rattle.link_port.specs.Ports.{PortState}
-use Rattle.maint_registers.specs.Devices.{Device, is_switch}
+use Rattle.maint_registers.specs.Devices.{Registers, is_switch}
 use Rattle.switch_core.specs.Faces.{Face, head_of}
 use Rattle.switch_core.specs.Order.{greatest_first}
 use Rattle.switch_core.specs.EndpointSteps.{first_held, collected, collected_head}
@@ -131,7 +131,7 @@ unfolding greatest_first
 none_held queued = refl
 
 -- an endpoint that holds nothing collects nothing
-holds_none : (s : Seen) (node : ℕ) (device : Device) → holds_some node s ≡ false
+holds_none : (s : Seen) (node : ℕ) (device : Registers) → holds_some node s ≡ false
     → collected device (face_in s.network (port_of node)) ≡ Collects.Empty
 holds_none s node device none =
     let queued = (face_in s.network (port_of node)).queued in
@@ -188,9 +188,10 @@ pub endpoint_of : {from : Seen} {lines : List TraceLine} {fabric : Fabric} (n : 
     → IsEndpointAt fabric.devices.items n
 endpoint_of n stands kind =
     stands.shows.endpoints n
-    (ap (λ (l : List Device). option_map is_switch (slice_get l n)) stands.shows.registers ∙ kind)
+    (ap (λ (l : List Registers). option_map is_switch (slice_get l n)) stands.shows.registers
+        ∙ kind)
 
-pub endpoint_kind : (devices : List Device) (n : ℕ) → IsEndpointAt devices n
+pub endpoint_kind : (devices : List Registers) (n : ℕ) → IsEndpointAt devices n
     → option_map is_switch (slice_get devices n) ≡ Some false
 endpoint_kind devices n at = ap (option_map is_switch) at.stands ∙ ap Some at.kind
 
@@ -329,7 +330,7 @@ module _ {K : Type 0} (written : K → Option (List ℕ)) (faults : K → ℕ) (
   gather_rests a b from lines new node first at none =
       let s = seen from (lines ++ first.block) in
       let endpoint : IsEndpoint s.network node =
-      ap (λ (l : List Device). option_map is_switch (slice_get l node))
+      ap (λ (l : List Registers). option_map is_switch (slice_get l node))
       first.stands.shows.registers ∙ endpoint_kind new.devices.items node at in
       let found = collect_exists s node (ready_on first.stands.ready first.stands.made) endpoint in
       let is : IsCollect s.network node (Lacked NoPacket ∷ []) =

@@ -2,7 +2,7 @@
 use Rattle.std.proofs.Common.{◌≡◌, ℕ, ◌<◌, List, [], ◌∷◌, ◌++◌, Option, Some, None, option_map, slice_get, length, ◌≤◌, refl, sym, ap, ◌∙◌, subst, arith, append_assoc}
 use Rattle.std.proofs.lemmas.Option.{slice_get_within}
 use Rattle.rio_chars.specs.declared.outbox.Outbox.{Outbox}
-use Rattle.maint_registers.specs.Devices.{Device, is_switch}
+use Rattle.maint_registers.specs.Devices.{Registers, is_switch}
 use Rattle.switch_core.specs.declared.endpoint.Collected.{Collected}
 use Rattle.switch_core.specs.declared.endpoint.Collected.TheVariants as Collects
 use Rattle.switch_core.specs.EndpointSteps.{collected}
@@ -109,7 +109,7 @@ pub end_known : {from : Seen} {lines : List TraceLine} {fabric : Fabric} (n : �
     → Stands from lines fabric → IsEndpointAt fabric.devices.items n
     → IsEndpoint (seen from lines).network n
 end_known {from} {lines} {fabric} n stands at =
-    ap (λ (l : List Device). option_map is_switch (slice_get l n)) stands.shows.registers
+    ap (λ (l : List Registers). option_map is_switch (slice_get l n)) stands.shows.registers
     ∙ ap (option_map is_switch) at.stands ∙ ap Some at.kind
 
 pub end_stays : {from : Seen} {lines more : List TraceLine} {old new : Fabric} (n : ℕ)

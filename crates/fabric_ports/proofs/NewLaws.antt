@@ -9,7 +9,7 @@ use Rattle.link_model.specs.Places.{place_start}
 use Rattle.link_model.specs.Output as out
 use Rattle.link_model.specs.Input as in_half
 use Rattle.link_model.specs.Outstanding.{from_ack}
-use Rattle.maint_registers.specs.Devices.{Device, is_switch}
+use Rattle.maint_registers.specs.Devices.{Registers, is_switch}
 use Rattle.fabric_script.specs.declared.ports.PortRef.{PortRef}
 use Rattle.fabric_script.specs.declared.lines.Line.{Line}
 use Rattle.fabric_script.specs.declared.lines.Line.TheVariants.{Endpoint, Switch}
@@ -63,7 +63,7 @@ new_view net p empty = λ i. record {
 }
 
 -- an endpoint has a port
-endpoint_at : (devices : List Device) (n : ℕ) → All HasPorts devices
+endpoint_at : (devices : List Registers) (n : ℕ) → All HasPorts devices
     → option_map is_switch (slice_get devices n) ≡ Some false → IsEndpointAt devices n
 endpoint_at [] n have is = absurd (cc)
 endpoint_at (device ∷ devices) zero have is = record {
@@ -98,7 +98,7 @@ new_shows fabric plans net empty l ports lead = record {
       fabric.cable_at.items) l.links lead;
   registers = l.registers;
   endpoints = λ n is. endpoint_at fabric.devices.items n l.have_ports
-      (subst (λ (registers : List Device). option_map is_switch (slice_get registers n) ≡ Some
+      (subst (λ (registers : List Registers). option_map is_switch (slice_get registers n) ≡ Some
       false) l.registers is);
 }
 
@@ -240,9 +240,9 @@ names_count known names counts (line ∷ lines) same passes =
         )
     one_more _ = same
 
-pub devices_named : (names : List (List ℕ)) (lines : List Numbered) (devices : List Device)
+pub devices_named : (names : List (List ℕ)) (lines : List Numbered) (devices : List Registers)
     → ScriptPasses names lines → counts_of devices ≡ port_counts lines
     → length devices ≡ length names
 devices_named names lines devices passes counts =
-    sym (length-map devices (λ (device : Device). device.ports)) ∙ ap length counts
+    sym (length-map devices (λ (device : Registers). device.ports)) ∙ ap length counts
     ∙ names_count nothing names [] lines refl passes

@@ -4,7 +4,7 @@ use Rattle.std.proofs.lemmas.List.Elements.{All-weaker}
 use Rattle.std.proofs.lemmas.Option.{get_or_from_slice_get, slice_get_within, slice_get-get_or}
 use Rattle.std.specs.Vec.{with_item, with_items}
 use Rattle.link_port.specs.Ports.{PortState}
-use Rattle.maint_registers.specs.Devices.{Device, IsSameDevice, is_switch}
+use Rattle.maint_registers.specs.Devices.{Registers, IsSameDevice, is_switch}
 use Rattle.fabric_script.specs.declared.ports.PortRef.{PortRef}
 use Rattle.fabric_model.specs.Network.{IsEndpoint, same_port, port_of}
 use Rattle.fabric_trace.specs.Known.{Wire, Seen, port_seen, wire_state}
@@ -23,7 +23,7 @@ set_same (y ∷ xs) zero x is = let same : y ≡ x = cc in ap (λ z. z ∷ xs) (
 set_same (y ∷ xs) (suc n) x is = ap (λ zs. y ∷ zs) (set_same xs n x is)
 
 -- the device that was read at its place
-pub device_read : (devices : List Device) (n place : ℕ) (known device : Device)
+pub device_read : (devices : List Registers) (n place : ℕ) (known device : Registers)
     → slice_get devices n ≡ Some known → place ≡ n → device ≡ get_or devices place device
     → slice_get devices n ≡ Some device
 device_read devices n place known device stands same value =
@@ -71,16 +71,17 @@ served_shows old new s t shows served ports wires links registers =
       registers = registers;
       endpoints = λ n is.
           let kind : IsEndpoint s.network n =
-          ap (λ (l : List Device). option_map is_switch (slice_get l n)) shows.registers
+          ap (λ (l : List Registers). option_map is_switch (slice_get l n)) shows.registers
           ∙ sym (kinds_stay before after n served.devices)
-          ∙ ap (λ (l : List Device). option_map is_switch (slice_get l n)) (sym registers) ∙ is in
+          ∙ ap (λ (l : List Registers). option_map is_switch (slice_get l n)) (sym registers)
+          ∙ is in
           endpoint_stays before after n served.devices (shows.endpoints n kind);
     }
 
 -- ---- one port
 
 -- One port and the registers of one device have changed, and nothing else of the fabric.
-pub record HasBoth (old new : Fabric) (n : ℕ) (next : Device) (p : PortRef) (y : PortState)
+pub record HasBoth (old new : Fabric) (n : ℕ) (next : Registers) (p : PortRef) (y : PortState)
     : Type 0 where
   pub devices : new.devices.items ≡ slice_set old.devices.items n next
   pub firsts : new.firsts.items ≡ old.firsts.items
@@ -88,11 +89,11 @@ pub record HasBoth (old new : Fabric) (n : ℕ) (next : Device) (p : PortRef) (y
   pub cables : new.cables.items ≡ old.cables.items
   pub cable_at : new.cable_at.items ≡ old.cable_at.items
 
-pub endpoint_port : (devices : List Device) (n : ℕ) → IsEndpointAt devices n
+pub endpoint_port : (devices : List Registers) (n : ℕ) → IsEndpointAt devices n
     → IsPortOf devices (port_of n)
 endpoint_port devices n at = rw at.stands at.has_port
 
-pub port_shows : (old new : Fabric) (s t : Seen) (n : ℕ) (device next : Device) (y : PortState)
+pub port_shows : (old new : Fabric) (s t : Seen) (n : ℕ) (device next : Registers) (y : PortState)
     → ShowsFabric old s → IsEndpointAt old.devices.items n
     → slice_get old.devices.items n ≡ Some device → IsSameDevice device next
     → HasBoth old new n next (port_of n) y → port_seen t (port_of n) ≡ y
@@ -113,7 +114,7 @@ port_shows old new s t n device next y shows at stands same has becomes others w
       cable_at = has.cable_at;
     })
     (rw has.ports ports) wires links
-    (registers ∙ ap (λ (l : List Device). slice_set l n next) shows.registers ∙ sym has.devices)
+    (registers ∙ ap (λ (l : List Registers). slice_set l n next) shows.registers ∙ sym has.devices)
 
 -- the port that was read at the place of an endpoint is the one that is known
 pub port_read : (fabric : Fabric) (s : Seen) (n place : ℕ) (x : PortState) → ShowsFabric fabric s
@@ -127,7 +128,7 @@ port_read fabric s n place x shows at is value =
     ∙ ap (λ i. get_or fabric.ports.items i x) (sym is) ∙ sym value
 
 -- the fabric with this port at a place, and this device at another
-abbrev pub with_both : Fabric → ℕ → Device → ℕ → PortState → Fabric
+abbrev pub with_both : Fabric → ℕ → Registers → ℕ → PortState → Fabric
 with_both fabric n device place port = record {
   devices = with_item fabric.devices n device;
   firsts = fabric.firsts;
@@ -136,7 +137,7 @@ with_both fabric n device place port = record {
   cable_at = fabric.cable_at;
 }
 
-pub has_both : (fabric : Fabric) (p : PortRef) (node n place : ℕ) (next : Device) (y : PortState)
+pub has_both : (fabric : Fabric) (p : PortRef) (node n place : ℕ) (next : Registers) (y : PortState)
     → place ≡ place_of fabric.firsts.items p → node ≡ n
     → HasBoth fabric (with_both fabric node next place y) n next p y
 has_both fabric p node n place next y is same = record {
@@ -157,7 +158,7 @@ with_port fabric place port = record {
   cable_at = fabric.cable_at;
 }
 
-pub has_port : (fabric : Fabric) (p : PortRef) (n place : ℕ) (device : Device) (y : PortState)
+pub has_port : (fabric : Fabric) (p : PortRef) (n place : ℕ) (device : Registers) (y : PortState)
     → place ≡ place_of fabric.firsts.items p → slice_get fabric.devices.items n ≡ Some device
     → HasBoth fabric (with_port fabric place y) n device p y
 has_port fabric p n place device y is stands = record {
@@ -169,7 +170,7 @@ has_port fabric p n place device y is stands = record {
 }
 
 -- the fabric with these ports, and this device at a place
-abbrev pub with_ports : Fabric → ℕ → Device → List PortState → Fabric
+abbrev pub with_ports : Fabric → ℕ → Registers → List PortState → Fabric
 with_ports fabric n device ports = record {
   devices = with_item fabric.devices n device;
   firsts = fabric.firsts;

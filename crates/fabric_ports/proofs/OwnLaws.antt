@@ -3,7 +3,7 @@ use Rattle.std.proofs.Common.{◌≡◌, ◌↔◌, ℕ, ◌<◌, Bool, List, []
 use Rattle.std.specs.Vec.{with_item}
 use Rattle.std.proofs.lemmas.Option.{same_Some}
 use Rattle.maint_registers.specs.Access.{written_at}
-use Rattle.maint_registers.specs.Devices.{Device, IsSameDevice}
+use Rattle.maint_registers.specs.Devices.{Registers, IsSameDevice}
 use Rattle.maint_registers.specs.Within.{IsWithin}
 use Rattle.maint_registers.proofs.WithinLaws.{written_within}
 use Rattle.fabric_script.specs.declared.ports.PortRef.{PortRef}
@@ -30,32 +30,34 @@ endpoint_at {fabric} {node} has = has.stands.shows.endpoints node has.endpoint
 
 -- the device that was read is the one that is known
 pub own_is : {from : Seen} {lines : List TraceLine} {fabric : Fabric} (node place : ℕ)
-    (device read : Device) → Stands from lines fabric
+    (device read : Registers) → Stands from lines fabric
     → slice_get (seen from lines).network.registers node ≡ Some device → place ≡ node
     → read ≡ get_or fabric.devices.items place read → read ≡ device
 own_is {from} {lines} {fabric} node place device read stands known same value =
-    let there = ap (λ (l : List Device). slice_get l node) (sym stands.shows.registers) ∙ known in
+    let there = ap (λ (l : List Registers). slice_get l node) (sym stands.shows.registers)
+        ∙ known in
     same_Some read device
     (sym (device_read fabric.devices.items node place device read there same value) ∙ there)
 
 -- ---- links stay laid
 
-port_has : (registers : List Device) (q : PortRef) → IsDevicePort registers q
+port_has : (registers : List Registers) (q : PortRef) → IsDevicePort registers q
     → HasPort (slice_get registers q.node) q.port
 port_has registers q port =
     subst (λ o. HasPort o q.port) (sym port.stands) port.below
 
-has_device : (registers : List Device) (q : PortRef) → HasPort (slice_get registers q.node) q.port
+has_device : (registers : List Registers) (q : PortRef)
+    → HasPort (slice_get registers q.node) q.port
     → IsDevicePort registers q
 has_device registers q has = by_device (slice_get registers q.node) refl has
   where
-    by_device : (o : Option Device) → slice_get registers q.node ≡ o → HasPort o q.port
+    by_device : (o : Option Registers) → slice_get registers q.node ≡ o → HasPort o q.port
         → IsDevicePort registers q
     by_device None stands has = absurd has
     by_device (Some device) stands has =
         record { device = device; stands = stands; below = has }
 
-laid_same : (old new : List Device) (links : List (PortRef × PortRef)) (host : ℕ)
+laid_same : (old new : List Registers) (links : List (PortRef × PortRef)) (host : ℕ)
     → AreSameDevices old new → IsLaid old links host → IsLaid new links host
 laid_same old new links host same laid = record {
   ports = λ q p peer. has_device new q
@@ -67,7 +69,7 @@ laid_same old new links host same laid = record {
 -- ---- a register is written
 
 -- the fabric with this device at a place
-abbrev pub with_registers : Fabric → ℕ → Device → Fabric
+abbrev pub with_registers : Fabric → ℕ → Registers → Fabric
 with_registers fabric place device = record {
   devices = with_item fabric.devices place device;
   firsts = fabric.firsts;
@@ -76,17 +78,17 @@ with_registers fabric place device = record {
   cable_at = fabric.cable_at;
 }
 
-stays_within : (device : Device) (offset value : ℕ) → IsWithin device → value < 0x100000000
+stays_within : (device : Registers) (offset value : ℕ) → IsWithin device → value < 0x100000000
     → IsWithin (device_with device offset value)
 stays_within device offset value within range = by_write (written_at device offset value) refl
   where
-    by_write : (o : Option Device) → written_at device offset value ≡ o
+    by_write : (o : Option Registers) → written_at device offset value ≡ o
         → IsWithin (unwrap_or o device)
     by_write None is = within
     by_write (Some next) is = written_within device next offset value within range is
 
 module _ (from : Seen) (lines : List TraceLine) (fabric : Fabric) (node place : ℕ)
-    (device next : Device) (offset value : ℕ) (stands : Stands from lines fabric)
+    (device next : Registers) (offset value : ℕ) (stands : Stands from lines fabric)
     (known : slice_get (seen from lines).network.registers node ≡ Some device)
     (here : place ≡ node) (range : value < 0x100000000)
     (becomes : next ≡ device_with device offset value) (same : IsSameDevice device next) where
@@ -97,15 +99,15 @@ module _ (from : Seen) (lines : List TraceLine) (fabric : Fabric) (node place : 
   t = seen_with node device offset value s
 
   at : slice_get fabric.devices.items node ≡ Some device
-  at = ap (λ (l : List Device). slice_get l node) (sym stands.shows.registers) ∙ known
+  at = ap (λ (l : List Registers). slice_get l node) (sym stands.shows.registers) ∙ known
 
   -- the registers that are known are those of the fabric
   registers : t.network.registers ≡ slice_set fabric.devices.items place next
   registers =
       sym (set-change s.network.registers node device
       (λ other. device_with device offset value) known)
-      ∙ ap (λ (d : Device). slice_set s.network.registers node d) (sym becomes)
-      ∙ ap (λ (l : List Device). slice_set l node next) stands.shows.registers
+      ∙ ap (λ (d : Registers). slice_set s.network.registers node d) (sym becomes)
+      ∙ ap (λ (l : List Registers). slice_set l node next) stands.shows.registers
       ∙ ap (λ n. slice_set fabric.devices.items n next) (sym here)
 
   devices : AreSameDevices fabric.devices.items (slice_set fabric.devices.items place next)

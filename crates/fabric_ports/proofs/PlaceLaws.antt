@@ -4,15 +4,16 @@ use Rattle.std.proofs.lemmas.List.{get_or_default}
 use Rattle.fabric_script.specs.declared.ports.PortRef.{PortRef}
 use Rattle.fabric_model.specs.Network.{same_port}
 use Rattle.fabric_model.proofs.Peers.{same_port-refl}
-use Rattle.maint_registers.specs.Devices.{Device}
+use Rattle.maint_registers.specs.Devices.{Registers}
 use Rattle.fabric_ports.specs.Places.{AreFirsts, port_count, HasPort, IsPortOf, place_of}
 
 -- the ports of a device stand between those before it and the end
-pub record IsAmong (base : ℕ) (devices : List Device) (firsts : List ℕ) (n port : ℕ) : Type 0 where
+pub record IsAmong (base : ℕ) (devices : List Registers) (firsts : List ℕ)
+    (n port : ℕ) : Type 0 where
   pub from : base ≤ slice_index_or firsts n 0 + port
   pub below : slice_index_or firsts n 0 + port < base + port_count devices
 
-pub among : (base : ℕ) (devices : List Device) (firsts : List ℕ) (n port : ℕ)
+pub among : (base : ℕ) (devices : List Registers) (firsts : List ℕ) (n port : ℕ)
     → AreFirsts base devices firsts
     → HasPort (slice_get devices n) port → IsAmong base devices firsts n port
 among base [] [] n port are has = absurd has
@@ -28,7 +29,7 @@ among base (device ∷ devices) (first ∷ firsts) (suc n) port are has =
     record { from = omega (arith, from); below = omega (arith, below) }
 
 -- ports of two devices have two places
-pub nodes_apart : (base : ℕ) (devices : List Device) (firsts : List ℕ) (m n j k : ℕ)
+pub nodes_apart : (base : ℕ) (devices : List Registers) (firsts : List ℕ) (m n j k : ℕ)
     → AreFirsts base devices firsts
     → HasPort (slice_get devices m) j → HasPort (slice_get devices n) k → m < n
     → slice_index_or firsts m 0 + j < slice_index_or firsts n 0 + k
@@ -45,13 +46,13 @@ nodes_apart base (device ∷ devices) (place ∷ firsts) (suc m) (suc n) j k are
     nodes_apart (base + device.ports) devices firsts m n j k are.1 first second
     (omega (arith, less))
 
-pub place_within : (devices : List Device) (firsts : List ℕ) (p : PortRef)
+pub place_within : (devices : List Registers) (firsts : List ℕ) (p : PortRef)
     → AreFirsts 0 devices firsts → IsPortOf devices p
     → place_of firsts p < port_count devices
 place_within devices firsts p are has = let below =
     (among 0 devices firsts p.node p.port are has).below in omega (arith, below)
 
-pub same_place : (devices : List Device) (firsts : List ℕ) (p q : PortRef)
+pub same_place : (devices : List Registers) (firsts : List ℕ) (p q : PortRef)
     → AreFirsts 0 devices firsts → IsPortOf devices p
     → IsPortOf devices q → place_of firsts p ≡ place_of firsts q → p ≡ q
 same_place devices firsts p q are first second same =
@@ -66,7 +67,7 @@ same_place devices firsts p q are first second same =
     by_order : (p.node < q.node → ⊥) → (q.node < p.node → ⊥) → p.node ≡ q.node
     by_order not_less not_more = omega (arith, not_less, not_more)
 
-pub places_apart : (devices : List Device) (firsts : List ℕ) (p q : PortRef)
+pub places_apart : (devices : List Registers) (firsts : List ℕ) (p q : PortRef)
     → AreFirsts 0 devices firsts → IsPortOf devices p
     → IsPortOf devices q → same_port p q ≡ false → place_of firsts p ≢ place_of firsts q
 places_apart devices firsts p q are first second apart = λ same.
@@ -74,7 +75,7 @@ places_apart devices firsts p q are first second apart = λ same.
     absurd (cc (subst (λ x. same_port x q ≡ false) one apart, same_port-refl q))
 
 -- a device that has a port has a first one
-pub first_within : (base : ℕ) (devices : List Device) (firsts : List ℕ) (n port : ℕ)
+pub first_within : (base : ℕ) (devices : List Registers) (firsts : List ℕ) (n port : ℕ)
     → AreFirsts base devices firsts
     → HasPort (slice_get devices n) port → n < length firsts
 first_within base [] [] n port are has = absurd has
@@ -86,7 +87,7 @@ first_within base (device ∷ devices) (first ∷ firsts) (suc n) port are has =
     omega (arith, later)
 
 -- where a port stands, by the place that was read of its device's first one
-pub place_read : (devices : List Device) (firsts : List ℕ) (p : PortRef) (node first port : ℕ)
+pub place_read : (devices : List Registers) (firsts : List ℕ) (p : PortRef) (node first port : ℕ)
     → AreFirsts 0 devices firsts → IsPortOf devices p
     → node ≡ p.node → first ≡ get_or firsts node first → port ≡ p.port
     → first + port ≡ place_of firsts p

@@ -5,7 +5,7 @@ use Rattle.std.proofs.lemmas.List.{map-append, length-replicate}
 use Rattle.std.proofs.lemmas.List.Elements.{All-nil, All-push, All-append, All-replicate, All-weaker}
 use Rattle.std.proofs.Math.Seq.{get_or-append_seam}
 use Rattle.link_machine.specs.States.{empty_wires}
-use Rattle.maint_registers.specs.Devices.{Device, with_link}
+use Rattle.maint_registers.specs.Devices.{Registers, with_link}
 use Rattle.fabric_script.specs.declared.ports.PortRef.{PortRef}
 use Rattle.fabric_script.specs.declared.lines.Line.TheVariants.{Link}
 use Rattle.fabric_model.specs.Network.{Network, with_device}
@@ -24,7 +24,7 @@ use Rattle.fabric_ports.proofs.Rows.{get-append, get-behind, placed, count-appen
 -- ---- the lists of a plan
 
 -- what a plan is for, by its lists
-pub record Lists (devices : List Device) (firsts : List ℕ) (ports : List PortPlan)
+pub record Lists (devices : List Registers) (firsts : List ℕ) (ports : List PortPlan)
     (cables : List Cable) (net : Network) : Type 0 where
   pub rows : AreFirsts 0 devices firsts
   pub have_ports : All HasPorts devices
@@ -63,7 +63,7 @@ plan_of plan net l = record {
   registers = l.registers;
 }
 
-pub lists_same : (devices devices2 : List Device) (firsts firsts2 : List ℕ)
+pub lists_same : (devices devices2 : List Registers) (firsts firsts2 : List ℕ)
     (ports ports2 : List PortPlan)
     (cables cables2 : List Cable) (net : Network) → devices2 ≡ devices → firsts2 ≡ firsts
     → ports2 ≡ ports → cables2 ≡ cables → Lists devices firsts ports cables net
@@ -93,8 +93,8 @@ plan_bare plan d f b c =
 
 -- ---- a device
 
-device_here : (devices : List Device) (firsts : List ℕ) (ports : List PortPlan)
-    (cables : List Cable) (net : Network) (device : Device)
+device_here : (devices : List Registers) (firsts : List ℕ) (ports : List PortPlan)
+    (cables : List Cable) (net : Network) (device : Registers)
     → Lists devices firsts ports cables net → (p : PortRef) → IsPortOf (devices ++ device ∷ []) p
     → slice_get (ports ++ replicate device.ports plain_port)
     (place_of (firsts ++ length ports ∷ []) p) ≡ Some (port_plan net p)
@@ -124,8 +124,8 @@ device_here devices firsts ports cables net device l p is =
           omega arith)))
     ]
 
-device_lists : (devices : List Device) (firsts : List ℕ) (ports : List PortPlan)
-    (cables : List Cable) (net : Network) (device : Device) → HasPorts device
+device_lists : (devices : List Registers) (firsts : List ℕ) (ports : List PortPlan)
+    (cables : List Cable) (net : Network) (device : Registers) → HasPorts device
     → Lists devices firsts ports cables net
     → Lists (devices ++ device ∷ []) (firsts ++ length ports ∷ [])
     (ports ++ replicate device.ports plain_port) cables (with_node net device)
@@ -153,7 +153,7 @@ device_lists devices firsts ports cables net device has l =
       registers = ap (λ x. x ++ device ∷ []) l.registers;
     }
 
-pub plan-device : (old new : Plan) (net : Network) (device : Device) → HasPorts device
+pub plan-device : (old new : Plan) (net : Network) (device : Registers) → HasPorts device
     → new.devices.items ≡ old.devices.items ++ device ∷ []
     → new.firsts.items ≡ old.firsts.items ++ length old.ports.items ∷ []
     → new.ports.items ≡ old.ports.items ++ replicate device.ports plain_port
@@ -168,17 +168,18 @@ plan-device old new net device has d f b c is =
     (device_lists old.devices.items old.firsts.items old.ports.items old.cables.items net device
     has (lists_of old net is)))
 
-pub counts-device : (devices new : List Device) (device : Device) (ports : ℕ)
+pub counts-device : (devices new : List Registers) (device : Registers) (ports : ℕ)
     → new ≡ devices ++ device ∷ [] → device.ports ≡ ports
     → counts_of new ≡ counts_of devices ++ ports ∷ []
 counts-device devices new device ports is same =
-    ap counts_of is ∙ map-append (λ (device : Device). device.ports) devices (device ∷ [])
+    ap counts_of is ∙ map-append (λ (device : Registers). device.ports) devices (device ∷ [])
     ∙ ap (λ n. counts_of devices ++ n ∷ []) same
 
 -- ---- a device that changes
 
-change_lists : (devices : List Device) (firsts : List ℕ) (ports : List PortPlan)
-    (cables : List Cable) (net : Network) (n : ℕ) (change : Device → Device) → KeepsPorts change
+change_lists : (devices : List Registers) (firsts : List ℕ) (ports : List PortPlan)
+    (cables : List Cable) (net : Network) (n : ℕ) (change : Registers → Registers)
+        → KeepsPorts change
     → Lists devices firsts ports cables net
     → Lists (with_device devices n change) firsts ports cables (with_change net n change)
 change_lists devices firsts ports cables net n change same l = record {
@@ -200,7 +201,7 @@ change_lists devices firsts ports cables net n change same l = record {
   registers = ap (λ x. with_device x n change) l.registers;
 }
 
-pub plan-change : (old new : Plan) (net : Network) (n : ℕ) (change : Device → Device)
+pub plan-change : (old new : Plan) (net : Network) (n : ℕ) (change : Registers → Registers)
     → KeepsPorts change → new.devices.items ≡ with_device old.devices.items n change
     → new.firsts.items ≡ old.firsts.items → new.ports.items ≡ old.ports.items
     → new.cables.items ≡ old.cables.items
@@ -216,13 +217,13 @@ plan-change old new net n change same d f b c is =
 -- ---- a link
 
 -- a device knows that this port has a link; it has as many ports
-abbrev pub linked_at : ℕ → Device → Device
+abbrev pub linked_at : ℕ → Registers → Registers
 linked_at port device = record device { linked = with_link device.linked port }
 
 keeps_ports : (port : ℕ) → KeepsPorts (linked_at port)
 keeps_ports port = λ device. refl
 
-cable_lists : (devices : List Device) (firsts : List ℕ) (ports : List PortPlan)
+cable_lists : (devices : List Registers) (firsts : List ℕ) (ports : List PortPlan)
     (cables : List Cable) (net : Network) (a b : PortRef) → IsPortOf devices a → IsPortOf devices b
     → Lists devices firsts ports cables net
     → Lists devices firsts ports (cables ++ record { a = a; b = b; link = empty_wires } ∷ [])
@@ -242,18 +243,18 @@ cable_lists devices firsts ports cables net a b is_a is_b l = record {
 }
 
 -- the port of a device that knows of a link is one as before
-pub told_port : (devices : List Device) (told p : PortRef) → IsPortOf devices p
+pub told_port : (devices : List Registers) (told p : PortRef) → IsPortOf devices p
     → IsPortOf (with_end_at devices told) p
 told_port devices told p is =
     port-change devices told.node (linked_at told.port) (keeps_ports told.port) p.node p.port is
 
-end_lists : (devices : List Device) (firsts : List ℕ) (ports : List PortPlan)
+end_lists : (devices : List Registers) (firsts : List ℕ) (ports : List PortPlan)
     (cables : List Cable) (net : Network) (p : PortRef) → Lists devices firsts ports cables net
     → Lists (with_end_at devices p) firsts ports cables (with_end net p)
 end_lists devices firsts ports cables net p l =
     change_lists devices firsts ports cables net p.node (linked_at p.port) (keeps_ports p.port) l
 
-link_lists : (devices : List Device) (firsts : List ℕ) (ports : List PortPlan)
+link_lists : (devices : List Registers) (firsts : List ℕ) (ports : List PortPlan)
     (cables : List Cable) (net : Network) (a b : PortRef) → IsPortOf devices a → IsPortOf devices b
     → Lists devices firsts ports cables net
     → Lists (with_end_at (with_end_at devices a) b) firsts ports
@@ -282,18 +283,18 @@ plan-link old new net a b is_a is_b d f bu c is =
     is_b (lists_of old net is)))
 
 -- so each device has as many ports as before
-pub counts-end : (devices : List Device) (p : PortRef)
+pub counts-end : (devices : List Registers) (p : PortRef)
     → counts_of (with_end_at devices p) ≡ counts_of devices
 counts-end devices p =
     counts-change devices p.node (linked_at p.port) (keeps_ports p.port)
 
 -- ---- ports by their counts
 
-pub port_by_count : (devices : List Device) (p : PortRef) → IsNodePort (counts_of devices) p
+pub port_by_count : (devices : List Registers) (p : PortRef) → IsNodePort (counts_of devices) p
     → IsPortOf devices p
 port_by_count devices p is = at devices p.node is
   where
-    at : (devices : List Device) (n : ℕ) → p.port < get_or (counts_of devices) n 0
+    at : (devices : List Registers) (n : ℕ) → p.port < get_or (counts_of devices) n 0
         → HasPort (slice_get devices n) p.port
     at [] n is = absurd (omega arith)
     at (d ∷ devices) zero is = is

@@ -5,7 +5,7 @@ use Rattle.std.proofs.lemmas.Bool.{true≢false, false_from_ne_true}
 use Rattle.std.proofs.lemmas.List.{length-set}
 use Rattle.std.proofs.lemmas.List.Elements.{All-set}
 use Rattle.link_sound.specs.Histories.{AreBuffers}
-use Rattle.maint_registers.specs.Devices.{Device}
+use Rattle.maint_registers.specs.Devices.{Registers}
 use Rattle.fabric_script.specs.declared.ports.PortRef.{PortRef}
 use Rattle.fabric_script.specs.declared.lines.Line.TheVariants.{Buffers, Credits}
 use Rattle.fabric_model.specs.Network.{Network, same_port}
@@ -30,7 +30,7 @@ record ChangesPort (net next : Network) (port : PortRef) (change : PortPlan → 
     plans : (p : PortRef) → port_plan next p
         ≡ (if same_port p port then change (port_plan net p) else port_plan net p)
 
-port_here : (devices : List Device) (firsts : List ℕ) (ports : List PortPlan)
+port_here : (devices : List Registers) (firsts : List ℕ) (ports : List PortPlan)
     (cables : List Cable) (net : Network) (port : PortRef) (change : PortPlan → PortPlan)
     → IsPortOf devices port → Lists devices firsts ports cables net → (p : PortRef)
     → IsPortOf devices p
@@ -59,7 +59,7 @@ port_here devices firsts ports cables net port change is l p is_p =
           ∙ l.here p is_p
     ] refl
 
-port_lists : (devices : List Device) (firsts : List ℕ) (ports : List PortPlan)
+port_lists : (devices : List Registers) (firsts : List ℕ) (ports : List PortPlan)
     (cables : List Cable) (net next : Network) (port : PortRef) (change : PortPlan → PortPlan)
     → IsPortOf devices port → ChangesPort net next port change
     → HasBuffers (change (port_plan net port))

@@ -3,7 +3,7 @@ use Rattle.fabric_trace.specs.Known.{Seen}
 use Rattle.std.proofs.Common.{◌≡◌, ℕ, zero, suc, ◌+◌, ◌<◌, Bool, true, false, List, [], ◌∷◌, ◌++◌, length, take, get_or, slice_get, Option, Some, None, MatchBool, option_map, refl, sym, ap, ◌∙◌, subst, arith}
 use Rattle.std.proofs.lemmas.Option.{slice_get-get_or}
 use Rattle.rio_chars.specs.declared.outbox.Outbox.{Outbox}
-use Rattle.maint_registers.specs.Devices.{Device, is_switch}
+use Rattle.maint_registers.specs.Devices.{Registers, is_switch}
 use Rattle.fabric_script.specs.declared.lines.Line.TheVariants.{Run}
 use Rattle.fabric_script.specs.declared.ports.PortRef.{PortRef}
 use Rattle.fabric_model.proofs.Peers.{ArePeers}
@@ -39,7 +39,7 @@ pub nodes_more : (test : Bool) (A B Q C D : Kind) (s : Seen) (lines : List Trace
 nodes_more true A B Q C D s lines switch other both = switch both
 nodes_more false A B Q C D s lines switch other both = other both
 
-pub nodes_append : (xs ys : List Device) (node last : ℕ) (s : Seen) (lines : List TraceLine)
+pub nodes_append : (xs ys : List Registers) (node last : ℕ) (s : Seen) (lines : List TraceLine)
     → node + length xs ≡ last → s.unfaithful ≡ None
     → Both (ServeNodes node xs) (ServeNodes last ys) s lines → ServeNodes node (xs ++ ys) s lines
 nodes_append [] ys node last s lines at still both =
@@ -59,43 +59,44 @@ nodes_append (x ∷ xs) ys node last s lines at still both =
     (λ own. nodes_append xs ys (suc node) last s lines next still own) both
 
 -- what one node does, by whether it is a switch
-pub node_serves : (device : Device) (node : ℕ) (s : Seen) (lines : List TraceLine)
+pub node_serves : (device : Registers) (node : ℕ) (s : Seen) (lines : List TraceLine)
     → is_switch device ≡ true → Serves node s lines → ServeNodes node (device ∷ []) s lines
 node_serves device node s lines is own =
     subst (λ b. MatchBool b (Both (Serves node) Nothing s lines) (Nothing s lines)) (sym is)
     (both_nothing (Serves node) s lines own)
 
-pub node_rests : (device : Device) (node : ℕ) (s : Seen) (lines : List TraceLine)
+pub node_rests : (device : Registers) (node : ℕ) (s : Seen) (lines : List TraceLine)
     → is_switch device ≡ false → Nothing s lines → ServeNodes node (device ∷ []) s lines
 node_rests device node s lines is none =
     subst (λ b. MatchBool b (Both (Serves node) Nothing s lines) (Nothing s lines)) (sym is) none
 
 -- the device that stands at this place of a list
-pub record IsNode (devices : List Device) (k : ℕ) (kind : Bool) : Type 0 where
-  pub device : Device
+pub record IsNode (devices : List Registers) (k : ℕ) (kind : Bool) : Type 0 where
+  pub device : Registers
   pub is : is_switch device ≡ kind
   pub more : take (k + 1) devices ≡ take k devices ++ device ∷ []
   pub many : length (take k devices) ≡ k
 
-some_kind : (o : Option Device) (kind : Bool) → option_map is_switch o ≡ Some kind
-    → (device : Device) × (o ≡ Some device) × (is_switch device ≡ kind)
+some_kind : (o : Option Registers) (kind : Bool) → option_map is_switch o ≡ Some kind
+    → (device : Registers) × (o ≡ Some device) × (is_switch device ≡ kind)
 some_kind None kind is = absurd cc
 some_kind (Some device) kind is = (device, refl, cc)
 
-node_of : (devices : List Device) (k : ℕ) (device : Device) → slice_get devices k ≡ Some device
+node_of : (devices : List Registers) (k : ℕ) (device : Registers)
+    → slice_get devices k ≡ Some device
     → (take (k + 1) devices ≡ take k devices ++ device ∷ []) × (length (take k devices) ≡ k)
 node_of [] k device is = absurd cc
 node_of (d ∷ devices) zero device is = let same : d ≡ device = cc in
-    (ap (λ (x : Device). x ∷ []) same, refl)
+    (ap (λ (x : Registers). x ∷ []) same, refl)
 node_of (d ∷ devices) (suc k) device is =
     let rest = node_of devices k device is in
     let next : suc k + 1 ≡ suc (k + 1) = omega arith in (
-      ap (λ n. take n (d ∷ devices)) next ∙ ap (λ (l : List Device). d ∷ l) rest.0,
+      ap (λ n. take n (d ∷ devices)) next ∙ ap (λ (l : List Registers). d ∷ l) rest.0,
       ap suc rest.1,
     )
 
 pub next_node : {from : Seen} {lines more : List TraceLine} {old new : Fabric} (k : ℕ)
-    (device : Device) (kind : Bool) → Stands from lines old → Stands from more new
+    (device : Registers) (kind : Bool) → Stands from lines old → Stands from more new
     → device ≡ get_or new.devices.items k device → k < length new.devices.items
     → is_switch device ≡ kind → IsNode old.devices.items k kind
 next_node {from} {lines} {more} {old} {new} k device kind before after at within is =
@@ -107,7 +108,7 @@ next_node {from} {lines} {more} {old} {new} k device kind before after at within
 
 module _ {K : Type 0} (written : K → Option (List ℕ)) (faults : K → ℕ) (names : List (List ℕ)) where
   served_on : (a b c : Outbox K) (from : Seen) (lines : List TraceLine) (old mid new : Fabric)
-      (k : ℕ) (kind : Bool) (devices : List Device) → Stands from lines old
+      (k : ℕ) (kind : Bool) (devices : List Registers) → Stands from lines old
       → (node : IsNode devices k kind)
       → (first : Ran (ServeNodes 0 (take k devices)) names written faults a b from lines mid)
       → Ran (ServeNodes k (node.device ∷ [])) names written faults b c from (lines ++ first.block)
@@ -118,7 +119,7 @@ module _ {K : Type 0} (written : K → Option (List ℕ)) (faults : K → ℕ) (
       ran_as written faults names
       (Both (ServeNodes 0 (take k devices)) (ServeNodes k (node.device ∷ [])))
       (ServeNodes 0 (take (k + 1) devices)) a c from lines new
-      (λ block both. subst (λ (l : List Device). ServeNodes 0 l (seen from lines) block)
+      (λ block both. subst (λ (l : List Registers). ServeNodes 0 l (seen from lines) block)
       (sym node.more)
       (nodes_append (take k devices) (node.device ∷ []) 0 k (seen from lines) block at
       stands.sent both))
@@ -126,7 +127,7 @@ module _ {K : Type 0} (written : K → Option (List ℕ)) (faults : K → ℕ) (
       (ServeNodes k (node.device ∷ [])) a b c from lines mid new first one)
 
   pub served_more : (a b c : Outbox K) (from : Seen) (lines : List TraceLine)
-      (old mid new : Fabric) (k : ℕ) (devices : List Device) → Stands from lines old
+      (old mid new : Fabric) (k : ℕ) (devices : List Registers) → Stands from lines old
       → IsNode devices k true
       → (first : Ran (ServeNodes 0 (take k devices)) names written faults a b from lines mid)
       → Ran (Serves k) names written faults b c from (lines ++ first.block) new
@@ -139,7 +140,7 @@ module _ {K : Type 0} (written : K → Option (List ℕ)) (faults : K → ℕ) (
       node.is serves) own)
 
   pub served_none : (a b : Outbox K) (from : Seen) (lines : List TraceLine) (old mid : Fabric)
-      (k : ℕ) (devices : List Device) → Stands from lines old → IsNode devices k false
+      (k : ℕ) (devices : List Registers) → Stands from lines old → IsNode devices k false
       → Ran (ServeNodes 0 (take k devices)) names written faults a b from lines mid
       → Ran (ServeNodes 0 (take (k + 1) devices)) names written faults a b from lines mid
   served_none a b from lines old mid k devices stands node first =
@@ -152,12 +153,12 @@ module _ {K : Type 0} (written : K → Option (List ℕ)) (faults : K → ℕ) (
 
   -- all switches are served
   pub served_all : (a b : Outbox K) (from : Seen) (lines : List TraceLine) (old new : Fabric)
-      (devices : List Device) → Stands from lines old → devices ≡ old.devices.items
+      (devices : List Registers) → Stands from lines old → devices ≡ old.devices.items
       → Ran (ServeNodes 0 devices) names written faults a b from lines new
       → Ran SwitchesServe names written faults a b from lines new
   served_all a b from lines old new devices stands same ran =
       ran_as written faults names (ServeNodes 0 devices) SwitchesServe a b from lines new
-      (λ block own. subst (λ (l : List Device). ServeNodes 0 l (seen from lines) block)
+      (λ block own. subst (λ (l : List Registers). ServeNodes 0 l (seen from lines) block)
       (same ∙ sym stands.shows.registers) own) ran
 
 -- ---- rounds, one after another

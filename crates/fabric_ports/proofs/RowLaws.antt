@@ -5,7 +5,7 @@ use Rattle.std.proofs.lemmas.Bool.{cases_lt, cases_eq}
 use Rattle.std.proofs.lemmas.List.{take-append-drop, get_or_default}
 use Rattle.std.proofs.lemmas.Option.{slice_get_within}
 use Rattle.link_port.specs.Ports.{PortState}
-use Rattle.maint_registers.specs.Devices.{Device}
+use Rattle.maint_registers.specs.Devices.{Registers}
 use Rattle.fabric_script.specs.declared.ports.PortRef.{PortRef}
 use Rattle.fabric_trace.specs.Known.{Seen, port_seen}
 use Rattle.fabric_ports.specs.Places.{AreFirsts, port_count, HasPort, IsPortOf, place_of}
@@ -15,7 +15,7 @@ use Rattle.fabric_ports.proofs.ShowLaws.{ArePorts}
 
 -- ---- rows
 
-first_from : (base : ℕ) (devices : List Device) (firsts : List ℕ) (n : ℕ)
+first_from : (base : ℕ) (devices : List Registers) (firsts : List ℕ) (n : ℕ)
     → AreFirsts base devices firsts → n < length devices → base ≤ slice_index_or firsts n 0
 first_from base [] [] n are within = absurd (omega (arith, within))
 first_from base [] (f ∷ firsts) n are within = absurd are
@@ -27,7 +27,7 @@ first_from base (d ∷ devices) (f ∷ firsts) (suc n) are within =
     omega (arith, rest)
 
 -- a device's ports stand before those of later devices
-rows_apart : (base : ℕ) (devices : List Device) (firsts : List ℕ) (m n : ℕ) (device : Device)
+rows_apart : (base : ℕ) (devices : List Registers) (firsts : List ℕ) (m n : ℕ) (device : Registers)
     → AreFirsts base devices firsts → slice_get devices m ≡ Some device → n < length devices
     → m < n → slice_index_or firsts m 0 + device.ports ≤ slice_index_or firsts n 0
 rows_apart base [] [] m n device are stands within less = absurd (omega (arith, within))
@@ -37,7 +37,7 @@ rows_apart base (d ∷ devices) (f ∷ firsts) m zero device are stands within l
     absurd (omega (arith, less))
 rows_apart base (d ∷ devices) (f ∷ firsts) zero (suc n) device are stands within less =
     let same : d ≡ device = cc in
-    let many = ap (λ (x : Device). x.ports) same in
+    let many = ap (λ (x : Registers). x.ports) same in
     let start = are.0 in
     let rest = first_from (base + d.ports) devices firsts n are.1 (omega (arith, within)) in
     omega (arith, many, start, rest)
@@ -46,14 +46,15 @@ rows_apart base (d ∷ devices) (f ∷ firsts) (suc m) (suc n) device are stands
     (omega (arith, less))
 
 -- a device's ports stand before the end
-pub row_within : (base : ℕ) (devices : List Device) (firsts : List ℕ) (n : ℕ) (device : Device)
+pub row_within : (base : ℕ) (devices : List Registers) (firsts : List ℕ) (n : ℕ)
+    (device : Registers)
     → AreFirsts base devices firsts → slice_get devices n ≡ Some device
     → slice_index_or firsts n 0 + device.ports ≤ base + port_count devices
 row_within base [] firsts n device are stands = absurd cc
 row_within base (d ∷ devices) [] n device are stands = absurd are
 row_within base (d ∷ devices) (f ∷ firsts) zero device are stands =
     let same : d ≡ device = cc in
-    let many = ap (λ (x : Device). x.ports) same in
+    let many = ap (λ (x : Registers). x.ports) same in
     let start = are.0 in
     omega (arith, many, start)
 row_within base (d ∷ devices) (f ∷ firsts) (suc n) device are stands =
@@ -144,7 +145,7 @@ own-length all first count within =
 -- ---- ports
 
 -- a port of another device stands before the row of this one, or behind it
-apart_from_row : (devices : List Device) (firsts : List ℕ) (node : ℕ) (device : Device)
+apart_from_row : (devices : List Registers) (firsts : List ℕ) (node : ℕ) (device : Registers)
     (q : PortRef)
     → AreFirsts 0 devices firsts → slice_get devices node ≡ Some device → IsPortOf devices q
     → q.node ≢ node → (place_of firsts q < slice_index_or firsts node 0)
@@ -159,7 +160,8 @@ apart_from_row devices firsts node device q are stands has apart =
           inr (omega (arith, row))
     ]
   where
-    before : (o : Option Device) → slice_get devices q.node ≡ o → HasPort o q.port → q.node < node
+    before : (o : Option Registers) → slice_get devices q.node ≡ o → HasPort o q.port
+        → q.node < node
         → place_of firsts q < slice_index_or firsts node 0
     before None is has less = absurd has
     before (Some d) is has less =
@@ -168,8 +170,8 @@ apart_from_row devices firsts node device q are stands has apart =
         omega (arith, row, has)
 
 -- the ports of one device have changed
-pub row_set : (devices : List Device) (firsts : List ℕ) (ports own : List PortState) (s t : Seen)
-    (node : ℕ) (device : Device)
+pub row_set : (devices : List Registers) (firsts : List ℕ) (ports own : List PortState) (s t : Seen)
+    (node : ℕ) (device : Registers)
     → AreFirsts 0 devices firsts → length ports ≡ port_count devices
     → ArePorts devices firsts ports s → slice_get devices node ≡ Some device
     → length own ≡ device.ports

@@ -6,7 +6,7 @@ use Rattle.std.proofs.lemmas.List.{get_or_append_left, get_or-replicate, length-
 use Rattle.std.proofs.lemmas.List.Elements.{All-head, All-tail}
 use Rattle.std.proofs.lemmas.Option.{same_Some, slice_get-get_or}
 use Rattle.fabric_script.specs.declared.ports.PortRef.{PortRef}
-use Rattle.maint_registers.specs.Devices.{Device}
+use Rattle.maint_registers.specs.Devices.{Registers}
 use Rattle.fabric_ports.specs.Places.{AreFirsts, port_count, HasPort, IsPortOf, place_of}
 use Rattle.fabric_ports.proofs.PlaceLaws.{place_within}
 
@@ -70,13 +70,13 @@ found_has P (y ∷ ys) (suc i) x all is = found_has P ys i x (All-tail P y ys al
 
 -- ---- places
 
-pub has_node : (devices : List Device) (n k : ℕ) → HasPort (slice_get devices n) k
+pub has_node : (devices : List Registers) (n k : ℕ) → HasPort (slice_get devices n) k
     → n < length devices
 has_node [] n k has = absurd has
 has_node (d ∷ devices) zero k has = omega arith
 has_node (d ∷ devices) (suc n) k has = let rest = has_node devices n k has in omega arith
 
-pub as_many_firsts : (place : ℕ) (devices : List Device) (firsts : List ℕ)
+pub as_many_firsts : (place : ℕ) (devices : List Registers) (firsts : List ℕ)
     → AreFirsts place devices firsts → length firsts ≡ length devices
 as_many_firsts place [] [] are = refl
 as_many_firsts place [] (f ∷ firsts) are = absurd are
@@ -85,12 +85,12 @@ as_many_firsts place (d ∷ devices) (f ∷ firsts) are = let rest =
     as_many_firsts (place + d.ports) devices firsts are.1 in omega arith
 
 -- The device of a port is there, and the place of its first port is known.
-pub record IsPlaced (devices : List Device) (firsts : List ℕ) (p : PortRef) : Type 0 where
+pub record IsPlaced (devices : List Registers) (firsts : List ℕ) (p : PortRef) : Type 0 where
   pub known : p.node < length firsts
   pub device : p.node < length devices
   pub within : place_of firsts p < port_count devices
 
-pub placed : (devices : List Device) (firsts : List ℕ) (p : PortRef) → AreFirsts 0 devices firsts
+pub placed : (devices : List Registers) (firsts : List ℕ) (p : PortRef) → AreFirsts 0 devices firsts
     → IsPortOf devices p → IsPlaced devices firsts p
 placed devices firsts p are is =
     let there = has_node devices p.node p.port is in
@@ -99,12 +99,12 @@ placed devices firsts p are is =
 
 -- ---- one more device
 
-pub count-append : (devices : List Device) (device : Device)
+pub count-append : (devices : List Registers) (device : Registers)
     → port_count (devices ++ device ∷ []) ≡ port_count devices + device.ports
 count-append [] device = omega arith
 count-append (d ∷ devices) device = let rest = count-append devices device in omega arith
 
-firsts-append_from : (place : ℕ) (devices : List Device) (firsts : List ℕ) (device : Device)
+firsts-append_from : (place : ℕ) (devices : List Registers) (firsts : List ℕ) (device : Registers)
     (first : ℕ) → AreFirsts place devices firsts → first ≡ place + port_count devices
     → AreFirsts place (devices ++ device ∷ []) (firsts ++ first ∷ [])
 firsts-append_from place [] [] device first are last = (omega arith, tt)
@@ -113,7 +113,7 @@ firsts-append_from place (d ∷ devices) [] device first are last = absurd are
 firsts-append_from place (d ∷ devices) (f ∷ firsts) device first are last =
     (are.0, firsts-append_from (place + d.ports) devices firsts device first are.1 (omega arith))
 
-pub firsts-append : (devices : List Device) (firsts : List ℕ) (device : Device)
+pub firsts-append : (devices : List Registers) (firsts : List ℕ) (device : Registers)
     → AreFirsts 0 devices firsts
     → AreFirsts 0 (devices ++ device ∷ []) (firsts ++ port_count devices ∷ [])
 firsts-append devices firsts device are =
@@ -126,14 +126,14 @@ place_stays firsts more p within =
     ap (λ n. n + p.port) (get_or_append_left firsts more 0 p.node within)
 
 -- a port stays one
-pub port_stays : (devices more : List Device) (p : PortRef) → IsPortOf devices p
+pub port_stays : (devices more : List Registers) (p : PortRef) → IsPortOf devices p
     → IsPortOf (devices ++ more) p
 port_stays devices more p is =
     subst (λ d. HasPort d p.port)
     (sym (get-append devices more p.node (has_node devices p.node p.port is))) is
 
 -- a port is one of the earlier devices or of the last
-pub old_or_new : (devices : List Device) (device : Device) (p : PortRef)
+pub old_or_new : (devices : List Registers) (device : Registers) (p : PortRef)
     → IsPortOf (devices ++ device ∷ []) p
     → IsPortOf devices p ⊎ ((p.node ≡ length devices) × (p.port < device.ports))
 old_or_new devices device p is = elim (cases_lt p.node (length devices)) [

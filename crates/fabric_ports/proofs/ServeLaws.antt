@@ -3,7 +3,7 @@ use Rattle.std.proofs.Common.{◌≡◌, ◌≢◌, ℕ, zero, suc, ◌+◌, ◌
 use Rattle.std.proofs.lemmas.List.{length-map}
 use Rattle.rio_chars.specs.declared.outbox.Outbox.{Outbox}
 use Rattle.link_port.specs.Ports.{PortState}
-use Rattle.maint_registers.specs.Devices.{Device}
+use Rattle.maint_registers.specs.Devices.{Registers}
 use Rattle.switch_core.specs.SwitchSteps.{step_of}
 use Rattle.switch_core.specs.declared.switch.Step as switch
 use Rattle.switch_core.specs.declared.switch.Step.TheVariants.{Moved, Dropped, Answered, Nothing}
@@ -49,7 +49,7 @@ held_from fabric node (suc n) =
     held_in (slice_get fabric.ports.items (place_of fabric.firsts.items (port node n)))
     + held_from fabric node n
 
-abbrev pub ports_in : Option Device → ℕ
+abbrev pub ports_in : Option Registers → ℕ
 ports_in None = 0
 ports_in (Some device) = device.ports
 
@@ -67,7 +67,7 @@ held_lanes lanes =
     let high = length-append (lanes 3) (lanes 2 ++ (lanes 1 ++ lanes 0)) in
     omega (arith, zeroth, first, second, third, low, mid, high)
 
-held_is : (fabric : Fabric) (s : Seen) (node n : ℕ) (device : Device) → ShowsFabric fabric s
+held_is : (fabric : Fabric) (s : Seen) (node n : ℕ) (device : Registers) → ShowsFabric fabric s
     → slice_get fabric.devices.items node ≡ Some device → n ≤ device.ports
     → held_from fabric node n ≡ packets_at s.network.received node n
 held_is fabric s node zero device shows stands within = refl
@@ -82,8 +82,8 @@ held_is fabric s node (suc n) device shows stands within =
 
 -- ---- how many ports a device has
 
-counted : (o : Option Device) (n : ℕ) → option_map count_ports o ≡ Some n
-    → (device : Device) × (o ≡ Some device) × (device.ports ≡ n)
+counted : (o : Option Registers) (n : ℕ) → option_map count_ports o ≡ Some n
+    → (device : Registers) × (o ≡ Some device) × (device.ports ≡ n)
 counted None n is = absurd cc
 counted (Some device) n is = (device, refl, cc)
 
@@ -113,16 +113,16 @@ held_fewer s old new node block good shows later move other =
     let same : device.ports ≤ device.ports = omega arith in
     let fewer = move_empties s node device.ports step good moved same in
     let here : slice_get old.devices.items node ≡ Some device =
-    ap (λ (l : List Device). slice_get l node) (sym shows.registers) ∙ moved.stands in
+    ap (λ (l : List Registers). slice_get l node) (sym shows.registers) ∙ moved.stands in
     let there = counted (slice_get new.devices.items node) device.ports
-    (ap (λ (l : List Device). option_map count_ports (slice_get l node)) (sym next.registers)
+    (ap (λ (l : List Registers). option_map count_ports (slice_get l node)) (sym next.registers)
     ∙ ports_stay s.network (ByDevice step) node ∙ ap (option_map count_ports) moved.stands) in
     let before : held_by old node ≡ packets_at s.network.received node device.ports =
-    ap (λ (o : Option Device). held_from old node (ports_in o)) here
+    ap (λ (o : Option Registers). held_from old node (ports_in o)) here
     ∙ held_is old s node device.ports device shows here same in
     let after_it : held_by new node
     ≡ packets_at (after s.network (ByDevice step)).received node device.ports =
-    ap (λ (o : Option Device). held_from new node (ports_in o)) there.1
+    ap (λ (o : Option Registers). held_from new node (ports_in o)) there.1
     ∙ held_is new (seen s (Stepped (ByDevice step) ∷ [])) node there.0.ports there.0 next there.1
     (omega arith)
     ∙ ap (λ n. packets_at (after s.network (ByDevice step)).received node n) there.2 in

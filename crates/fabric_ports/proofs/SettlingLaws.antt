@@ -5,7 +5,7 @@ use Rattle.std.proofs.Common.{◌≡◌, ℕ, zero, suc, ◌+◌, ◌<◌, true,
 use Rattle.std.proofs.lemmas.List.{length-map, take-append-drop, take_more, drop_more}
 use Rattle.std.proofs.lemmas.Option.{slice_get-map, slice_get-get_or}
 use Rattle.rio_chars.specs.declared.outbox.Outbox.{Outbox}
-use Rattle.maint_registers.specs.Devices.{Device, is_switch}
+use Rattle.maint_registers.specs.Devices.{Registers, is_switch}
 use Rattle.fabric_script.specs.declared.lines.Line.TheVariants.{Settle}
 use Rattle.fabric_script.specs.declared.ports.PortRef.{PortRef}
 use Rattle.fabric_model.specs.Network.{link_in}
@@ -49,8 +49,8 @@ pub devices_stay : {from : Seen} {lines more : List TraceLine} {old new : Fabric
     → Stands from lines old → Stands from more new
     → length new.devices.items ≡ length old.devices.items
 devices_stay {from} {lines} {more} {old} {new} before after =
-    let first = ap (λ (l : List Device). length l) before.shows.registers in
-    let last = ap (λ (l : List Device). length l) after.shows.registers in
+    let first = ap (λ (l : List Registers). length l) before.shows.registers in
+    let last = ap (λ (l : List Registers). length l) after.shows.registers in
     sym last ∙ (seen_board more from).count ∙ sym (seen_board lines from).count
     ∙ first
 
@@ -68,16 +68,16 @@ pub kinds_stay : {from : Seen} {lines more : List TraceLine} {old new : Fabric}
     → option_map is_switch (slice_get new.devices.items n)
     ≡ option_map is_switch (slice_get old.devices.items n)
 kinds_stay {from} {lines} {more} {old} {new} before after n =
-    ap (λ (l : List Device). option_map is_switch (slice_get l n)) (sym after.shows.registers)
+    ap (λ (l : List Registers). option_map is_switch (slice_get l n)) (sym after.shows.registers)
     ∙ (seen_board more from).kinds n ∙ sym ((seen_board lines from).kinds n)
-    ∙ ap (λ (l : List Device). option_map is_switch (slice_get l n)) before.shows.registers
+    ∙ ap (λ (l : List Registers). option_map is_switch (slice_get l n)) before.shows.registers
 
 pub switch_stays : {from : Seen} {lines more : List TraceLine} {old new : Fabric}
     → Stands from lines old → Stands from more new → (n : ℕ) → IsSwitchAt old.devices.items n
     → IsSwitchAt new.devices.items n
 switch_stays {from} {lines} {more} {old} {new} before after n is =
     switch_of new (seen from more) n after.shows
-    (ap (λ (l : List Device). option_map is_switch (slice_get l n)) after.shows.registers
+    (ap (λ (l : List Registers). option_map is_switch (slice_get l n)) after.shows.registers
     ∙ kinds_stay before after n ∙ ap (option_map is_switch) is.stands ∙ ap Some is.kind)
 
 -- ---- links, one after another

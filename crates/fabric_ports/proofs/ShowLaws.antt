@@ -4,7 +4,7 @@ use Rattle.link_port.specs.Ports.{PortState}
 use Rattle.fabric_script.specs.declared.ports.PortRef.{PortRef}
 use Rattle.fabric_model.specs.Network.{same_port}
 use Rattle.fabric_model.proofs.Peers.{port_is}
-use Rattle.maint_registers.specs.Devices.{Device}
+use Rattle.maint_registers.specs.Devices.{Registers}
 use Rattle.fabric_trace.specs.Known.{Seen, port_seen}
 use Rattle.fabric_ports.specs.Places.{AreFirsts, port_count, IsPortOf, place_of}
 use Rattle.fabric_ports.specs.Showing.{LeadToLinks}
@@ -39,12 +39,12 @@ lead_same links links2 firsts firsts2 numbers numbers2 l f n lead =
 -- ---- ports
 
 -- the ports of devices stand in a list as they are known
-abbrev pub ArePorts : List Device → List ℕ → List PortState → Seen → Type 0
+abbrev pub ArePorts : List Registers → List ℕ → List PortState → Seen → Type 0
 ArePorts devices firsts ports s = (p : PortRef) → IsPortOf devices p
     → slice_get ports (place_of firsts p) ≡ Some (port_seen s p)
 
 -- one port has changed
-pub one_set : (devices : List Device) (firsts : List ℕ) (ports : List PortState) (s t : Seen)
+pub one_set : (devices : List Registers) (firsts : List ℕ) (ports : List PortState) (s t : Seen)
     (p : PortRef) (x : PortState)
     → AreFirsts 0 devices firsts → length ports ≡ port_count devices
     → ArePorts devices firsts ports s → IsPortOf devices p
@@ -70,7 +70,7 @@ one_set devices firsts ports s t p x are count shown has becomes others q has_q 
         ∙ shown q has_q ∙ ap Some (sym (others q apart))
 
 -- two ports have changed
-pub two_set : (devices : List Device) (firsts : List ℕ) (ports : List PortState) (s t : Seen)
+pub two_set : (devices : List Registers) (firsts : List ℕ) (ports : List PortState) (s t : Seen)
     (p q : PortRef) (x y : PortState)
     → AreFirsts 0 devices firsts → length ports ≡ port_count devices
     → ArePorts devices firsts ports s

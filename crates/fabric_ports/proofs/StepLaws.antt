@@ -12,7 +12,7 @@ use Rattle.maint_packets.specs.declared.next_hop.Next.TheVariants.{Port}
 use Rattle.maint_packets.specs.declared.request.Request.{Request}
 use Rattle.maint_packets.specs.NextHops.{moved}
 use Rattle.maint_packets.specs.Requests.{request_of}
-use Rattle.maint_registers.specs.Devices.{Device, is_switch}
+use Rattle.maint_registers.specs.Devices.{Registers, is_switch}
 use Rattle.switch_core.specs.Faces as faces
 use Rattle.switch_core.specs.Faces.{Face, face_at, put_at, taken_at}
 use Rattle.switch_core.specs.SwitchSteps.{step_of, faces_after, answered_by, switch_after}
@@ -143,12 +143,12 @@ step_others net node (Answered at request response) q apart =
     ∙ without_other net (port node at) (prio_of request) q (nodes_differ (port node at) q apart)
 step_others net node Nothing q apart = refl
 
-answered_is : (device : Device) (at : ℕ) (request : Option Request)
+answered_is : (device : Registers) (at : ℕ) (request : Option Request)
     → device_after at request device ≡ answered_by device at request
 answered_is device at None = refl
 answered_is device at (Some request) = refl
 
-step_registers : (net : Network) (node : ℕ) (device : Device) (step : switch.Step)
+step_registers : (net : Network) (node : ℕ) (device : Registers) (step : switch.Step)
     → slice_get net.registers node ≡ Some device
     → (after_step net node step).registers
     ≡ slice_set net.registers node (switch_after device step)
@@ -212,7 +212,7 @@ faces_many net node from (suc n) = ap suc (faces_many net node (suc from) n)
 -- ---- afterwards
 
 -- as many ports were returned as were lent
-pub ports_are : (fabric : Fabric) (first : ℕ) (device next : Device) (ports : List PortState)
+pub ports_are : (fabric : Fabric) (first : ℕ) (device next : Registers) (ports : List PortState)
     (step : switch.Step) → first + device.ports ≤ length fabric.ports.items
     → MadeStep first device next fabric.ports.items ports step
     → (with_items fabric.ports ports).items ≡ ports
@@ -224,7 +224,7 @@ ports_are fabric first device next ports step within made =
     ∙ sym fabric.ports.ok.0)
 
 -- the registers and the ports that a call returned
-pub record HasStepped (old new : Fabric) (node first : ℕ) (device next : Device)
+pub record HasStepped (old new : Fabric) (node first : ℕ) (device next : Registers)
     (step : switch.Step) : Type 0 where
   pub stands : slice_get old.devices.items node ≡ Some device
   pub place : first ≡ slice_index_or old.firsts.items node 0
@@ -234,14 +234,15 @@ pub record HasStepped (old new : Fabric) (node first : ℕ) (device next : Devic
   pub cables : new.cables.items ≡ old.cables.items
   pub cable_at : new.cable_at.items ≡ old.cable_at.items
 
-module _ (s : Seen) (old new : Fabric) (node first : ℕ) (device next : Device) (step : switch.Step)
+module _ (s : Seen) (old new : Fabric) (node first : ℕ) (device next : Registers)
+    (step : switch.Step)
     (shows : ShowsFabric old s) (by : ByPriority s.network) (switches : is_switch device ≡ true)
     (has : HasStepped old new node first device next step) (forms : AreForms step) where
   net : Network
   net = s.network
 
   known : slice_get s.network.registers node ≡ Some device
-  known = ap (λ (l : List Device). slice_get l node) shows.registers ∙ has.stands
+  known = ap (λ (l : List Registers). slice_get l node) shows.registers ∙ has.stands
 
   is_one : IsSwitch s.network node
   is_one = ap (option_map is_switch) known ∙ ap Some switches
@@ -318,7 +319,7 @@ module _ (s : Seen) (old new : Fabric) (node first : ℕ) (device next : Device)
       (rw all ports) refl (links_stay s.network node step)
       (step_registers s.network node device step known
       ∙ ap (slice_set s.network.registers node) (sym has.made.registers)
-      ∙ ap (λ (l : List Device). slice_set l node next) shows.registers ∙ sym has.devices)
+      ∙ ap (λ (l : List Registers). slice_set l node next) shows.registers ∙ sym has.devices)
 
   is_move : (block : List TraceLine) → block ≡ step_lines node step → IsMove s.network node block
   is_move block is = record {
@@ -339,7 +340,7 @@ is_step_by net node Nothing move = (move _ refl, refl)
 
 pub did_step : (names : List (List ℕ)) {K : Type 0} (written : K → Option (List ℕ))
     (faults : K → ℕ) (b b2 : Outbox K) (s : Seen) (old new : Fabric) (node first : ℕ)
-    (device next : Device) (step : switch.Step) (result : Bool)
+    (device next : Registers) (step : switch.Step) (result : Bool)
     → ShowsFabric old s → s.unfaithful ≡ None → ByPriority s.network → is_switch device ≡ true
     → HasStepped old new node first device next step → AreForms step → result ≡ is_step step
     → Writes written faults b b2 (trace_text names (written_lines node step))

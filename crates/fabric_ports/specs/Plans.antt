@@ -7,7 +7,7 @@ use Rattle.fabric_script.specs.declared.ports.PortRef.{PortRef}
 use Rattle.fabric_script.specs.declared.lines.Line.{Line}
 use Rattle.fabric_script.specs.declared.lines.Line.TheVariants.{Endpoint, Switch, Link}
 use Rattle.fabric_model.specs.Network.{Network, bare}
-use Rattle.maint_registers.specs.Devices.{Device}
+use Rattle.maint_registers.specs.Devices.{Registers}
 use Rattle.fabric_trace.specs.Settings.{with_end}
 use Rattle.fabric_trace.specs.SetUps.{MaySetUp}
 use Rattle.fabric_ports.specs.Places.{AreFirsts, port_count, IsPortOf, place_of}
@@ -17,10 +17,10 @@ use Rattle.fabric_ports.specs.declared.plans.Plan.{Plan}
 use Rattle.fabric_ports.specs.declared.plans.PortPlan.{PortPlan}
 
 -- how many ports each device has
-abbrev pub counts_of : List Device → List ℕ
-counts_of devices = map (λ (device : Device). device.ports) devices
+abbrev pub counts_of : List Registers → List ℕ
+counts_of devices = map (λ (device : Registers). device.ports) devices
 
-abbrev pub HasPorts : Device → Type 0
+abbrev pub HasPorts : Registers → Type 0
 HasPorts device = 0 < device.ports
 
 -- 4 to 30 buffers
@@ -53,7 +53,7 @@ pub record IsPlan (plan : Plan) : Type 0 where
   pub few : All HasBuffers plan.ports.items
 
 -- a cable joins ports of these devices, and nothing is on its wires
-pub record IsNewCable (devices : List Device) (cable : Cable) : Type 0 where
+pub record IsNewCable (devices : List Registers) (cable : Cable) : Type 0 where
   pub port_a : IsPortOf devices cable.a
   pub port_b : IsPortOf devices cable.b
   pub wires : cable.link ≡ empty_wires
@@ -84,5 +84,5 @@ is_new (Link a b) = true
 is_new _ = false
 
 -- the devices, of which that of a port knows that the port has a link
-abbrev pub with_end_at : List Device → PortRef → List Device
+abbrev pub with_end_at : List Registers → PortRef → List Registers
 with_end_at devices p = (with_end (record bare { registers = devices }) p).registers

@@ -3,7 +3,7 @@ use Rattle.std.specs.Prelude.{◌≡◌, ℕ, List, All, map, length, Some, slic
 use Rattle.link_machine.specs.States.{Wires}
 use Rattle.fabric_script.specs.declared.ports.PortRef.{PortRef}
 use Rattle.fabric_model.specs.Network.{Network, IsEndpoint}
-use Rattle.maint_registers.specs.Devices.{Device}
+use Rattle.maint_registers.specs.Devices.{Registers}
 use Rattle.fabric_trace.specs.Known.{Seen, port_seen, wire_state}
 use Rattle.fabric_ports.specs.Places.{AreFirsts, port_count, IsPortOf, IsEndpointAt, place_of}
 use Rattle.fabric_ports.specs.declared.fabric.Cable.{Cable}
@@ -17,13 +17,13 @@ abbrev pub wires_of : Seen → PortRef → PortRef → Wires
 wires_of s a b = record { a = wire_state (s.wires a); b = wire_state (s.wires b) }
 
 -- a cable joins ports of these devices, and its wires are those that are known
-pub record ShowsCable (devices : List Device) (s : Seen) (cable : Cable) : Type 0 where
+pub record ShowsCable (devices : List Registers) (s : Seen) (cable : Cable) : Type 0 where
   pub port_a : IsPortOf devices cable.a
   pub port_b : IsPortOf devices cable.b
   pub wires : cable.link ≡ wires_of s cable.a cable.b
 
 -- the registers of a network are those of these devices
-abbrev pub AreRegisters : Network → List Device → Type 0
+abbrev pub AreRegisters : Network → List Registers → Type 0
 AreRegisters net devices = net.registers ≡ devices
 
 -- At the place of each end of a link stands the number of that link.

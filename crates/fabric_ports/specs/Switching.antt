@@ -4,7 +4,7 @@ use Rattle.rio_chars.specs.Written.{Writes}
 use Rattle.rio_chars.specs.declared.outbox.Outbox.{Outbox}
 use Rattle.rio_packets.specs.LinkForm.{Passes}
 use Rattle.link_port.specs.Ports.{PortState, AreAlike}
-use Rattle.maint_registers.specs.Devices.{Device, IsSameDevice}
+use Rattle.maint_registers.specs.Devices.{Registers, IsSameDevice}
 use Rattle.switch_core.specs.Faces as faces
 use Rattle.switch_core.specs.SwitchSteps.{step_of, faces_after, switch_after}
 use Rattle.switch_core.specs.declared.switch.Step.{Step}
@@ -32,7 +32,7 @@ AreForms Nothing = Unit {0}
 
 -- The ports of a device, which stand in a list from a place on, made its first step. The other
 -- ports are as they were.
-pub record MadeStep (first : ℕ) (device next : Device) (old new : List PortState) (step : Step)
+pub record MadeStep (first : ℕ) (device next : Registers) (old new : List PortState) (step : Step)
     : Type 0 where
   pub own : List PortState
   pub made : step ≡ step_of device (faces_at (own_ports old first device.ports))

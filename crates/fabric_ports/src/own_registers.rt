@@ -1,7 +1,7 @@
 //! The registers of an endpoint, which it reads and writes itself.
 ghost use Rattle.std.specs.Prelude.{◌≡◌, List, Some, slice_get};
 ghost use Rattle.maint_registers.specs.Access.{value_at};
-ghost use Rattle.maint_registers.specs.Devices.{Device};
+ghost use Rattle.maint_registers.specs.Devices.{Registers};
 ghost use Rattle.fabric_trace.specs.Fold.{seen};
 ghost use Rattle.fabric_trace.specs.Known.{Seen};
 ghost use Rattle.fabric_trace.specs.Lines.{TraceLine};
@@ -15,7 +15,7 @@ impl Fabric {
     /// offset is in bytes. `None` comes exactly if no register stands there.
     pub fn register_read(&self, node: u8, offset: u32) -> Option<u32>
         requires endpoint { HasEndpoint self.now node }
-        ensures { (from : Seen) (lines : List TraceLine) (device : Device)
+        ensures { (from : Seen) (lines : List TraceLine) (device : Registers)
             → Stands from lines self.now
             → slice_get (seen from lines).network.registers node ≡ Some device
             → result ≡ value_at device offset 0 }
@@ -27,7 +27,7 @@ impl Fabric {
     /// exactly if no register that can be written stands there; then nothing changes.
     pub fn register_write(&mut self, node: u8, offset: u32, value: u32) -> bool
         requires endpoint { HasEndpoint self.old node }
-        ensures { (from : Seen) (lines : List TraceLine) (device : Device)
+        ensures { (from : Seen) (lines : List TraceLine) (device : Registers)
             → Stands from lines self.old
             → slice_get (seen from lines).network.registers node ≡ Some device
             → OwnWritten node device offset value from lines self.old self.new result }

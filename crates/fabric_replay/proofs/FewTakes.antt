@@ -11,7 +11,7 @@ use Rattle.switch_core.specs.declared.endpoint.Collected.{Collected}
 use Rattle.switch_core.specs.declared.endpoint.Collected.TheVariants as Collects
 use Rattle.switch_core.specs.declared.switch.Step as switch
 use Rattle.switch_core.specs.declared.switch.Step.TheVariants.{Moved, Dropped, Answered, Nothing}
-use Rattle.maint_registers.specs.Devices.{Device, is_switch}
+use Rattle.maint_registers.specs.Devices.{Registers, is_switch}
 use Rattle.fabric_script.specs.Known.{Known, one_event, nothing, known_after, cost_of}
 use Rattle.fabric_script.specs.Lines.{is_event, new_name}
 use Rattle.fabric_script.specs.Scripts.{PassesFrom, ScriptPasses}
@@ -129,7 +129,7 @@ served : (switch : Bool) (First : List TraceLine → Type 0) (More : Seen → Li
 served true First More s lines first more is = joined First More s lines first more is
 served false First More s lines first more is = more s lines is
 
-nodes_serve : (node : ℕ) (devices : List Device) (s : Seen) (lines : List TraceLine)
+nodes_serve : (node : ℕ) (devices : List Registers) (s : Seen) (lines : List TraceLine)
     → ServeNodes node devices s lines → taken lines ≡ 0
 nodes_serve node [] s lines is = none_of lines [] is refl
 nodes_serve node (device ∷ devices) s lines is = served (is_switch device) (ServesAll s node)

@@ -2,7 +2,7 @@
 use Rattle.std.proofs.Common.{◌≡◌, ◌≢◌, ℕ, ◌+◌, ◌<◌, ◌≤◌, suc, zero, Bool, true, false, List, [], ◌∷◌, ◌++◌, All, map, Some, length, length-append, slice_get, refl, sym, ap, ◌∙◌, subst, arith, if◌then◌else◌}
 use Rattle.std.proofs.lemmas.List.{length-map}
 use Rattle.std.proofs.lemmas.List.Elements.{All-head, All-tail}
-use Rattle.maint_registers.specs.Devices.{Device, is_switch}
+use Rattle.maint_registers.specs.Devices.{Registers, is_switch}
 use Rattle.fabric_script.specs.declared.ports.PortRef.{PortRef}
 use Rattle.fabric_script.specs.declared.lines.Line.{Line}
 use Rattle.fabric_script.specs.declared.lines.Line.TheVariants.{Endpoint, Switch}
@@ -98,7 +98,7 @@ names_few names script passes =
 
 -- ---- ports of cables
 
-within_get : (devices : List Device) (n port : ℕ) → HasPort (slice_get devices n) port → n
+within_get : (devices : List Registers) (n port : ℕ) → HasPort (slice_get devices n) port → n
     < length devices
 within_get [] n port has = absurd has
 within_get (d ∷ devices) zero port has = omega arith
@@ -107,7 +107,7 @@ within_get (d ∷ devices) (suc n) port has =
     in
     omega arith
 
-cable_port : (devices : List Device) (s : Seen) (cables : List Cable) (port p : PortRef)
+cable_port : (devices : List Registers) (s : Seen) (cables : List Cable) (port p : PortRef)
     → All (ShowsCable devices s) cables → peer_in (map ends_of cables) port ≡ Some p → port.node
     < length devices
 cable_port devices s [] port p shown linked = absurd cc

@@ -5,7 +5,7 @@ use Rattle.std.proofs.Common.{◌≡◌, ℕ, zero, suc, ◌+◌, ◌<◌, Bool,
 use Rattle.std.specs.Bool.{⊤}
 use Rattle.link_rest.specs.Acts.{At, acts_notes}
 use Rattle.link_rest.proofs.Ends.{settling_can}
-use Rattle.maint_registers.specs.Devices.{Device, is_switch}
+use Rattle.maint_registers.specs.Devices.{Registers, is_switch}
 use Rattle.switch_core.specs.declared.switch.Step as switch
 use Rattle.switch_core.specs.declared.switch.Step.TheVariants.{Moved, Dropped, Answered, Nothing}
 use Rattle.fabric_script.specs.declared.ports.PortRef.{PortRef}
@@ -200,12 +200,12 @@ switches_along net (step ∷ steps) end legal node = switches_along (after net s
     node ∙ switches_stay net step node
 
 -- these devices, of which the first is this node, are of the kinds of the nodes
-abbrev pub AreKinds : (ℕ → Option Bool) → ℕ → List Device → Type 0
+abbrev pub AreKinds : (ℕ → Option Bool) → ℕ → List Registers → Type 0
 AreKinds kinds node [] = ⊤
 AreKinds kinds node (device ∷ devices) = (kinds node ≡ Some (is_switch device))
     × AreKinds kinds (suc node) devices
 
-kinds_from : (kinds : ℕ → Option Bool) (node : ℕ) (devices : List Device)
+kinds_from : (kinds : ℕ → Option Bool) (node : ℕ) (devices : List Registers)
     → ((i : ℕ) → kinds (node + i) ≡ option_map is_switch (slice_get devices i))
     → AreKinds kinds node devices
 kinds_from kinds node [] same = tt
@@ -227,7 +227,7 @@ all_kinds net =
 -- ---- switches, rounds and runs
 
 -- One switch after another makes all its steps.
-pub nodes_exist : (devices : List Device) (node : ℕ) (kinds : ℕ → Option Bool) (s : Seen)
+pub nodes_exist : (devices : List Registers) (node : ℕ) (kinds : ℕ → Option Bool) (s : Seen)
     → IsReady s → ((n : ℕ) → switch_at s.network n ≡ kinds n) → AreKinds kinds node devices
     → Exists s (ServeNodes node devices s)
 nodes_exist [] node kinds s ready same are = record { lines = []; is = refl; made = Done refl }

@@ -9,7 +9,7 @@ use Rattle.std.proofs.lemmas.List.{length-map}
 use Rattle.rio_packets.specs.Fields.{prio_of, dest_of, is_request}
 use Rattle.rio_packets.specs.LinkForm.{Passes}
 use Rattle.link_buffers.specs.Queues.{list_at}
-use Rattle.maint_registers.specs.Devices.{Device, is_switch}
+use Rattle.maint_registers.specs.Devices.{Registers, is_switch}
 use Rattle.maint_registers.specs.Routes.{port_named, next_port}
 use Rattle.maint_packets.specs.declared.next_hop.Next.{Next}
 use Rattle.maint_packets.specs.declared.next_hop.Next.TheVariants.{Nowhere, RegisterUnit, Port}
@@ -94,7 +94,7 @@ face_from net node port (suc n) (suc i) below =
     ∙ ap (λ k. face_in net (record { node = node; port = k })) same
 
 -- the lists at a place are those of the port there
-pub face_is : (net : Network) (node : ℕ) (device : Device) (i : ℕ) → i < device.ports
+pub face_is : (net : Network) (node : ℕ) (device : Registers) (i : ℕ) → i < device.ports
     → face_at (faces_in net node device) i ≡ face_in net (record { node = node; port = i })
 face_is net node device i below =
     let same : 0 + i ≡ i = omega arith in
@@ -103,7 +103,7 @@ face_is net node device i below =
 
 -- ---- the registers
 
-pub kind_is : (net : Network) (node : ℕ) (device : Device) (kind : Bool)
+pub kind_is : (net : Network) (node : ℕ) (device : Registers) (kind : Bool)
     → slice_get net.registers node ≡ Some device
     → option_map is_switch (slice_get net.registers node) ≡ Some kind → is_switch device ≡ kind
 kind_is net node device kind stands is =
@@ -111,30 +111,31 @@ kind_is net node device kind stands is =
     in
     cc
 
-pub next_is : (net : Network) (node : ℕ) (device : Device) (packet : List ℕ)
+pub next_is : (net : Network) (node : ℕ) (device : Registers) (packet : List ℕ)
     → slice_get net.registers node ≡ Some device → IsSwitch net node → next_at net node packet
     ≡ Some (next_of device packet)
 next_is net node device packet stands kind =
-    ap (option_and_then (λ (d : Device). if is_switch d then Some (next_of d packet) else None))
+    ap (option_and_then (λ (d : Registers). if is_switch d then Some (next_of d packet) else None))
     stands
     ∙ ap (λ k. if k then Some (next_of device packet) else None)
     (kind_is net node device true stands kind)
 
-pub response_is : (net : Network) (p : PortRef) (device : Device) (packet : List ℕ)
+pub response_is : (net : Network) (p : PortRef) (device : Registers) (packet : List ℕ)
     (request : Request) → slice_get net.registers p.node ≡ Some device → request_of packet
     ≡ Some request
     → response_at net p packet
     ≡ Some (response_bytes (request_answered device request p.port).response)
 response_is net p device packet request stands asks =
     ap (option_and_then
-    (λ (d : Device).
+    (λ (d : Registers).
     option_map (λ (r : Request). response_bytes (request_answered d r p.port).response)
     (request_of packet))) stands
     ∙ ap (option_map (λ (r : Request). response_bytes (request_answered device r p.port).response))
     asks
 
 -- the port to which a packet goes is one of the device
-pub port_there : (device : Device) (packet : List ℕ) (to : ℕ) → next_of device packet ≡ Port to → to
+pub port_there : (device : Registers) (packet : List ℕ) (to : ℕ) → next_of device packet ≡ Port to
+    → to
     < device.ports
 port_there device packet to is = by_tests (is_foreign packet) (is_at_end packet) (is_request packet)
     is
@@ -186,7 +187,7 @@ pub if_some : {X : Type 0} (test : Bool) (x y : X) → (if test then Some x else
 if_some true x y is = (refl, cc)
 if_some false x y is = absurd cc
 
-module _ (net : Network) (node : ℕ) (device : Device) (by : ByPriority net)
+module _ (net : Network) (node : ℕ) (device : Registers) (by : ByPriority net)
     (stands : slice_get net.registers node ≡ Some device) (kind : IsSwitch net node) where
   answer_needs : (port : ℕ) (packet : List ℕ) (asks : Option Request) (step : switch.Step) → port
       < device.ports → IsHeld net (record { node = node; port = port }) packet
@@ -276,7 +277,7 @@ not_asked packet none = by_test (is_request packet) refl
     by_test true is = let found = request_there packet is in absurd (cc (none, found.1))
     by_test false is = is
 
-module _ (net : Network) (node : ℕ) (device : Device) (by : ByPriority net)
+module _ (net : Network) (node : ℕ) (device : Registers) (by : ByPriority net)
     (stands : slice_get net.registers node ≡ Some device) (endpoint : IsEndpoint net node) where
   answers_need : (packet : List ℕ) (request : Request) (room : Bool)
       → IsHeld net (port_of node) packet → request_of packet ≡ Some request

@@ -3,7 +3,7 @@
 use Rattle.std.proofs.Common.{◌≡◌, ℕ, ◌<◌, true, List, Option, Some, None, option_map, slice_get, unwrap_or, arith, refl, sym, ap, ◌∙◌, subst}
 use Rattle.rio_packets.specs.Fields.{prio_of}
 use Rattle.rio_packets.specs.LinkForm.{Passes}
-use Rattle.maint_registers.specs.Devices.{Device, is_switch}
+use Rattle.maint_registers.specs.Devices.{Registers, is_switch}
 use Rattle.maint_registers.specs.Within.{IsWithin}
 use Rattle.maint_packets.specs.declared.next_hop.Next.{Next}
 use Rattle.maint_packets.specs.declared.next_hop.Next.TheVariants.{Nowhere, RegisterUnit, Port}
@@ -30,19 +30,19 @@ use Rattle.fabric_trace.proofs.Keeping.{IsGood, good_by_priority, passes_first}
 
 -- a node's device
 pub record StandsAt (net : Network) (node : ℕ) : Type 0 where
-  pub device : Device
+  pub device : Registers
   pub stands : slice_get net.registers node ≡ Some device
 
 -- a switch is one of the devices
 pub switch_stands : (net : Network) (node : ℕ) → IsSwitch net node → StandsAt net node
 switch_stands net node switch = by_found (slice_get net.registers node) refl switch
   where
-    by_found : (found : Option Device) → slice_get net.registers node ≡ found
+    by_found : (found : Option Registers) → slice_get net.registers node ≡ found
         → option_map is_switch found ≡ Some true → StandsAt net node
     by_found None at is = absurd cc
     by_found (Some device) at is = record { device = device; stands = at }
 
-module _ (s : Seen) (node : ℕ) (device : Device) (good : IsGood s) (formed : IsFormed s.network)
+module _ (s : Seen) (node : ℕ) (device : Registers) (good : IsGood s) (formed : IsFormed s.network)
     (stands : slice_get s.network.registers node ≡ Some device) where
   answer_form : (port : ℕ) (packet : List ℕ) (asks : Option Request) (step : switch.Step) → port
       < device.ports → Passes packet → request_of packet ≡ asks

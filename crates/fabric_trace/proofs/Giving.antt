@@ -7,7 +7,7 @@ use Rattle.rio_packets.specs.LinkForm.{IsBody}
 use Rattle.rio_packets.specs.Making.{made, most_rest}
 use Rattle.rio_packets.proofs.FormLaws.{LinkForm-made}
 use Rattle.rio_packets.proofs.MakingLaws.{IsBody-body_of}
-use Rattle.maint_registers.specs.Devices.{Device}
+use Rattle.maint_registers.specs.Devices.{Registers}
 use Rattle.maint_registers.specs.Within.{IsWithin}
 use Rattle.maint_packets.specs.Layout.{behind_ids}
 use Rattle.maint_packets.specs.Requests.{names_second, in_half}
@@ -133,7 +133,7 @@ pub id_low : (net : Network) (node : ℕ) (large : Bool) → IsFormed net
     → id_of net node large < id_limit large
 id_low net node large formed = by_found (slice_get net.registers node) refl
   where
-    of_size : (device : Device) (large : Bool) → IsWithin device
+    of_size : (device : Registers) (large : Bool) → IsWithin device
         → sender_id device large < id_limit large
     of_size device false within = within.base_id
     of_size device true within = within.large_id
@@ -142,8 +142,8 @@ id_low net node large formed = by_found (slice_get net.registers node) refl
     zero_low false = omega arith
     zero_low true = omega arith
 
-    by_found : (found : Option Device) → slice_get net.registers node ≡ found
-        → unwrap_or (option_map (λ (device : Device). sender_id device large) found) 0
+    by_found : (found : Option Registers) → slice_get net.registers node ≡ found
+        → unwrap_or (option_map (λ (device : Registers). sender_id device large) found) 0
         < id_limit large
     by_found None at = zero_low large
     by_found (Some device) at =

@@ -2,7 +2,7 @@
 use Rattle.std.proofs.Common.{◌≡◌, ℕ, zero, suc, ◌<◌, Bool, true, false, List, [], ◌∷◌, ◌++◌, map, Some, option_map, slice_get, get_or, if◌then◌else◌, refl, sym, ap, ◌∙◌, subst, arith, append-nil}
 use Rattle.std.specs.List.{AllByRecursion}
 use Rattle.std.proofs.lemmas.List.{map-append}
-use Rattle.maint_registers.specs.Devices.{Device, is_switch}
+use Rattle.maint_registers.specs.Devices.{Registers, is_switch}
 use Rattle.fabric_script.specs.declared.ports.PortRef.{PortRef}
 use Rattle.fabric_script.specs.declared.lines.Line.{Line}
 use Rattle.fabric_script.specs.declared.lines.Line.TheVariants.{Endpoint, Switch, Link}
@@ -22,13 +22,13 @@ use Rattle.fabric_trace.proofs.SettingUp.{made_by, set_up-links, set_up-map}
 
 -- ---- ports by counts
 
-has_count : (devices : List Device) (n k : ℕ) → HasPort (slice_get devices n) k
+has_count : (devices : List Registers) (n k : ℕ) → HasPort (slice_get devices n) k
     → k < get_or (map count_ports devices) n 0
 has_count [] n k has = absurd has
 has_count (device ∷ devices) zero k has = has
 has_count (device ∷ devices) (suc n) k has = has_count devices n k has
 
-count_has : (devices : List Device) (n k : ℕ) → k < get_or (map count_ports devices) n 0
+count_has : (devices : List Registers) (n k : ℕ) → k < get_or (map count_ports devices) n 0
     → HasPort (slice_get devices n) k
 count_has [] n k low = absurd (omega (arith, low))
 count_has (device ∷ devices) zero k low = low
@@ -42,14 +42,14 @@ count_more (x ∷ xs) ys (suc n) k low = count_more xs ys n k low
 -- ---- what lines of set-up make of it
 
 -- which devices are switches, and how many ports each has
-abbrev kind_and_ports : Device → Bool × ℕ
+abbrev kind_and_ports : Registers → Bool × ℕ
 kind_and_ports device = (is_switch device, device.ports)
 
 -- an endpoint has a port
 abbrev HasOwn : Bool × ℕ → Type 0
 HasOwn device = device.0 ≡ false → 0 < device.1
 
-abbrev JoinsPorts : List Device → PortRef × PortRef → Type 0
+abbrev JoinsPorts : List Registers → PortRef × PortRef → Type 0
 JoinsPorts devices link = IsPortOf devices link.0 × IsPortOf devices link.1
 
 record Joined (known : Known) (net : Network) : Type 0 where
@@ -130,14 +130,14 @@ joined_after known new net line joined may = record {
 -- ---- whole scripts
 
 -- the endpoints and links of the network
-own_port : (devices : List Device) (n : ℕ) → AllByRecursion HasOwn (map kind_and_ports devices)
+own_port : (devices : List Registers) (n : ℕ) → AllByRecursion HasOwn (map kind_and_ports devices)
     → option_map is_switch (slice_get devices n) ≡ Some false → HasPort (slice_get devices n) 0
 own_port [] n own endpoint = absurd cc
 own_port (device ∷ devices) zero own endpoint =
     (let kind : is_switch device ≡ false = cc in own.0 kind)
 own_port (device ∷ devices) (suc n) own endpoint = own_port devices n own.1 endpoint
 
-peer_ports : (devices : List Device) (links : List (PortRef × PortRef)) (p q : PortRef)
+peer_ports : (devices : List Registers) (links : List (PortRef × PortRef)) (p q : PortRef)
     → AllByRecursion (JoinsPorts devices) links → peer_in links p ≡ Some q
     → IsPortOf devices p × IsPortOf devices q
 peer_ports devices [] p q ends peer = absurd cc

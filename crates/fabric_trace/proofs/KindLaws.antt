@@ -1,13 +1,13 @@
 -- A device of a kind among others.
 use Rattle.std.proofs.Common.{◌≡◌, ℕ, Bool, zero, suc, ◌<◌, List, [], ◌∷◌, option_map, Some, length, get_or, slice_get, ap, ◌∙◌, arith}
 use Rattle.std.proofs.lemmas.Option.{same_Some}
-use Rattle.maint_registers.specs.Devices.{Device, is_switch}
+use Rattle.maint_registers.specs.Devices.{Registers, is_switch}
 
-pub record IsKindThere (switch : Bool) (devices : List Device) (node : ℕ) : Type 0 where
+pub record IsKindThere (switch : Bool) (devices : List Registers) (node : ℕ) : Type 0 where
   pub within : node < length devices
-  pub kind : (read : Device) → read ≡ get_or devices node read → is_switch read ≡ switch
+  pub kind : (read : Registers) → read ≡ get_or devices node read → is_switch read ≡ switch
 
-pub kind_there : (switch : Bool) (devices : List Device) (node : ℕ)
+pub kind_there : (switch : Bool) (devices : List Registers) (node : ℕ)
     → option_map is_switch (slice_get devices node) ≡ Some switch
     → IsKindThere switch devices node
 kind_there switch [] node is = absurd cc

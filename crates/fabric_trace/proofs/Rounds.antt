@@ -1,7 +1,7 @@
 -- Rounds are made of parts, and in them each link is what is shown of a link that settles.
 use Rattle.std.proofs.Common.{◌≡◌, ℕ, zero, suc, Bool, true, false, List, [], ◌∷◌, Option, Some, None, MatchBool, refl, ap, ◌∙◌}
 use Rattle.std.specs.List.{AllByRecursion}
-use Rattle.maint_registers.specs.Devices.{Device, is_switch}
+use Rattle.maint_registers.specs.Devices.{Registers, is_switch}
 use Rattle.fabric_script.specs.declared.ports.PortRef.{PortRef}
 use Rattle.fabric_model.specs.Network.{link_in}
 use Rattle.fabric_model.specs.Steps.{ByDevice}
@@ -95,7 +95,7 @@ module _ (Link Known : AtLink)
     ≡ None → ArePeers s.network.links a b → Link s a b lines → Made s lines × Known s a b lines)
     (moves_made : (s : Seen) (node : ℕ) (lines : List TraceLine) → IsGood s
     → IsMove s.network node lines → Made s lines) where
-  nodes_made : (devices : List Device) (node : ℕ) (s : Seen) (lines : List TraceLine) → IsGood s
+  nodes_made : (devices : List Registers) (node : ℕ) (s : Seen) (lines : List TraceLine) → IsGood s
       → ServeNodes node devices s lines → Made s lines
   nodes_made [] node s lines good is = Done is
   nodes_made (device ∷ devices) node s lines good serves =

@@ -2,7 +2,7 @@
 use Rattle.std.proofs.Common.{◌≡◌, ℕ, ◌+◌, ◌<◌, ◌≤◌, arith, Bool, true, false, List, [], ◌∷◌, Option, Some, None, unwrap_or, refl, sym, subst, if◌then◌else◌}
 use Rattle.std.specs.Bool.{⊤}
 use Rattle.rio_packets.specs.Fields.{prio_of}
-use Rattle.maint_registers.specs.Devices.{Device}
+use Rattle.maint_registers.specs.Devices.{Registers}
 use Rattle.maint_packets.specs.declared.next_hop.Next.{Next}
 use Rattle.maint_packets.specs.declared.next_hop.Next.TheVariants.{Nowhere, RegisterUnit, Port}
 use Rattle.maint_packets.specs.declared.request.Request.{Request}
@@ -35,7 +35,7 @@ IsOfPort ports (Dropped from packet) = from < ports
 IsOfPort ports (Answered port request response) = port < ports
 IsOfPort ports Nothing = ⊤
 
-by_room : (device : Device) (room : Bool) (made step : switch.Step) → IsOfPort device.ports made
+by_room : (device : Registers) (room : Bool) (made step : switch.Step) → IsOfPort device.ports made
     → (if room then Some made else None) ≡ Some step → IsOfPort device.ports step
 by_room device true made step there is =
     let same : made ≡ step = cc
@@ -43,7 +43,7 @@ by_room device true made step there is =
     subst (IsOfPort device.ports) same there
 by_room device false made step there is = absurd cc
 
-module _ (device : Device) (faces : List Face) where
+module _ (device : Registers) (faces : List Face) where
   answer_there : (port : ℕ) (packet : List ℕ) (asks : Option Request) (step : switch.Step) → port
       < device.ports → answer_step device faces port packet asks ≡ Some step
       → IsOfPort device.ports step

@@ -21,7 +21,7 @@ use Rattle.link_wires.specs.declared.edits.Edit.{Edit}
 use Rattle.link_machine.specs.Queues.{Queues, queues_round}
 use Rattle.link_machine.proofs.Machine.{round_keeps}
 use Rattle.fabric_script.specs.declared.ports.PortRef.{PortRef}
-use Rattle.maint_registers.specs.Devices.{Device}
+use Rattle.maint_registers.specs.Devices.{Registers}
 use Rattle.fabric_model.specs.Network.{Item, Network, same_port, peer_in, with_lane, first_packet, to_send, room_out}
 use Rattle.fabric_model.specs.Steps.{behind_first, without_first, with_waiting}
 use Rattle.fabric_model.specs.Laws.Proper.{AreProper}
@@ -226,7 +226,7 @@ queue_length net p r few =
     omega (arith, at, packets, both)
 
 -- a network with one more item that waits at a port, whatever was given out and the registers are
-abbrev pub with_more : Network → PortRef → Item → ℕ → List Device → Network
+abbrev pub with_more : Network → PortRef → Item → ℕ → List Registers → Network
 with_more net c item given devices =
     record (with_waiting net c (prio_of item.now) (item ∷ [])) {
       given = given;
@@ -234,7 +234,8 @@ with_more net c item given devices =
     }
 
 -- the link of that port
-more_link : (s : Seen) (c : PortRef) (item : Item) (given : ℕ) (devices : List Device) (b : PortRef)
+more_link : (s : Seen) (c : PortRef) (item : Item) (given : ℕ) (devices : List Registers)
+    (b : PortRef)
     → prio_of item.now < 4 → Passes item.now → IsTrue (room_out s.network c (prio_of item.now))
     → ArePeers s.network.links c b
     → IsLink s c b → IsLink (record s { network = with_more s.network c item given devices }) c b
@@ -375,7 +376,7 @@ fewer_links s c packet proper few first are =
       half = refl;
     }) are
 
-pub more_links : (s : Seen) (c : PortRef) (item : Item) (given : ℕ) (devices : List Device)
+pub more_links : (s : Seen) (c : PortRef) (item : Item) (given : ℕ) (devices : List Registers)
     → AreProper s.network.links → prio_of item.now < 4 → Passes item.now
     → IsTrue (room_out s.network c (prio_of item.now)) → AreLinks s
     → AreLinks (record s { network = with_more s.network c item given devices })

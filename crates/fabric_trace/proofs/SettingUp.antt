@@ -2,7 +2,7 @@
 use Rattle.std.proofs.Common.{◌≡◌, ℕ, ◌+◌, ◌<◌, true, false, List, [], ◌∷◌, ◌++◌, length, map, take, drop, get_or, refl, sym, ap, ◌∙◌, append-nil, take-append-drop}
 use Rattle.std.proofs.lemmas.Bool.{false≢true}
 use Rattle.std.proofs.lemmas.List.{map-append, drop_more}
-use Rattle.maint_registers.specs.Devices.{Device, is_switch, new_endpoint, new_switch, with_link}
+use Rattle.maint_registers.specs.Devices.{Registers, is_switch, new_endpoint, new_switch, with_link}
 use Rattle.fabric_script.specs.declared.lines.Line.{Line}
 use Rattle.fabric_script.specs.declared.lines.Line.TheVariants.{Endpoint, Switch, Link, Buffers, Route, Default, Lock, Large, Credits}
 use Rattle.fabric_script.specs.Known.{links_after}
@@ -30,13 +30,13 @@ set_up-event net (Credits port) event = absurd (false≢true event)
 set_up-event net _ event = refl
 
 -- the device that a line makes, as a list
-abbrev pub made_by : Line → List Device
+abbrev pub made_by : Line → List Registers
 made_by (Endpoint name id) = new_endpoint id false ∷ []
 made_by (Switch name ports) = new_switch ports 0 ∷ []
 made_by _ = []
 
 -- what lines of set-up change in a device that is there
-abbrev pub changed : Device → ℕ → List ℕ → ℕ → ℕ → ℕ → Device
+abbrev pub changed : Registers → ℕ → List ℕ → ℕ → ℕ → ℕ → Registers
 changed device linked routes port lock large = record device {
   linked = linked;
   routes = routes;
@@ -46,14 +46,14 @@ changed device linked routes port lock large = record device {
 }
 
 -- what no line changes of a device, stays of all, and a new device stands behind them
-pub set_up-map : {A : Type 0} (view : Device → A)
-    → ((device : Device) (linked : ℕ) (routes : List ℕ) (port lock large : ℕ)
+pub set_up-map : {A : Type 0} (view : Registers → A)
+    → ((device : Registers) (linked : ℕ) (routes : List ℕ) (port lock large : ℕ)
     → view (changed device linked routes port lock large) ≡ view device)
     → (net : Network) (line : Line)
     → map view (set_up net line).registers ≡ map view net.registers ++ map view (made_by line)
 set_up-map view same net line = by_line line
   where
-    devices : List Device
+    devices : List Registers
     devices = net.registers
 
     by_line : (line : Line) → map view (set_up net line).registers ≡ map view net.registers

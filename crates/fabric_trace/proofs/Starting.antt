@@ -11,7 +11,7 @@ use Rattle.link_rest.specs.Acts.{Reached, At, FoundAt, OnState, goes, acts_notes
 use Rattle.link_rest.specs.Rest.{IsSettled}
 use Rattle.link_rest.proofs.Settled.{settling_rests}
 use Rattle.link_machine.specs.Sound.{IsSoundLink}
-use Rattle.maint_registers.specs.Devices.{Device, new_endpoint, new_switch, with_link}
+use Rattle.maint_registers.specs.Devices.{Registers, new_endpoint, new_switch, with_link}
 use Rattle.maint_registers.specs.Within.{IsWithin}
 use Rattle.maint_registers.proofs.WithinLaws.{new_endpoint_within, new_switch_within, lock_within, route_within, default_within, links_within, large_within}
 use Rattle.fabric_script.specs.declared.ports.PortRef.{PortRef}
@@ -73,7 +73,7 @@ buffers_if own n m first second =
     elim own as (λ x. AreBuffers (if x then n else m)) [ true ↦ first | false ↦ second ]
 
 -- other registers that are within
-with_registers : (net : Network) (devices : List Device) → IsSetUp net
+with_registers : (net : Network) (devices : List Registers) → IsSetUp net
     → AllByRecursion IsWithin devices → IsSetUp (record net { registers = devices })
 with_registers net devices is within = record {
   empty = record {
@@ -88,15 +88,15 @@ with_registers net devices is within = record {
 }
 
 -- one more device
-with_more : (net : Network) (device : Device) → IsSetUp net → IsWithin device
+with_more : (net : Network) (device : Registers) → IsSetUp net → IsWithin device
     → IsSetUp (with_node net device)
 with_more net device is within =
     with_registers net (net.registers ++ device ∷ []) is
     (all-append IsWithin net.registers (device ∷ []) is.within (within, tt))
 
 -- a change of one device
-changed_one : (net : Network) (node : ℕ) (change : Device → Device) → IsSetUp net
-    → ((device : Device) → IsWithin device → IsWithin (change device))
+changed_one : (net : Network) (node : ℕ) (change : Registers → Registers) → IsSetUp net
+    → ((device : Registers) → IsWithin device → IsWithin (change device))
     → IsSetUp (with_change net node change)
 changed_one net node change is keeps =
     with_registers net (with_device net.registers node change) is

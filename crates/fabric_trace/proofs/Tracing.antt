@@ -6,7 +6,7 @@ use Rattle.std.specs.List.{AllByRecursion}
 use Rattle.std.proofs.lemmas.List.Elements.{recursion_from_All}
 use Rattle.rio_packets.specs.Fields.{prio_of}
 use Rattle.rio_packets.specs.LinkForm.{Passes}
-use Rattle.maint_registers.specs.Devices.{Device, is_switch}
+use Rattle.maint_registers.specs.Devices.{Registers, is_switch}
 use Rattle.maint_registers.specs.Within.{IsWithin}
 use Rattle.maint_packets.specs.declared.request.Request.{Request}
 use Rattle.maint_packets.specs.Requests.{request_of}
@@ -85,12 +85,12 @@ settle_block s port (Some link) good none is has =
 endpoint_stands : (net : Network) (node : ℕ) → IsEndpoint net node → StandsAt net node
 endpoint_stands net node endpoint = by_found (slice_get net.registers node) refl endpoint
   where
-    by_found : (found : Option Device) → slice_get net.registers node ≡ found
+    by_found : (found : Option Registers) → slice_get net.registers node ≡ found
         → option_map is_switch found ≡ Some false → StandsAt net node
     by_found None at is = absurd cc
     by_found (Some device) at is = record { device = device; stands = at }
 
-module _ (s : Seen) (node : ℕ) (device : Device) (good : IsGood s) (formed : IsFormed s.network)
+module _ (s : Seen) (node : ℕ) (device : Registers) (good : IsGood s) (formed : IsFormed s.network)
     (stands : slice_get s.network.registers node ≡ Some device) where
   room_form : (packet : List ℕ) (request : Request) (room : Bool) → Passes packet
       → request_of packet ≡ Some request

@@ -3,7 +3,7 @@ use Rattle.std.proofs.Common.{◌≡◌, ℕ, zero, suc, Bool, true, false, List
 use Rattle.rio_packets.proofs.FormLaws.{LinkForm-one}
 use Rattle.link_rest.specs.Acts.{At, acts_notes}
 use Rattle.link_rest.proofs.OneWay.{AtMostOne, match_one, settles_one}
-use Rattle.maint_registers.specs.Devices.{Device, is_switch}
+use Rattle.maint_registers.specs.Devices.{Registers, is_switch}
 use Rattle.switch_core.specs.SwitchSteps.{step_of}
 use Rattle.switch_core.specs.EndpointSteps.{collected}
 use Rattle.fabric_script.specs.Lines.{is_event}
@@ -30,7 +30,7 @@ send_one s node body x y p q =
     ∙ sym q.lines)
 
 -- a node has one device
-device_one : (found : Option Device) (a b : Device) → found ≡ Some a → found ≡ Some b → a ≡ b
+device_one : (found : Option Registers) (a b : Registers) → found ≡ Some a → found ≡ Some b → a ≡ b
 device_one found a b is other = let same : Some a ≡ Some b = sym is ∙ other in cc
 
 move_one : (net : Network) (node : ℕ) → AtMostOne (IsMove net node)
@@ -104,7 +104,7 @@ serves_one {s} {node} (ServeGoes step rest move e more) (ServeGoes step2 rest2 o
     more2) in
     cc
 
-nodes_one : (devices : List Device) (node : ℕ) (s : Seen) → AtMostOne (ServeNodes node devices s)
+nodes_one : (devices : List Registers) (node : ℕ) (s : Seen) → AtMostOne (ServeNodes node devices s)
 nodes_one [] node s x y f g = f ∙ sym g
 nodes_one (device ∷ devices) node s x y f g =
     match_one (is_switch device) (Joined (ServesAll s node) (ServeNodes (suc node) devices) s)

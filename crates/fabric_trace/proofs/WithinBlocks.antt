@@ -14,7 +14,7 @@ use Rattle.switch_core.specs.declared.endpoint.Collected.{Collected}
 use Rattle.switch_core.specs.declared.endpoint.Collected.TheVariants as Collects
 use Rattle.switch_core.specs.SwitchSteps.{step_of}
 use Rattle.switch_core.specs.EndpointSteps.{collected}
-use Rattle.maint_registers.specs.Devices.{Device, is_switch}
+use Rattle.maint_registers.specs.Devices.{Registers, is_switch}
 use Rattle.fabric_script.specs.declared.ports.PortRef.{PortRef}
 use Rattle.fabric_script.specs.declared.lines.Line.{Line}
 use Rattle.fabric_script.specs.declared.lines.Line.TheVariants.{Endpoint, Switch, Link, Buffers, Route, Default, Lock, Large, Send, Read, Write, Pump, Deliver, Alter, Insert, Erase, Timeout, Settle, Move, Collect, Run, Send16, Read16, Write16, Credits}
@@ -150,7 +150,7 @@ unfolding IsWithinBlock
 serves_within (ServeRests move is) = within_by is tt
 serves_within (ServeGoes step rest move is more) = within_by is (serves_within more)
 
-nodes_within : (devices : List Device) (node : ℕ) (s : Seen) (block : List TraceLine)
+nodes_within : (devices : List Registers) (node : ℕ) (s : Seen) (block : List TraceLine)
     → ServeNodes node devices s block → IsWithinBlock block
 unfolding IsWithinBlock
 nodes_within [] node s block is = within_by is tt

@@ -2,7 +2,7 @@
 -- every switch in the order of its line makes steps until no packet of it can go.
 use Rattle.std.specs.Prelude.{◌≡◌, ℕ, zero, suc, List, [], ◌∷◌, ◌++◌, Option, Some, None, MatchBool}
 use Rattle.link_rest.specs.Rest.{IsSettled}
-use Rattle.maint_registers.specs.Devices.{Device, is_switch}
+use Rattle.maint_registers.specs.Devices.{Registers, is_switch}
 use Rattle.fabric_script.specs.declared.ports.PortRef.{PortRef}
 use Rattle.fabric_model.specs.Steps.{DeviceStep, ByDevice}
 use Rattle.fabric_trace.specs.Lines.{NoStep, TraceLine, Stepped, Lacked}
@@ -48,7 +48,7 @@ pub data ServesAll : Seen → ℕ → List TraceLine → Type 0 where
       → ServesAll (seen_line s (Stepped (ByDevice step))) node rest → ServesAll s node lines
 
 -- of these devices, of which the first is this node, one switch after another
-abbrev pub ServeNodes : ℕ → List Device → Seen → List TraceLine → Type 0
+abbrev pub ServeNodes : ℕ → List Registers → Seen → List TraceLine → Type 0
 ServeNodes node [] s lines = lines ≡ []
 ServeNodes node (device ∷ devices) s lines = MatchBool (is_switch device)
     (Joined (ServesAll s node) (ServeNodes (suc node) devices) s lines)

@@ -2,7 +2,7 @@
 -- Which packet goes first and where it goes is said over the lists of ports.
 use Rattle.std.specs.Prelude.{◌≡◌, ℕ, zero, suc, List, [], ◌∷◌, Some, slice_get}
 use Rattle.rio_packets.specs.LinkForm.{Passes}
-use Rattle.maint_registers.specs.Devices.{Device}
+use Rattle.maint_registers.specs.Devices.{Registers}
 use Rattle.switch_core.specs.Faces.{Face}
 use Rattle.switch_core.specs.SwitchSteps.{step_of}
 use Rattle.switch_core.specs.EndpointSteps.{collected}
@@ -27,7 +27,7 @@ faces_from net node port (suc n) =
     face_in net record { node = node; port = port } ∷ faces_from net node (suc port) n
 
 -- the lists of all ports of a device
-abbrev pub faces_in : Network → ℕ → Device → List Face
+abbrev pub faces_in : Network → ℕ → Registers → List Face
 faces_in net node device = faces_from net node 0 device.ports
 
 -- ---- a switch
@@ -52,7 +52,7 @@ ResponseHasForm Nothing = Unit {0}
 -- the switch makes the first step that it can make
 pub record IsMove (net : Network) (node : ℕ) (block : List TraceLine) : Type 0 where
   pub switch : IsSwitch net node
-  pub device : Device
+  pub device : Registers
   pub stands : slice_get net.registers node ≡ Some device
   pub form : ResponseHasForm (step_of device (faces_in net node device))
   pub lines : block ≡ step_lines node (step_of device (faces_in net node device))
@@ -75,7 +75,7 @@ HasResponseForm Collects.Full = Unit {0}
 -- the endpoint collects the packet whose turn it is
 pub record IsCollect (net : Network) (node : ℕ) (block : List TraceLine) : Type 0 where
   pub endpoint : IsEndpoint net node
-  pub device : Device
+  pub device : Registers
   pub stands : slice_get net.registers node ≡ Some device
   pub form : HasResponseForm (collected device (face_in net (port_of node)))
   pub lines : block ≡ collect_lines node (collected device (face_in net (port_of node)))

@@ -1,6 +1,6 @@
 -- What the lines of set-up make of a network.
 use Rattle.std.specs.Prelude.{ℕ, Bool, false, ◌||◌, List, [], ◌∷◌, ◌++◌, if◌then◌else◌}
-use Rattle.maint_registers.specs.Devices.{Device, new_endpoint, new_switch}
+use Rattle.maint_registers.specs.Devices.{Registers, new_endpoint, new_switch}
 pub use Rattle.maint_registers.specs.Changes.{linked_at, routed, defaulted, held_by, large_set}
 use Rattle.fabric_script.specs.declared.ports.PortRef.{PortRef}
 use Rattle.fabric_script.specs.declared.lines.Line.{Line}
@@ -17,11 +17,11 @@ abbrev pub with_tells : (PortRef → Bool) → PortRef → PortRef → Bool
 with_tells tells p q = same_port q p || tells q
 
 -- one more device
-abbrev pub with_node : Network → Device → Network
+abbrev pub with_node : Network → Registers → Network
 with_node net device = record net { registers = net.registers ++ device ∷ [] }
 
 -- the registers of one node are changed
-abbrev pub with_change : Network → ℕ → (Device → Device) → Network
+abbrev pub with_change : Network → ℕ → (Registers → Registers) → Network
 with_change net node change = record net { registers = with_device net.registers node change }
 
 -- the device of a port knows that the port has a link

@@ -6,7 +6,7 @@ use Rattle.fabric_map.specs.declared.map.Kind.{Kind}
 use Rattle.fabric_map.specs.declared.map.Kind.TheVariants.{Endpoint, Switch}
 use Rattle.fabric_map.specs.declared.map.Device.{Device}
 use Rattle.fabric_map.specs.Topology.{entered}
-use Rattle.fabric_map.specs.Routes.{Registers}
+use Rattle.fabric_map.specs.Routes.{AllRegisters}
 use Rattle.fabric_map.specs.Numbered.{toward}
 use Rattle.host_enumerate.specs.declared.maint.Access.TheVariants.{Read, Write}
 use Rattle.host_enumerate.specs.Accesses.{answered}
@@ -159,7 +159,7 @@ low-told w value low = go w.todo low
     go [] low = low-told_at (record w { todo = [] }) value w.stage low
     go (p ∷ rest) low = low-settled (record w { todo = p ∷ rest }) rest w.stage w.path low.1
 
-pub low-stepped : (w : Walker) (r : Registers) → AreLow w.todo → AreLow (stepped w r).walker.todo
+pub low-stepped : (w : Walker) (r : AllRegisters) → AreLow w.todo → AreLow (stepped w r).walker.todo
 low-stepped w r low = go (wants w)
   where
     at : (ask : Asked) (o : Option PortRef) → IsLow (reached w r ask o).walker
@@ -238,7 +238,7 @@ module _ (w : Walker) (is : w.path ≡ []) where
   stays-told Done none value = absurd none
   stays-told Lost none value = absurd none
 
-pub stays_at_host : (w : Walker) (r : Registers) → IsAtHost w
+pub stays_at_host : (w : Walker) (r : AllRegisters) → IsAtHost w
     → is_locking (stepped w r).walker.stage ≡ true → IsAtHost (stepped w r).walker
 stays_at_host w r at = go w.todo at.clear
   where
@@ -260,7 +260,7 @@ stays_at_host w r at = go w.todo at.clear
     go (p ∷ rest) clear = absurd (let none : p ∷ rest ≡ [] = clear in cc)
 
 -- what it asks of its host reaches it
-pub host_reached : (w : Walker) (r : Registers) → IsAtHost w → CanReach w r
+pub host_reached : (w : Walker) (r : AllRegisters) → IsAtHost w → CanReach w r
 host_reached w r at ask wanted = go w.todo at.clear w.stage at.stage w.path at.path wanted
   where
     here : (one : Asked) → one.path ≡ [] → Some one ≡ Some ask

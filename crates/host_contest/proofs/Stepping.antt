@@ -4,7 +4,7 @@ use Rattle.std.proofs.lemmas.List.{length-map}
 use Rattle.fabric_script.specs.declared.ports.PortRef.{PortRef}
 use Rattle.fabric_map.specs.declared.map.Device.{Device}
 use Rattle.fabric_map.specs.Topology.{Topology, entered}
-use Rattle.fabric_map.specs.Routes.{Registers}
+use Rattle.fabric_map.specs.Routes.{AllRegisters}
 use Rattle.fabric_map.specs.Numbered.{paths_of}
 use Rattle.host_enumerate.specs.declared.maint.Answer.{Answer}
 use Rattle.host_enumerate.specs.Accesses.{answered, after_access}
@@ -24,19 +24,19 @@ use Rattle.host_contest.specs.Reaching.{IsAtHost, AreLow}
 use Rattle.host_contest.specs.Steps.{state_in, CanStep}
 use Rattle.host_contest.proofs.Lows.{low-stepped, stays_at_host}
 
-abbrev state_of : Walker → Registers → State
+abbrev state_of : Walker → AllRegisters → State
 state_of w registers = record { walker = w; registers = registers }
 
 -- ---- one access of the machine
 
-pub idle : (w : Walker) (r : Registers) → None ≡ wants w → state_of w r ≡ stepped w r
+pub idle : (w : Walker) (r : AllRegisters) → None ≡ wants w → state_of w r ≡ stepped w r
 idle w r is = ap (λ o. reaches w r o) is
 
 -- the device that is reached answers
 abbrev of_value : Walker → Answer → Walker
 of_value w answer = walker_told w answer.value
 
-pub answered_so : (w after : Walker) (r new : Registers) (ask : Asked) (at : PortRef)
+pub answered_so : (w after : Walker) (r new : AllRegisters) (ask : Asked) (at : PortRef)
     (answer : Answer) → Some ask ≡ wants w → entered w.view ask.path ≡ Some at
     → answer ≡ (answered (r at.node) at.port ask.access).answer
     → new ≡ after_access r at ask.access → after ≡ walker_told w answer.value
@@ -47,7 +47,7 @@ answered_so w after r new ask at answer is leads some left heard =
     left
     ∙ (ap (λ o. reached w r ask o) (sym leads) ∙ ap (λ o. reaches w r o) is))
 
-module _ (view : Topology) (r new : Registers) (before after : Machine)
+module _ (view : Topology) (r new : AllRegisters) (before after : Machine)
     (can : CanStep view r before) where
   pub can_after : state_in view new after ≡ stepped (machine_of view before) r
       → CanStep view new after
@@ -65,7 +65,7 @@ module _ (view : Topology) (r new : Registers) (before after : Machine)
       }
 
 -- no more devices are kept than there are
-pub few : (view : Topology) (r : Registers) (machine : Machine) → CanStep view r machine
+pub few : (view : Topology) (r : AllRegisters) (machine : Machine) → CanStep view r machine
     → length machine.map.devices.items ≤ 64
 few view r machine can =
     let w = machine_of view machine in
@@ -84,19 +84,20 @@ locked_yes s is = choose (is_locking s.walker.stage) (stepped s.walker s.registe
 pub locked_no : (s : State) → is_locking s.walker.stage ≡ false → s ≡ locked_on s
 locked_no s is = refuse (is_locking s.walker.stage) (stepped s.walker s.registers) s is
 
-pub turned_later : (w : Walker) (r : Registers) → w.begun ≡ true → stepped w r ≡ walker_turned w r
+pub turned_later : (w : Walker) (r : AllRegisters) → w.begun ≡ true
+    → stepped w r ≡ walker_turned w r
 turned_later w r is =
     choose w.begun (stepped w r)
     (locked_on (locked_on (stepped (record w { begun = true }) r))) is
 
-pub turned_first : (w : Walker) (r : Registers) → w.begun ≡ false
+pub turned_first : (w : Walker) (r : AllRegisters) → w.begun ≡ false
     → locked_on (locked_on (stepped (record w { begun = true }) r)) ≡ walker_turned w r
 turned_first w r is =
     refuse w.begun (stepped w r)
     (locked_on (locked_on (stepped (record w { begun = true }) r))) is
 
 -- a walker that begins its first turn
-pub can_begin : (view : Topology) (r : Registers) (machine : Machine)
+pub can_begin : (view : Topology) (r : AllRegisters) (machine : Machine)
     → CanStep view r machine → CanStep view r (record machine { begun = true })
 can_begin view r machine can = record {
   topology = can.topology;
@@ -122,7 +123,7 @@ pub begun_at_host : (w : Walker) → IsAtHost w → IsAtHost (record w { begun =
 begun_at_host w at = record { path = at.path; clear = at.clear; stage = at.stage }
 
 -- the devices and links that are seen stay
-module _ (view after : Topology) (r new : Registers) where
+module _ (view after : Topology) (r new : AllRegisters) where
   pub host_after : (w : Walker) (machine : Machine) → after ≡ view
       → state_in view new machine ≡ stepped w r → IsAtHost w
       → is_locking machine.stage ≡ true → IsAtHost (machine_of after machine)
@@ -150,7 +151,7 @@ module _ (view after : Topology) (r new : Registers) where
       go false off goes = before goes
 
 -- a state that another view names
-pub same_views : (view mid : Topology) (r new : Registers) (one two : Machine) → mid ≡ view
+pub same_views : (view mid : Topology) (r new : AllRegisters) (one two : Machine) → mid ≡ view
     → state_in mid new two ≡ locked_on (state_in mid r one)
     → state_in view new two ≡ locked_on (state_in view r one)
 same_views view mid r new one two same is =
@@ -158,13 +159,13 @@ same_views view mid r new one two same is =
 
 -- ---- a walker that lists its entries
 
-abbrev pub with_walker : Registers → Walker → State
+abbrev pub with_walker : AllRegisters → Walker → State
 with_walker r w = record { walker = w; registers = r }
 
 abbrev pub came_from : Walker → Walker → Turn
 came_from w after = came_of w after
 
-pub can_same : (view : Topology) (r : Registers) (one two : Machine)
+pub can_same : (view : Topology) (r : AllRegisters) (one two : Machine)
     → machine_of view two ≡ machine_of view one → CanStep view r one → CanStep view r two
 can_same view r one two is can = record {
   topology = can.topology;

@@ -5,23 +5,23 @@ use Rattle.std.proofs.lemmas.Option.{slice_get-get_or, slice_get_past, slice_get
 use Rattle.std.proofs.lemmas.Bool.{cases_lt, eqb-true, eqb-false}
 use mathlib.Core.Path.{fun_ext}
 use Rattle.fabric_script.specs.declared.ports.PortRef.{PortRef}
-use Rattle.maint_registers.specs.Devices.{Device, IsDevice, IsSameDevice, new_endpoint}
+use Rattle.maint_registers.specs.Devices.{Registers, IsDevice, IsSameDevice, new_endpoint}
 use Rattle.maint_registers.proofs.SameLaws.{same_kind}
 use Rattle.fabric_map.specs.Topology.{Topology, IsTopology}
-use Rattle.fabric_map.specs.Routes.{Registers}
+use Rattle.fabric_map.specs.Routes.{AllRegisters}
 use Rattle.fabric_map.specs.Fitting.{Fits}
 use Rattle.host_enumerate.specs.declared.maint.Access.{Access}
 use Rattle.host_enumerate.specs.Accesses.{answered, registers_with, after_access}
 use Rattle.fabric_map.specs.Plain.{ports_of_switch, topology_of, registers_of}
 
 -- an access leaves the device what it is
-pub record Keeps (before after : Device) : Type 0 where
+pub record Keeps (before after : Registers) : Type 0 where
   pub same : IsSameDevice before after
   pub device : IsDevice before → IsDevice after
   pub id : before.base_id < 256 → after.base_id < 256
   pub lock : before.lock < 65536 → after.lock < 65536
 
-keeps_itself : (device : Device) → Keeps device device
+keeps_itself : (device : Registers) → Keeps device device
 keeps_itself device = record {
   same = record { kind = refl; ports = refl; linked = refl; large_id = refl };
   device = λ is. is;
@@ -30,7 +30,7 @@ keeps_itself device = record {
 }
 
 -- what holds of one device and of any other holds of the device under a number
-with_device-keeps : (registers : Registers) (node : ℕ) (device : Device)
+with_device-keeps : (registers : AllRegisters) (node : ℕ) (device : Registers)
     → Keeps (registers node) device → (other : ℕ)
     → Keeps (registers other) (registers_with registers node device other)
 with_device-keeps registers node device keeps other = go (eqb other node) refl
@@ -40,7 +40,7 @@ with_device-keeps registers node device keeps other = go (eqb other node) refl
     go true is = subst (λ n. Keeps (registers n) device) (sym (eqb-true other node is)) keeps
     go false is = keeps_itself (registers other)
 
-pub fits-with : (topology : Topology) (registers : Registers) (node : ℕ) (device : Device)
+pub fits-with : (topology : Topology) (registers : AllRegisters) (node : ℕ) (device : Registers)
     → Fits topology registers → Keeps (registers node) device
     → Fits topology (registers_with registers node device)
 fits-with topology registers node device fits keeps = record {
@@ -58,14 +58,14 @@ fits-with topology registers node device fits keeps = record {
       ∙ fits.linked other port inside below;
 }
   where
-    after : Registers
+    after : AllRegisters
     after = registers_with registers node device
 
     kept : (other : ℕ) → Keeps (registers other) (registers_with registers node device other)
     kept = with_device-keeps registers node device keeps
 
 -- the registers with one device set
-pub registers_of-set : (devices : List Device) (node : ℕ) (device : Device)
+pub registers_of-set : (devices : List Registers) (node : ℕ) (device : Registers)
     → node < length devices
     → registers_of (slice_set devices node device)
     ≡ registers_with (registers_of devices) node device
@@ -82,13 +82,13 @@ registers_of-set devices node device inside = fun_ext (λ other. at other (eqb o
         get_or-set_other devices node other device (new_endpoint 0 false)
         (eqb-false other node is)
 
-pub ports_of_switch-same : (before after : Device) → IsSameDevice before after
+pub ports_of_switch-same : (before after : Registers) → IsSameDevice before after
     → ports_of_switch after ≡ ports_of_switch before
 ports_of_switch-same before after same =
     ap (λ k. ports_of_switch (record after { kind = k })) same.kind
     ∙ ap (λ n. ports_of_switch (record before { ports = n })) same.ports
 
-switch_ports-set : (devices : List Device) (node : ℕ) (device : Device)
+switch_ports-set : (devices : List Registers) (node : ℕ) (device : Registers)
     → node < length devices
     → IsSameDevice (get_or devices node (new_endpoint 0 false)) device → (other : ℕ)
     → option_and_then ports_of_switch (slice_get (set devices node device) other)
@@ -96,7 +96,7 @@ switch_ports-set : (devices : List Device) (node : ℕ) (device : Device)
 switch_ports-set devices node device inside same other =
     go (cases_lt other (length devices))
   where
-    first : Device
+    first : Registers
     first = new_endpoint 0 false
 
     past : length devices ≤ other
@@ -137,8 +137,8 @@ switch_ports-set devices node device inside same other =
     go (inl below) = within (eqb other node) refl below
     go (inr out) = past out
 
-topology_of-set : (devices : List Device) (links : List (PortRef × PortRef)) (host node : ℕ)
-    (device : Device)
+topology_of-set : (devices : List Registers) (links : List (PortRef × PortRef)) (host node : ℕ)
+    (device : Registers)
     → node < length devices → IsSameDevice (registers_of devices node) device
     → topology_of (slice_set devices node device) links host ≡ topology_of devices links host
 topology_of-set devices links host node device inside same =
@@ -155,21 +155,21 @@ topology_of-set devices links host node device inside same =
     }
 
 -- a device that was read is the one under its number
-pub read_is : (devices : List Device) (node : ℕ) (device : Device)
+pub read_is : (devices : List Registers) (node : ℕ) (device : Registers)
     → node < length devices → device ≡ slice_index_or devices node device
     → slice_get devices node ≡ Some device
 read_is devices node device inside read =
     slice_get_read devices (length devices) node device refl inside read
 
-pub registers_of-read : (devices : List Device) (node : ℕ) (device : Device)
+pub registers_of-read : (devices : List Registers) (node : ℕ) (device : Registers)
     → node < length devices → device ≡ slice_index_or devices node device
     → registers_of devices node ≡ device
 registers_of-read devices node device inside read =
     get_or_from_slice_get devices node device (new_endpoint 0 false)
     (read_is devices node device inside read)
 
-module _ (devices : List Device) (links : List (PortRef × PortRef)) (host : ℕ)
-    (at : PortRef) (access : Access) (before after : Device) (inside : at.node < length devices)
+module _ (devices : List Registers) (links : List (PortRef × PortRef)) (host : ℕ)
+    (at : PortRef) (access : Access) (before after : Registers) (inside : at.node < length devices)
     (read : before ≡ slice_index_or devices at.node before)
     (becomes : after ≡ (answered before at.port access).device)
     (same : IsSameDevice before after) (device : IsDevice after) (id : after.base_id < 256)

@@ -7,7 +7,7 @@ use Rattle.fabric_script.specs.Ports.{port_at}
 use Rattle.maint_registers.specs.Routes.{next_port}
 use Rattle.fabric_map.specs.Topology.{Topology, IsTopology, device_ports, behind_port, along, ports_followed, entered, node_at}
 use Rattle.fabric_map.specs.Walked.{Before, onward, Walked}
-use Rattle.fabric_map.specs.Routes.{Registers}
+use Rattle.fabric_map.specs.Routes.{AllRegisters}
 use Rattle.fabric_map.specs.Ways.{IsOpened}
 use Rattle.fabric_map.specs.Locked.{IsNext}
 use Rattle.fabric_map.proofs.Leading.{along-onward, followed-host}
@@ -49,7 +49,7 @@ pub never_single : (x first : ℕ) (front rest : List ℕ) (port : ℕ)
 never_single x first [] rest port same = absurd (cc)
 never_single x first (y ∷ front) rest port same = absurd (cc)
 
-module _ (topology : Topology) (registers : Registers) (host_id : ℕ) where
+module _ (topology : Topology) (registers : AllRegisters) (host_id : ℕ) where
   -- the empty path passes no switch
   pub opened-empty : IsOpened topology registers host_id []
   opened-empty = record {

@@ -9,7 +9,7 @@ use Rattle.fabric_map.specs.declared.map.Kind.TheVariants.{Endpoint, Switch}
 use Rattle.fabric_map.specs.declared.map.Device.{Device}
 use Rattle.fabric_map.specs.Topology.{Topology, entered, node_at}
 use Rattle.fabric_map.specs.Walked.{Before, Walked}
-use Rattle.fabric_map.specs.Routes.{Registers}
+use Rattle.fabric_map.specs.Routes.{AllRegisters}
 use Rattle.fabric_map.specs.Ways.{IsOpened}
 use Rattle.fabric_map.specs.Locked.{IsNext}
 use Rattle.fabric_map.specs.Numbered.{paths_of, AreDescribed, HasBaseId}
@@ -46,7 +46,7 @@ host_kind topology host_id (first ∷ devices) bound device endpoint walked desc
         (AllPairs-first Before first.path (paths_of devices) walked.ordered)
         (path_listed devices device later))))
 
-module _ (topology : Topology) (before now : Registers) (host_id next : ℕ)
+module _ (topology : Topology) (before now : AllRegisters) (host_id next : ℕ)
     (devices : List Device) (bound : List ℕ)
     (underway : IsUnderway topology before now host_id devices next bound) where
   -- the host keeps its ID

@@ -7,7 +7,7 @@ use Rattle.fabric_map.specs.declared.map.Kind.TheVariants.{Endpoint, Switch}
 use Rattle.fabric_map.specs.declared.map.Device.{Device}
 use Rattle.fabric_map.specs.Topology.{Topology}
 use Rattle.fabric_map.specs.Walked.{onward, after_all_paths}
-use Rattle.fabric_map.specs.Routes.{Registers}
+use Rattle.fabric_map.specs.Routes.{AllRegisters}
 use Rattle.fabric_map.specs.Ways.{IsOpened}
 use Rattle.fabric_map.specs.Locked.{IsNext}
 use Rattle.fabric_map.specs.Numbered.{paths_of}
@@ -19,10 +19,10 @@ use Rattle.host_enumerate.proofs.Exploring.{underway-as, underway-from, found-as
 use Rattle.host_enumerate.proofs.Starting.{host_askable, host_met, first_enters, first_next, first_askable, first_past, first_endpoint, first_found, first_done}
 
 -- as it begins
-abbrev pub Begins : Topology → Registers → Registers → ℕ → Type 0
+abbrev pub Begins : Topology → AllRegisters → AllRegisters → ℕ → Type 0
 Begins topology before now host_id = IsUnderway topology before now host_id [] 0 []
 
-pub begins_here : (topology : Topology) (before now : Registers) (host_id : ℕ)
+pub begins_here : (topology : Topology) (before now : AllRegisters) (host_id : ℕ)
     (devices : List Device) (path : List ℕ) → devices ≡ [] → path ≡ []
     → Begins topology before now host_id
     → IsUnderway topology before now host_id devices 0 path
@@ -30,8 +30,8 @@ begins_here topology before now host_id devices path none empty underway =
     subst (λ l. IsUnderway topology before now host_id l 0 path) (sym none)
     (subst (λ p. IsUnderway topology before now host_id [] 0 p) (sym empty) underway)
 
-pub begins_askable : (topology : Topology) (now : Registers) (host_id : ℕ) (path : List ℕ)
-    → path ≡ [] → (before : Registers) × Begins topology before now host_id
+pub begins_askable : (topology : Topology) (now : AllRegisters) (host_id : ℕ) (path : List ℕ)
+    → path ≡ [] → (before : AllRegisters) × Begins topology before now host_id
     → (at : PortRef) × IsAskable topology now host_id path at
 begins_askable topology now host_id path empty some = (
   port_at topology.host 0,
@@ -39,24 +39,24 @@ begins_askable topology now host_id path empty some = (
       (host_askable topology some.0 now host_id some.1),
 )
 
-module _ (topology one : Topology) (now met : Registers) (host_id one_id next : ℕ)
+module _ (topology one : Topology) (now met : AllRegisters) (host_id one_id next : ℕ)
     (none devices : List Device) (host path : List ℕ) (kind : Option Kind)
     (is_one : one ≡ topology) (is_id : one_id ≡ host_id) (is_none : none ≡ [])
     (is_host : host ≡ []) (is_path : path ≡ onward host 0)
-    (some : (before : Registers) × Begins topology before now host_id)
-    (tried : (before : Registers) → IsUnderway topology before now host_id none 0 host
+    (some : (before : AllRegisters) × Begins topology before now host_id)
+    (tried : (before : AllRegisters) → IsUnderway topology before now host_id none 0 host
     → IsTried topology before met host_id none devices 0 next host kind) where
   first_path : path ≡ 0 ∷ []
   first_path = is_path ∙ ap (λ l. onward l 0) is_host
 
-  pub met_host : (before : Registers) → Begins topology before now host_id
+  pub met_host : (before : AllRegisters) → Begins topology before now host_id
       → IsUnderway topology before met host_id devices next (0 ∷ [])
   met_host before underway =
       host_met topology before met host_id next devices host kind is_host
       (subst (λ l. IsTried topology before met host_id l devices 0 next host kind) is_none
       (tried before (begins_here topology before now host_id none host is_none is_host underway)))
 
-  pub met_here : (before : Registers) → Begins topology before now host_id
+  pub met_here : (before : AllRegisters) → Begins topology before now host_id
       → IsUnderway one before met one_id devices next path
   met_here before underway =
       underway-as topology one before met host_id one_id next devices path is_one is_id
@@ -80,12 +80,12 @@ module _ (topology one : Topology) (now met : Registers) (host_id one_id next : 
             (first_askable topology some.0 met host_id next devices underway))),
       )
 
-  module _ (after : Registers) (next_after : ℕ) (devices_after : List Device)
+  module _ (after : AllRegisters) (next_after : ℕ) (devices_after : List Device)
       (answer : Option Kind)
-      (tried_on : (before : Registers) → IsUnderway one before met one_id devices next path
+      (tried_on : (before : AllRegisters) → IsUnderway one before met one_id devices next path
       → IsTried one before after one_id devices devices_after next next_after path answer)
       (opened : IsOpened one after one_id path) where
-    tried_here : (before : Registers) → Begins topology before now host_id
+    tried_here : (before : AllRegisters) → Begins topology before now host_id
         → IsTried topology before after host_id devices devices_after next next_after (0 ∷ [])
         answer
     tried_here before underway =
@@ -102,7 +102,7 @@ module _ (topology one : Topology) (now met : Registers) (host_id one_id next : 
         (subst (λ n. IsOpened one after n (0 ∷ [])) is_id
         (subst (λ l. IsOpened one after one_id l) first_path opened))
 
-    pub none_ends : answer ≡ None → (before : Registers) → Begins topology before now host_id
+    pub none_ends : answer ≡ None → (before : AllRegisters) → Begins topology before now host_id
         → (next : ℕ) × IsUnderway topology before after host_id devices_after next after_all_paths
     none_ends is before underway = (
       next_after,
@@ -113,7 +113,7 @@ module _ (topology one : Topology) (now met : Registers) (host_id one_id next : 
     )
 
     pub endpoint_ends : (is_kind : Kind) (id : ℕ) → answer ≡ Some is_kind
-        → is_kind ≡ Endpoint id → (before : Registers) → Begins topology before now host_id
+        → is_kind ≡ Endpoint id → (before : AllRegisters) → Begins topology before now host_id
         → (next : ℕ) × IsUnderway topology before after host_id devices_after next after_all_paths
     endpoint_ends is_kind id is is_endpoint before underway =
         let known = subst (λ a. IsTried topology before after host_id devices devices_after next
@@ -126,7 +126,7 @@ module _ (topology one : Topology) (now met : Registers) (host_id one_id next : 
     module _ (is_kind : Kind) (ports entry : ℕ) (is : answer ≡ Some is_kind)
         (is_switch : is_kind ≡ Switch ports entry) (two : Topology) (two_id : ℕ)
         (is_two : two ≡ topology) (is_two_id : two_id ≡ host_id) where
-      pub switch_underway : (before : Registers) → Begins topology before now host_id
+      pub switch_underway : (before : AllRegisters) → Begins topology before now host_id
           → IsUnderway two before after two_id devices_after next_after (onward path 0)
       switch_underway before underway =
           let known = subst (λ a. IsTried topology before after host_id devices devices_after next
@@ -148,13 +148,13 @@ module _ (topology one : Topology) (now met : Registers) (host_id one_id next : 
           (first_found topology some.0 after host_id next devices some.1.proper devices_after
           next_after is_kind known.0 known.1 ports entry is_switch opened_here))
 
-      pub switch_ends : (end : Registers) (devices_end : List Device) (next_end : ℕ)
-          → ((before : Registers)
+      pub switch_ends : (end : AllRegisters) (devices_end : List Device) (next_end : ℕ)
+          → ((before : AllRegisters)
           → IsUnderway two before after two_id devices_after next_after (onward path 0)
           → IsUnderway two before end two_id devices_end next_end (onward path ports))
           → IsFound two end two_id devices_end
           record { path = path; ports = ports; entry = entry }
-          → (before : Registers) → Begins topology before now host_id
+          → (before : AllRegisters) → Begins topology before now host_id
           → (next : ℕ) × IsUnderway topology before end host_id devices_end next after_all_paths
       switch_ends end devices_end next_end explored found before underway = (
         next_end,

@@ -3,10 +3,10 @@ use Rattle.std.proofs.Common.{◌≡◌, ◌≢◌, ℕ, ◌+◌, ◌≤◌, ◌
 use Rattle.std.proofs.lemmas.Bool.{cases_lt}
 use Rattle.std.proofs.lemmas.List.{length-set}
 use Rattle.fabric_script.specs.declared.ports.PortRef.{PortRef}
-use Rattle.maint_registers.specs.Devices.{Device, is_switch}
+use Rattle.maint_registers.specs.Devices.{Registers, is_switch}
 use Rattle.maint_registers.proofs.RouteLaws.{entry-set_same, entry-set_other}
 use Rattle.fabric_map.specs.Topology.{Topology, IsTopology, entered}
-use Rattle.fabric_map.specs.Routes.{Registers}
+use Rattle.fabric_map.specs.Routes.{AllRegisters}
 use Rattle.fabric_map.specs.Fitting.{Fits}
 use Rattle.fabric_map.proofs.Few.{entered-inside}
 use Rattle.host_enumerate.specs.Asking.{IsAskable, IsApart, Becomes}
@@ -15,16 +15,16 @@ use Rattle.host_enumerate.proofs.Opening.{became}
 use Rattle.host_enumerate.proofs.Entries.{becomes-twice, askable-written}
 use Rattle.host_enumerate.specs.Setting.{with_entry, IsSameBut, IsCleared}
 
-pub same_but-itself : (device : Device) → IsSameBut device device
+pub same_but-itself : (device : Registers) → IsSameBut device device
 same_but-itself device = record { rest = refl }
 
-pub same_but-entry : (old new : Device) (id port : ℕ) → IsSameBut old new
+pub same_but-entry : (old new : Registers) (id port : ℕ) → IsSameBut old new
     → IsSameBut old (with_entry new id port)
 same_but-entry old new id port same = record {
-  rest = ap (λ (d : Device). with_entry d id port) same.rest;
+  rest = ap (λ (d : Registers). with_entry d id port) same.rest;
 }
 
-pub cleared-none : (host_id : ℕ) (device : Device) → IsCleared host_id 0 device device
+pub cleared-none : (host_id : ℕ) (device : Registers) → IsCleared host_id 0 device device
 cleared-none host_id device = record {
   same = same_but-itself device;
   default = refl;
@@ -33,7 +33,7 @@ cleared-none host_id device = record {
   kept = λ id most. refl;
 }
 
-pub cleared-next : (host_id below : ℕ) (old new : Device) → length old.routes ≡ 1024 → below < 63
+pub cleared-next : (host_id below : ℕ) (old new : Registers) → length old.routes ≡ 1024 → below < 63
     → IsCleared host_id below old new
     → IsCleared host_id (below + 1) old (with_entry new below 255)
 cleared-next host_id below old new destinations less cleared = record {
@@ -65,7 +65,7 @@ cleared-next host_id below old new destinations less cleared = record {
         subst (λ n. slice_index_or (slice_set new.routes below 255) n 255 ≡ 255) (sym here)
         (entry-set_same new.routes below 255 fits)
 
-pub cleared-past : (host_id below : ℕ) (old new : Device) → below ≡ host_id
+pub cleared-past : (host_id below : ℕ) (old new : Registers) → below ≡ host_id
     → IsCleared host_id below old new → IsCleared host_id (below + 1) old new
 cleared-past host_id below old new is cleared = record {
   same = cleared.same;
@@ -79,24 +79,25 @@ cleared-past host_id below old new is cleared = record {
     before : (id : ℕ) → id < below + 1 → id ≢ below → id < below
     before id within other = omega (arith, within, other)
 
-pub is_switch-kind : (one other : Device) → one.kind ≡ other.kind → is_switch one ≡ is_switch other
+pub is_switch-kind : (one other : Registers) → one.kind ≡ other.kind
+    → is_switch one ≡ is_switch other
 is_switch-kind one other same = ap (λ k. is_switch (record one { kind = k })) same
 
 -- every device has 1,024 destinations
-pub destinations_of : (topology : Topology) (registers : Registers) (path : List ℕ)
+pub destinations_of : (topology : Topology) (registers : AllRegisters) (path : List ℕ)
     (at : PortRef) → IsTopology topology → Fits topology registers
     → entered topology path ≡ Some at → length (registers at.node).routes ≡ 1024
 destinations_of topology registers path at proper fits enters =
     (fits.devices at.node (entered-inside topology path at proper enters)).destinations
 
 -- the device at the end of a path has no entries of its own below a number
-abbrev pub HasCleared : Topology → Registers → Registers → ℕ → List ℕ → ℕ → Type 0
+abbrev pub HasCleared : Topology → AllRegisters → AllRegisters → ℕ → List ℕ → ℕ → Type 0
 HasCleared topology old new host_id path below = (at : PortRef)
     → entered topology path ≡ Some at
-    → (held : Device) × Becomes old new at.node held
+    → (held : Registers) × Becomes old new at.node held
     × IsCleared host_id below (old at.node) held
 
-pub has_cleared-none : (topology : Topology) (registers : Registers) (host_id : ℕ)
+pub has_cleared-none : (topology : Topology) (registers : AllRegisters) (host_id : ℕ)
     (path : List ℕ) → HasCleared topology registers registers host_id path 0
 has_cleared-none topology registers host_id path at enters = (
   registers at.node,
@@ -104,14 +105,14 @@ has_cleared-none topology registers host_id path at enters = (
   cleared-none host_id (registers at.node),
 )
 
-pub has_cleared-past : (topology : Topology) (old new : Registers) (host_id : ℕ)
+pub has_cleared-past : (topology : Topology) (old new : AllRegisters) (host_id : ℕ)
     (path : List ℕ) (below : ℕ) → below ≡ host_id → HasCleared topology old new host_id path below
     → HasCleared topology old new host_id path (below + 1)
 has_cleared-past topology old new host_id path below is cleared at enters =
     let found = cleared at enters in
     (found.0, found.1, cleared-past host_id below (old at.node) found.0 is found.2)
 
-pub has_cleared-next : (topology now : Topology) (old mid new : Registers) (host_id : ℕ)
+pub has_cleared-next : (topology now : Topology) (old mid new : AllRegisters) (host_id : ℕ)
     (path : List ℕ) (below : ℕ) → IsTopology topology → Fits topology old → now ≡ topology
     → below < 63 → HasCleared topology old mid host_id path below
     → ((at : PortRef) → entered now path ≡ Some at
@@ -130,7 +131,7 @@ has_cleared-next topology now old mid new host_id path below proper fits is_now 
     )
 
 -- the switch can still be asked
-pub cleared_askable : (topology now : Topology) (old new : Registers) (host_id below : ℕ)
+pub cleared_askable : (topology now : Topology) (old new : AllRegisters) (host_id below : ℕ)
     (path : List ℕ) (at : PortRef) → now ≡ topology
     → IsAskable topology old host_id path at → IsApart topology path at.node
     → is_switch (old at.node) ≡ true → HasCleared topology old new host_id path below
@@ -140,9 +141,9 @@ cleared_askable topology now old new host_id below path at is_now askable apart 
     let found = cleared at askable.leads in (
       subst (λ t. IsAskable t new host_id path at) (sym is_now)
           (askable-written topology old new host_id path at found.0 askable found.1 apart
-          (λ _. ap (λ (d : Device). d.base_id) found.2.same.rest)),
+          (λ _. ap (λ (d : Registers). d.base_id) found.2.same.rest)),
       subst (λ t. IsApart t path at.node) (sym is_now) apart,
       ap is_switch (became old new at.node found.0 found.1)
-          ∙ (is_switch-kind found.0 (old at.node) (ap (λ (d : Device). d.kind) found.2.same.rest)
+          ∙ (is_switch-kind found.0 (old at.node) (ap (λ (d : Registers). d.kind) found.2.same.rest)
           ∙ is),
     )

@@ -5,7 +5,7 @@ use Rattle.std.proofs.lemmas.Bool.Decides.{nat_tests}
 use Rattle.std.proofs.lemmas.List.{map-append, length-map}
 use Rattle.std.proofs.lemmas.List.Folds.{list_any-append}
 use Rattle.std.proofs.lemmas.Option.{same_Some}
-use Rattle.maint_registers.specs.Devices.{Device, is_switch, new_endpoint, new_switch, with_link}
+use Rattle.maint_registers.specs.Devices.{Registers, is_switch, new_endpoint, new_switch, with_link}
 use Rattle.maint_registers.specs.Changes.{with_device, linked_at, routed, defaulted, held_by, large_set}
 use Rattle.maint_registers.proofs.ChangeLaws.{map-with_device}
 use Rattle.fabric_script.specs.declared.ports.PortRef.{PortRef}
@@ -38,10 +38,10 @@ pub record AreEnds (known : Known) (p q : PortRef) : Type 0 where
   pub back : peer_in known.links q ≡ Some p
   pub apart : p ≢ q
 
-abbrev pub count_ports : Device → ℕ
+abbrev pub count_ports : Registers → ℕ
 count_ports device = device.ports
 
-pub record Stage (known : Known) (devices : List Device) : Type 0 where
+pub record Stage (known : Known) (devices : List Registers) : Type 0 where
   pub mode : known.mode ≡ of_script
   pub count : length known.nodes ≡ length known.names
   pub few : length known.names ≤ 64
@@ -51,14 +51,14 @@ pub record Stage (known : Known) (devices : List Device) : Type 0 where
   pub ends : (p q : PortRef) → peer_in known.links p ≡ Some q → AreEnds known p q
 
 -- the device that a line makes, as a list
-abbrev made_by : Line → List Device
+abbrev made_by : Line → List Registers
 made_by (Endpoint name id) = new_endpoint id false ∷ []
 made_by (Switch name ports) = new_switch ports 0 ∷ []
 made_by _ = []
 
 -- kind and ports stay of all, and a new device stands behind them
-viewed : {A : Type 0} (view : Device → A)
-    → ((device : Device) (linked large : ℕ) (routes : List ℕ) (port lock : ℕ)
+viewed : {A : Type 0} (view : Registers → A)
+    → ((device : Registers) (linked large : ℕ) (routes : List ℕ) (port lock : ℕ)
     → view (record device {
       linked = linked;
       large_id = large;
@@ -66,7 +66,7 @@ viewed : {A : Type 0} (view : Device → A)
       default_port = port;
       lock = lock;
     }) ≡ view device)
-    → (devices : List Device) (line : Line)
+    → (devices : List Registers) (line : Line)
     → map view (devices_after devices line) ≡ map view devices ++ map view (made_by line)
 viewed view same devices (Endpoint name id) = map-append view devices _
 viewed view same devices (Switch name ports) = map-append view devices _
@@ -130,7 +130,8 @@ ports-longer [] node n less = absurd (omega (arith, less))
 ports-longer (first ∷ nodes) node zero less = refl
 ports-longer (first ∷ nodes) node (suc n) less = ports-longer nodes node n (omega (arith, less))
 
-module _ (known : Known) (new : List ℕ) (devices : List Device) (stage : Stage known devices) where
+module _ (known : Known) (new : List ℕ) (devices : List Registers)
+    (stage : Stage known devices) where
   abbrev next : Line → Known
   next line = known_after known new line
 
@@ -310,8 +311,8 @@ module _ (known : Known) (new : List ℕ) (devices : List Device) (stage : Stage
       })
 
   -- one device is changed
-  are_with : (n : ℕ) (change : Device → Device)
-      → ((held : Device) → slice_get devices n ≡ Some held
+  are_with : (n : ℕ) (change : Registers → Registers)
+      → ((held : Registers) → slice_get devices n ≡ Some held
       → IsNew (λ p. is_linked known.links p) n held
       → IsNew (λ p. is_linked known.links p) n (change held))
       → AreNew (λ p. is_linked known.links p) (with_device devices n change)
@@ -366,7 +367,7 @@ module _ (known : Known) (new : List ℕ) (devices : List Device) (stage : Stage
   stage_after line may free = same_known line refl refl refl stage.are
 
 -- what all lines make
-pub stage_after_all : (known : Known) (names : List (List ℕ)) (devices : List Device)
+pub stage_after_all : (known : Known) (names : List (List ℕ)) (devices : List Registers)
     (lines : List Numbered) → Stage known devices → PassesFrom known names lines
     → (end : Known) × Stage end (devices_after_all devices lines)
     × (end.links ≡ links_after_all known.links lines) × (end.names ≡ names)

@@ -2,11 +2,11 @@
 use Rattle.std.proofs.Common.{◌≡◌, ◌≢◌, ℕ, ◌%◌, ◌<◌, ◌==◌, Bool, true, false, List, [], slice_set, Some, arith, refl, sym, ap, subst, ◌∙◌, eqb-true}
 use Rattle.std.proofs.lemmas.Bool.{eqb-false}
 use Rattle.fabric_script.specs.declared.ports.PortRef.{PortRef}
-use Rattle.maint_registers.specs.Devices.{Device, is_switch}
+use Rattle.maint_registers.specs.Devices.{Registers, is_switch}
 use Rattle.maint_registers.specs.Access.{written_at}
 use Rattle.maint_registers.proofs.AccessLaws.{select-written, entry-written}
 use Rattle.fabric_map.specs.Topology.{Topology, entered}
-use Rattle.fabric_map.specs.Routes.{Registers}
+use Rattle.fabric_map.specs.Routes.{AllRegisters}
 use Rattle.host_enumerate.specs.Accesses.{registers_with}
 use Rattle.host_enumerate.specs.Asking.{IsAskable, IsApart, IsWritable, Becomes}
 use Rattle.host_enumerate.specs.Setting.{with_entry}
@@ -14,7 +14,7 @@ use Rattle.host_enumerate.proofs.Frames.{with_device-at, with_device-other}
 use Rattle.host_enumerate.proofs.Opening.{became, stays, opened-apart}
 
 -- a device becomes one thing after another
-pub becomes-twice : (old mid new : Registers) (node : ℕ) (first second : Device)
+pub becomes-twice : (old mid new : AllRegisters) (node : ℕ) (first second : Registers)
     → Becomes old mid node first → Becomes mid new node second → Becomes old new node second
 becomes-twice old mid new node first second one two other = go (other == node) refl
   where
@@ -30,8 +30,8 @@ becomes-twice old mid new node first second one two other = go (other == node) r
         ∙ sym (with_device-other old node other second apart))
 
 -- the device can still be asked after it was written
-pub askable-written : (topology : Topology) (old new : Registers) (host_id : ℕ) (path : List ℕ)
-    (at : PortRef) (held : Device) → IsAskable topology old host_id path at
+pub askable-written : (topology : Topology) (old new : AllRegisters) (host_id : ℕ) (path : List ℕ)
+    (at : PortRef) (held : Registers) → IsAskable topology old host_id path at
     → Becomes old new at.node held → IsApart topology path at.node
     → (path ≡ [] → held.base_id ≡ (old at.node).base_id)
     → IsAskable topology new host_id path at
@@ -48,13 +48,13 @@ askable-written topology old new host_id path at held askable becomes apart keep
     go true is =
         let same = eqb-true topology.host at.node is in
         ap (λ n. (new n).base_id) same
-        ∙ (ap (λ (d : Device). d.base_id) (became old new at.node held becomes)
+        ∙ (ap (λ (d : Registers). d.base_id) (became old new at.node held becomes)
         ∙ (keeps (askable.not_host (sym same)) ∙ ap (λ n. (old n).base_id) (sym same)))
     go false is =
-        ap (λ (d : Device). d.base_id) (stays old new at.node topology.host held becomes
+        ap (λ (d : Registers). d.base_id) (stays old new at.node topology.host held becomes
         (eqb-false topology.host at.node is))
 
-pub selectable : (topology : Topology) (registers : Registers) (path : List ℕ) (at : PortRef)
+pub selectable : (topology : Topology) (registers : AllRegisters) (path : List ℕ) (at : PortRef)
     (value : ℕ) → is_switch (registers at.node) ≡ true → IsApart topology path at.node
     → IsWritable topology registers path at 0x70 value
     (record (registers at.node) { select = value % 0x400 })
@@ -64,7 +64,7 @@ selectable topology registers path at value is apart = record {
   id = λ _. refl;
 }
 
-pub settable : (topology : Topology) (registers : Registers) (path : List ℕ) (at : PortRef)
+pub settable : (topology : Topology) (registers : AllRegisters) (path : List ℕ) (at : PortRef)
     (value : ℕ) → is_switch (registers at.node) ≡ true → IsApart topology path at.node
     → IsWritable topology registers path at 0x74 value (record (registers at.node) {
       routes = slice_set (registers at.node).routes (registers at.node).select (value % 0x100);
@@ -75,7 +75,7 @@ settable topology registers path at value is apart = record {
   id = λ _. refl;
 }
 
-pub entry-set : (old mid new : Registers) (node id port id_value port_value : ℕ)
+pub entry-set : (old mid new : AllRegisters) (node id port id_value port_value : ℕ)
     → id_value ≡ id → port_value ≡ port → id < 256 → port < 256
     → Becomes old mid node (record (old node) { select = id_value % 0x400 })
     → Becomes mid new node (record (mid node) {
@@ -91,7 +91,7 @@ entry-set old mid new node id port id_value port_value is_id is_port id_fits por
       routes = slice_set (mid node).routes (mid node).select (port_value % 0x100);
     } ≡ with_entry (old node) id port
     same =
-        ap (λ (d : Device). record d {
+        ap (λ (d : Registers). record d {
           routes = slice_set d.routes d.select (port_value % 0x100);
         }) (became old mid node (record (old node) { select = id_value % 0x400 }) one)
         ∙ (ap (λ n. record (old node) {
@@ -107,12 +107,12 @@ entry-set old mid new node id port id_value port_value is_id is_port id_fits por
         sent = ap (λ n. n % 0x100) is_port ∙ omega (arith, port_fits)
 
 -- what a write is said to leave
-abbrev pub Leaves : Topology → Registers → Registers → List ℕ → ℕ → ℕ → Type 0
-Leaves topology old new path offset value = (at : PortRef) (held : Device)
+abbrev pub Leaves : Topology → AllRegisters → AllRegisters → List ℕ → ℕ → ℕ → Type 0
+Leaves topology old new path offset value = (at : PortRef) (held : Registers)
     → entered topology path ≡ Some at → written_at (old at.node) offset value ≡ Some held
     → Becomes old new at.node held
 
-pub selected : (topology : Topology) (old new : Registers) (path : List ℕ) (at : PortRef)
+pub selected : (topology : Topology) (old new : AllRegisters) (path : List ℕ) (at : PortRef)
     (value : ℕ) → Leaves topology old new path 0x70 value → entered topology path ≡ Some at
     → is_switch (old at.node) ≡ true
     → Becomes old new at.node (record (old at.node) { select = value % 0x400 })
@@ -120,14 +120,14 @@ selected topology old new path at value leaves leads is =
     leaves at (record (old at.node) { select = value % 0x400 }) leads
     (select-written (old at.node) value is)
 
-pub still_switch : (old new : Registers) (node value : ℕ) → is_switch (old node) ≡ true
+pub still_switch : (old new : AllRegisters) (node value : ℕ) → is_switch (old node) ≡ true
     → Becomes old new node (record (old node) { select = value % 0x400 })
     → is_switch (new node) ≡ true
 still_switch old new node value is becomes =
     ap is_switch (became old new node (record (old node) { select = value % 0x400 }) becomes) ∙ is
 
 -- the two writes that set an entry
-pub entry-left : (topology : Topology) (old mid new : Registers) (path : List ℕ) (at : PortRef)
+pub entry-left : (topology : Topology) (old mid new : AllRegisters) (path : List ℕ) (at : PortRef)
     (id port id_value port_value : ℕ) → Leaves topology old mid path 0x70 id_value
     → Leaves topology mid new path 0x74 port_value → entered topology path ≡ Some at
     → is_switch (old at.node) ≡ true → id_value ≡ id → port_value ≡ port → id < 256

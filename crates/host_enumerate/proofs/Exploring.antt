@@ -3,7 +3,7 @@ use Rattle.std.proofs.Common.{◌≡◌, ◌≢◌, ℕ, ◌+◌, ◌<◌, ◌�
 use Rattle.fabric_map.specs.declared.map.Device.{Device}
 use Rattle.fabric_map.specs.Topology.{Topology, entered}
 use Rattle.fabric_map.specs.Walked.{onward}
-use Rattle.fabric_map.specs.Routes.{Registers}
+use Rattle.fabric_map.specs.Routes.{AllRegisters}
 use Rattle.fabric_map.specs.Ways.{IsOpened}
 use Rattle.fabric_map.specs.Numbered.{paths_of}
 use Rattle.fabric_map.proofs.Walks.{last_port}
@@ -25,7 +25,7 @@ apart_from_host topology node ports none some same =
     differ same = absurd (cc)
 
 -- past the port of entry
-pub entry_passed : (topology : Topology) (before now : Registers) (host_id next port : ℕ)
+pub entry_passed : (topology : Topology) (before now : AllRegisters) (host_id next port : ℕ)
     (devices : List Device) (switch : Found) → IsFound topology now host_id devices switch
     → port ≡ switch.entry
     → IsUnderway topology before now host_id devices next (onward switch.path port)
@@ -53,7 +53,7 @@ entry_passed topology before now host_id next port devices switch found is under
         (ap (λ l. entered topology l) (sym whole) ∙ found.leads)))
 
 -- the same switch, with a longer list and later registers
-pub found_later : (topology : Topology) (now later : Registers) (host_id : ℕ)
+pub found_later : (topology : Topology) (now later : AllRegisters) (host_id : ℕ)
     (devices longer : List Device) (switch : Found) → IsFound topology now host_id devices switch
     → IsOpened topology later host_id switch.path → Contains (paths_of longer) switch.path
     → IsFound topology later host_id longer switch
@@ -68,7 +68,7 @@ found_later topology now later host_id devices longer switch found opened listed
 }
 
 -- what is said in the words of a call is said in those of the caller
-pub underway-as : (topology later : Topology) (before now : Registers) (host_id other next : ℕ)
+pub underway-as : (topology later : Topology) (before now : AllRegisters) (host_id other next : ℕ)
     (devices : List Device) (bound : List ℕ) → later ≡ topology → other ≡ host_id
     → IsUnderway topology before now host_id devices next bound
     → IsUnderway later before now other devices next bound
@@ -76,7 +76,7 @@ underway-as topology later before now host_id other next devices bound is same u
     subst (λ t. IsUnderway t before now other devices next bound) (sym is)
     (subst (λ n. IsUnderway topology before now n devices next bound) (sym same) underway)
 
-pub underway-from : (topology later : Topology) (before now : Registers) (host_id other next : ℕ)
+pub underway-from : (topology later : Topology) (before now : AllRegisters) (host_id other next : ℕ)
     (devices : List Device) (bound : List ℕ) → later ≡ topology → other ≡ host_id
     → IsUnderway later before now other devices next bound
     → IsUnderway topology before now host_id devices next bound
@@ -84,7 +84,7 @@ underway-from topology later before now host_id other next devices bound is same
     underway-as later topology before now other host_id next devices bound (sym is) (sym same)
     underway
 
-pub found-as : (topology later : Topology) (now : Registers) (host_id other : ℕ)
+pub found-as : (topology later : Topology) (now : AllRegisters) (host_id other : ℕ)
     (devices : List Device) (switch : Found) → later ≡ topology → other ≡ host_id
     → IsFound topology now host_id devices switch → IsFound later now other devices switch
 found-as topology later now host_id other devices switch is same found =
@@ -93,10 +93,10 @@ found-as topology later now host_id other devices switch is same found =
 
 module _ (topology : Topology) (host_id port : ℕ) (switch : Found)
     (one : Topology) (one_id : ℕ) (is_one : one ≡ topology) (is_id : one_id ≡ host_id)
-    (now looked : Registers) (devices devices_looked : List Device) (next next_looked : ℕ)
+    (now looked : AllRegisters) (devices devices_looked : List Device) (next next_looked : ℕ)
     (found : IsFound topology now host_id devices switch)
     (answer : Option Found)
-    (behind : (before : Registers)
+    (behind : (before : AllRegisters)
     → IsUnderway one before now one_id devices next (onward switch.path port)
     → IsUnderwayBehind one before looked one_id devices_looked next_looked switch.path port answer)
     (is_found : IsFoundBehind one looked one_id devices devices_looked switch.path port answer)
@@ -108,7 +108,7 @@ module _ (topology : Topology) (host_id port : ℕ) (switch : Found)
         (subst (λ t. IsFoundBehind t looked one_id devices devices_looked switch.path port answer)
         is_one is_found)
 
-    behind_here : (before : Registers)
+    behind_here : (before : AllRegisters)
         → IsUnderway topology before now host_id devices next (onward switch.path port)
         → IsUnderwayBehind topology before looked host_id devices_looked next_looked switch.path
         port
@@ -128,7 +128,7 @@ module _ (topology : Topology) (host_id port : ℕ) (switch : Found)
         switch.path port a) is known in
         found_later topology now looked host_id devices devices_looked switch found facts.0 facts.1
 
-    pub underway_past : answer ≡ None → (before : Registers)
+    pub underway_past : answer ≡ None → (before : AllRegisters)
         → IsUnderway topology before now host_id devices next (onward switch.path port)
         → IsUnderway topology before looked host_id devices_looked next_looked
         (onward switch.path (port + 1))
@@ -149,7 +149,7 @@ module _ (topology : Topology) (host_id port : ℕ) (switch : Found)
       pub child_more : length devices < length devices_looked
       child_more = facts.2
 
-      pub child_underway : (before : Registers)
+      pub child_underway : (before : AllRegisters)
           → IsUnderway topology before now host_id devices next (onward switch.path port)
           → IsUnderway topology before looked host_id devices_looked next_looked
           (onward child.path 0)
@@ -157,7 +157,7 @@ module _ (topology : Topology) (host_id port : ℕ) (switch : Found)
           subst (λ a. IsUnderwayBehind topology before looked host_id devices_looked next_looked
           switch.path port a) is (behind_here before underway)
 
-      pub child_few : (before : Registers)
+      pub child_few : (before : AllRegisters)
           → IsUnderway topology before now host_id devices next (onward switch.path port)
           → length devices_looked ≤ 64
       child_few before underway =
@@ -167,8 +167,8 @@ module _ (topology : Topology) (host_id port : ℕ) (switch : Found)
       -- and its ports were tried
       module _ (two : Topology) (two_id : ℕ) (is_two : two ≡ topology)
           (is_two_id : two_id ≡ host_id)
-          (after : Registers) (devices_after : List Device) (next_after : ℕ)
-          (explored : (before : Registers)
+          (after : AllRegisters) (devices_after : List Device) (next_after : ℕ)
+          (explored : (before : AllRegisters)
           → IsUnderway two before looked two_id devices_looked next_looked (onward child.path 0)
           → IsUnderway two before after two_id devices_after next_after
           (onward child.path child.ports))
@@ -177,7 +177,7 @@ module _ (topology : Topology) (host_id port : ℕ) (switch : Found)
         child_after = found-as two topology after two_id host_id devices_after child (sym is_two)
             (sym is_two_id) found_after
 
-        explored_here : (before : Registers)
+        explored_here : (before : AllRegisters)
             → IsUnderway topology before now host_id devices next (onward switch.path port)
             → IsUnderway topology before after host_id devices_after next_after
             (onward child.path child.ports)
@@ -188,7 +188,7 @@ module _ (topology : Topology) (host_id port : ℕ) (switch : Found)
             devices_looked (onward child.path 0) is_two is_two_id
             (child_underway before underway)))
 
-        pub underway_back : (before : Registers)
+        pub underway_back : (before : AllRegisters)
             → IsUnderway topology before now host_id devices next (onward switch.path port)
             → IsUnderway topology before after host_id devices_after next_after
             (onward switch.path (port + 1))
@@ -203,7 +203,7 @@ module _ (topology : Topology) (host_id port : ℕ) (switch : Found)
             (apart_from_host topology child_after.at.node child.ports
             done.proper.host_is_endpoint child_after.switch) child_after.switch)
 
-        pub found_back : (before : Registers)
+        pub found_back : (before : AllRegisters)
             → IsUnderway topology before now host_id devices next (onward switch.path port)
             → IsFound topology after host_id devices_after switch
         found_back before underway =

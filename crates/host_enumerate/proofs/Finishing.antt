@@ -7,7 +7,7 @@ use Rattle.std.proofs.lemmas.List.{length-map}
 use Rattle.std.proofs.lemmas.List.Elements.{All-contains}
 use Rattle.fabric_script.specs.declared.ports.PortRef.{PortRef}
 use Rattle.fabric_script.specs.Ports.{port_at}
-use Rattle.maint_registers.specs.Devices as registers
+use Rattle.maint_registers.specs.Devices.{is_switch}
 use Rattle.maint_registers.specs.Routes.{next_port}
 use Rattle.maint_registers.proofs.RouteLaws.{entry-next, default-next}
 use Rattle.fabric_map.specs.declared.map.Kind.TheVariants.{Switch}
@@ -15,7 +15,7 @@ use Rattle.fabric_map.specs.declared.map.Device.{Device}
 use Rattle.fabric_map.specs.declared.map.Entry.{Entry}
 use Rattle.fabric_map.specs.Topology.{Topology, IsPortIn, behind_port, along, entered, node_at}
 use Rattle.fabric_map.specs.Walked.{after_all_paths}
-use Rattle.fabric_map.specs.Routes.{Registers, PacketComes}
+use Rattle.fabric_map.specs.Routes.{AllRegisters, PacketComes}
 use Rattle.fabric_map.specs.Fitting.{Fits}
 use Rattle.fabric_map.specs.Locked.{IsForeign}
 use Rattle.fabric_map.specs.Numbered.{device_has_id, is_given, paths_of, toward, port_toward, port_for, entries_of, AreDescribed, IsMarked, ChangesOnly, IsNumbered}
@@ -42,7 +42,7 @@ next_below host_id next = go (cases_lt host_id next)
     go (inl less) = rw (lt-ltb host_id next less) (omega arith)
     go (inr more) = rw (le-ltb host_id next more) (omega arith)
 
-module _ (topology : Topology) (before now : Registers) (host_id next : ℕ)
+module _ (topology : Topology) (before now : AllRegisters) (host_id next : ℕ)
     (devices : List Device)
     (underway : IsUnderway topology before now host_id devices next after_all_paths)
     (fits : Fits topology now) where
@@ -89,8 +89,8 @@ module _ (topology : Topology) (before now : Registers) (host_id next : ℕ)
     all_ports : (now at.node).ports ≡ ports
     all_ports = fits.ports at.node is_port.node ∙ ap (λ o. unwrap_or o 1) has_ports
 
-    is_switch : registers.is_switch (now at.node) ≡ true
-    is_switch = fits.switches at.node ports is_port.node has_ports
+    switch : is_switch (now at.node) ≡ true
+    switch = fits.switches at.node ports is_port.node has_ports
 
     most_ports : (now at.node).ports ≤ 16
     most_ports = (fits.devices at.node is_port.node).most_ports
@@ -171,11 +171,11 @@ module _ (topology : Topology) (before now : Registers) (host_id next : ℕ)
         by_table : id ≢ host_id → (o : Option ℕ) → port_toward devices member.path id ≡ o
             → next_port (now at.node) id ≡ Some (unwrap_or o entry)
         by_table other None is =
-            default-next (now at.node) id entry is_switch
+            default-next (now at.node) id entry switch
             (table.branches id (small other) other ∙ ap (λ o. unwrap_or o 255) is)
             table.default entry_below
         by_table other (Some by) is =
-            entry-next (now at.node) id by is_switch most_ports
+            entry-next (now at.node) id by switch most_ports
             (table.branches id (small other) other ∙ ap (λ o. unwrap_or o 255) is)
             (way_below goal.0 by goal.1 (sym way ∙ is))
 

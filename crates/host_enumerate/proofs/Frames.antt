@@ -3,26 +3,26 @@ use Rattle.std.proofs.Common.{◌≡◌, ◌≢◌, ℕ, ◌<◌, ◌==◌, Bool
 use Rattle.std.proofs.lemmas.Bool.{eqb-true}
 use Rattle.fabric_script.specs.Ports.{port_at}
 use mathlib.Core.Path.{fun_ext}
-use Rattle.maint_registers.specs.Devices.{Device}
+use Rattle.maint_registers.specs.Devices.{Registers}
 use Rattle.maint_registers.specs.Table.{status_offset}
 use Rattle.maint_registers.specs.Access.{value_at}
 use Rattle.maint_registers.proofs.AccessLaws.{status-read}
 use Rattle.fabric_map.specs.Topology.{Topology, device_ports}
-use Rattle.fabric_map.specs.Routes.{Registers}
+use Rattle.fabric_map.specs.Routes.{AllRegisters}
 use Rattle.fabric_map.specs.Fitting.{Fits}
 use Rattle.host_enumerate.specs.Accesses.{registers_with}
 
 -- the device itself
-pub with_device-at : (registers : Registers) (node : ℕ) (device : Device)
+pub with_device-at : (registers : AllRegisters) (node : ℕ) (device : Registers)
     → registers_with registers node device node ≡ device
 with_device-at registers node device = rw (eq-eqb node node refl) refl
 
 -- and another
-pub with_device-other : (registers : Registers) (node other : ℕ) (device : Device)
+pub with_device-other : (registers : AllRegisters) (node other : ℕ) (device : Registers)
     → other ≢ node → registers_with registers node device other ≡ registers other
 with_device-other registers node other device apart = rw (ne_eqb other node apart) refl
 
-pub with_device-itself : (registers : Registers) (node : ℕ)
+pub with_device-itself : (registers : AllRegisters) (node : ℕ)
     → registers_with registers node (registers node) ≡ registers
 with_device-itself registers node = fun_ext (λ other. go other (eqb other node) refl)
   where
@@ -31,7 +31,7 @@ with_device-itself registers node = fun_ext (λ other. go other (eqb other node)
     go other true is = ap registers (sym (eqb-true other node is))
     go other false is = refl
 
-module _ (topology : Topology) (registers : Registers) (fits : Fits topology registers)
+module _ (topology : Topology) (registers : AllRegisters) (fits : Fits topology registers)
     (node : ℕ) (inside : node < topology.nodes) where
   -- whether a port has a link
   pub status-shows : (n port : ℕ) → n < device_ports topology node

@@ -5,7 +5,7 @@ use Rattle.maint_registers.specs.Devices.{is_switch}
 use Rattle.maint_registers.proofs.AccessLaws.{base_id-written}
 use Rattle.fabric_map.specs.Topology.{Topology, entered}
 use Rattle.fabric_map.specs.Walked.{onward}
-use Rattle.fabric_map.specs.Routes.{Registers}
+use Rattle.fabric_map.specs.Routes.{AllRegisters}
 use Rattle.host_enumerate.specs.Asking.{IsAskable, IsApart, IsWritable, PassesOnce, Becomes}
 use Rattle.host_enumerate.specs.Setting.{AreRouted, HasNewId}
 use Rattle.host_enumerate.proofs.Entries.{Leaves, askable-written}
@@ -19,7 +19,7 @@ id_of_value : (number id : ℕ) → number ≡ id → id < 255
     → value_of_id number / 0x10000 % 0x100 ≡ id
 id_of_value number id is fits = ap (λ n. value_of_id n / 0x10000 % 0x100) is ∙ omega (arith, fits)
 
-pub id-writable : (topology : Topology) (registers : Registers) (path : List ℕ) (at : PortRef)
+pub id-writable : (topology : Topology) (registers : AllRegisters) (path : List ℕ) (at : PortRef)
     (number id : ℕ) → number ≡ id → id < 255 → is_switch (registers at.node) ≡ false
     → IsApart topology path at.node → path ≢ []
     → IsWritable topology registers path at 0x60 (value_of_id number)
@@ -31,7 +31,7 @@ id-writable topology registers path at number id is fits kind apart away = recor
   id = λ empty. absurd (away empty);
 }
 
-pub id-left : (topology : Topology) (old new : Registers) (path : List ℕ) (at : PortRef)
+pub id-left : (topology : Topology) (old new : AllRegisters) (path : List ℕ) (at : PortRef)
     (number id : ℕ) → Leaves topology old new path 0x60 (value_of_id number)
     → entered topology path ≡ Some at → number ≡ id → id < 255
     → is_switch (old at.node) ≡ false
@@ -55,7 +55,7 @@ pub whole_path : (path front tail : List ℕ) (head : ℕ) → path ≡ head ∷
     → path ≡ front ++ tail
 whole_path path front tail head is is_front = is ∙ ap (λ l. l ++ tail) (sym is_front)
 
-pub rest_askable : (topology now : Topology) (old new : Registers) (host_id id : ℕ)
+pub rest_askable : (topology now : Topology) (old new : AllRegisters) (host_id id : ℕ)
     (path front tail : List ℕ) (at : PortRef) → now ≡ topology → path ≡ front ++ tail → path ≢ []
     → IsAskable topology old host_id path at → IsApart topology path at.node
     → Becomes old new at.node (record (old at.node) { base_id = id })
@@ -73,7 +73,7 @@ rest_once topology now path front tail is_now is once =
     subst (λ t. PassesOnce t (front ++ tail)) (sym is_now)
     (subst (λ l. PassesOnce topology l) is once)
 
-pub id-given : (topology now : Topology) (old mid new : Registers) (head node id : ℕ)
+pub id-given : (topology now : Topology) (old mid new : AllRegisters) (head node id : ℕ)
     (path front tail : List ℕ) → now ≡ topology → path ≡ head ∷ tail → front ≡ head ∷ []
     → Becomes old mid node (record (old node) { base_id = id })
     → AreRouted now mid new front tail id → HasNewId topology old new path node id

@@ -2,7 +2,7 @@
 use Rattle.std.proofs.Common.{◌≡◌, ◌≢◌, ℕ, ◌<◌, ◌≤◌, ◌⊎◌, inl, inr, true, false, List, Some, IsSome, option_map, Result, Ok, Err, refl, sym, ap, ◌∙◌, subst, arith}
 use Rattle.std.proofs.lemmas.Bool.{cases_lt}
 use Rattle.std.proofs.lemmas.Option.{slice_get-get_or, slice_get_past}
-use Rattle.maint_registers.specs.Devices.{Device, is_switch, new_endpoint}
+use Rattle.maint_registers.specs.Devices.{Registers, is_switch, new_endpoint}
 use Rattle.fabric_script.specs.declared.ports.PortRef.{PortRef}
 use Rattle.fabric_script.proofs.Exclusion.{named_is_there}
 use Rattle.fabric_map.specs.Plain.{registers_of}
@@ -13,7 +13,7 @@ use Rattle.host_enumerate.specs.declared.devising.NoHost.TheVariants.{Unknown, W
 
 -- ---- one node
 
-module _ (devices : List Device) (links : List (PortRef × PortRef)) (node : ℕ) where
+module _ (devices : List Registers) (links : List (PortRef × PortRef)) (node : ℕ) where
   -- a device that is a switch, or has no ID, is no endpoint with an ID
   kinds_apart : (is_switch (registers_of devices node) ≡ true)
       ⊎ ((registers_of devices node).base_id ≡ 255)
@@ -60,7 +60,7 @@ module _ (names : List (List ℕ)) (word : List ℕ) where
       by_order (inr most) (inl less) = absurd (h.first n less k.named)
       by_order (inr most) (inr least) = omega (arith, most, least)
 
-module _ (names : List (List ℕ)) (devices : List Device) (links : List (PortRef × PortRef))
+module _ (names : List (List ℕ)) (devices : List Registers) (links : List (PortRef × PortRef))
     (word : List ℕ) where
   -- a name that a node has names no other node, and is not unknown
   pub found_once : (a b : Result ℕ NoHost) → FindsHost names devices links word a

@@ -3,14 +3,14 @@ use Rattle.std.proofs.Common.{◌≡◌, ◌≢◌, ℕ, ◌<◌, ◌≤◌, tru
 use Rattle.std.proofs.lemmas.Bool.{cases_eq}
 use Rattle.std.proofs.lemmas.Option.{same_Some}
 use Rattle.fabric_script.specs.declared.ports.PortRef.{PortRef}
-use Rattle.maint_registers.specs.Devices as registers
+use Rattle.maint_registers.specs.Devices.{Registers, is_switch}
 use Rattle.maint_registers.specs.Routes.{entry_of, next_port}
 use Rattle.maint_registers.proofs.RouteLaws.{entry-next, entry-set_same, entry-set_other}
 use Rattle.fabric_map.specs.declared.map.Kind.{Kind}
 use Rattle.fabric_map.specs.declared.map.Kind.TheVariants.{Endpoint, Switch}
 use Rattle.fabric_map.specs.declared.map.Device.{Device}
 use Rattle.fabric_map.specs.Topology.{Topology, entered, node_at}
-use Rattle.fabric_map.specs.Routes.{Registers}
+use Rattle.fabric_map.specs.Routes.{AllRegisters}
 use Rattle.fabric_map.specs.Fitting.{Fits}
 use Rattle.fabric_map.specs.Numbered.{HasBaseId}
 use Rattle.fabric_map.proofs.Growing.{described-listed, described-switch, node_at-entered}
@@ -21,18 +21,18 @@ use Rattle.host_enumerate.proofs.Frames.{with_device-at, with_device-other}
 use Rattle.fabric_map.proofs.Few.{entered-port}
 
 -- the next ports of a switch
-module _ (device : registers.Device) (is_switch : registers.is_switch device ≡ true)
+module _ (device : Registers) (switch : is_switch device ≡ true)
     (few : device.ports ≤ 16) (all : length device.routes ≡ 1024) where
   -- an entry for 255 is where the host's requests go
   pub next-with_entry : (dest port : ℕ) → dest < 256 → port < device.ports
       → next_port (with_entry device dest port) dest ≡ Some port
   next-with_entry dest port within below =
-      entry-next (with_entry device dest port) dest port is_switch few
+      entry-next (with_entry device dest port) dest port switch few
       (entry-set_same device.routes dest port (omega (arith, within, all))) below
 
 -- the entry of 255 does not matter to what is held
 pub held-255 : (host_id port : ℕ) (devices : List Device) (member : Device)
-    (before now : registers.Device) → host_id < 255 → IsHeld host_id devices member before now
+    (before now : Registers) → host_id < 255 → IsHeld host_id devices member before now
     → IsHeld host_id devices member before (with_entry now 255 port)
 held-255 host_id port devices member before now is_id held = record {
   marked = record {
@@ -42,7 +42,7 @@ held-255 host_id port devices member before now is_id held = record {
   };
   not_foreign = held.not_foreign;
   changes = record {
-    rest = ap (λ (d : registers.Device). with_entry d 255 port) held.changes.rest;
+    rest = ap (λ (d : Registers). with_entry d 255 port) held.changes.rest;
     routes = λ id most less apart.
         entry-set_other now.routes 255 id port less
         ∙ held.changes.routes id most less apart;
@@ -66,11 +66,11 @@ held-255 host_id port devices member before now is_id held = record {
           ∙ has.branches id few apart;
     }
 
-module _ (topology : Topology) (before now : Registers) (host_id next : ℕ)
+module _ (topology : Topology) (before now : AllRegisters) (host_id next : ℕ)
     (devices : List Device) (bound : List ℕ)
     (underway : IsUnderway topology before now host_id devices next bound) where
   -- equal registers
-  pub underway-same : (after : Registers) → AreSame now after
+  pub underway-same : (after : AllRegisters) → AreSame now after
       → IsUnderway topology before after host_id devices next bound
   underway-same after same = record {
     proper = underway.proper;
@@ -88,7 +88,7 @@ module _ (topology : Topology) (before now : Registers) (host_id next : ℕ)
   }
 
   -- the entry of 255 of a device that was met
-  pub underway-255 : (after : Registers) (member : Device) (node port : ℕ)
+  pub underway-255 : (after : AllRegisters) (member : Device) (node port : ℕ)
       → Contains devices member → node_at topology member.path ≡ Some node
       → Becomes now after node (with_entry (now node) 255 port)
       → IsUnderway topology before after host_id devices next bound
@@ -155,7 +155,7 @@ module _ (topology : Topology) (before now : Registers) (host_id next : ℕ)
 
   -- What happens to devices that were not met does not matter, as long as none of them that bears
   -- the host's ID has a tag: each such device begins as it is now.
-  pub underway-elsewhere : (earlier after : Registers)
+  pub underway-elsewhere : (earlier after : AllRegisters)
       → (earlier topology.host).base_id ≡ host_id
       → ((member : Device) (node : ℕ) → Contains devices member
       → node_at topology member.path ≡ Some node

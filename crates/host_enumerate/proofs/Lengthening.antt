@@ -4,7 +4,7 @@ use Rattle.std.proofs.lemmas.Bool.{cases_eq}
 use Rattle.std.proofs.lemmas.List.Elements.{Contains-push, Contains-push_cases, Contains-append_left}
 use Rattle.std.proofs.lemmas.Option.{same_Some}
 use Rattle.fabric_script.specs.declared.ports.PortRef.{PortRef}
-use Rattle.maint_registers.specs.Devices as registers
+use Rattle.maint_registers.specs.Devices.{Registers}
 use Rattle.maint_registers.proofs.RouteLaws.{entry-set_same, entry-set_other}
 use Rattle.maint_registers.specs.Routes.{entry_of}
 use Rattle.fabric_map.specs.declared.map.Kind.{Kind}
@@ -12,7 +12,7 @@ use Rattle.fabric_map.specs.declared.map.Kind.TheVariants.{Endpoint, Switch}
 use Rattle.fabric_map.specs.declared.map.Device.{Device}
 use Rattle.fabric_map.specs.Topology.{Topology, entered, node_at}
 use Rattle.fabric_map.specs.Walked.{onward, Walked}
-use Rattle.fabric_map.specs.Routes.{Registers}
+use Rattle.fabric_map.specs.Routes.{AllRegisters}
 use Rattle.fabric_map.specs.Locked.{IsNext}
 use Rattle.fabric_map.specs.Numbered.{is_given, paths_of, toward, port_toward, IsDescribed, HasBaseId}
 use Rattle.fabric_map.proofs.Leading.{some_from_same}
@@ -25,7 +25,7 @@ use Rattle.fabric_map.proofs.Given.{has_id-endpoint, has_id-switch}
 
 -- a switch keeps its table if the list gets longer, if the ports that lead to IDs stay
 longer-table : (host_id : ℕ) (devices more : List Device) (path : List ℕ) (entry : ℕ)
-    (old new : registers.Device)
+    (old new : Registers)
     → HasTable host_id devices path entry old
     → new.default_port ≡ old.default_port
     → entry_of new host_id ≡ entry_of old host_id
@@ -40,7 +40,7 @@ longer-table host_id devices more path entry old new table default home branches
 }
 
 longer-table_of : (host_id : ℕ) (devices more : List Device) (device : Device)
-    (old new : registers.Device)
+    (old new : Registers)
     → HasTableOf host_id devices device old
     → new.default_port ≡ old.default_port
     → entry_of new host_id ≡ entry_of old host_id
@@ -58,7 +58,7 @@ longer-table_of host_id devices more device old new table default home branches 
         longer-table host_id devices more device.path entry old new table default home branches
 
 module _ (host_id : ℕ) (devices : List Device) (device member : Device)
-    (before now : registers.Device) (held : IsHeld host_id devices member before now) where
+    (before now : Registers) (held : IsHeld host_id devices member before now) where
   -- beside a new switch
   pub held-switch : (ports entry : ℕ) → device.kind ≡ Switch ports entry
       → IsHeld host_id (devices ++ device ∷ []) member before now
@@ -136,7 +136,7 @@ module _ (host_id : ℕ) (devices : List Device) (device member : Device)
     };
     not_foreign = held.not_foreign;
     changes = record {
-      rest = ap (λ (d : registers.Device). with_entry d given port) held.changes.rest;
+      rest = ap (λ (d : Registers). with_entry d given port) held.changes.rest;
       routes = λ id most less apart.
           entry-set_other now.routes given id port (λ same. omega (arith, same, few, most))
           ∙ held.changes.routes id most less apart;
@@ -177,7 +177,7 @@ next-short devices path short (inr last) =
     let more = ap (λ p. length p) last.3 ∙ length-append last.0 (last.1 ∷ []) in
     omega (arith, less, same, more)
 
-module _ (topology : Topology) (before now after : Registers) (host_id next next_after : ℕ)
+module _ (topology : Topology) (before now after : AllRegisters) (host_id next next_after : ℕ)
     (devices : List Device) (device : Device) (at : PortRef)
     (underway : IsUnderway topology before now host_id devices next device.path)
     (is_next : IsNext (paths_of devices) device.path)

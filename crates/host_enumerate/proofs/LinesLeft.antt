@@ -5,7 +5,7 @@ use Rattle.std.proofs.lemmas.Bool.{not-false}
 use Rattle.std.proofs.lemmas.List.{length-map}
 use Rattle.std.proofs.Math.ListN.{drop_of_length-le}
 use Rattle.std.proofs.lemmas.Option.{slice_get-get_or}
-use Rattle.maint_registers.specs.Devices.{Device, is_switch, new_endpoint}
+use Rattle.maint_registers.specs.Devices.{Registers, is_switch, new_endpoint}
 use Rattle.fabric_script.specs.declared.ports.PortRef.{PortRef}
 use Rattle.fabric_script.specs.declared.lines.Line.{Line}
 use Rattle.fabric_script.specs.declared.lines.Line.TheVariants.{Switch, Link, Route, Default, Lock, Large}
@@ -20,7 +20,8 @@ use Rattle.host_enumerate.specs.Devised.{MayDevise, devices_after, devices_after
 use Rattle.host_enumerate.proofs.NewDevices.{kind_known}
 use Rattle.host_enumerate.proofs.Devised.{Stage, stage_after, first_stage}
 
-module _ (known : Known) (new : List ℕ) (devices : List Device) (stage : Stage known devices) where
+module _ (known : Known) (new : List ℕ) (devices : List Registers)
+    (stage : Stage known devices) where
   node_there : (n : ℕ) → n < length known.names → n < length devices
   node_there n inside =
       let count = stage.count in
@@ -63,7 +64,7 @@ module _ (known : Known) (new : List ℕ) (devices : List Device) (stage : Stage
 
 -- Some lines are taken in. What they made, with the lines that are left, makes what all make.
 pub record IsLeft (names : List (List ℕ)) (lines : List Numbered) (taken : ℕ)
-    (devices : List Device) (links : List (PortRef × PortRef)) : Type 0 where
+    (devices : List Registers) (links : List (PortRef × PortRef)) : Type 0 where
   pub known : Known
   pub stage : Stage known devices
   pub passes : PassesFrom known names (drop taken lines)
@@ -80,7 +81,7 @@ all_left names lines passes = record {
   links_left = refl;
 }
 
-module _ (names : List (List ℕ)) (lines : List Numbered) (taken : ℕ) (devices : List Device)
+module _ (names : List (List ℕ)) (lines : List Numbered) (taken : ℕ) (devices : List Registers)
     (links : List (PortRef × PortRef)) (line : Numbered) (inside : taken < length lines)
     (here : line ≡ get_or lines taken line) (left : IsLeft names lines taken devices links) where
   next_is : drop taken lines ≡ line ∷ drop (taken + 1) lines
@@ -98,7 +99,7 @@ module _ (names : List (List ℕ)) (lines : List Numbered) (taken : ℕ) (device
       may_devise left.known (new_name names line.line) devices left.stage line.line passes_next.0
       passes_next.1
 
-  pub next_left : (after : List Device) (links_now : List (PortRef × PortRef))
+  pub next_left : (after : List Registers) (links_now : List (PortRef × PortRef))
       → after ≡ devices_after devices line.line → links_now ≡ links_after links line.line
       → IsLeft names lines (taken + 1) after links_now
   next_left after links_now is links_are = record {
@@ -114,7 +115,7 @@ module _ (names : List (List ℕ)) (lines : List Numbered) (taken : ℕ) (device
   }
 
 pub none_left : (names : List (List ℕ)) (lines : List Numbered) (taken : ℕ)
-    (devices : List Device) (links : List (PortRef × PortRef)) → length lines ≤ taken
+    (devices : List Registers) (links : List (PortRef × PortRef)) → length lines ≤ taken
     → IsLeft names lines taken devices links
     → (devices ≡ devices_of lines) × (links ≡ links_of lines)
 none_left names lines taken devices links past left =

@@ -9,7 +9,7 @@ use Rattle.fabric_map.specs.declared.map.Kind.TheVariants.{Endpoint, Switch}
 use Rattle.fabric_map.specs.declared.map.Device.{Device}
 use Rattle.fabric_map.specs.Topology.{Topology}
 use Rattle.fabric_map.specs.Walked.{onward}
-use Rattle.fabric_map.specs.Routes.{Registers}
+use Rattle.fabric_map.specs.Routes.{AllRegisters}
 use Rattle.fabric_map.specs.Fitting.{Fits}
 use Rattle.fabric_map.specs.Ways.{IsOpened}
 use Rattle.fabric_map.specs.Numbered.{paths_of}
@@ -44,11 +44,11 @@ ended_longer first before after faults_first faults faults_after met P Q end sam
     go NoMemory ended = ended
 
 -- A switch that was found sends on through a port that has a link.
-pub record IsSetTo (topology later_topology : Topology) (now mid later : Registers)
+pub record IsSetTo (topology later_topology : Topology) (now mid later : AllRegisters)
     (host_id next : ℕ) (devices : List Device) (switch : Found) (port : ℕ) (path : List ℕ) : Type 0
   where
     pub found : IsFound topology now host_id devices switch
-    pub some : (before : Registers)
+    pub some : (before : AllRegisters)
         × IsUnderway topology before now host_id devices next (onward switch.path port)
     pub is_topology : later_topology ≡ topology
     pub same : AreSame now mid
@@ -58,11 +58,11 @@ pub record IsSetTo (topology later_topology : Topology) (now mid later : Registe
     pub apart : port ≢ switch.entry
     pub is_path : path ≡ onward switch.path port
 
-module _ {topology later_topology : Topology} {now mid later : Registers} {host_id next : ℕ}
+module _ {topology later_topology : Topology} {now mid later : AllRegisters} {host_id next : ℕ}
     {devices : List Device} {switch : Found} {port : ℕ} {path : List ℕ}
     (set : IsSetTo topology later_topology now mid later host_id next devices switch port
     path) where
-  pub underway_here : (before : Registers)
+  pub underway_here : (before : AllRegisters)
       → IsUnderway topology before now host_id devices next (onward switch.path port)
       → IsUnderway later_topology before later host_id devices next path
   underway_here before underway =
@@ -80,13 +80,13 @@ module _ {topology later_topology : Topology} {now mid later : Registers} {host_
       set.link.0 set.same set.becomes set.link.1 set.below set.apart fits
       (subst (λ t. Fits t later) set.is_topology fits_later)))
 
-  module _ (after : Registers) (devices_after : List Device) (next_after : ℕ)
+  module _ (after : AllRegisters) (devices_after : List Device) (next_after : ℕ)
       (kind : Option Kind)
-      (tried : (before : Registers)
+      (tried : (before : AllRegisters)
       → IsUnderway later_topology before later host_id devices next path
       → IsTried later_topology before after host_id devices devices_after next next_after path kind)
       (opened : IsOpened later_topology after host_id path) where
-    tried_here : (before : Registers)
+    tried_here : (before : AllRegisters)
         → IsUnderway topology before now host_id devices next (onward switch.path port)
         → IsTried topology before after host_id devices devices_after next next_after
         (onward switch.path port) kind
@@ -101,7 +101,7 @@ module _ {topology later_topology : Topology} {now mid later : Registers} {host_
         subst (λ l. IsOpened topology after host_id l) set.is_path
         (subst (λ t. IsOpened t after host_id path) set.is_topology opened)
 
-    none_tried : kind ≡ None → (before : Registers)
+    none_tried : kind ≡ None → (before : AllRegisters)
         → IsUnderway topology before now host_id devices next (onward switch.path port)
         → IsTried topology before after host_id devices devices_after next next_after
         (onward switch.path port) None
@@ -109,7 +109,7 @@ module _ {topology later_topology : Topology} {now mid later : Registers} {host_
         subst (λ k. IsTried topology before after host_id devices devices_after next next_after
         (onward switch.path port) k) is (tried_here before underway)
 
-    pub none_looked : kind ≡ None → (before : Registers)
+    pub none_looked : kind ≡ None → (before : AllRegisters)
         → IsUnderway topology before now host_id devices next (onward switch.path port)
         → IsUnderway topology before after host_id devices_after next_after
         (onward switch.path (port + 1))
@@ -135,7 +135,7 @@ module _ {topology later_topology : Topology} {now mid later : Registers} {host_
     none_longer is =
         let long = ap (λ l. length l) (none_tried is set.some.0 set.some.1).0 in omega (arith, long)
 
-    some_tried : (is_kind : Kind) → kind ≡ Some is_kind → (before : Registers)
+    some_tried : (is_kind : Kind) → kind ≡ Some is_kind → (before : AllRegisters)
         → IsUnderway topology before now host_id devices next (onward switch.path port)
         → IsTried topology before after host_id devices devices_after next next_after
         (onward switch.path port) (Some is_kind)
@@ -155,7 +155,7 @@ module _ {topology later_topology : Topology} {now mid later : Registers} {host_
     some_longer is_kind is = let more = some_more is_kind is in omega (arith, more)
 
     pub endpoint_looked : (is_kind : Kind) (id : ℕ) → kind ≡ Some is_kind → is_kind ≡ Endpoint id
-        → (before : Registers)
+        → (before : AllRegisters)
         → IsUnderway topology before now host_id devices next (onward switch.path port)
         → IsUnderway topology before after host_id devices_after next_after
         (onward switch.path (port + 1))
@@ -177,7 +177,7 @@ module _ {topology later_topology : Topology} {now mid later : Registers} {host_
               (onward (onward switch.path port) 0) known.1,
         )
 
-    pub switch_looked : (is_kind : Kind) → kind ≡ Some is_kind → (before : Registers)
+    pub switch_looked : (is_kind : Kind) → kind ≡ Some is_kind → (before : AllRegisters)
         → IsUnderway topology before now host_id devices next (onward switch.path port)
         → IsUnderway topology before after host_id devices_after next_after (onward path 0)
     switch_looked is_kind is before underway =

@@ -12,7 +12,7 @@ use Rattle.fabric_map.specs.declared.map.Kind.TheVariants.{Endpoint, Switch}
 use Rattle.fabric_map.specs.declared.map.Device.{Device}
 use Rattle.fabric_map.specs.Topology.{Topology, entered, node_at}
 use Rattle.fabric_map.specs.Walked.{onward, IsMet}
-use Rattle.fabric_map.specs.Routes.{Registers}
+use Rattle.fabric_map.specs.Routes.{AllRegisters}
 use Rattle.fabric_map.specs.Fitting.{Fits}
 use Rattle.fabric_map.specs.Ways.{IsOpened}
 use Rattle.fabric_map.specs.Numbered.{paths_of, IsKindAt, IsDescribed}
@@ -51,10 +51,10 @@ switch_at topology host_id n earlier member described is =
         let same : ports ≡ n = same_Some ports n is in
         shown ∙ (ap (λ p. Switch p entry) (kind.0 ∙ same) ∙ ap (λ e. Switch n e) kind.1)
 
-module _ (topology : Topology) (now : Registers) (host_id next : ℕ) (devices : List Device)
+module _ (topology : Topology) (now : AllRegisters) (host_id next : ℕ) (devices : List Device)
     (switch : Found) (port : ℕ)
     (found : IsFound topology now host_id devices switch)
-    (some : (before : Registers)
+    (some : (before : AllRegisters)
     × IsUnderway topology before now host_id devices next (onward switch.path port)) where
   underway : IsUnderway topology some.0 now host_id devices next (onward switch.path port)
   underway = some.1
@@ -146,8 +146,8 @@ module _ (topology : Topology) (now : Registers) (host_id next : ℕ) (devices :
       go (Some end) link = (end, link)
 
   -- past a port without a link
-  pub unlinked_passed : (later : Registers) → AreSame now later
-      → topology.peer (port_at found.at.node port) ≡ None → (before : Registers)
+  pub unlinked_passed : (later : AllRegisters) → AreSame now later
+      → topology.peer (port_at found.at.node port) ≡ None → (before : AllRegisters)
       → IsUnderway topology before now host_id devices next (onward switch.path port)
       → IsUnderway topology before later host_id devices next (onward switch.path (port + 1))
   unlinked_passed later same none before underway =
@@ -156,11 +156,11 @@ module _ (topology : Topology) (now : Registers) (host_id next : ℕ) (devices :
       later same)
       found.listed found.leads none
 
-  pub same_opened : (later : Registers) → AreSame now later
+  pub same_opened : (later : AllRegisters) → AreSame now later
       → IsOpened topology later host_id switch.path
   same_opened later same = opened-same topology now later host_id switch.path found.opened same
 
-  pub settable_now : (later_topology : Topology) (later : Registers) → later_topology ≡ topology
+  pub settable_now : (later_topology : Topology) (later : AllRegisters) → later_topology ≡ topology
       → AreSame now later → Fits topology now
       → IsAskable later_topology later host_id switch.path found.at
       × IsApart later_topology switch.path found.at.node
@@ -174,7 +174,7 @@ module _ (topology : Topology) (now : Registers) (host_id next : ℕ) (devices :
   )
 
   -- behind a port with a link
-  module _ (mid later : Registers) (end : PortRef)
+  module _ (mid later : AllRegisters) (end : PortRef)
       (same : AreSame now mid)
       (becomes : Becomes mid later found.at.node (with_entry (mid found.at.node) 255 port))
       (link : topology.peer (port_at found.at.node port) ≡ Some end)
@@ -184,7 +184,7 @@ module _ (topology : Topology) (now : Registers) (host_id next : ℕ) (devices :
         (subst (λ n. port < n)
         (sym (followed-ports topology found.at.node switch.ports not_host found.switch)) below) link
 
-    pub underway_then : (before : Registers)
+    pub underway_then : (before : AllRegisters)
         → IsUnderway topology before now host_id devices next (onward switch.path port)
         → IsUnderway topology before later host_id devices next (onward switch.path port)
     underway_then before is_underway =
@@ -241,7 +241,7 @@ module _ (topology : Topology) (now : Registers) (host_id next : ℕ) (devices :
         found.leads (λ _ is. apart (is ∙ sym found.entry)) behind_enters)
 
     -- what is behind it was met
-    pub met_passed : (after : Registers) (before : Registers)
+    pub met_passed : (after : AllRegisters) (before : AllRegisters)
         → IsUnderway topology before after host_id devices next (onward switch.path port)
         → IsMet topology (paths_of devices) (onward switch.path port)
         → IsUnderway topology before after host_id devices next (onward switch.path (port + 1))
@@ -249,7 +249,7 @@ module _ (topology : Topology) (now : Registers) (host_id next : ℕ) (devices :
         underway-past topology before after host_id next devices switch.path port is_underway
         found.listed (λ _. met)
 
-    module _ (after : Registers) (devices_after : List Device) (next_after : ℕ) (is_kind : Kind)
+    module _ (after : AllRegisters) (devices_after : List Device) (next_after : ℕ) (is_kind : Kind)
         (longer : devices_after ≡ devices
         ++ met_as devices is_kind (onward switch.path port) ∷ [])
         (opened : IsOpened topology after host_id (onward switch.path port)) where
@@ -267,7 +267,7 @@ module _ (topology : Topology) (now : Registers) (host_id next : ℕ) (devices :
       pub opened_back : IsOpened topology after host_id switch.path
       opened_back = opened-front topology after host_id switch.path (port ∷ []) opened
 
-      pub endpoint_passed : (id : ℕ) → is_kind ≡ Endpoint id → (before : Registers)
+      pub endpoint_passed : (id : ℕ) → is_kind ≡ Endpoint id → (before : AllRegisters)
           → IsUnderway topology before after host_id devices_after next_after
           (onward (onward switch.path port) 0)
           → IsUnderway topology before after host_id devices_after next_after
@@ -289,14 +289,14 @@ module _ (topology : Topology) (now : Registers) (host_id next : ℕ) (devices :
               switch.path found.at end port underway.proper (empty-before switch.path port)
               found.listed found.leads (λ _ is. apart (is ∙ sym found.entry)) behind_enters)
 
-      pub path_still : (before : Registers) (bound : List ℕ)
+      pub path_still : (before : AllRegisters) (bound : List ℕ)
           → IsUnderway topology before after host_id devices_after next_after bound
           → Contains (paths_of devices_after) switch.path
       path_still before bound is_underway =
           is_underway.walked.fronts switch.path port
           (path_listed devices_after (met_as devices is_kind (onward switch.path port)) listed_new)
 
-      pub switch_found : (ports entry : ℕ) → is_kind ≡ Switch ports entry → (before : Registers)
+      pub switch_found : (ports entry : ℕ) → is_kind ≡ Switch ports entry → (before : AllRegisters)
           → (bound : List ℕ)
           → IsUnderway topology before after host_id devices_after next_after bound
           → IsFound topology after host_id devices_after

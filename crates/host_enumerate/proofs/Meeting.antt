@@ -6,7 +6,7 @@ use Rattle.fabric_script.specs.declared.ports.PortRef.{PortRef}
 use Rattle.fabric_map.specs.declared.map.Device.{Device}
 use Rattle.fabric_map.specs.Topology.{Topology, entered, node_at, IsReached}
 use Rattle.fabric_map.specs.Walked.{Before, IsMet}
-use Rattle.fabric_map.specs.Routes.{Registers}
+use Rattle.fabric_map.specs.Routes.{AllRegisters}
 use Rattle.fabric_map.specs.Locked.{IsForeign, IsNext}
 use Rattle.fabric_map.specs.Numbered.{paths_of, ChangesOnly}
 use Rattle.fabric_map.proofs.Lists.{Contains-first, Contains-rest, Contains-cases}
@@ -50,7 +50,7 @@ member_or_unmet topology (first ∷ devices) node =
         at (inl same) = inl (first, Contains-first first devices, is ∙ ap (λ k. Some k) same)
         at (inr other) = inr (unlike (Some n) is (λ same. other (cc)) unmet)
 
-module _ (topology : Topology) (before now : Registers) (host_id next : ℕ)
+module _ (topology : Topology) (before now : AllRegisters) (host_id next : ℕ)
     (devices : List Device) (bound : List ℕ)
     (underway : IsUnderway topology before now host_id devices next bound) where
   -- the lock of a device that was met is the host's ID

@@ -4,7 +4,7 @@ use Rattle.std.proofs.Common.{◌≡◌, ◌≢◌, ℕ, zero, suc, ◌/◌, ◌
 use Rattle.std.proofs.Math.Nat.{zero-div}
 use Rattle.std.proofs.lemmas.Bool.{cases_eq, cases_Bool}
 use Rattle.std.proofs.lemmas.Option.{same_Some, slice_get-map}
-use Rattle.maint_registers.specs.Devices.{Device, IsDevice, is_switch, new_endpoint, new_switch, with_link}
+use Rattle.maint_registers.specs.Devices.{Registers, IsDevice, is_switch, new_endpoint, new_switch, with_link}
 use Rattle.maint_registers.specs.Changes.{with_device, linked_at, routed, defaulted, held_by, large_set}
 use Rattle.maint_registers.proofs.ChangeLaws.{device-changed, device-kept}
 use Rattle.maint_registers.proofs.LinkLaws.{bit_set, bit_others}
@@ -20,7 +20,7 @@ use Rattle.host_enumerate.specs.Devised.{with_linked_end}
 -- ---- one device
 
 -- a device of a fabric in which these ports have links
-pub record IsNew (linked : PortRef → Bool) (node : ℕ) (held : Device) : Type 0 where
+pub record IsNew (linked : PortRef → Bool) (node : ℕ) (held : Registers) : Type 0 where
   pub device : IsDevice held
   pub id : held.base_id < 256
   pub large_id : held.large_id < 65536
@@ -30,8 +30,8 @@ pub record IsNew (linked : PortRef → Bool) (node : ℕ) (held : Device) : Type
       → held.linked / 2 ^ port % 2 ≡ (if linked (port_at node port) then 1 else 0)
 
 -- what each device of some is
-abbrev pub AreNew : (PortRef → Bool) → List Device → Type 0
-AreNew linked devices = (node : ℕ) (held : Device) → slice_get devices node ≡ Some held
+abbrev pub AreNew : (PortRef → Bool) → List Registers → Type 0
+AreNew linked devices = (node : ℕ) (held : Registers) → slice_get devices node ≡ Some held
     → IsNew linked node held
 
 -- a port that has no link shows none
@@ -75,7 +75,7 @@ new_switch_is linked node ports most none = record {
 }
 
 -- its links, its lock and its default port may be any
-stays_device : (held : Device) (links lock port : ℕ) → IsDevice held
+stays_device : (held : Registers) (links lock port : ℕ) → IsDevice held
     → IsDevice (record held { linked = links; lock = lock; default_port = port })
 stays_device held links lock port is = record {
   most_ports = is.most_ports;
@@ -86,7 +86,7 @@ stays_device held links lock port is = record {
   selected = is.selected;
 }
 
-module _ (linked : PortRef → Bool) (node : ℕ) (held : Device) (is : IsNew linked node held) where
+module _ (linked : PortRef → Bool) (node : ℕ) (held : Registers) (is : IsNew linked node held) where
   pub routed_is : (id port : ℕ) → IsNew linked node (routed id port held)
   routed_is id port = record {
     device = record {
@@ -125,10 +125,10 @@ module _ (linked : PortRef → Bool) (node : ℕ) (held : Device) (is : IsNew li
   }
 
 -- an endpoint has the ID
-large_of : (held : Device) (id : ℕ) → is_switch held ≡ false → is_switch held ≡ true → id ≡ 0
+large_of : (held : Registers) (id : ℕ) → is_switch held ≡ false → is_switch held ≡ true → id ≡ 0
 large_of held id endpoint switch = absurd (cc)
 
-pub large_set_is : (linked : PortRef → Bool) (node : ℕ) (held : Device) (id : ℕ) → id < 65536
+pub large_set_is : (linked : PortRef → Bool) (node : ℕ) (held : Registers) (id : ℕ) → id < 65536
     → is_switch held ≡ false → IsNew linked node held → IsNew linked node (large_set id held)
 large_set_is linked node held id below endpoint is = record {
   device = record {
@@ -164,7 +164,7 @@ also_other linked a p apart = go (cases_Bool (same_port a p))
     go (inl same) = absurd (apart (sym (port_is a p same)))
     go (inr other) = ap (λ b. linked p || b) other ∙ or_false (linked p)
 
-linked_at_is : (linked : PortRef → Bool) (a : PortRef) (held : Device)
+linked_at_is : (linked : PortRef → Bool) (a : PortRef) (held : Registers)
     → IsNew linked a.node held → IsNew (also linked a) a.node (linked_at a.port held)
 linked_at_is linked a held is = record {
   device = stays_device held (with_link held.linked a.port) held.lock held.default_port
@@ -191,7 +191,8 @@ linked_at_is linked a held is = record {
         (also_other linked a (port_at a.node port)
         (λ same. apart (ap (λ (p : PortRef). p.port) same)))))
 
-also_elsewhere : (linked : PortRef → Bool) (a : PortRef) (node : ℕ) (held : Device) → node ≢ a.node
+also_elsewhere : (linked : PortRef → Bool) (a : PortRef) (node : ℕ) (held : Registers)
+    → node ≢ a.node
     → IsNew linked node held → IsNew (also linked a) node held
 also_elsewhere linked a node held apart is = record {
   device = is.device;
@@ -207,7 +208,7 @@ also_elsewhere linked a node held apart is = record {
 -- ---- several devices
 
 -- a device is a switch if the node of its line is one
-pub kind_known : (devices : List Device) (nodes : List Node) (n : ℕ) (held : Device)
+pub kind_known : (devices : List Registers) (nodes : List Node) (n : ℕ) (held : Registers)
     → map is_switch devices ≡ map (λ node. node_is_switch (Some node)) nodes
     → slice_get devices n ≡ Some held → is_switch held ≡ is_known_switch nodes n
 kind_known devices nodes n held kinds stands = go (slice_get nodes n) refl
@@ -229,15 +230,15 @@ kind_known devices nodes n held kinds stands = go (slice_get nodes n) refl
         ∙ ap (λ o. node_is_switch o) (sym is)
 
 -- one of them is changed
-pub are_changed : (linked now : PortRef → Bool) (devices : List Device) (n : ℕ)
-    (change : Device → Device)
-    → ((held : Device) → slice_get devices n ≡ Some held → IsNew linked n held
+pub are_changed : (linked now : PortRef → Bool) (devices : List Registers) (n : ℕ)
+    (change : Registers → Registers)
+    → ((held : Registers) → slice_get devices n ≡ Some held → IsNew linked n held
     → IsNew now n (change held))
-    → ((node : ℕ) (held : Device) → node ≢ n → IsNew linked node held → IsNew now node held)
+    → ((node : ℕ) (held : Registers) → node ≢ n → IsNew linked node held → IsNew now node held)
     → AreNew linked devices → AreNew now (with_device devices n change)
 are_changed linked now devices n change here others are node held stands = go (cases_eq node n)
   where
-    changed : (o : Option Device) → slice_get devices n ≡ o → option_map change o ≡ Some held
+    changed : (o : Option Registers) → slice_get devices n ≡ o → option_map change o ≡ Some held
         → IsNew now n held
     changed None is same = absurd (cc)
     changed (Some old) is same =
@@ -253,7 +254,7 @@ are_changed linked now devices n change here others are node held stands = go (c
         others node held apart
         (are node held (sym (device-kept devices n node change apart) ∙ stands))
 
-pub are_linked : (linked : PortRef → Bool) (devices : List Device) (a : PortRef)
+pub are_linked : (linked : PortRef → Bool) (devices : List Registers) (a : PortRef)
     → AreNew linked devices → AreNew (also linked a) (with_linked_end devices a)
 are_linked linked devices a are =
     are_changed linked (also linked a) devices a.node (linked_at a.port)
@@ -273,7 +274,7 @@ behind (first ∷ xs) x y (suc n) is = go (behind xs x y n is)
     go (inl before) = inl before
     go (inr last) = inr (ap suc last.0, last.1)
 
-pub are_longer : (linked : PortRef → Bool) (devices : List Device) (new : Device)
+pub are_longer : (linked : PortRef → Bool) (devices : List Registers) (new : Registers)
     → AreNew linked devices → IsNew linked (length devices) new
     → AreNew linked (devices ++ new ∷ [])
 are_longer linked devices new are is node held stands = go (behind devices new held node stands)
@@ -284,7 +285,7 @@ are_longer linked devices new are is node held stands = go (behind devices new h
     go (inr last) = subst (λ m. IsNew linked m held) (sym last.0)
         (subst (λ d. IsNew linked (length devices) d) last.1 is)
 
-pub are_as : (linked now : PortRef → Bool) (devices : List Device)
+pub are_as : (linked now : PortRef → Bool) (devices : List Registers)
     → ((p : PortRef) → linked p ≡ now p) → AreNew linked devices → AreNew now devices
 are_as linked now devices same are node held stands =
     let is = are node held stands in

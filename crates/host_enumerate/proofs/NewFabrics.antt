@@ -3,7 +3,7 @@ use Rattle.std.proofs.Common.{◌≡◌, ℕ, zero, suc, ◌<◌, ◌≤◌, Boo
 use Rattle.std.proofs.lemmas.Bool.{cases_lt, cases_Bool}
 use Rattle.std.proofs.lemmas.List.{length-map}
 use Rattle.std.proofs.lemmas.Option.{same_Some, slice_get-map, slice_get-get_or, slice_get_past, slice_get_within}
-use Rattle.maint_registers.specs.Devices.{Device, IsDevice, is_switch, new_endpoint}
+use Rattle.maint_registers.specs.Devices.{Registers, IsDevice, is_switch, new_endpoint}
 use Rattle.fabric_script.specs.declared.ports.PortRef.{PortRef}
 use Rattle.fabric_script.specs.declared.known.Node.{Node}
 use Rattle.fabric_script.specs.declared.lines.Numbered.{Numbered}
@@ -20,7 +20,7 @@ use Rattle.host_enumerate.specs.Devised.{IsHost, devices_of, links_of}
 use Rattle.host_enumerate.proofs.NewDevices.{IsNew}
 use Rattle.host_enumerate.proofs.Devised.{IsEnd, count_ports, Stage, stage_after_all, first_stage}
 
-module _ (end : Known) (devices : List Device) (host : ℕ) (stage : Stage end devices)
+module _ (end : Known) (devices : List Registers) (host : ℕ) (stage : Stage end devices)
     (endpoint : option_map is_switch (slice_get devices host) ≡ Some false)
     (host_has_id : (registers_of devices host).base_id < 255)
     (linked : IsSome (peer_in end.links (port_at host 0))) where
@@ -44,7 +44,7 @@ module _ (end : Known) (devices : List Device) (host : ℕ) (stage : Stage end d
   kind_at node inside = ap (λ d. option_and_then ports_of_switch d) (device_at node inside)
 
   -- an endpoint has one port
-  ports_shown : (device : Device) → IsDevice device
+  ports_shown : (device : Registers) → IsDevice device
       → unwrap_or (ports_of_switch device) 1 ≡ device.ports
   ports_shown device is = go (cases_Bool (is_switch device))
     where
@@ -86,7 +86,7 @@ module _ (end : Known) (devices : List Device) (host : ℕ) (stage : Stage end d
   host_inside : host < length devices
   host_inside = go (slice_get devices host) refl endpoint
     where
-      go : (o : Option Device) → slice_get devices host ≡ o
+      go : (o : Option Registers) → slice_get devices host ≡ o
           → option_map is_switch o ≡ Some false → host < length devices
       go None is none = absurd (cc)
       go (Some device) is same = slice_get_within devices host device is
@@ -120,14 +120,14 @@ module _ (end : Known) (devices : List Device) (host : ℕ) (stage : Stage end d
     two_ports = λ p is. (stage.ends p p is).apart refl;
   }
 
-  endpoint_of : (device : Device) → ports_of_switch device ≡ None → is_switch device ≡ false
+  endpoint_of : (device : Registers) → ports_of_switch device ≡ None → is_switch device ≡ false
   endpoint_of device is = go (is_switch device) is
     where
       go : (b : Bool) → (if b then Some device.ports else None) ≡ None → b ≡ false
       go true is = absurd (cc)
       go false is = refl
 
-  switch_of : (device : Device) (ports : ℕ) → ports_of_switch device ≡ Some ports
+  switch_of : (device : Registers) (ports : ℕ) → ports_of_switch device ≡ Some ports
       → is_switch device ≡ true
   switch_of device ports is = go (is_switch device) is
     where
@@ -170,7 +170,7 @@ devised_fabric names lines host passes is_host =
     (subst (λ l. IsSome (peer_in l (port_at host 0))) (sym end.2) is_host.linked))
 
 -- devices and links that are those of the lines
-pub made_fabric : (names : List (List ℕ)) (lines : List Numbered) (devices : List Device)
+pub made_fabric : (names : List (List ℕ)) (lines : List Numbered) (devices : List Registers)
     (links : List (PortRef × PortRef)) (host : ℕ) → ScriptPasses names lines
     → IsHost (devices_of lines) (links_of lines) host → devices ≡ devices_of lines
     → links ≡ links_of lines → IsNewFabric devices links host

@@ -6,7 +6,7 @@ use Rattle.maint_registers.specs.Access.{value_at}
 use Rattle.fabric_map.specs.declared.map.Device.{Device}
 use Rattle.fabric_map.specs.Topology.{Topology, IsTopology, entered}
 use Rattle.fabric_map.specs.Walked.{after_all_paths}
-use Rattle.fabric_map.specs.Routes.{Registers}
+use Rattle.fabric_map.specs.Routes.{AllRegisters}
 use Rattle.fabric_map.specs.Fitting.{Fits}
 use Rattle.fabric_map.specs.Numbered.{entries_of, IsNumbered}
 use Rattle.host_enumerate.specs.Asking.{IsAskable, AreSame}
@@ -15,7 +15,7 @@ use Rattle.host_enumerate.specs.Ends.{IsLockFree}
 use Rattle.host_enumerate.proofs.Starting.{begun, own_askable, own_answers, own_id}
 use Rattle.host_enumerate.proofs.Finishing.{underway-numbered, underway-free}
 
-pub can_read : (topology : Topology) (registers : Registers) (path : List ℕ)
+pub can_read : (topology : Topology) (registers : AllRegisters) (path : List ℕ)
     → IsTopology topology → Fits topology registers → path ≡ []
     → (host_id : ℕ) × (at : PortRef) × IsAskable topology registers host_id path at
     × IsSome (value_at (registers at.node) 0x60 at.port)
@@ -27,7 +27,7 @@ can_read topology registers path proper fits empty = (
   own_answers topology registers proper fits,
 )
 
-module _ (topology one : Topology) (before now : Registers) (path : List ℕ) (value : ℕ)
+module _ (topology one : Topology) (before now : AllRegisters) (path : List ℕ) (value : ℕ)
     (proper : IsTopology topology) (fits : Fits topology before) (empty : path ≡ [])
     (is_one : one ≡ topology) (same : AreSame before now)
     (told : (at : PortRef) → entered topology path ≡ Some at
@@ -47,9 +47,9 @@ module _ (topology one : Topology) (before now : Registers) (path : List ℕ) (v
         (begun topology before now (value / 65536) proper (sym is_id)
         (subst (λ n. n < 255) (sym is_id) below) untagged same)
 
-    module _ (two : Topology) (after : Registers) (devices : List Device) (is_two : two ≡ one)
+    module _ (two : Topology) (after : AllRegisters) (devices : List Device) (is_two : two ≡ one)
         (fits_after : Fits two after)
-        (numbered : (before : Registers) → IsUnderway one before now (value / 65536) [] 0 []
+        (numbered : (before : AllRegisters) → IsUnderway one before now (value / 65536) [] 0 []
         → (next : ℕ) × IsUnderway one before after (value / 65536) devices next
         after_all_paths) where
       done : (next : ℕ)

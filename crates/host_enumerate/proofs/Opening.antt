@@ -3,11 +3,11 @@ use Rattle.std.proofs.Common.{◌≡◌, ◌≢◌, ℕ, ◌-◌, ◌==◌, Bool
 use Rattle.std.proofs.lemmas.Option.{same_Some}
 use Rattle.fabric_script.specs.declared.ports.PortRef.{PortRef}
 use Rattle.fabric_script.specs.Ports.{port_at}
-use Rattle.maint_registers.specs.Devices.{Device}
+use Rattle.maint_registers.specs.Devices.{Registers}
 use Rattle.maint_registers.specs.Routes.{next_port}
 use Rattle.maint_registers.specs.Access.{value_at}
 use Rattle.fabric_map.specs.Topology.{Topology, IsTopology, entered}
-use Rattle.fabric_map.specs.Routes.{Registers, walk}
+use Rattle.fabric_map.specs.Routes.{AllRegisters, walk}
 use Rattle.fabric_map.specs.Ways.{IsOpened}
 use Rattle.fabric_map.proofs.Ways.{request_ends, answer_returns}
 use Rattle.host_enumerate.specs.declared.maint.Access.{Access}
@@ -16,24 +16,24 @@ use Rattle.host_enumerate.specs.Accesses.{after_read, after_access, answered, Is
 use Rattle.host_enumerate.proofs.Frames.{with_device-at, with_device-other}
 use Rattle.host_enumerate.specs.Asking.{IsAskable, IsOpenAfter, IsApart, IsWritable, AreSame, Becomes}
 
-pub became : (old new : Registers) (node : ℕ) (held : Device) → Becomes old new node held
+pub became : (old new : AllRegisters) (node : ℕ) (held : Registers) → Becomes old new node held
     → new node ≡ held
 became old new node held becomes = becomes node ∙ with_device-at old node held
 
-pub stays : (old new : Registers) (node other : ℕ) (held : Device) → Becomes old new node held
+pub stays : (old new : AllRegisters) (node other : ℕ) (held : Registers) → Becomes old new node held
     → other ≢ node → new other ≡ old other
 stays old new node other held becomes apart =
     becomes other ∙ with_device-other old node other held apart
 
 -- what each switch on the way sends by
-unfoldable pub SendsAs : Topology → Registers → Registers → ℕ → List ℕ → Type 0
+unfoldable pub SendsAs : Topology → AllRegisters → AllRegisters → ℕ → List ℕ → Type 0
 SendsAs topology old new host_id path =
     (first : ℕ) (front rest : List ℕ) (port : ℕ) (at : PortRef)
     → path ≡ first ∷ front ++ port ∷ rest → entered topology (first ∷ front) ≡ Some at
     → (next_port (new at.node) 255 ≡ next_port (old at.node) 255)
     × (next_port (new at.node) host_id ≡ next_port (old at.node) host_id)
 
-pub opened-as : (topology : Topology) (old new : Registers) (host_id : ℕ) (path : List ℕ)
+pub opened-as : (topology : Topology) (old new : AllRegisters) (host_id : ℕ) (path : List ℕ)
     → IsOpened topology old host_id path → SendsAs topology old new host_id path
     → IsOpened topology new host_id path
 unfolding SendsAs
@@ -47,7 +47,7 @@ opened-as topology old new host_id path opened sends = record {
   not_host = opened.not_host;
 }
 
-pub opened-same : (topology : Topology) (old new : Registers) (host_id : ℕ) (path : List ℕ)
+pub opened-same : (topology : Topology) (old new : AllRegisters) (host_id : ℕ) (path : List ℕ)
     → IsOpened topology old host_id path → AreSame old new → IsOpened topology new host_id path
 unfolding SendsAs
 opened-same topology old new host_id path opened same = opened-as topology old new host_id path
@@ -56,7 +56,8 @@ opened-same topology old new host_id path opened same = opened-as topology old n
       ap (λ d. next_port d host_id) (same at.node),
     ))
 
-pub opened-apart : (topology : Topology) (old new : Registers) (host_id node : ℕ) (held : Device)
+pub opened-apart : (topology : Topology) (old new : AllRegisters) (host_id node : ℕ)
+    (held : Registers)
     (path : List ℕ) → IsOpened topology old host_id path → Becomes old new node held
     → IsApart topology path node → IsOpened topology new host_id path
 unfolding SendsAs
@@ -74,7 +75,7 @@ pub at_host : (topology : Topology) (path : List ℕ) (at : PortRef) → length 
 at_host topology [] at none enters = same_Some (port_at topology.host 0) at enters
 at_host topology (x ∷ path) at none enters = absurd (omega (arith, none))
 
-pub answerable : (topology : Topology) (registers : Registers) (host_id : ℕ) (path : List ℕ)
+pub answerable : (topology : Topology) (registers : AllRegisters) (host_id : ℕ) (path : List ℕ)
     (at : PortRef) (access : Access) → IsTopology topology
     → IsAskable topology registers host_id path at
     → IsOpenAfter topology registers host_id path at access → length path ≢ 0
@@ -104,12 +105,13 @@ pub same_end : (topology : Topology) (path : List ℕ) (p q : PortRef)
     → entered topology path ≡ Some p → entered topology path ≡ Some q → p ≡ q
 same_end topology path p q one other = same_Some p q (sym one ∙ other)
 
-after_read_stays : (device : Device) (value : Option ℕ) → (after_read device value).device ≡ device
+after_read_stays : (device : Registers) (value : Option ℕ)
+    → (after_read device value).device ≡ device
 after_read_stays device (Some value) = refl
 after_read_stays device None = refl
 
 -- a read leaves all registers
-pub same_after_read : (old new : Registers) (at : PortRef) (offset : ℕ)
+pub same_after_read : (old new : AllRegisters) (at : PortRef) (offset : ℕ)
     → Becomes old new at.node (answered (old at.node) at.port (Read offset)).device
     → AreSame old new
 same_after_read old new at offset becomes node = becomes node ∙ go (node == at.node) refl
@@ -122,15 +124,15 @@ same_after_read old new at offset becomes node = becomes node ∙ go (node == at
         ∙ ap old (sym (eqb-true node at.node is))
     go false is = refl
 
-pub open_after_read : (topology : Topology) (registers : Registers) (host_id : ℕ) (path : List ℕ)
+pub open_after_read : (topology : Topology) (registers : AllRegisters) (host_id : ℕ) (path : List ℕ)
     (at : PortRef) (offset : ℕ) → IsOpened topology registers host_id path
     → IsOpenAfter topology registers host_id path at (Read offset)
 open_after_read topology registers host_id path at offset opened =
     opened-same topology registers (after_access registers at (Read offset)) host_id path opened
     (same_after_read registers (after_access registers at (Read offset)) at offset (λ other. refl))
 
-pub open_after_write : (topology : Topology) (registers : Registers) (host_id : ℕ)
-    (path : List ℕ) (at : PortRef) (offset value : ℕ) (held : Device)
+pub open_after_write : (topology : Topology) (registers : AllRegisters) (host_id : ℕ)
+    (path : List ℕ) (at : PortRef) (offset value : ℕ) (held : Registers)
     → IsOpened topology registers host_id path
     → IsWritable topology registers path at offset value held
     → IsOpenAfter topology registers host_id path at (Write offset value)

@@ -2,17 +2,17 @@
 use Rattle.std.proofs.Common.{◌≡◌, ◌≢◌, ℕ, zero, suc, ◌-◌, ◌<◌, true, false, List, length, slice_index_or, Option, Some, None, option_and_then, arith, refl, sym, ap, subst, ◌∙◌}
 use Rattle.std.proofs.lemmas.Option.{same_Some}
 use Rattle.fabric_script.specs.declared.ports.PortRef.{PortRef}
-use Rattle.maint_registers.specs.Devices.{Device, is_switch}
+use Rattle.maint_registers.specs.Devices.{Registers, is_switch}
 use Rattle.maint_registers.specs.Routes.{next_port}
 use Rattle.fabric_script.specs.Peers.{peer_in}
 use Rattle.fabric_script.specs.Ports.{port_at}
 use Rattle.fabric_map.specs.Topology.{Topology, IsTopology}
-use Rattle.fabric_map.specs.Routes.{Registers, passed, walk}
+use Rattle.fabric_map.specs.Routes.{AllRegisters, passed, walk}
 use Rattle.fabric_map.specs.Plain.{ports_of_switch, topology_of, registers_of}
 use Rattle.host_enumerate.proofs.Accessed.{read_is, registers_of-read}
 
 -- behind a link there is a device
-pub linked-inside : (devices : List Device) (links : List (PortRef × PortRef)) (host : ℕ)
+pub linked-inside : (devices : List Registers) (links : List (PortRef × PortRef)) (host : ℕ)
     (from at : PortRef)
     → IsTopology (topology_of devices links host) → peer_in links from ≡ Some at
     → at.node < length devices
@@ -20,7 +20,7 @@ linked-inside devices links host from at is linked =
     (is.ports at from (is.both_ways from at linked)).node
 
 -- at a device without ports of a switch it ends
-ends : (topology : Topology) (registers : Registers) (dest hops : ℕ) (from at : PortRef)
+ends : (topology : Topology) (registers : AllRegisters) (dest hops : ℕ) (from at : PortRef)
     → topology.peer from ≡ Some at → topology.switch_ports at.node ≡ None
     → walk topology registers dest hops from ≡ Some at
 ends topology registers dest zero from at linked kind = linked
@@ -34,7 +34,7 @@ ends topology registers dest (suc hops) from at linked kind =
     through = rw kind refl
 
 -- and behind one with them it goes on
-goes_on : (topology : Topology) (registers : Registers) (dest hops ports : ℕ) (from at : PortRef)
+goes_on : (topology : Topology) (registers : AllRegisters) (dest hops ports : ℕ) (from at : PortRef)
     → topology.peer from ≡ Some at → topology.switch_ports at.node ≡ Some ports
     → walk topology registers dest (suc hops) from
     ≡ option_and_then (λ port. walk topology registers dest hops (port_at at.node port))
@@ -49,16 +49,17 @@ goes_on topology registers dest hops ports from at linked kind =
         (next_port (registers at.node) dest)
     through = rw kind refl
 
-of_endpoint : (device : Device) → is_switch device ≡ false → ports_of_switch device ≡ None
+of_endpoint : (device : Registers) → is_switch device ≡ false → ports_of_switch device ≡ None
 of_endpoint device is = rw is refl
 
-of_switch : (device : Device) → is_switch device ≡ true
+of_switch : (device : Registers) → is_switch device ≡ true
     → ports_of_switch device ≡ Some device.ports
 of_switch device is = rw is refl
 
 -- at an endpoint a request ends
-pub walk-endpoint : (devices : List Device) (links : List (PortRef × PortRef)) (host dest hops : ℕ)
-    (from at : PortRef) (device : Device)
+pub walk-endpoint : (devices : List Registers) (links : List (PortRef × PortRef))
+    (host dest hops : ℕ)
+    (from at : PortRef) (device : Registers)
     → IsTopology (topology_of devices links host) → peer_in links from ≡ Some at
     → device ≡ slice_index_or devices at.node device → is_switch device ≡ false
     → walk (topology_of devices links host) (registers_of devices) dest hops from ≡ Some at
@@ -69,8 +70,8 @@ walk-endpoint devices links host dest hops from at device is linked read kind =
     ∙ of_endpoint device kind)
 
 -- behind a switch it goes on by the port that the table names
-pub walk-switch : (devices : List Device) (links : List (PortRef × PortRef)) (host dest hops : ℕ)
-    (from at : PortRef) (device : Device) (by : Option ℕ)
+pub walk-switch : (devices : List Registers) (links : List (PortRef × PortRef)) (host dest hops : ℕ)
+    (from at : PortRef) (device : Registers) (by : Option ℕ)
     → IsTopology (topology_of devices links host) → peer_in links from ≡ Some at
     → device ≡ slice_index_or devices at.node device → is_switch device ≡ true
     → hops ≢ 0 → next_port device dest ≡ by
@@ -92,7 +93,7 @@ walk-switch devices links host dest (suc hops) from at device by is linked read 
     topology : Topology
     topology = topology_of devices links host
 
-    registers : Registers
+    registers : AllRegisters
     registers = registers_of devices
 
     inside : at.node < length devices
@@ -102,8 +103,8 @@ walk-switch devices links host dest (suc hops) from at device by is linked read 
     less = omega arith
 
 -- a switch without a port for the destination discards the request
-pub walk-discarded : (devices : List Device) (links : List (PortRef × PortRef))
-    (host dest hops : ℕ) (from at : PortRef) (device : Device)
+pub walk-discarded : (devices : List Registers) (links : List (PortRef × PortRef))
+    (host dest hops : ℕ) (from at : PortRef) (device : Registers)
     → IsTopology (topology_of devices links host) → peer_in links from ≡ Some at
     → device ≡ slice_index_or devices at.node device → is_switch device ≡ true
     → hops ≢ 0 → next_port device dest ≡ None
@@ -112,8 +113,8 @@ walk-discarded devices links host dest hops from at device is linked read kind s
     sym (walk-switch devices links host dest hops from at device None is linked read kind some
     named)
 
-pub walk-passed : (devices : List Device) (links : List (PortRef × PortRef))
-    (host dest hops port : ℕ) (from at : PortRef) (device : Device)
+pub walk-passed : (devices : List Registers) (links : List (PortRef × PortRef))
+    (host dest hops port : ℕ) (from at : PortRef) (device : Registers)
     → IsTopology (topology_of devices links host) → peer_in links from ≡ Some at
     → device ≡ slice_index_or devices at.node device → is_switch device ≡ true
     → hops ≢ 0 → next_port device dest ≡ Some port
@@ -125,7 +126,7 @@ walk-passed devices links host dest hops port from at device is linked read kind
     some named)
 
 -- where a request ends there is a device
-pub walk-inside : (topology : Topology) (registers : Registers) (dest hops : ℕ)
+pub walk-inside : (topology : Topology) (registers : AllRegisters) (dest hops : ℕ)
     (from at : PortRef)
     → IsTopology topology → walk topology registers dest hops from ≡ Some at
     → at.node < topology.nodes

@@ -5,12 +5,12 @@ use Rattle.std.proofs.lemmas.Bool.{eqb-false}
 use Rattle.std.proofs.lemmas.List.{take_all}
 use Rattle.fabric_script.specs.declared.ports.PortRef.{PortRef}
 use Rattle.fabric_script.specs.Ports.{port_at}
-use Rattle.maint_registers.specs.Devices.{Device, is_switch}
+use Rattle.maint_registers.specs.Devices.{Registers, is_switch}
 use Rattle.maint_registers.specs.Routes.{next_port, port_named}
 use Rattle.maint_registers.proofs.RouteLaws.{next-same, entry-set_other}
 use Rattle.fabric_map.specs.Topology.{Topology, behind_port, along, entered}
 use Rattle.fabric_map.specs.Walked.{onward}
-use Rattle.fabric_map.specs.Routes.{Registers}
+use Rattle.fabric_map.specs.Routes.{AllRegisters}
 use Rattle.fabric_map.specs.Ways.{IsOpened}
 use Rattle.host_enumerate.specs.Asking.{IsAskable, IsApart, PassesOnce, Becomes}
 use Rattle.host_enumerate.specs.Setting.{with_entry, PathPasses, AreRouted}
@@ -40,7 +40,7 @@ enters_before topology front rest last leads = along_front topology
     (port_at topology.host 0) front rest last leads
 
 -- what is open for a path is open for its front
-pub opened-front : (topology : Topology) (registers : Registers) (host_id : ℕ)
+pub opened-front : (topology : Topology) (registers : AllRegisters) (host_id : ℕ)
     (front rest : List ℕ) → IsOpened topology registers host_id (front ++ rest)
     → IsOpened topology registers host_id front
 opened-front topology registers host_id front rest opened = record {
@@ -62,7 +62,7 @@ opened-front topology registers host_id front rest opened = record {
         ∙ ap (λ l. first ∷ l) (append_assoc before (port ∷ later) rest)
 
 -- whatever sends a packet is a switch
-pub sends_is_switch : (device : Device) (dest port : ℕ) → next_port device dest ≡ Some port
+pub sends_is_switch : (device : Registers) (dest port : ℕ) → next_port device dest ≡ Some port
     → is_switch device ≡ true
 sends_is_switch device dest port sends = go (is_switch device) refl
     (nat_lt (port_named device dest) device.ports) sends
@@ -87,7 +87,7 @@ shorter (x ∷ front) rest port most short = go front (port ∷ rest) most short
         length_of (y ∷ l) m = omega (arith, length_of l m)
 
 -- each switch that a path passes can be asked for itself
-pub passed_askable : (topology : Topology) (registers : Registers) (host_id first port : ℕ)
+pub passed_askable : (topology : Topology) (registers : AllRegisters) (host_id first port : ℕ)
     (front rest : List ℕ) (at mid : PortRef)
     → IsAskable topology registers host_id (first ∷ front ++ port ∷ rest) at
     → entered topology (first ∷ front) ≡ Some mid
@@ -100,7 +100,7 @@ passed_askable topology registers host_id first port front rest at mid askable e
   short = shorter (first ∷ front) rest port 64 askable.short;
 }
 
-pub passed_switch : (topology : Topology) (registers : Registers) (host_id first port : ℕ)
+pub passed_switch : (topology : Topology) (registers : AllRegisters) (host_id first port : ℕ)
     (front rest : List ℕ) (at mid : PortRef)
     → IsAskable topology registers host_id (first ∷ front ++ port ∷ rest) at
     → entered topology (first ∷ front) ≡ Some mid
@@ -110,13 +110,13 @@ passed_switch topology registers host_id first port front rest at mid askable en
     (askable.opened.onwards first front rest port mid refl enters)
 
 -- an entry of another destination does not matter
-pub entry_sends : (device : Device) (id port dest : ℕ) → dest ≢ id
+pub entry_sends : (device : Registers) (id port dest : ℕ) → dest ≢ id
     → next_port (with_entry device id port) dest ≡ next_port device dest
 entry_sends device id port dest other =
     next-same device (with_entry device id port) dest refl refl refl
     (entry-set_other device.routes id dest port other)
 
-pub opened-entry : (topology : Topology) (old new : Registers) (host_id node id port : ℕ)
+pub opened-entry : (topology : Topology) (old new : AllRegisters) (host_id node id port : ℕ)
     (path : List ℕ) → IsOpened topology old host_id path
     → Becomes old new node (with_entry (old node) id port) → 255 ≢ id → host_id ≢ id
     → IsOpened topology new host_id path
@@ -141,7 +141,7 @@ opened-entry topology old new host_id node id port path opened becomes not_all n
         (eqb-false other node is) in
         (ap (λ d. next_port d 255) there, ap (λ d. next_port d host_id) there)
 
-pub askable-entry : (topology : Topology) (old new : Registers) (host_id node id port : ℕ)
+pub askable-entry : (topology : Topology) (old new : AllRegisters) (host_id node id port : ℕ)
     (path : List ℕ) (at : PortRef) → IsAskable topology old host_id path at
     → Becomes old new node (with_entry (old node) id port) → 255 ≢ id → host_id ≢ id
     → IsAskable topology new host_id path at
@@ -160,14 +160,14 @@ askable-entry topology old new host_id node id port path at askable becomes not_
     go true is =
         let same = eqb-true topology.host node is in
         subst (λ n. (new n).base_id ≡ (old n).base_id) (sym same)
-        (ap (λ (d : Device). d.base_id)
+        (ap (λ (d : Registers). d.base_id)
         (became old new node (with_entry (old node) id port) becomes))
     go false is =
-        ap (λ (d : Device). d.base_id) (stays old new node topology.host
+        ap (λ (d : Registers). d.base_id) (stays old new node topology.host
         (with_entry (old node) id port) becomes (eqb-false topology.host node is))
 
 -- no switch is left
-pub routed-none : (topology : Topology) (registers : Registers) (front : List ℕ) (id : ℕ)
+pub routed-none : (topology : Topology) (registers : AllRegisters) (front : List ℕ) (id : ℕ)
     → AreRouted topology registers registers front [] id
 routed-none topology registers front id = record {
   passed = λ node port passes. absurd (none passes.0 port passes.1 passes.3);
@@ -179,7 +179,8 @@ routed-none topology registers front id = record {
     none (x ∷ mid) port later same = absurd (cc)
 
 -- one switch, and then the others
-module _ (topology : Topology) (old mid new : Registers) (first port id : ℕ) (front rest : List ℕ)
+module _ (topology : Topology) (old mid new : AllRegisters) (first port id : ℕ)
+    (front rest : List ℕ)
     (at : PortRef)
     (once : PassesOnce topology (first ∷ front ++ port ∷ rest))
     (enters : entered topology (first ∷ front) ≡ Some at)
@@ -279,7 +280,7 @@ joined front next whole tail port is_next is_whole =
     ∙ (sym (append_assoc front (port ∷ []) tail) ∙ ap (λ l. l ++ tail) (sym is_next))
 
 -- The switch at the front of a path can be asked to send on.
-pub front_askable : (topology : Topology) (registers : Registers) (host_id : ℕ)
+pub front_askable : (topology : Topology) (registers : AllRegisters) (host_id : ℕ)
     (front whole tail : List ℕ) (port : ℕ) (at : PortRef) → front ≢ [] → whole ≡ port ∷ tail
     → IsAskable topology registers host_id (front ++ whole) at
     → PassesOnce topology (front ++ whole)
@@ -304,7 +305,7 @@ front_askable topology registers host_id (first ∷ front) whole tail port at so
     )
 
 -- and when it was, so can the next one
-pub next_askable : (topology now : Topology) (old new : Registers) (host_id id : ℕ)
+pub next_askable : (topology now : Topology) (old new : AllRegisters) (host_id id : ℕ)
     (front next whole tail : List ℕ) (port : ℕ) (at mid : PortRef) → now ≡ topology
     → next ≡ onward front port → whole ≡ port ∷ tail → id < 255 → host_id ≢ id
     → IsAskable topology old host_id (front ++ whole) at
@@ -325,7 +326,7 @@ next_once topology now front next whole tail port is_now is_next is once =
     subst (λ t. PassesOnce t (next ++ tail)) (sym is_now)
     (subst (λ l. PassesOnce topology l) (joined front next whole tail port is_next is) once)
 
-pub routed-step : (topology now : Topology) (old mid new : Registers) (id port : ℕ)
+pub routed-step : (topology now : Topology) (old mid new : AllRegisters) (id port : ℕ)
     (front next whole tail : List ℕ) (at : PortRef) → front ≢ [] → now ≡ topology
     → next ≡ onward front port → whole ≡ port ∷ tail → PassesOnce topology (front ++ whole)
     → entered topology front ≡ Some at

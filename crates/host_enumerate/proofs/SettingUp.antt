@@ -2,12 +2,12 @@
 use Rattle.std.proofs.Common.{◌≡◌, ℕ, ◌+◌, ◌*◌, ◌/◌, ◌%◌, ◌≤◌, ◌<◌, true, List, Some, arith, refl, sym, ap, subst, ◌∙◌}
 use Rattle.std.proofs.lemmas.Option.{same_Some}
 use Rattle.fabric_script.specs.declared.ports.PortRef.{PortRef}
-use Rattle.maint_registers.specs.Devices.{Device, is_switch}
+use Rattle.maint_registers.specs.Devices.{Registers, is_switch}
 use Rattle.maint_registers.specs.Access.{value_at, written_at}
 use Rattle.maint_registers.proofs.AccessLaws.{port_information-read, default_port-written}
 use Rattle.maint_registers.proofs.RouteLaws.{entry-set_same, entry-set_other}
 use Rattle.fabric_map.specs.Topology.{Topology, IsTopology, entered}
-use Rattle.fabric_map.specs.Routes.{Registers}
+use Rattle.fabric_map.specs.Routes.{AllRegisters}
 use Rattle.fabric_map.specs.Fitting.{Fits}
 use Rattle.fabric_map.proofs.Few.{entered-inside}
 use Rattle.host_enumerate.specs.Asking.{IsAskable, IsApart, IsWritable, AreSame, Becomes}
@@ -19,7 +19,7 @@ use Rattle.host_enumerate.proofs.Entries.{Leaves, becomes-twice, askable-written
 use Rattle.host_enumerate.proofs.Clearing.{same_but-itself, same_but-entry, is_switch-kind, destinations_of}
 
 -- how many ports it has, and by which it was asked
-pub informed : (topology : Topology) (registers : Registers) (path : List ℕ) (at : PortRef)
+pub informed : (topology : Topology) (registers : AllRegisters) (path : List ℕ) (at : PortRef)
     (information : ℕ) → IsTopology topology → Fits topology registers
     → entered topology path ≡ Some at → is_switch (registers at.node) ≡ true
     → value_at (registers at.node) 0x14 at.port ≡ Some information
@@ -40,14 +40,14 @@ informed topology registers path at information proper fits enters is told =
         (arith, (entered-port topology path at proper enters).port, proper.most_ports at.node)
 
 -- what is known of the switch while it is set up
-pub record IsStage (topology now : Topology) (old new : Registers) (at : PortRef)
-    (held : Device) : Type 0 where
+pub record IsStage (topology now : Topology) (old new : AllRegisters) (at : PortRef)
+    (held : Registers) : Type 0 where
   pub stays : now ≡ topology
   pub becomes : Becomes old new at.node held
   pub same : IsSameBut (old at.node) held
 
-pub stage_askable : (topology now : Topology) (old new : Registers) (host_id : ℕ)
-    (path : List ℕ) (at : PortRef) (held : Device) → IsAskable topology old host_id path at
+pub stage_askable : (topology now : Topology) (old new : AllRegisters) (host_id : ℕ)
+    (path : List ℕ) (at : PortRef) (held : Registers) → IsAskable topology old host_id path at
     → IsApart topology path at.node → is_switch (old at.node) ≡ true
     → IsStage topology now old new at held
     → IsAskable now new host_id path at × IsApart now path at.node
@@ -55,14 +55,14 @@ pub stage_askable : (topology now : Topology) (old new : Registers) (host_id : �
 stage_askable topology now old new host_id path at held askable apart is stage = (
   subst (λ t. IsAskable t new host_id path at) (sym stage.stays)
       (askable-written topology old new host_id path at held askable stage.becomes apart
-      (λ _. ap (λ (d : Device). d.base_id) stage.same.rest)),
+      (λ _. ap (λ (d : Registers). d.base_id) stage.same.rest)),
   subst (λ t. IsApart t path at.node) (sym stage.stays) apart,
   ap is_switch (became old new at.node held stage.becomes)
-      ∙ (is_switch-kind held (old at.node) (ap (λ (d : Device). d.kind) stage.same.rest) ∙ is),
+      ∙ (is_switch-kind held (old at.node) (ap (λ (d : Registers). d.kind) stage.same.rest) ∙ is),
 )
 
 -- a read changes nothing
-pub stage_read : (topology now : Topology) (old new : Registers) (at : PortRef) → now ≡ topology
+pub stage_read : (topology now : Topology) (old new : AllRegisters) (at : PortRef) → now ≡ topology
     → AreSame old new → IsStage topology now old new at (old at.node)
 stage_read topology now old new at is_now same = record {
   stays = is_now;
@@ -70,7 +70,7 @@ stage_read topology now old new at is_now same = record {
   same = same_but-itself (old at.node);
 }
 
-pub default-writable : (topology : Topology) (registers : Registers) (path : List ℕ)
+pub default-writable : (topology : Topology) (registers : AllRegisters) (path : List ℕ)
     (at : PortRef) (value port : ℕ) → value ≡ port → port < 256
     → is_switch (registers at.node) ≡ true → IsApart topology path at.node
     → IsWritable topology registers path at 0x78 value
@@ -84,7 +84,7 @@ default-writable topology registers path at value port is fits kind apart = reco
 }
 
 -- the default port is written
-pub stage_default : (topology first second : Topology) (old mid new : Registers) (path : List ℕ)
+pub stage_default : (topology first second : Topology) (old mid new : AllRegisters) (path : List ℕ)
     (at : PortRef) (value port : ℕ) → value ≡ port → port < 256 → second ≡ first
     → is_switch (old at.node) ≡ true → entered topology path ≡ Some at
     → IsStage topology first old mid at (old at.node) → Leaves first mid new path 0x78 value
@@ -107,8 +107,8 @@ stage_default topology first second old mid new path at value port is fits is_se
     there = became old mid at.node (old at.node) stage.becomes
 
 -- the entries are cleared
-pub stage_cleared : (topology first second : Topology) (old mid new : Registers) (host_id : ℕ)
-    (at : PortRef) (base held : Device) → second ≡ first
+pub stage_cleared : (topology first second : Topology) (old mid new : AllRegisters) (host_id : ℕ)
+    (at : PortRef) (base held : Registers) → second ≡ first
     → IsStage topology first old mid at base → Becomes mid new at.node held
     → IsCleared host_id 63 (mid at.node) held
     → IsStage topology second old new at held × IsCleared host_id 63 base held
@@ -119,7 +119,7 @@ stage_cleared topology first second old mid new host_id at base held is_second s
         becomes = becomes-twice old mid new at.node base held stage.becomes becomes;
         same = record {
           rest = on.same.rest
-              ∙ ap (λ (d : Device). record d {
+              ∙ ap (λ (d : Registers). record d {
                 routes = held.routes;
                 default_port = held.default_port;
                 select = held.select;
@@ -134,8 +134,8 @@ stage_cleared topology first second old mid new host_id at base held is_second s
         cleared
 
 -- and the entry of the host's ID is set
-pub set_up : (topology first : Topology) (old mid new : Registers) (host_id : ℕ)
-    (path : List ℕ) (at : PortRef) (port : ℕ) (held : Device) → IsTopology topology
+pub set_up : (topology first : Topology) (old mid new : AllRegisters) (host_id : ℕ)
+    (path : List ℕ) (at : PortRef) (port : ℕ) (held : Registers) → IsTopology topology
     → Fits topology old → host_id < 255 → port ≡ at.port → entered topology path ≡ Some at
     → IsStage topology first old mid at held
     → IsCleared host_id 63 (record (old at.node) { default_port = at.port }) held

@@ -5,7 +5,7 @@ use Rattle.fabric_script.specs.declared.ports.PortRef.{PortRef}
 use Rattle.maint_registers.specs.Devices.{is_switch}
 use Rattle.maint_registers.specs.Routes.{next_port}
 use Rattle.fabric_map.specs.Topology.{Topology, entered}
-use Rattle.fabric_map.specs.Routes.{Registers}
+use Rattle.fabric_map.specs.Routes.{AllRegisters}
 use Rattle.fabric_map.specs.Fitting.{Fits}
 use Rattle.fabric_map.specs.Ways.{IsOpened}
 use Rattle.host_enumerate.specs.Setting.{AreRouted}
@@ -14,7 +14,7 @@ use Rattle.host_enumerate.proofs.Opening.{SendsAs, opened-as}
 use Rattle.host_enumerate.proofs.Routing.{entry_sends}
 
 -- the path stays open if the entries of an ID are set along it
-pub opened-routed : (topology : Topology) (old new : Registers) (host_id id first : ℕ)
+pub opened-routed : (topology : Topology) (old new : AllRegisters) (host_id id first : ℕ)
     (rest : List ℕ) → IsOpened topology old host_id (first ∷ rest)
     → AreRouted topology old new (first ∷ []) rest id → 255 ≢ id → host_id ≢ id
     → IsOpened topology new host_id (first ∷ rest)
@@ -46,7 +46,7 @@ opened-routed topology old new host_id id first rest opened routed not_all not_h
         is_first = cc
 
 -- registers show a switch where there is one
-pub switch_shown : (topology : Topology) (registers : Registers) (node : ℕ)
+pub switch_shown : (topology : Topology) (registers : AllRegisters) (node : ℕ)
     → Fits topology registers → node < topology.nodes → is_switch (registers node) ≡ true
     → topology.switch_ports node ≡ Some (registers node).ports
 switch_shown topology registers node fits inside is = go (topology.switch_ports node) refl
@@ -61,7 +61,7 @@ switch_shown topology registers node fits inside is = go (topology.switch_ports 
         some ∙ ap (λ n. Some n)
         (sym (fits.ports node inside ∙ ap (λ o. unwrap_or o 1) some))
 
-pub endpoint_shown : (topology : Topology) (registers : Registers) (node : ℕ)
+pub endpoint_shown : (topology : Topology) (registers : AllRegisters) (node : ℕ)
     → Fits topology registers → node < topology.nodes → is_switch (registers node) ≡ false
     → topology.switch_ports node ≡ None
 endpoint_shown topology registers node fits inside is = go (topology.switch_ports node) refl

@@ -11,7 +11,7 @@ use Rattle.fabric_map.specs.declared.map.Kind.TheVariants.{Endpoint, Switch}
 use Rattle.fabric_map.specs.declared.map.Device.{Device}
 use Rattle.fabric_map.specs.Topology.{Topology, IsTopology, entered}
 use Rattle.fabric_map.specs.Walked.{onward, IsMet, after_all_paths}
-use Rattle.fabric_map.specs.Routes.{Registers}
+use Rattle.fabric_map.specs.Routes.{AllRegisters}
 use Rattle.fabric_map.specs.Fitting.{Fits}
 use Rattle.fabric_map.specs.Ways.{IsOpened}
 use Rattle.fabric_map.specs.Locked.{IsNext}
@@ -30,7 +30,7 @@ use Rattle.host_enumerate.proofs.Askable.{opened-empty, opened-first, not_host-f
 use Rattle.host_enumerate.proofs.Asked.{askable-host, askable-next}
 
 -- nothing is met
-pub begun : (topology : Topology) (before now : Registers) (host_id : ℕ) → IsTopology topology
+pub begun : (topology : Topology) (before now : AllRegisters) (host_id : ℕ) → IsTopology topology
     → (before topology.host).base_id ≡ host_id → host_id < 255 → AreUntagged topology before
     → AreSame before now → IsUnderway topology before now host_id [] 0 []
 begun topology before now host_id proper id has untagged same = record {
@@ -47,14 +47,14 @@ begun topology before now host_id proper id has untagged same = record {
 }
 
 -- the host asks itself
-pub host_askable : (topology : Topology) (before now : Registers) (host_id : ℕ)
+pub host_askable : (topology : Topology) (before now : AllRegisters) (host_id : ℕ)
     → IsUnderway topology before now host_id [] 0 []
     → IsAskable topology now host_id [] (port_at topology.host 0)
 host_askable topology before now host_id underway =
     askable-host topology before now host_id 0 [] [] underway
 
 -- the host's own ID can be read
-pub own_askable : (topology : Topology) (registers : Registers) → IsTopology topology
+pub own_askable : (topology : Topology) (registers : AllRegisters) → IsTopology topology
     → IsAskable topology registers (registers topology.host).base_id []
     (port_at topology.host 0)
 own_askable topology registers proper = record {
@@ -65,7 +65,7 @@ own_askable topology registers proper = record {
   short = omega arith;
 }
 
-pub own_answers : (topology : Topology) (registers : Registers) → IsTopology topology
+pub own_answers : (topology : Topology) (registers : AllRegisters) → IsTopology topology
     → Fits topology registers → IsSome (value_at (registers topology.host) 0x60 0)
 own_answers topology registers proper fits =
     some_from_same (value_at (registers topology.host) 0x60 0)
@@ -73,7 +73,7 @@ own_answers topology registers proper fits =
     (base_id-read (registers topology.host) 0
     (fits.endpoints topology.host proper.host proper.host_is_endpoint))
 
-pub own_id : (topology : Topology) (registers : Registers) (value : ℕ) → IsTopology topology
+pub own_id : (topology : Topology) (registers : AllRegisters) (value : ℕ) → IsTopology topology
     → Fits topology registers → value_at (registers topology.host) 0x60 0 ≡ Some value
     → value / 65536 ≡ (registers topology.host).base_id
 own_id topology registers value proper fits told =
@@ -88,7 +88,7 @@ own_id topology registers value proper fits told =
         (fits.endpoints topology.host proper.host proper.host_is_endpoint))
 
 -- the host is met
-pub host_met : (topology : Topology) (before now : Registers) (host_id next_after : ℕ)
+pub host_met : (topology : Topology) (before now : AllRegisters) (host_id next_after : ℕ)
     (devices_after : List Device) (path : List ℕ) (kind : Option Kind) → path ≡ []
     → IsTried topology before now host_id [] devices_after 0 next_after path kind
     → IsUnderway topology before now host_id devices_after next_after (0 ∷ [])
@@ -113,7 +113,7 @@ first_enters topology proper = go (topology.peer (port_at topology.host 0)) refl
           (subst (λ n. 0 < n) (sym (followed-host topology)) (omega arith)) link,
     )
 
-module _ (topology : Topology) (before now : Registers) (host_id next : ℕ)
+module _ (topology : Topology) (before now : AllRegisters) (host_id next : ℕ)
     (devices : List Device)
     (underway : IsUnderway topology before now host_id devices next (0 ∷ [])) where
   pub first_next : IsNext (paths_of devices) (0 ∷ [])
@@ -127,7 +127,7 @@ module _ (topology : Topology) (before now : Registers) (host_id next : ℕ)
       first_next (opened-first topology now host_id 0) enters.1
       (not_host-first topology enters.0 underway.proper enters.1)
 
-module _ (topology : Topology) (before now : Registers) (host_id next : ℕ)
+module _ (topology : Topology) (before now : AllRegisters) (host_id next : ℕ)
     (devices : List Device)
     (proper : IsTopology topology) where
   other_node : (at : PortRef) → entered topology (0 ∷ []) ≡ Some at → at.node ≢ topology.host
@@ -186,7 +186,7 @@ module _ (topology : Topology) (before now : Registers) (host_id next : ℕ)
         }
 
 -- all ports of the neighbour are tried
-pub first_done : (topology : Topology) (before now : Registers) (host_id next ports entry : ℕ)
+pub first_done : (topology : Topology) (before now : AllRegisters) (host_id next ports entry : ℕ)
     (devices : List Device)
     → IsUnderway topology before now host_id devices next (onward (0 ∷ []) ports)
     → IsFound topology now host_id devices

@@ -6,7 +6,7 @@ use Rattle.fabric_script.specs.Ports.{port_at}
 use Rattle.fabric_map.specs.declared.map.Device.{Device}
 use Rattle.fabric_map.specs.Topology.{Topology, IsTopology, ports_followed, behind_port, entered, node_at}
 use Rattle.fabric_map.specs.Walked.{onward, IsMet, Walked}
-use Rattle.fabric_map.specs.Routes.{Registers}
+use Rattle.fabric_map.specs.Routes.{AllRegisters}
 use Rattle.fabric_map.specs.Numbered.{paths_of}
 use Rattle.fabric_map.proofs.Order.{Before-further, Before-transitive}
 use Rattle.fabric_map.proofs.Steps.{goes_past, closes}
@@ -91,7 +91,7 @@ leads_back topology path at port proper enters leads =
         (nat_lt at.port (ports_followed topology at.node))
         (subst (λ o. IsSome (option_map (λ (q : PortRef). q.node) o)) further leads)
 
-module _ (topology : Topology) (before now : Registers) (host_id next : ℕ)
+module _ (topology : Topology) (before now : AllRegisters) (host_id next : ℕ)
     (devices : List Device) where
   -- the same is underway before another path
   pub underway-bound : (bound later : List ℕ)

@@ -5,12 +5,12 @@ use Rattle.maint_registers.proofs.AccessLaws.{tag-written}
 use Rattle.fabric_map.specs.declared.map.Kind.{Kind}
 use Rattle.fabric_map.specs.declared.map.Device.{Device}
 use Rattle.fabric_map.specs.Topology.{Topology, entered}
-use Rattle.fabric_map.specs.Routes.{Registers}
+use Rattle.fabric_map.specs.Routes.{AllRegisters}
 use Rattle.host_enumerate.specs.Asking.{IsAskable, IsApart, IsWritable, Becomes}
 use Rattle.host_enumerate.specs.TakingIn.{IsKindLeft, IsTakenIn}
 use Rattle.host_enumerate.proofs.Entries.{Leaves, askable-written}
 
-pub tag-writable : (topology : Topology) (registers : Registers) (path : List ℕ) (at : PortRef)
+pub tag-writable : (topology : Topology) (registers : AllRegisters) (path : List ℕ) (at : PortRef)
     (count : ℕ) (devices : List Device) → count ≡ length devices
     → IsApart topology path at.node
     → IsWritable topology registers path at 0x6c (count + 1)
@@ -22,7 +22,7 @@ tag-writable topology registers path at count devices is apart = record {
   id = λ _. refl;
 }
 
-pub tagged : (topology : Topology) (old new : Registers) (path : List ℕ) (at : PortRef)
+pub tagged : (topology : Topology) (old new : AllRegisters) (path : List ℕ) (at : PortRef)
     (count : ℕ) (devices : List Device) → count ≡ length devices
     → Leaves topology old new path 0x6c (count + 1) → entered topology path ≡ Some at
     → Becomes old new at.node (record (old at.node) { tag = length devices + 1 })
@@ -31,7 +31,7 @@ tagged topology old new path at count devices is leaves enters =
     (tag-written (old at.node) (count + 1)
     ∙ ap (λ n. Some (record (old at.node) { tag = n + 1 })) is)
 
-pub tagged_askable : (topology now : Topology) (old new : Registers) (host_id : ℕ)
+pub tagged_askable : (topology now : Topology) (old new : AllRegisters) (host_id : ℕ)
     (path : List ℕ) (at : PortRef) (tag : ℕ) → now ≡ topology
     → IsAskable topology old host_id path at → IsApart topology path at.node
     → Becomes old new at.node (record (old at.node) { tag = tag })
@@ -44,7 +44,7 @@ tagged_askable topology now old new host_id path at tag is_now askable apart bec
 )
 
 pub taken_in : (topology now : Topology) (host_id next next_after : ℕ) (devices : List Device)
-    (old mid new : Registers) (path : List ℕ) (at : PortRef) (count : ℕ) (kind : Kind)
+    (old mid new : AllRegisters) (path : List ℕ) (at : PortRef) (count : ℕ) (kind : Kind)
     → now ≡ topology → count ≡ length devices → entered topology path ≡ Some at
     → Leaves topology old mid path 0x6c (count + 1)
     → ((at : PortRef) → entered now path ≡ Some at

@@ -11,7 +11,7 @@ use Rattle.fabric_map.specs.declared.map.Kind.TheVariants.{Endpoint, Switch}
 use Rattle.fabric_map.specs.declared.map.Device.{Device}
 use Rattle.fabric_map.specs.Topology.{Topology, behind_port, along, entered, node_at}
 use Rattle.fabric_map.specs.Walked.{Before, onward, Walked}
-use Rattle.fabric_map.specs.Routes.{Registers}
+use Rattle.fabric_map.specs.Routes.{AllRegisters}
 use Rattle.fabric_map.specs.Fitting.{Fits}
 use Rattle.fabric_map.specs.Locked.{IsNext}
 use Rattle.fabric_map.specs.Numbered.{is_given, paths_of, toward, IsLeastFree, IsIdOf, IsKindAt, IsDescribed, AreDescribed}
@@ -97,7 +97,7 @@ endpoint_at topology host_id earlier member described is =
     go None (Switch ports entry) is shown described_so = absurd described_so
     go (Some n) k is shown described_so = absurd (cc)
 
-module _ (topology : Topology) (before now mid after : Registers) (host_id next id first : ℕ)
+module _ (topology : Topology) (before now mid after : AllRegisters) (host_id next id first : ℕ)
     (rest : List ℕ) (devices : List Device) (at : PortRef)
     (underway : IsUnderway topology before now host_id devices next (first ∷ rest))
     (is_next : IsNext (paths_of devices) (first ∷ rest))

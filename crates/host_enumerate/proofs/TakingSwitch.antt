@@ -4,12 +4,12 @@ use Rattle.std.proofs.lemmas.Option.{same_Some}
 use Rattle.std.proofs.lemmas.List.{get_or-map, length-map}
 use Rattle.fabric_script.specs.declared.ports.PortRef.{PortRef}
 use Rattle.fabric_script.specs.Ports.{port_at}
-use Rattle.maint_registers.specs.Devices as registers
+use Rattle.maint_registers.specs.Devices.{Registers}
 use Rattle.fabric_map.specs.declared.map.Kind.TheVariants.{Endpoint, Switch}
 use Rattle.fabric_map.specs.declared.map.Device.{Device}
 use Rattle.fabric_map.specs.Topology.{Topology, entered, node_at}
 use Rattle.fabric_map.specs.Walked.{Before, onward}
-use Rattle.fabric_map.specs.Routes.{Registers}
+use Rattle.fabric_map.specs.Routes.{AllRegisters}
 use Rattle.fabric_map.specs.Locked.{IsForeign, IsNext}
 use Rattle.fabric_map.specs.Numbered.{paths_of, port_toward, IsKindAt, IsDescribed, ChangesOnly}
 use Rattle.fabric_map.proofs.Lists.{Contains-first, not_in_empty}
@@ -22,7 +22,7 @@ use Rattle.host_enumerate.proofs.Counting.{counted-switch, counted-host}
 use Rattle.host_enumerate.proofs.Lengthening.{held-switch, underway-taken}
 
 -- a device that the host has taken and tagged
-pub record IsTaken (host_id : ℕ) (devices : List Device) (before held : registers.Device)
+pub record IsTaken (host_id : ℕ) (devices : List Device) (before held : Registers)
     : Type 0 where
   pub lock : held.lock ≡ host_id
   pub tag : held.tag ≡ length devices + 1
@@ -38,7 +38,7 @@ all_paths P devices all k d within =
     (sym (length-map devices (λ (device : Device). device.path))) within))
 
 -- while a path other than the host's is tried, the host is met
-pub host_listed : (topology : Topology) (before now : Registers) (host_id next : ℕ)
+pub host_listed : (topology : Topology) (before now : AllRegisters) (host_id next : ℕ)
     (devices : List Device) (path : List ℕ)
     → IsUnderway topology before now host_id devices next path → path ≢ []
     → (host : Device) × Contains devices host × (host.path ≡ [])
@@ -59,14 +59,14 @@ switch_behind topology path at ports endpoint enters is empty =
     (λ n. topology.switch_ports n) (sym same) ∙ is) in
     absurd (cc)
 
-module _ (topology : Topology) (before now after : Registers) (host_id next : ℕ)
+module _ (topology : Topology) (before now after : AllRegisters) (host_id next : ℕ)
     (devices : List Device) (path : List ℕ) (at : PortRef)
     (underway : IsUnderway topology before now host_id devices next path)
     (is_next : IsNext (paths_of devices) path)
     (enters : entered topology path ≡ Some at)
     (unmet : IsUnmet topology devices at.node) where
   -- a switch is taken in
-  pub underway-switch : (ports : ℕ) (mid : registers.Device)
+  pub underway-switch : (ports : ℕ) (mid : Registers)
       → topology.switch_ports at.node ≡ Some ports
       → IsTaken host_id devices (before at.node) mid
       → SwitchIsSetUp host_id at.port mid (after at.node)
@@ -110,19 +110,19 @@ module _ (topology : Topology) (before now after : Registers) (host_id next : �
       new : IsHeld host_id (devices ++ switch ∷ []) switch (before at.node) (after at.node)
       new = record {
         marked = record {
-          lock = ap (λ (d : registers.Device). d.lock) set_up.same.rest ∙ taken.lock;
-          tag = ap (λ (d : registers.Device). d.tag) set_up.same.rest ∙ taken.tag;
+          lock = ap (λ (d : Registers). d.lock) set_up.same.rest ∙ taken.lock;
+          tag = ap (λ (d : Registers). d.tag) set_up.same.rest ∙ taken.tag;
           base_id = tt;
         };
         not_foreign = taken.not_foreign;
         changes = record {
-          rest = ap (λ (d : registers.Device). record (after at.node) {
+          rest = ap (λ (d : Registers). record (after at.node) {
             kind = d.kind;
             ports = d.ports;
             linked = d.linked;
             large_id = d.large_id;
           }) set_up.same.rest
-              ∙ ap (λ (d : registers.Device). record (after at.node) {
+              ∙ ap (λ (d : Registers). record (after at.node) {
                 kind = d.kind;
                 ports = d.ports;
                 linked = d.linked;
@@ -142,7 +142,7 @@ module _ (topology : Topology) (before now after : Registers) (host_id next : �
       }
 
 -- The host itself is taken in.
-pub underway-host : (topology : Topology) (before now after : Registers) (host_id : ℕ)
+pub underway-host : (topology : Topology) (before now after : AllRegisters) (host_id : ℕ)
     → IsUnderway topology before now host_id [] 0 []
     → IsTaken host_id [] (before topology.host) (after topology.host)
     → (after topology.host).base_id ≡ host_id

@@ -1,12 +1,12 @@
 -- What is known of a path that is tried, for the call that tries it.
 use Rattle.std.proofs.Common.{◌≡◌, ◌≢◌, ℕ, ◌<◌, ◌≤◌, inl, List, [], ◌∷◌, ◌++◌, length, Some, None, refl, sym, ap, subst, ◌∙◌}
 use Rattle.fabric_script.specs.declared.ports.PortRef.{PortRef}
-use Rattle.maint_registers.specs.Devices as registers
+use Rattle.maint_registers.specs.Devices.{Registers}
 use Rattle.fabric_map.specs.declared.map.Kind.{Kind}
 use Rattle.fabric_map.specs.declared.map.Device.{Device}
 use Rattle.fabric_map.specs.Topology.{Topology, entered}
 use Rattle.fabric_map.specs.Walked.{onward}
-use Rattle.fabric_map.specs.Routes.{Registers}
+use Rattle.fabric_map.specs.Routes.{AllRegisters}
 use Rattle.fabric_map.specs.Fitting.{Fits}
 use Rattle.fabric_map.specs.Ways.{IsOpened}
 use Rattle.fabric_map.specs.Locked.{IsForeign, IsNext}
@@ -24,9 +24,9 @@ use Rattle.host_enumerate.proofs.Meeting.{met-tagged, ends_at_lock}
 use Rattle.host_enumerate.proofs.Keeping.{underway-same}
 use Rattle.host_enumerate.proofs.Trying.{unmet_takable, apart_unmet, passes_once, few_met, next_few, tried}
 
-module _ (topology : Topology) (now : Registers) (host_id next : ℕ) (devices : List Device)
+module _ (topology : Topology) (now : AllRegisters) (host_id next : ℕ) (devices : List Device)
     (path : List ℕ) (at : PortRef)
-    (some : (before : Registers) × IsUnderway topology before now host_id devices next path)
+    (some : (before : AllRegisters) × IsUnderway topology before now host_id devices next path)
     (is_next : IsNext (paths_of devices) path)
     (askable : IsAskable topology now host_id path at) where
   pub apart_takable : IsTakable host_id (now at.node) → IsApart topology path at.node
@@ -49,7 +49,7 @@ module _ (topology : Topology) (now : Registers) (host_id next : ℕ) (devices :
   once_now later is = subst (λ t. PassesOnce t path) (sym is)
       (passes_once topology some.0 now host_id next devices path at some.1 is_next askable)
 
-  module _ (later : Topology) (is_later : later ≡ topology) (locked : Registers)
+  module _ (later : Topology) (is_later : later ≡ topology) (locked : AllRegisters)
       (holder : Holder) (is : holder ≡ Taken)
       (held : IsHolder host_id now locked at.node holder) where
     taken : IsTakable host_id (now at.node)
@@ -65,7 +65,7 @@ module _ (topology : Topology) (now : Registers) (host_id next : ℕ) (devices :
       subst (λ t. IsApart t path at.node) (sym is_later) (apart_takable taken.0),
     )
 
-    module _ (fits : Fits topology now) (begins : path ≡ [] → next ≡ 0) (after : Registers)
+    module _ (fits : Fits topology now) (begins : path ≡ [] → next ≡ 0) (after : AllRegisters)
         (next_after : ℕ) (devices_after : List Device) (kind : Kind)
         (longer : devices_after ≡ devices ++ met_as devices kind path ∷ [])
         (left : (at : PortRef) → entered later path ≡ Some at
@@ -74,7 +74,7 @@ module _ (topology : Topology) (now : Registers) (host_id next : ℕ) (devices :
       left_now = subst (λ t. IsTakenIn t host_id devices next next_after locked after path at kind)
           is_later (left at (ap (λ t. entered t path) is_later ∙ askable.leads))
 
-      pub taken_tried : (before : Registers)
+      pub taken_tried : (before : AllRegisters)
           → IsUnderway topology before now host_id devices next path
           → IsTried topology before after host_id devices devices_after next next_after path
           (Some kind)
@@ -92,12 +92,12 @@ module _ (topology : Topology) (now : Registers) (host_id next : ℕ) (devices :
           left_now.0 after next_after kind fits taken.0 begins taken.1 left_now.1 left_now.2).1
 
   -- the device was met
-  module _ (after : Registers) (holder : Holder) (is : holder ≡ Met)
+  module _ (after : AllRegisters) (holder : Holder) (is : holder ≡ Met)
       (held : IsHolder host_id now after at.node holder) where
     met : ((now at.node).lock ≡ host_id) × ((now at.node).tag ≢ 0) × AreSame now after
     met = subst (λ h. IsHolder host_id now after at.node h) is held
 
-    pub met_tried : (before : Registers)
+    pub met_tried : (before : AllRegisters)
         → IsUnderway topology before now host_id devices next path
         → IsTried topology before after host_id devices devices next next path None
     met_tried before underway = (
@@ -112,19 +112,19 @@ module _ (topology : Topology) (now : Registers) (host_id next : ℕ) (devices :
     met_opened = opened-same topology now after host_id path askable.opened met.2
 
   -- another host holds it
-  pub other_ends : (after : Registers) (holder : Holder) (id : ℕ) → holder ≡ Other id
-      → IsHolder host_id now after at.node holder → (before : Registers)
+  pub other_ends : (after : AllRegisters) (holder : Holder) (id : ℕ) → holder ≡ Other id
+      → IsHolder host_id now after at.node holder → (before : AllRegisters)
       → IsUnderway topology before now host_id devices next path
       → EndsAtLock topology before after path id
   other_ends after holder id is held before underway =
       let found = fact in
       subst (λ n. EndsAtLock topology before after path n)
-      (ap (λ (d : registers.Device). d.lock) (found.2 at.node) ∙ found.0)
+      (ap (λ (d : Registers). d.lock) (found.2 at.node) ∙ found.0)
       (ends_at_lock topology before after host_id next devices path
       (underway-same topology before now host_id next devices path underway after found.2) at
       is_next askable.leads
       (subst (λ n. IsForeign host_id n)
-      (sym (ap (λ (d : registers.Device). d.lock) (found.2 at.node) ∙ found.0)) found.1))
+      (sym (ap (λ (d : Registers). d.lock) (found.2 at.node) ∙ found.0)) found.1))
     where
       fact : ((now at.node).lock ≡ id) × IsForeign host_id id × AreSame now after
       fact = subst (λ h. IsHolder host_id now after at.node h) is held

@@ -3,14 +3,13 @@ use Rattle.std.proofs.Common.{◌≡◌, ◌≢◌, ℕ, ◌+◌, ◌<◌, ◌�
 use Rattle.std.proofs.lemmas.List.{length-map}
 use Rattle.fabric_script.specs.declared.ports.PortRef.{PortRef}
 use Rattle.fabric_script.specs.Ports.{port_at}
-use Rattle.maint_registers.specs.Devices as registers
-use Rattle.maint_registers.specs.Devices.{is_switch}
+use Rattle.maint_registers.specs.Devices.{Registers, is_switch}
 use Rattle.fabric_map.specs.declared.map.Kind.{Kind}
 use Rattle.fabric_map.specs.declared.map.Kind.TheVariants.{Endpoint, Switch}
 use Rattle.fabric_map.specs.declared.map.Device.{Device}
 use Rattle.fabric_map.specs.Topology.{Topology, entered, node_at}
 use Rattle.fabric_map.specs.Walked.{Before, onward}
-use Rattle.fabric_map.specs.Routes.{Registers}
+use Rattle.fabric_map.specs.Routes.{AllRegisters}
 use Rattle.fabric_map.specs.Fitting.{Fits}
 use Rattle.fabric_map.specs.Ways.{IsOpened}
 use Rattle.fabric_map.specs.Locked.{IsForeign, IsNext}
@@ -31,7 +30,7 @@ use Rattle.host_enumerate.proofs.TakingSwitch.{IsTaken, host_listed, underway-sw
 use Rattle.host_enumerate.proofs.TakingEndpoint.{underway-endpoint}
 use Rattle.host_enumerate.proofs.Shown.{opened-routed, switch_shown, endpoint_shown, id_after-apart, id_after-rises}
 
-module _ (topology : Topology) (before now : Registers) (host_id next : ℕ)
+module _ (topology : Topology) (before now : AllRegisters) (host_id next : ℕ)
     (devices : List Device) (path : List ℕ) (at : PortRef)
     (underway : IsUnderway topology before now host_id devices next path)
     (is_next : IsNext (paths_of devices) path)
@@ -92,7 +91,7 @@ module _ (topology : Topology) (before now : Registers) (host_id next : ℕ)
           absurd (not_before_empty x.path (subst (λ p. Before x.path p) empty
           (all 0 x.path (omega arith))))
 
-  module _ (locked mid after : Registers) (next_after : ℕ) (kind : Kind)
+  module _ (locked mid after : AllRegisters) (next_after : ℕ) (kind : Kind)
       (fits : Fits topology now) (takable : IsTakable host_id (now at.node))
       (begins : path ≡ [] → next ≡ 0)
       (lock : Becomes now locked at.node (record (now at.node) { lock = host_id }))
@@ -108,16 +107,16 @@ module _ (topology : Topology) (before now : Registers) (host_id next : ℕ)
     inside : at.node < topology.nodes
     inside = entered-inside topology path at underway.proper askable.leads
 
-    abbrev base : registers.Device
+    abbrev base : Registers
     base = record (before at.node) { lock = host_id; tag = length devices + 1 }
 
     -- the device with lock and tag
     is_base : mid at.node ≡ base
     is_base =
         became locked mid at.node (record (locked at.node) { tag = length devices + 1 }) tag
-        ∙ (ap (λ (d : registers.Device). record d { tag = length devices + 1 })
+        ∙ (ap (λ (d : Registers). record d { tag = length devices + 1 })
         (became now locked at.node (record (now at.node) { lock = host_id }) lock)
-        ∙ ap (λ (d : registers.Device). record d { lock = host_id; tag = length devices + 1 }) was)
+        ∙ ap (λ (d : Registers). record d { lock = host_id; tag = length devices + 1 }) was)
 
     others_stay : (node : ℕ) → node ≢ at.node → mid node ≡ now node
     others_stay node apart =
@@ -129,8 +128,8 @@ module _ (topology : Topology) (before now : Registers) (host_id next : ℕ)
     not_foreign foreign = go takable
       where
         go : IsTakable host_id (now at.node) → ⊥
-        go (inl free) = foreign.0 (ap (λ (d : registers.Device). d.lock) (sym was) ∙ free)
-        go (inr held) = foreign.1 (ap (λ (d : registers.Device). d.lock) (sym was) ∙ held.0)
+        go (inl free) = foreign.0 (ap (λ (d : Registers). d.lock) (sym was) ∙ free)
+        go (inr held) = foreign.1 (ap (λ (d : Registers). d.lock) (sym was) ∙ held.0)
 
     taken_as : (id : ℕ) → IsTaken host_id devices (before at.node) (record base { base_id = id })
     taken_as id = record {
@@ -163,8 +162,8 @@ module _ (topology : Topology) (before now : Registers) (host_id next : ℕ)
         ∙ (sym (ap (λ d. is_switch d) is_base) ∙ same)
 
     ports_shown : (mid at.node).ports ≡ (now at.node).ports
-    ports_shown = ap (λ (d : registers.Device). d.ports) (is_base) ∙ ap
-        (λ (d : registers.Device). d.ports) (sym was)
+    ports_shown = ap (λ (d : Registers). d.ports) (is_base) ∙ ap
+        (λ (d : Registers). d.ports) (sym was)
 
     -- a switch
     switch_tried : (ports entry : ℕ) → kind ≡ Switch ports entry
@@ -234,7 +233,7 @@ module _ (topology : Topology) (before now : Registers) (host_id next : ℕ)
         own_id : (after topology.host).base_id ≡ host_id
         own_id =
             subst (λ n. (after n).base_id ≡ (before n).base_id) is_host
-            (ap (λ (d : registers.Device). d.base_id) (same at.node ∙ is_base))
+            (ap (λ (d : Registers). d.base_id) (same at.node ∙ is_base))
             ∙ underway.id
 
         on : IsUnderway topology before after host_id (met_as [] (Endpoint host_id) [] ∷ []) 0
@@ -270,7 +269,7 @@ module _ (topology : Topology) (before now : Registers) (host_id next : ℕ)
         apart_ids = subst (λ n. (255 ≢ n) × (host_id ≢ n)) (sym is_id)
             (id_after-apart host_id next (next_few begins))
 
-        go : (numbered : Registers)
+        go : (numbered : AllRegisters)
             × Becomes mid numbered at.node (record (mid at.node) { base_id = id })
             × AreRouted topology numbered after (first ∷ []) rest id
             → IsUnderway topology before after host_id
@@ -293,7 +292,7 @@ module _ (topology : Topology) (before now : Registers) (host_id next : ℕ)
             numbered_base : numbered at.node ≡ record base { base_id = id }
             numbered_base =
                 became mid numbered at.node (record (mid at.node) { base_id = id }) one
-                ∙ ap (λ (d : registers.Device). record d { base_id = id }) is_base
+                ∙ ap (λ (d : Registers). record d { base_id = id }) is_base
 
             on : IsUnderway topology before after host_id
                 (devices ++ met_as devices (Endpoint id) (first ∷ rest) ∷ []) (id + 1)
@@ -310,7 +309,7 @@ module _ (topology : Topology) (before now : Registers) (host_id next : ℕ)
                 routed
                 (subst (λ d. IsTaken host_id devices (before at.node) d) (sym numbered_base)
                 (taken_as id))
-                (ap (λ (d : registers.Device). d.base_id) numbered_base)
+                (ap (λ (d : Registers). d.base_id) numbered_base)
 
     pub tried : IsUnderway topology before after host_id
         (devices ++ met_as devices kind path ∷ []) next_after (onward path 0)

@@ -2,10 +2,10 @@
 use Rattle.std.specs.Prelude.{◌≡◌, ◌≢◌, ℕ, ◌==◌, Option, Some, None, if◌then◌else◌}
 use Rattle.fabric_script.specs.declared.ports.PortRef.{PortRef}
 use Rattle.fabric_script.specs.Ports.{port_at}
-use Rattle.maint_registers.specs.Devices.{Device}
+use Rattle.maint_registers.specs.Devices.{Registers}
 use Rattle.maint_registers.specs.Access.{value_at, written_at}
 use Rattle.fabric_map.specs.Topology.{Topology}
-use Rattle.fabric_map.specs.Routes.{Registers, walk}
+use Rattle.fabric_map.specs.Routes.{AllRegisters, walk}
 use Rattle.host_enumerate.specs.declared.maint.Access.{Access}
 use Rattle.host_enumerate.specs.declared.maint.Access.TheVariants.{Read, Write}
 use Rattle.host_enumerate.specs.declared.maint.Answer.{Answer}
@@ -13,7 +13,7 @@ use Rattle.host_enumerate.specs.declared.maint.Answer.{Answer}
 -- an answer, and the registers after it
 pub record AccessAnswered : Type 0 where
   pub answer : Answer
-  pub device : Device
+  pub device : Registers
 
 abbrev pub access_done : ℕ → Answer
 access_done value = record { status = 0; value = value }
@@ -21,16 +21,16 @@ access_done value = record { status = 0; value = value }
 abbrev pub access_failed : Answer
 access_failed = record { status = 7; value = 0 }
 
-abbrev pub after_read : Device → Option ℕ → AccessAnswered
+abbrev pub after_read : Registers → Option ℕ → AccessAnswered
 after_read device (Some value) = record { answer = access_done value; device = device }
 after_read device None = record { answer = access_failed; device = device }
 
-abbrev pub after_write : Device → Option Device → AccessAnswered
+abbrev pub after_write : Registers → Option Registers → AccessAnswered
 after_write device (Some next) = record { answer = access_done 0; device = next }
 after_write device None = record { answer = access_failed; device = device }
 
 -- a device answers an access that came to a port
-abbrev pub answered : Device → ℕ → Access → AccessAnswered
+abbrev pub answered : Registers → ℕ → Access → AccessAnswered
 answered device port (Read offset) = after_read device (value_at device offset port)
 answered device port (Write offset value) = after_write device (written_at device offset value)
 
@@ -39,17 +39,17 @@ access_offset (Read offset) = offset
 access_offset (Write offset value) = offset
 
 -- the registers, with these for one device
-abbrev pub registers_with : Registers → ℕ → Device → Registers
+abbrev pub registers_with : AllRegisters → ℕ → Registers → AllRegisters
 registers_with registers node device other = if other == node then device else registers other
 
 -- the registers after an access to the device of a port
-abbrev pub after_access : Registers → PortRef → Access → Registers
+abbrev pub after_access : AllRegisters → PortRef → Access → AllRegisters
 after_access registers at access =
     registers_with registers at.node (answered (registers at.node) at.port access).device
 
 -- A request for this destination with so many hops ends at the device of this port, which is not
 -- the host, and the answer comes back to the host by the tables as the access leaves them.
-pub record IsAnswered (topology : Topology) (registers : Registers) (dest hops : ℕ)
+pub record IsAnswered (topology : Topology) (registers : AllRegisters) (dest hops : ℕ)
     (access : Access) (at : PortRef) : Type 0 where
   pub ends : walk topology registers dest hops (port_at topology.host 0) ≡ Some at
   pub not_host : at.node ≢ topology.host

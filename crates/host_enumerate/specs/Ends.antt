@@ -4,7 +4,7 @@ use Rattle.rio_chars.specs.Faults.{Rose}
 use Rattle.link_model.specs.declared.event.Event.{Event}
 use Rattle.fabric_script.specs.declared.ports.PortRef.{PortRef}
 use Rattle.fabric_map.specs.Topology.{Topology, node_at, IsReached}
-use Rattle.fabric_map.specs.Routes.{Registers}
+use Rattle.fabric_map.specs.Routes.{AllRegisters}
 use Rattle.fabric_map.specs.Locked.{IsForeign, IsFirstLocked}
 use Rattle.fabric_map.specs.Numbered.{ChangesOnly}
 use Rattle.host_enumerate.specs.Causes.{CountStays}
@@ -23,7 +23,7 @@ walk_end_of maint.NoMemory = NoMemory
 -- this lock. Devices that were met before keep the host's lock, and all others, the locked one
 -- among
 -- them, are as before. `before` and `after` are the registers of all devices.
-pub record EndsAtLock (topology : Topology) (before after : Registers) (path : List ℕ)
+pub record EndsAtLock (topology : Topology) (before after : AllRegisters) (path : List ℕ)
     (id : ℕ) : Type 0 where
   pub first : IsFirstLocked topology before path id
   pub kept : (met : List ℕ) (node : ℕ) → Contains first.paths met
@@ -37,7 +37,7 @@ pub record EndsAtLock (topology : Topology) (before after : Registers) (path : L
       → ChangesOnly ((before topology.host).base_id ∷ []) (before node) (after node)
 
 -- no device that is reached has the lock of another host
-abbrev pub IsLockFree : Topology → Registers → Type 0
+abbrev pub IsLockFree : Topology → AllRegisters → Type 0
 IsLockFree topology registers = (node : ℕ) → IsReached topology node
     → ¬ IsForeign (registers topology.host).base_id (registers node).lock
 

@@ -2,9 +2,9 @@
 use Rattle.std.specs.Prelude.{true, List, [], ◌∷◌}
 use Rattle.fabric_script.specs.declared.ports.PortRef.{PortRef}
 use Rattle.fabric_script.specs.Ports.{port_at}
-use Rattle.maint_registers.specs.Devices.{Device, new_endpoint}
+use Rattle.maint_registers.specs.Devices.{Registers, new_endpoint}
 
-abbrev pub pair_devices : List Device
+abbrev pub pair_devices : List Registers
 pair_devices = new_endpoint 5 true ∷ new_endpoint 255 true ∷ []
 
 abbrev pub pair_links : List (PortRef × PortRef)

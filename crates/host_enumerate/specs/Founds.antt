@@ -4,14 +4,14 @@ use Rattle.fabric_script.specs.declared.ports.PortRef.{PortRef}
 use Rattle.fabric_map.specs.declared.map.Device.{Device}
 use Rattle.fabric_map.specs.Topology.{Topology, entered}
 use Rattle.fabric_map.specs.Walked.{onward}
-use Rattle.fabric_map.specs.Routes.{Registers}
+use Rattle.fabric_map.specs.Routes.{AllRegisters}
 use Rattle.fabric_map.specs.Ways.{IsOpened}
 use Rattle.fabric_map.specs.Numbered.{paths_of}
 use Rattle.host_enumerate.specs.declared.walk.Found.{Found}
 use Rattle.host_enumerate.specs.Underway.{IsUnderway}
 
 -- A switch was met and can be asked.
-pub record IsFound (topology : Topology) (registers : Registers) (host_id : ℕ)
+pub record IsFound (topology : Topology) (registers : AllRegisters) (host_id : ℕ)
     (devices : List Device) (found : Found) : Type 0 where
   pub at : PortRef
   pub leads : entered topology found.path ≡ Some at
@@ -23,7 +23,8 @@ pub record IsFound (topology : Topology) (registers : Registers) (host_id : ℕ)
 
 -- After a port of the switch on a path was tried: the next one may be tried, or the ports of a
 -- switch that was found behind it.
-abbrev pub IsUnderwayBehind : Topology → Registers → Registers → ℕ → List Device → ℕ → List ℕ → ℕ
+abbrev pub IsUnderwayBehind : Topology → AllRegisters → AllRegisters → ℕ → List Device → ℕ → List ℕ
+    → ℕ
     → Option Found → Type 0
 IsUnderwayBehind topology before now host_id devices next path port None =
     IsUnderway topology before now host_id devices next (onward path (port + 1))
@@ -32,7 +33,7 @@ IsUnderwayBehind topology before now host_id devices next path port (Some found)
 
 -- The switch on the path can still be asked; and so can one that was found behind it, which is one
 -- device more.
-abbrev pub IsFoundBehind : Topology → Registers → ℕ → List Device → List Device → List ℕ → ℕ
+abbrev pub IsFoundBehind : Topology → AllRegisters → ℕ → List Device → List Device → List ℕ → ℕ
     → Option Found → Type 0
 IsFoundBehind topology now host_id devices devices_after path port None =
     IsOpened topology now host_id path × Contains (paths_of devices_after) path

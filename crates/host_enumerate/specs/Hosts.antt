@@ -1,6 +1,6 @@
 -- Which node of a script is the host that a name names.
 use Rattle.std.specs.Prelude.{◌≡◌, ◌≢◌, ◌<◌, ◌⊎◌, ℕ, List, length, Contains, Result, Ok, Err}
-use Rattle.maint_registers.specs.Devices.{Device}
+use Rattle.maint_registers.specs.Devices.{Registers}
 use Rattle.fabric_script.specs.Names.{name_of}
 use Rattle.fabric_script.specs.declared.ports.PortRef.{PortRef}
 use Rattle.fabric_script.specs.declared.reasons.Reason.{Reason}
@@ -22,7 +22,7 @@ pub record IsFirstNamed (names : List (List ℕ)) (word : List ℕ) (node : ℕ)
   pub first : (before : ℕ) → before < node → name_of names before ≢ word
 
 -- the node with this name is the host, or this is why there is none
-abbrev pub FindsHost : List (List ℕ) → List Device → List (PortRef × PortRef) → List ℕ
+abbrev pub FindsHost : List (List ℕ) → List Registers → List (PortRef × PortRef) → List ℕ
     → Result ℕ NoHost → Type 0
 FindsHost names devices links word (Ok node) =
     IsFirstNamed names word node × IsHost devices links node

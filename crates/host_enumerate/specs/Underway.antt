@@ -1,27 +1,27 @@
 -- How far a host has come in numbering a fabric: what stands between two accesses. It is said of
 -- the devices that were met, the path that is tried next and the next ID, and of nothing else.
 use Rattle.std.specs.Prelude.{◌≡◌, ◌≢◌, ℕ, ◌+◌, ◌<◌, ◌≤◌, ◌==◌, true, false, nat_lt, List, [], ◌∷◌, length, Contains, Some, unwrap_or, if◌then◌else◌}
-use Rattle.maint_registers.specs.Devices as registers
+use Rattle.maint_registers.specs.Devices.{Registers}
 use Rattle.maint_registers.specs.Routes.{entry_of}
 use Rattle.fabric_map.specs.declared.map.Kind.{Kind}
 use Rattle.fabric_map.specs.declared.map.Kind.TheVariants.{Endpoint, Switch}
 use Rattle.fabric_map.specs.declared.map.Device.{Device}
 use Rattle.fabric_map.specs.Topology.{Topology, IsTopology, node_at}
 use Rattle.fabric_map.specs.Walked.{Walked}
-use Rattle.fabric_map.specs.Routes.{Registers}
+use Rattle.fabric_map.specs.Routes.{AllRegisters}
 use Rattle.fabric_map.specs.Locked.{IsForeign}
 use Rattle.fabric_map.specs.Numbered.{paths_of, is_given, port_toward, AreDescribed, IsMarked, ChangesOnly}
 
 -- The table of a switch sends home by default and for the host's ID. For each ID from 0 to 62 other
 -- than the host's it has the port that leads down the tree of paths, or 255 if none does.
 pub record HasTable (host_id : ℕ) (devices : List Device) (path : List ℕ) (entry : ℕ)
-    (held : registers.Device) : Type 0 where
+    (held : Registers) : Type 0 where
   pub default : held.default_port ≡ entry
   pub home : entry_of held host_id ≡ entry
   pub branches : (id : ℕ) → id < 63 → id ≢ host_id
       → entry_of held id ≡ unwrap_or (port_toward devices path id) 255
 
-abbrev pub HasTableOf : ℕ → List Device → Device → registers.Device → Type 0
+abbrev pub HasTableOf : ℕ → List Device → Device → Registers → Type 0
 HasTableOf host_id devices device held = of_kind device.kind
   where
     of_kind : Kind → Type 0
@@ -30,7 +30,7 @@ HasTableOf host_id devices device held = of_kind device.kind
 
 -- A device that was met: its registers before and now.
 pub record IsHeld (host_id : ℕ) (devices : List Device) (device : Device)
-    (before now : registers.Device) : Type 0 where
+    (before now : Registers) : Type 0 where
   pub marked : IsMarked host_id device now
   pub not_foreign : ¬ IsForeign host_id before.lock
   pub changes : ChangesOnly (host_id ∷ []) before now
@@ -65,17 +65,17 @@ IsUnmet topology devices node = (device : Device) → Contains devices device
     → node_at topology device.path ≢ Some node
 
 -- no device has a tag
-abbrev pub AreUntagged : Topology → Registers → Type 0
+abbrev pub AreUntagged : Topology → AllRegisters → Type 0
 AreUntagged topology registers = (node : ℕ) → node < topology.nodes → (registers node).tag ≡ 0
 
 -- no device that bears the ID of the host has a tag
-abbrev pub AreOwnUntagged : Topology → Registers → ℕ → Type 0
+abbrev pub AreOwnUntagged : Topology → AllRegisters → ℕ → Type 0
 AreOwnUntagged topology registers host_id = (node : ℕ) → node < topology.nodes
     → (registers node).lock ≡ host_id → (registers node).tag ≡ 0
 
 -- These devices were met before this path is tried, and this ID is given next if it is not the
 -- host's. `held` is of each device that was met; all others are as before.
-pub record IsUnderway (topology : Topology) (before now : Registers) (host_id : ℕ)
+pub record IsUnderway (topology : Topology) (before now : AllRegisters) (host_id : ℕ)
     (devices : List Device) (next : ℕ) (bound : List ℕ) : Type 0 where
   pub proper : IsTopology topology
   pub id : (before topology.host).base_id ≡ host_id

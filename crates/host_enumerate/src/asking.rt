@@ -1,7 +1,7 @@
 //! Single accesses to the device on a path.
 ghost use Rattle.std.specs.Prelude.{◌≡◌, ◌<◌, ◌≤◌, ◌^◌, ℕ, IsSome, OnOk, OnErr, IfOk, IfErr, Some};
 ghost use Rattle.fabric_script.specs.declared.ports.PortRef.{PortRef};
-ghost use Rattle.maint_registers.specs.Devices as registers;
+ghost use Rattle.maint_registers.specs.Devices.{Registers};
 ghost use Rattle.maint_registers.specs.Access.{value_at, written_at};
 ghost use Rattle.fabric_map.specs.Topology.{entered};
 ghost use Rattle.host_enumerate.specs.Accesses.{answered, access_offset};
@@ -91,10 +91,10 @@ pub(crate) fn write<M: Maint>(
 ) -> Result<(), MaintEnd>
     requires whole { M.IsWhole maint.old }
     requires offset { offset < 2 ^ 24 }
-    requires askable { (host_id : ℕ) × (at : PortRef) × (held : registers.Device)
+    requires askable { (host_id : ℕ) × (at : PortRef) × (held : Registers)
         × IsAskable (M.topology maint.old) (M.registers maint.old) host_id path.now at
         × IsWritable (M.topology maint.old) (M.registers maint.old) path.now at offset value held }
-    ensures registers { OnOk result ((at : PortRef) → (held : registers.Device)
+    ensures registers { OnOk result ((at : PortRef) → (held : Registers)
         → entered (M.topology maint.old) path.now ≡ Some at
         → written_at (M.registers maint.old at.node) offset value ≡ Some held
         → Becomes (M.registers maint.old) (M.registers maint.new) at.node held) }

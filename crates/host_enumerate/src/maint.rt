@@ -4,7 +4,7 @@ ghost use Rattle.link_model.specs.declared.event.Event.{Event};
 ghost use Rattle.fabric_script.specs.declared.ports.PortRef.{PortRef};
 ghost use Rattle.fabric_script.specs.Ports.{port_at};
 ghost use Rattle.fabric_map.specs.Topology.{Topology, IsTopology};
-ghost use Rattle.fabric_map.specs.Routes.{Registers};
+ghost use Rattle.fabric_map.specs.Routes.{AllRegisters};
 ghost use Rattle.fabric_map.specs.Fitting.{Fits};
 ghost use Rattle.host_enumerate.specs.Accesses.{answered, access_offset, after_access, IsAnswered};
 ghost use Rattle.host_enumerate.specs.Causes.{IsCaused};
@@ -45,7 +45,7 @@ pub trait Maint {
     ghost topology: { Self → Topology };
 
     /// The registers of each device.
-    ghost registers: { Self → Registers };
+    ghost registers: { Self → AllRegisters };
 
     /// How many undetected events were met. The count never falls.
     ghost undetected: { Self → ℕ };

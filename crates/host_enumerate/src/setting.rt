@@ -2,7 +2,7 @@
 ghost use Rattle.std.specs.Prelude.{◌≡◌, ◌≢◌, ◌<◌, ◌≤◌, ◌+◌, ℕ, true, false, [], ◌++◌, length, OnOk, OnErr, IfOk, IfErr, Some};
 ghost use Rattle.fabric_script.specs.declared.ports.PortRef.{PortRef};
 ghost use Rattle.maint_registers.specs.Devices as registers;
-ghost use Rattle.maint_registers.specs.Devices.{is_switch};
+ghost use Rattle.maint_registers.specs.Devices.{Registers, is_switch};
 ghost use Rattle.fabric_map.specs.Topology.{entered};
 ghost use Rattle.host_enumerate.specs.Causes.{IsCaused};
 ghost use Rattle.host_enumerate.specs.Asking.{IsAskable, IsApart, PassesOnce, Becomes};
@@ -141,7 +141,7 @@ fn clear_entries<M: Maint>(
         × (is_switch (M.registers maint.old at.node) ≡ true) }
     ensures registers { OnOk result ((at : PortRef)
         → entered (M.topology maint.old) path.now ≡ Some at
-        → (held : registers.Device)
+        → (held : Registers)
         × Becomes (M.registers maint.old) (M.registers maint.new) at.node held
         × IsCleared host_id 63 (M.registers maint.old at.node) held) }
     ensures topology { M.topology maint.new ≡ M.topology maint.old }
@@ -182,7 +182,7 @@ pub(crate) fn send_home<M: Maint>(
         → kind ≡ Kind.Switch (M.registers maint.old at.node).ports at.port) }
     ensures registers { OnOk result ((at : PortRef)
         → entered (M.topology maint.old) path.now ≡ Some at
-        → (held : registers.Device)
+        → (held : Registers)
         × Becomes (M.registers maint.old) (M.registers maint.new) at.node held
         × SwitchIsSetUp host_id at.port (M.registers maint.old at.node) held) }
     ensures topology { M.topology maint.new ≡ M.topology maint.old }

@@ -2,7 +2,7 @@
 ghost use Rattle.std.specs.Prelude.{◌≡◌, ◌≢◌, ◌<◌, ◌≤◌, ◌+◌, ℕ, [], length, OnOk, OnErr, IfOk, IfErr};
 ghost use Rattle.fabric_script.specs.declared.ports.PortRef.{PortRef};
 ghost use Rattle.fabric_map.specs.Walked.{onward, after_all_paths};
-ghost use Rattle.fabric_map.specs.Routes.{Registers};
+ghost use Rattle.fabric_map.specs.Routes.{AllRegisters};
 ghost use Rattle.fabric_map.specs.Ways.{IsOpened};
 ghost use Rattle.fabric_map.specs.Locked.{IsNext};
 ghost use Rattle.fabric_map.specs.Numbered.{paths_of, IsNumbered};
@@ -32,14 +32,14 @@ fn meet<M: Maint>(
     path: &Path,
 ) -> Result<Option<Kind>, EnumEnd>
     requires whole { M.IsWhole maint.old }
-    requires underway { (before : Registers)
+    requires underway { (before : AllRegisters)
         × IsUnderway (M.topology maint.old) before (M.registers maint.old) numbering.old.host_id
         numbering.old.devices.items numbering.old.next_id path.now }
     requires begins { path.now ≡ [] → numbering.old.next_id ≡ 0 }
     requires next { IsNext (paths_of numbering.old.devices.items) path.now }
     requires askable { (at : PortRef)
         × IsAskable (M.topology maint.old) (M.registers maint.old) numbering.old.host_id path.now at }
-    ensures tried { IfOk result (λ kind. (before : Registers)
+    ensures tried { IfOk result (λ kind. (before : AllRegisters)
         → IsUnderway (M.topology maint.old) before (M.registers maint.old) numbering.old.host_id
         numbering.old.devices.items numbering.old.next_id path.now
         → IsTried (M.topology maint.old) before (M.registers maint.new) numbering.old.host_id
@@ -50,7 +50,7 @@ fn meet<M: Maint>(
     ensures end { IfErr result (IsEnded (M.undetected maint.old, M.undetected maint.new)
         (M.faults maint.old, M.faults maint.new) (M.IsMet maint.new) (λ at id. M.IsWhole maint.new
         × ((origin : _) → M.Follows origin maint.old → M.Follows origin maint.new)
-        × ((before : Registers)
+        × ((before : AllRegisters)
         → IsUnderway (M.topology maint.old) before (M.registers maint.old) numbering.old.host_id
         numbering.old.devices.items numbering.old.next_id path.now
         → EndsAtLock (M.topology maint.old) before (M.registers maint.new) at id))) }
@@ -97,12 +97,12 @@ fn look_behind<M: Maint>(
     requires whole { M.IsWhole maint.old }
     requires found { IsFound (M.topology maint.old) (M.registers maint.old) numbering.old.host_id
         numbering.old.devices.items switch.now }
-    requires underway { (before : Registers)
+    requires underway { (before : AllRegisters)
         × IsUnderway (M.topology maint.old) before (M.registers maint.old) numbering.old.host_id
         numbering.old.devices.items numbering.old.next_id (onward switch.now.path port) }
     requires below { port < switch.now.ports }
     requires apart { port ≢ switch.now.entry }
-    ensures looked { IfOk result (λ found. (before : Registers)
+    ensures looked { IfOk result (λ found. (before : AllRegisters)
         → IsUnderway (M.topology maint.old) before (M.registers maint.old) numbering.old.host_id
         numbering.old.devices.items numbering.old.next_id (onward switch.now.path port)
         → IsUnderwayBehind (M.topology maint.old) before (M.registers maint.new)
@@ -114,7 +114,7 @@ fn look_behind<M: Maint>(
     ensures end { IfErr result (IsEnded (M.undetected maint.old, M.undetected maint.new)
         (M.faults maint.old, M.faults maint.new) (M.IsMet maint.new) (λ at id. M.IsWhole maint.new
         × ((origin : _) → M.Follows origin maint.old → M.Follows origin maint.new)
-        × ((before : Registers)
+        × ((before : AllRegisters)
         → IsUnderway (M.topology maint.old) before (M.registers maint.old) numbering.old.host_id
         numbering.old.devices.items numbering.old.next_id (onward switch.now.path port)
         → EndsAtLock (M.topology maint.old) before (M.registers maint.new) at id))) }
@@ -156,10 +156,10 @@ fn explore<M: Maint>(
     requires whole { M.IsWhole maint.old }
     requires found { IsFound (M.topology maint.old) (M.registers maint.old) numbering.old.host_id
         numbering.old.devices.items switch.now }
-    requires underway { (before : Registers)
+    requires underway { (before : AllRegisters)
         × IsUnderway (M.topology maint.old) before (M.registers maint.old) numbering.old.host_id
         numbering.old.devices.items numbering.old.next_id (onward switch.now.path 0) }
-    ensures tried { OnOk result ((before : Registers)
+    ensures tried { OnOk result ((before : AllRegisters)
         → IsUnderway (M.topology maint.old) before (M.registers maint.old) numbering.old.host_id
         numbering.old.devices.items numbering.old.next_id (onward switch.now.path 0)
         → IsUnderway (M.topology maint.old) before (M.registers maint.new) numbering.old.host_id
@@ -170,7 +170,7 @@ fn explore<M: Maint>(
     ensures end { IfErr result (IsEnded (M.undetected maint.old, M.undetected maint.new)
         (M.faults maint.old, M.faults maint.new) (M.IsMet maint.new) (λ at id. M.IsWhole maint.new
         × ((origin : _) → M.Follows origin maint.old → M.Follows origin maint.new)
-        × ((before : Registers)
+        × ((before : AllRegisters)
         → IsUnderway (M.topology maint.old) before (M.registers maint.old) numbering.old.host_id
         numbering.old.devices.items numbering.old.next_id (onward switch.now.path 0)
         → EndsAtLock (M.topology maint.old) before (M.registers maint.new) at id))) }
@@ -205,16 +205,16 @@ fn number_devices<M: Maint>(
     host_id: u8,
 ) -> Result<Vec<Device>, EnumEnd>
     requires whole { M.IsWhole maint.old }
-    requires begun { (before : Registers)
+    requires begun { (before : AllRegisters)
         × IsUnderway (M.topology maint.old) before (M.registers maint.old) host_id [] 0 [] }
-    ensures numbered { IfOk result (λ devices. (before : Registers)
+    ensures numbered { IfOk result (λ devices. (before : AllRegisters)
         → IsUnderway (M.topology maint.old) before (M.registers maint.old) host_id [] 0 []
         → (next : ℕ) × IsUnderway (M.topology maint.old) before (M.registers maint.new) host_id
         devices.items next after_all_paths) }
     ensures end { IfErr result (IsEnded (M.undetected maint.old, M.undetected maint.new)
         (M.faults maint.old, M.faults maint.new) (M.IsMet maint.new) (λ at id. M.IsWhole maint.new
         × ((origin : _) → M.Follows origin maint.old → M.Follows origin maint.new)
-        × ((before : Registers)
+        × ((before : AllRegisters)
         → IsUnderway (M.topology maint.old) before (M.registers maint.old) host_id [] 0 []
         → EndsAtLock (M.topology maint.old) before (M.registers maint.new) at id))) }
     ensures topology { M.topology maint.new ≡ M.topology maint.old }

@@ -1,7 +1,7 @@
 -- In a run of switches and links nothing happens at a node, and where a node collects it takes
 -- nothing.
 use Rattle.std.proofs.Common.{◌≡◌, ℕ, zero, suc, List, [], ◌∷◌, ◌++◌, Option, Some, None, sym, subst}
-use Rattle.maint_registers.specs.Devices.{Device, is_switch}
+use Rattle.maint_registers.specs.Devices.{Registers, is_switch}
 use Rattle.link_watch.specs.declared.note.Note.{Note}
 use Rattle.link_watch.specs.declared.note.Note.TheVariants as Notes
 use Rattle.link_rest.specs.Acts.{At, acts_notes}
@@ -98,7 +98,7 @@ module _ (Fits : NodeStep → Type 0) where
   serves_none {s} {node} {lines} (ServeRests move is) = no_by is tt
   serves_none {s} {node} {lines} (ServeGoes step rest move is more) = no_by is (serves_none more)
 
-  serve_none : (devices : List Device) (k : ℕ) (s : Seen) (lines : List TraceLine)
+  serve_none : (devices : List Registers) (k : ℕ) (s : Seen) (lines : List TraceLine)
       → ServeNodes k devices s lines → OnlyAt Fits lines
   serve_none [] k s lines is = no_by is tt
   serve_none (device ∷ devices) k s lines is =

@@ -4,7 +4,7 @@ use Rattle.std.specs.List.{AllByRecursion}
 use Rattle.std.specs.Prelude.{slice_get, option_map, option_and_then}
 use Rattle.rio_packets.specs.Fields.{prio_of, ftype_of, is_maintenance}
 use Rattle.std.proofs.lemmas.Bool.{ne_eqb}
-use Rattle.maint_registers.specs.Devices.{Device}
+use Rattle.maint_registers.specs.Devices.{Registers}
 use Rattle.maint_packets.specs.Answers.{request_answered}
 use Rattle.rio_packets.specs.Hops.{lowered}
 use Rattle.maint_packets.specs.Requests.{request_of}
@@ -97,7 +97,7 @@ no_response net p packet response plain is =
     none : request_of packet ≡ None
     none = rw (not_maintenance packet plain) refl
 
-    by : (o : Option Device)
+    by : (o : Option Registers)
         → option_and_then (λ d. option_map
         (λ r. response_bytes (request_answered d r p.port).response) None) o ≡ Some response → ⊥
     by None is = absurd cc
@@ -193,7 +193,7 @@ pub routes_stand : (dest : Option ℕ) (net : Network) (steps : List Step) → N
     → RoutesStand dest net steps
 routes_stand dest net [] none = tt
 routes_stand dest net (step ∷ steps) none = (
-  λ n. ap (λ (devices : List Device). route_at (record net { registers = devices }) dest n)
+  λ n. ap (λ (devices : List Registers). route_at (record net { registers = devices }) dest n)
       (registers_stay net step none.0),
   routes_stand dest (after net step) steps none.1,
 )

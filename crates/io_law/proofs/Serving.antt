@@ -7,7 +7,7 @@ use Rattle.std.proofs.lemmas.Bool.{eqb-true}
 use Rattle.std.proofs.lemmas.List.{take-append-le, length-append, length-map}
 use Rattle.rio_packets.specs.Fields.{body_of}
 use Rattle.rio_packets.specs.LinkForm.{LinkForm}
-use Rattle.maint_registers.specs.Devices.{Device}
+use Rattle.maint_registers.specs.Devices.{Registers}
 use Rattle.fabric_script.specs.declared.lines.Line.{Line}
 use Rattle.fabric_script.specs.declared.lines.Line.TheVariants.{Send}
 use Rattle.fabric_script.specs.declared.lines.Numbered.{Numbered}
@@ -167,8 +167,8 @@ sent_from : (old net : Network) (line : Line) (item : Item) → old.registers �
     → IsSentBy old line item → IsSentBy net line item
 sent_from old net (Send node prio ftype dest hex) item same is = (
   is.0,
-  subst (λ (devices : List Device). LinkForm (body_of prio ftype false dest
-      (unwrap_or (option_map (λ (device : Device). sender_id device false)
+  subst (λ (devices : List Registers). LinkForm (body_of prio ftype false dest
+      (unwrap_or (option_map (λ (device : Registers). sender_id device false)
       (slice_get devices node)) 0)
       hex) item.taken) same is.1,
 )

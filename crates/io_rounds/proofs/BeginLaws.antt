@@ -6,7 +6,7 @@ use Rattle.std.proofs.Math.Nat.{min-le_right}
 use Rattle.rio_chars.specs.declared.outbox.Outbox.{Outbox}
 use Rattle.rio_chars.proofs.WrittenLaws.{Writes-nil}
 use Rattle.rio_packets.specs.Fields.{prio_of}
-use Rattle.maint_registers.specs.Devices.{Device, is_switch}
+use Rattle.maint_registers.specs.Devices.{Registers, is_switch}
 use Rattle.fabric_script.specs.Lines.{is_event}
 use Rattle.fabric_script.specs.Scripts.{ScriptPasses}
 use Rattle.fabric_script.specs.declared.lines.Line.{Line}
@@ -196,7 +196,7 @@ may_reply names net node packet io named endpoint good =
 
 -- ---- which nodes are endpoints
 
-pub endpoint_is : (devices : List Device) (i : ℕ) → i < length devices
+pub endpoint_is : (devices : List Registers) (i : ℕ) → i < length devices
     → get_or (map is_switch devices) i false ≡ false
     → option_map is_switch (slice_get devices i) ≡ Some false
 endpoint_is [] i within is = absurd (omega (arith, within))

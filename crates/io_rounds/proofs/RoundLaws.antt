@@ -2,7 +2,7 @@
 use Rattle.std.proofs.Common.{◌≡◌, ◌≤◌, ◌+◌, ◌<◌, ℕ, zero, suc, Bool, true, false, List, [], ◌∷◌, ◌++◌, length, map, drop, get_or, Option, refl, sym, ap, ◌∙◌, subst, arith, append_assoc, if◌then◌else◌}
 use Rattle.std.proofs.lemmas.List.{length-map, drop_all}
 use Rattle.rio_chars.specs.declared.outbox.Outbox.{Outbox}
-use Rattle.maint_registers.specs.Devices.{Device, is_switch}
+use Rattle.maint_registers.specs.Devices.{Registers, is_switch}
 use Rattle.fabric_script.specs.declared.lines.Line.TheVariants.{Run}
 use Rattle.fabric_script.specs.declared.lines.Numbered.{Numbered}
 use Rattle.fabric_trace.specs.Runs.{start}
@@ -21,7 +21,7 @@ use Rattle.io_rounds.proofs.BeginLaws.{at_itself, state_of, endpoint_is}
 abbrev pub turns_from : List Numbered → ℕ → List IoTask
 turns_from script i = map Turn (endpoints_from i (drop i (start script).network.registers))
 
-turns_step : (n : ℕ) (devices : List Device) (i : ℕ) → i < length devices
+turns_step : (n : ℕ) (devices : List Registers) (i : ℕ) → i < length devices
     → map Turn (endpoints_from n (drop i devices))
     ≡ node_turn (get_or (map is_switch devices) i false) n
     ++ map Turn (endpoints_from (suc n) (drop (suc i) devices))

@@ -1,7 +1,7 @@
 -- What a script of reads and writes has to be done, one thing after another.
 use Rattle.std.specs.Prelude.{ℕ, suc, ◌+◌, min, List, [], ◌∷◌, map, replicate, Option, Some, None, if◌then◌else◌}
 use Rattle.rio_packets.specs.Fields.{prio_of}
-use Rattle.maint_registers.specs.Devices.{Device, is_switch}
+use Rattle.maint_registers.specs.Devices.{Registers, is_switch}
 use Rattle.fabric_script.specs.declared.lines.Line.{Line}
 use Rattle.fabric_script.specs.declared.lines.Line.TheVariants.{Send, Run, Collect}
 use Rattle.io_packets.specs.declared.io.Io.{Io}
@@ -43,7 +43,7 @@ reply_line node packet io =
 -- ---- what a line has to be done
 
 -- the nodes that are endpoints among these devices, of which the first is this node
-abbrev pub endpoints_from : ℕ → List Device → List ℕ
+abbrev pub endpoints_from : ℕ → List Registers → List ℕ
 endpoints_from n [] = []
 endpoints_from n (device ∷ devices) =
     if is_switch device then endpoints_from (suc n) devices else n ∷ endpoints_from (suc n) devices

@@ -8,7 +8,7 @@ use Rattle.rio_packets.specs.LinkForm.{AreBytes, Passes}
 use Rattle.rio_packets.specs.Fields.{prio_of, tt_of, dest_of, source_of, ids_end, hop_place, half_word_at, ttype_of, is_request, body_of}
 use Rattle.rio_packets.specs.Hops.{message_ended, is_large}
 use Rattle.rio_packets.specs.Words.{word_at}
-use Rattle.maint_registers.specs.Devices.{Device, IsSameDevice}
+use Rattle.maint_registers.specs.Devices.{Registers, IsSameDevice}
 use Rattle.maint_registers.specs.Within.{IsWithin}
 use Rattle.maint_registers.specs.Access.{value_at, written_at}
 use Rattle.maint_registers.proofs.SameLaws.{same_device, written_same}
@@ -271,7 +271,7 @@ half_fits offset value fits = go (names_second offset)
     go true = (omega arith, fits)
     go false = (fits, omega arith)
 
-read_passes : (device : Device) (request : Request) (o : Option ℕ) → Fits request
+read_passes : (device : Registers) (request : Request) (o : Option ℕ) → Fits request
     → ((value : ℕ) → o ≡ Some value → value < 0x100000000)
     → Passes (response_bytes (request_read device request o).response)
 read_passes device request None fits words = back_passes request false 7 None fits (omega arith) tt
@@ -279,12 +279,12 @@ read_passes device request (Some value) fits words =
     back_passes request false 0 (Some (in_half request.offset value)) fits (omega arith)
     (half_fits request.offset value (words value refl))
 
-write_passes : (device : Device) (request : Request) (o : Option Device) → Fits request
+write_passes : (device : Registers) (request : Request) (o : Option Registers) → Fits request
     → Passes (response_bytes (request_written device request o).response)
 write_passes device request None fits = back_passes request true 7 None fits (omega arith) tt
 write_passes device request (Some next) fits = back_passes request true 0 None fits (omega arith) tt
 
-op_passes : (device : Device) (request : Request) (port : ℕ) (op : Op) → IsWithin device
+op_passes : (device : Registers) (request : Request) (port : ℕ) (op : Op) → IsWithin device
     → port < 0x100
     → Fits request → Passes (response_bytes (answered_to device request port op).response)
 op_passes device request port Read within low fits =
@@ -297,7 +297,7 @@ op_passes device request port BadRead within low fits = read_passes device reque
 op_passes device request port BadWrite within low fits = write_passes device request None fits
 
 -- what the registers answer is in its link form
-pub responses_pass : (device : Device) (packet : List ℕ) (request : Request) (port : ℕ)
+pub responses_pass : (device : Registers) (packet : List ℕ) (request : Request) (port : ℕ)
     → IsWithin device → port < 0x100 → Passes packet → request_of packet ≡ Some request
     → Passes (response_bytes (request_answered device request port).response)
 responses_pass device packet request port within low form is =
@@ -305,18 +305,18 @@ responses_pass device packet request port within low form is =
 
 -- ---- devices
 
-written_stays : (device : Device) (request : Request) (o : Option Device) → IsWithin device
-    → ((next : Device) → o ≡ Some next → IsWithin next) → IsWithin
+written_stays : (device : Registers) (request : Request) (o : Option Registers) → IsWithin device
+    → ((next : Registers) → o ≡ Some next → IsWithin next) → IsWithin
     (request_written device request o).device
 written_stays device request None within nexts = within
 written_stays device request (Some next) within nexts = nexts next refl
 
-read_stays : (device : Device) (request : Request) (o : Option ℕ) → IsWithin device
+read_stays : (device : Registers) (request : Request) (o : Option ℕ) → IsWithin device
     → IsWithin (request_read device request o).device
 read_stays device request None within = within
 read_stays device request (Some value) within = within
 
-op_stays : (device : Device) (request : Request) (port : ℕ) (op : Op) → IsWithin device
+op_stays : (device : Registers) (request : Request) (port : ℕ) (op : Op) → IsWithin device
     → ((value : ℕ) → op ≡ Write value → value < 0x100000000)
     → IsWithin (answered_to device request port op).device
 op_stays device request port Read within fits = read_stays device request
@@ -328,7 +328,7 @@ op_stays device request port BadRead within fits = within
 op_stays device request port BadWrite within fits = within
 
 -- and leaves the device within its bounds
-pub answered_within : (device : Device) (packet : List ℕ) (request : Request) (port : ℕ)
+pub answered_within : (device : Registers) (packet : List ℕ) (request : Request) (port : ℕ)
     → IsWithin device → Passes packet → request_of packet ≡ Some request
     → IsWithin (request_answered device request port).device
 answered_within device packet request port within form is =
@@ -337,12 +337,12 @@ answered_within device packet request port within form is =
 
 -- ---- kind, ports and links
 
-read_same : (device : Device) (request : Request) (o : Option ℕ)
+read_same : (device : Registers) (request : Request) (o : Option ℕ)
     → IsSameDevice device (request_read device request o).device
 read_same device request None = same_device device
 read_same device request (Some value) = same_device device
 
-write_same : (device : Device) (request : Request) (offset value : ℕ) (o : Option Device)
+write_same : (device : Registers) (request : Request) (offset value : ℕ) (o : Option Registers)
     → written_at device offset value ≡ o
     → IsSameDevice device (request_written device request o).device
 write_same device request offset value None is = same_device device
@@ -350,7 +350,7 @@ write_same device request offset value (Some next) is =
     written_same device next offset value is
 
 -- a device that answers is the same
-pub answered_same : (device : Device) (request : Request) (port : ℕ)
+pub answered_same : (device : Registers) (request : Request) (port : ℕ)
     → IsSameDevice device (request_answered device request port).device
 answered_same device request port = by_op request.op
   where

@@ -1,6 +1,6 @@
 -- What a device answers to a request, and what becomes of its registers.
 use Rattle.std.specs.Prelude.{ℕ, ◌+◌, Bool, true, false, min, Option, Some, None}
-use Rattle.maint_registers.specs.Devices.{Device}
+use Rattle.maint_registers.specs.Devices.{Registers}
 use Rattle.maint_registers.specs.Access.{value_at, written_at}
 use Rattle.maint_packets.specs.declared.request.Op.{Op}
 use Rattle.maint_packets.specs.declared.request.Op.TheVariants.{Read, Write, BadRead, BadWrite}
@@ -11,7 +11,7 @@ use Rattle.maint_packets.specs.Requests.{in_half}
 -- a response, and the registers after it
 pub record RequestAnswered : Type 0 where
   pub response : Response
-  pub device : Device
+  pub device : Registers
 
 -- A response goes back to where the request came from, with IDs of the same size, the next higher
 -- priority if there is one and the same transaction number. It starts with the greatest hop count.
@@ -29,7 +29,7 @@ back request write status words = record {
 }
 
 -- what was read, in the half that the request names
-abbrev pub request_read : Device → Request → Option ℕ → RequestAnswered
+abbrev pub request_read : Registers → Request → Option ℕ → RequestAnswered
 request_read device request (Some value) = record {
   response = back request false 0 (Some (in_half request.offset value));
   device = device;
@@ -37,7 +37,7 @@ request_read device request (Some value) = record {
 request_read device request None = record { response = back request false 7 None; device = device }
 
 -- what the write left
-abbrev pub request_written : Device → Request → Option Device → RequestAnswered
+abbrev pub request_written : Registers → Request → Option Registers → RequestAnswered
 request_written device request (Some next) = record {
   response = back request true 0 None;
   device = next;
@@ -46,7 +46,7 @@ request_written device request None =
     record { response = back request true 7 None; device = device }
 
 -- the answer to a request that came to a port
-abbrev pub answered_to : Device → Request → ℕ → Op → RequestAnswered
+abbrev pub answered_to : Registers → Request → ℕ → Op → RequestAnswered
 answered_to device request port Read =
     request_read device request (value_at device request.offset port)
 answered_to device request port (Write value) =
@@ -54,5 +54,5 @@ answered_to device request port (Write value) =
 answered_to device request port BadRead = request_read device request None
 answered_to device request port BadWrite = request_written device request None
 
-abbrev pub request_answered : Device → Request → ℕ → RequestAnswered
+abbrev pub request_answered : Registers → Request → ℕ → RequestAnswered
 request_answered device request port = answered_to device request port request.op

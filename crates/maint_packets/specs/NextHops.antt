@@ -5,7 +5,7 @@ use Rattle.std.specs.Prelude.{ℕ, ◌==◌, ◌&&◌, Bool, false, not, List, O
 use Rattle.std.specs.Option.{option_and_then}
 use Rattle.rio_packets.specs.Fields.{dest_of, hop_of, ftype_of, is_maintenance, is_request}
 use Rattle.rio_packets.specs.Hops.{lowered}
-use Rattle.maint_registers.specs.Devices.{Device}
+use Rattle.maint_registers.specs.Devices.{Registers}
 use Rattle.maint_registers.specs.Routes.{next_port}
 use Rattle.maint_packets.specs.declared.next_hop.Next.{Next}
 use Rattle.maint_packets.specs.declared.next_hop.Next.TheVariants.{Nowhere, RegisterUnit, Port}
@@ -32,7 +32,7 @@ to_port (Some port) = Port port
 -- its hops a request goes to the registers and any other maintenance packet is dropped; all others
 -- go to the port that the table names for their destination, or are dropped if it names none or if
 -- their transport type, 2 or 3, gives them no destination.
-abbrev pub next_of : Device → List ℕ → Next
+abbrev pub next_of : Registers → List ℕ → Next
 next_of device packet =
     if is_foreign packet then Nowhere
     else (if is_at_end packet then (if is_request packet then RegisterUnit else Nowhere)

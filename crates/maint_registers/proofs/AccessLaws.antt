@@ -5,13 +5,13 @@ use Rattle.maint_registers.specs.declared.registers.Kind.{Kind}
 use Rattle.maint_registers.specs.declared.registers.Kind.TheVariants.{Endpoint, Switch}
 use Rattle.maint_registers.specs.declared.table.Register.{Register}
 use Rattle.maint_registers.specs.declared.table.Register.TheVariants.{Fixed, PortInformation, BaseId, HostLock, ComponentTag, RouteSelect, RouteEntry, DefaultPort}
-use Rattle.maint_registers.specs.Devices.{Device, is_switch}
+use Rattle.maint_registers.specs.Devices.{Registers, is_switch}
 use Rattle.maint_registers.specs.Table.{Row, table, in_rows, status_offset, status_port, status_of, register_at}
 use Rattle.maint_registers.specs.Access.{value_of, value_at, written_to, written_at, locked}
 use Rattle.maint_registers.proofs.StatusLaws.{status_port-found}
 
 -- what stands in the rows of a device's kind stands at the offset
-in_its_rows : (device : Device) (offset : ℕ) (kind : Kind) (register : Register)
+in_its_rows : (device : Registers) (offset : ℕ) (kind : Kind) (register : Register)
     → device.kind ≡ kind → in_rows kind table offset ≡ Some register
     → register_at device offset ≡ Some register
 in_its_rows device offset kind register is stands =
@@ -19,7 +19,7 @@ in_its_rows device offset kind register is stands =
     (status_port device.ports offset)))
     (ap (λ k. in_rows k table offset) is ∙ stands)
 
-pub kind-switch : (device : Device) → is_switch device ≡ true → device.kind ≡ Switch
+pub kind-switch : (device : Registers) → is_switch device ≡ true → device.kind ≡ Switch
 kind-switch device is = go device.kind refl is
   where
     go : (kind : Kind) → device.kind ≡ kind
@@ -27,7 +27,7 @@ kind-switch device is = go device.kind refl is
     go Switch same is = refl
     go Endpoint same is = absurd (cc)
 
-pub kind-endpoint : (device : Device) → is_switch device ≡ false → device.kind ≡ Endpoint
+pub kind-endpoint : (device : Registers) → is_switch device ≡ false → device.kind ≡ Endpoint
 kind-endpoint device is = go device.kind is
   where
     go : (kind : Kind) → is_switch (record device { kind = kind }) ≡ false → kind ≡ Endpoint
@@ -35,7 +35,7 @@ kind-endpoint device is = go device.kind is
     go Switch is = absurd (cc)
 
 -- what stands at an offset in both columns
-in_both : (device : Device) (offset : ℕ) (register : Register)
+in_both : (device : Registers) (offset : ℕ) (register : Register)
     → in_rows Endpoint table offset ≡ Some register → in_rows Switch table offset ≡ Some register
     → register_at device offset ≡ Some register
 in_both device offset register endpoint switch = go device.kind refl
@@ -44,29 +44,29 @@ in_both device offset register endpoint switch = go device.kind refl
     go Endpoint is = in_its_rows device offset Endpoint register is endpoint
     go Switch is = in_its_rows device offset Switch register is switch
 
-at-lock : (device : Device) → register_at device 0x68 ≡ Some HostLock
+at-lock : (device : Registers) → register_at device 0x68 ≡ Some HostLock
 at-lock device = in_both device 0x68 HostLock refl refl
 
-at-tag : (device : Device) → register_at device 0x6c ≡ Some ComponentTag
+at-tag : (device : Registers) → register_at device 0x6c ≡ Some ComponentTag
 at-tag device = in_both device 0x6c ComponentTag refl refl
 
-reads : (device : Device) (offset port : ℕ) (register : Register)
+reads : (device : Registers) (offset port : ℕ) (register : Register)
     → register_at device offset ≡ Some register
     → value_at device offset port ≡ Some (value_of device port register)
 reads device offset port register at = ap (λ o. option_map (value_of device port) o) at
 
-writes : (device : Device) (offset value : ℕ) (register : Register)
+writes : (device : Registers) (offset value : ℕ) (register : Register)
     → register_at device offset ≡ Some register
     → written_at device offset value ≡ written_to device value register
 writes device offset value register at = ap (λ o. option_and_then (written_to device value) o) at
 
-pub lock-read : (device : Device) (port : ℕ) → value_at device 0x68 port ≡ Some device.lock
+pub lock-read : (device : Registers) (port : ℕ) → value_at device 0x68 port ≡ Some device.lock
 lock-read device port = reads device 0x68 port HostLock (at-lock device)
 
-pub tag-read : (device : Device) (port : ℕ) → value_at device 0x6c port ≡ Some device.tag
+pub tag-read : (device : Registers) (port : ℕ) → value_at device 0x6c port ≡ Some device.tag
 tag-read device port = reads device 0x6c port ComponentTag (at-tag device)
 
-pub features-read : (device : Device) (port : ℕ)
+pub features-read : (device : Registers) (port : ℕ)
     → value_at device 0x10 port ≡ Some (if is_switch device then 0x10000118 else 0x18)
 features-read device port = go (is_switch device) refl
   where
@@ -77,48 +77,48 @@ features-read device port = go (is_switch device) refl
     go false is = reads device 0x10 port (Fixed 0x18)
         (in_its_rows device 0x10 Endpoint (Fixed 0x18) (kind-endpoint device is) refl)
 
-pub port_information-read : (device : Device) (port : ℕ) → is_switch device ≡ true
+pub port_information-read : (device : Registers) (port : ℕ) → is_switch device ≡ true
     → value_at device 0x14 port ≡ Some (device.ports * 0x100 + port)
 port_information-read device port is =
     reads device 0x14 port PortInformation
     (in_its_rows device 0x14 Switch PortInformation (kind-switch device is) refl)
 
-pub base_id-read : (device : Device) (port : ℕ) → is_switch device ≡ false
+pub base_id-read : (device : Registers) (port : ℕ) → is_switch device ≡ false
     → value_at device 0x60 port ≡ Some (device.base_id * 0x10000 + device.large_id)
 base_id-read device port is =
     reads device 0x60 port BaseId
     (in_its_rows device 0x60 Endpoint BaseId (kind-endpoint device is) refl)
 
-pub lock-written : (device : Device) (value : ℕ)
+pub lock-written : (device : Registers) (value : ℕ)
     → written_at device 0x68 value
     ≡ Some (record device { lock = locked device.lock (value % 0x10000) })
 lock-written device value = writes device 0x68 value HostLock (at-lock device)
 
-pub tag-written : (device : Device) (value : ℕ)
+pub tag-written : (device : Registers) (value : ℕ)
     → written_at device 0x6c value ≡ Some (record device { tag = value })
 tag-written device value = writes device 0x6c value ComponentTag (at-tag device)
 
-pub base_id-written : (device : Device) (value : ℕ) → is_switch device ≡ false
+pub base_id-written : (device : Registers) (value : ℕ) → is_switch device ≡ false
     → written_at device 0x60 value
     ≡ Some (record device { base_id = value / 0x10000 % 0x100 })
 base_id-written device value is =
     writes device 0x60 value BaseId
     (in_its_rows device 0x60 Endpoint BaseId (kind-endpoint device is) refl)
 
-pub select-written : (device : Device) (value : ℕ) → is_switch device ≡ true
+pub select-written : (device : Registers) (value : ℕ) → is_switch device ≡ true
     → written_at device 0x70 value ≡ Some (record device { select = value % 0x400 })
 select-written device value is =
     writes device 0x70 value RouteSelect
     (in_its_rows device 0x70 Switch RouteSelect (kind-switch device is) refl)
 
-pub entry-written : (device : Device) (value : ℕ) → is_switch device ≡ true
+pub entry-written : (device : Registers) (value : ℕ) → is_switch device ≡ true
     → written_at device 0x74 value
     ≡ Some (record device { routes = slice_set device.routes device.select (value % 0x100) })
 entry-written device value is =
     writes device 0x74 value RouteEntry
     (in_its_rows device 0x74 Switch RouteEntry (kind-switch device is) refl)
 
-pub default_port-written : (device : Device) (value : ℕ) → is_switch device ≡ true
+pub default_port-written : (device : Registers) (value : ℕ) → is_switch device ≡ true
     → written_at device 0x78 value ≡ Some (record device { default_port = value % 0x100 })
 default_port-written device value is =
     writes device 0x78 value DefaultPort
@@ -148,7 +148,7 @@ past_rows kind (row ∷ rows) limit offset less past =
     go false b first rest both on = absurd (cc)
 
 -- 2 of a port with a link, 1 of one without
-pub status-read : (device : Device) (n port : ℕ) → n < device.ports
+pub status-read : (device : Registers) (n port : ℕ) → n < device.ports
     → value_at device (status_offset n) port ≡ Some (status_of device n)
 status-read device n port below =
     reads device (status_offset n) port (Fixed (status_of device n))

@@ -7,7 +7,7 @@ use Rattle.maint_registers.specs.declared.registers.Kind.{Kind}
 use Rattle.maint_registers.specs.declared.registers.Kind.TheVariants.{Endpoint, Switch}
 use Rattle.maint_registers.specs.declared.table.Register.{Register}
 use Rattle.maint_registers.specs.declared.table.Register.TheVariants.{Fixed, PortInformation, BaseId, HostLock, ComponentTag, RouteSelect, RouteEntry, DefaultPort}
-use Rattle.maint_registers.specs.Devices.{Device}
+use Rattle.maint_registers.specs.Devices.{Registers}
 use Rattle.maint_registers.specs.Table.{Row, table, column, in_rows, status_port, status_of, register_at}
 use Rattle.maint_registers.specs.Access.{written_to, written_at}
 
@@ -59,7 +59,7 @@ module _ (test : Register → Bool) (n : ℕ) (register : Register) (such : test
       go false same is on = on is
 
   -- a register that no status register is stands in the rows
-  in_device : (device : Device) (offset : ℕ) → ((value : ℕ) → test (Fixed value) ≡ false)
+  in_device : (device : Registers) (offset : ℕ) → ((value : ℕ) → test (Fixed value) ≡ false)
       → have_offset test n device.kind table ≡ true
       → register_at device offset ≡ Some register → offset ≡ n
   in_device device offset free all is =
@@ -83,11 +83,11 @@ tag_offset : (kind : Kind) → have_offset is_tag 0x6c kind table ≡ true
 tag_offset Endpoint = refl
 tag_offset Switch = refl
 
-module _ (device next : Device) (offset value : ℕ)
+module _ (device next : Registers) (offset value : ℕ)
     (is : written_at device offset value ≡ Some next) where
   -- what each write leaves, but that to one register, is left
-  leaves : {A : Type 0} (part : Device → A)
-      → ((register : Register) (held : Device) → register_at device offset ≡ Some register
+  leaves : {A : Type 0} (part : Registers → A)
+      → ((register : Register) (held : Registers) → register_at device offset ≡ Some register
       → written_to device value register ≡ Some held → part held ≡ part device)
       → part next ≡ part device
   leaves part each = go (register_at device offset) refl is
@@ -97,15 +97,15 @@ module _ (device next : Device) (offset value : ℕ)
       go None stands wrote = absurd (cc)
       go (Some register) stands wrote = each register next stands wrote
 
-  module _ {A : Type 0} (part : Device → A) (held : Device) where
-    one : (written : Device) → Some written ≡ Some held → part written ≡ part device
+  module _ {A : Type 0} (part : Registers → A) (held : Registers) where
+    one : (written : Registers) → Some written ≡ Some held → part written ≡ part device
         → part held ≡ part device
     one written wrote stays = ap part (sym (same_Some written held wrote)) ∙ stays
 
   pub lock-stays : offset ≢ 0x68 → next.lock ≡ device.lock
   lock-stays other = leaves (λ d. d.lock) each
     where
-      each : (register : Register) (held : Device) → register_at device offset ≡ Some register
+      each : (register : Register) (held : Registers) → register_at device offset ≡ Some register
           → written_to device value register ≡ Some held → held.lock ≡ device.lock
       each (Fixed shown) held stands wrote = absurd (cc)
       each PortInformation held stands wrote = absurd (cc)
@@ -121,7 +121,7 @@ module _ (device next : Device) (offset value : ℕ)
   pub tag-stays : offset ≢ 0x6c → next.tag ≡ device.tag
   tag-stays other = leaves (λ d. d.tag) each
     where
-      each : (register : Register) (held : Device) → register_at device offset ≡ Some register
+      each : (register : Register) (held : Registers) → register_at device offset ≡ Some register
           → written_to device value register ≡ Some held → held.tag ≡ device.tag
       each (Fixed shown) held stands wrote = absurd (cc)
       each PortInformation held stands wrote = absurd (cc)

@@ -5,7 +5,7 @@ use Rattle.std.specs.Int.{bit_at}
 use Rattle.std.proofs.lemmas.Nat.{one_shl}
 use Rattle.std.proofs.lemmas.Nat.Bits.{bit_at_or, bit_at-lt, and_pow, bit_at-pow_same, bit_at-pow_other}
 use Rattle.std.proofs.lemmas.Bool.{cases_eq}
-use Rattle.maint_registers.specs.Devices.{Device, with_link}
+use Rattle.maint_registers.specs.Devices.{Registers, with_link}
 use Rattle.maint_registers.specs.Table.{status_of}
 
 -- the bit of a port, set by `|`
@@ -46,12 +46,12 @@ bit_others linked port other apart =
     ∙ omega (arith, bit_at_or linked (2 ^ port) other, bit_at-pow_other port other apart)
 
 -- the port has a link afterwards
-pub link_shown : (device : Device) (port : ℕ)
+pub link_shown : (device : Registers) (port : ℕ)
     → status_of (record device { linked = with_link device.linked port }) port ≡ 2
 link_shown device port = ap (λ b. if b == 1 then 2 else 1) (bit_set device.linked port)
 
 -- and every other port has one if it had one
-pub link_others : (device : Device) (port other : ℕ) → other ≢ port
+pub link_others : (device : Registers) (port other : ℕ) → other ≢ port
     → status_of (record device { linked = with_link device.linked port }) other
     ≡ status_of device other
 link_others device port other apart =

@@ -2,11 +2,11 @@
 use Rattle.std.proofs.Common.{◌≡◌, ◌≢◌, ℕ, ◌<◌, ◌≤◌, ◌==◌, ◌&&◌, nat_lt, true, List, length, slice_index_or, slice_set, Some, None, arith, refl, ap, sym, subst, ◌∙◌, if◌then◌else◌, ne_eqb, get_or-set_same}
 use Rattle.std.proofs.lemmas.List.{get_or-set_other}
 use Rattle.std.proofs.lemmas.Bool.{lt-ltb}
-use Rattle.maint_registers.specs.Devices.{Device, is_switch}
+use Rattle.maint_registers.specs.Devices.{Registers, is_switch}
 use Rattle.maint_registers.specs.Routes.{entry_of, port_named, next_port}
 
 -- the port of a switch that its table names
-named-next : (device : Device) (dest port : ℕ) → is_switch device ≡ true
+named-next : (device : Registers) (dest port : ℕ) → is_switch device ≡ true
     → port_named device dest ≡ port → port < device.ports → next_port device dest ≡ Some port
 named-next device dest port is named below =
     subst (λ p. (if is_switch device && nat_lt p device.ports then Some p else None) ≡ Some port)
@@ -14,7 +14,7 @@ named-next device dest port is named below =
     (rw (is, lt-ltb port device.ports below) refl)
 
 -- the entry of the destination
-pub entry-next : (device : Device) (dest port : ℕ) → is_switch device ≡ true
+pub entry-next : (device : Registers) (dest port : ℕ) → is_switch device ≡ true
     → device.ports ≤ 16 → entry_of device dest ≡ port → port < device.ports
     → next_port device dest ≡ Some port
 entry-next device dest port is few named below =
@@ -22,14 +22,14 @@ entry-next device dest port is few named below =
     (rw (named, ne_eqb port 255 (λ same. omega (arith, same, below, few))) refl) below
 
 -- or the default port if the entry is 255
-pub default-next : (device : Device) (dest port : ℕ) → is_switch device ≡ true
+pub default-next : (device : Registers) (dest port : ℕ) → is_switch device ≡ true
     → entry_of device dest ≡ 255 → device.default_port ≡ port → port < device.ports
     → next_port device dest ≡ Some port
 default-next device dest port is none default below =
     named-next device dest port is (rw none default) below
 
 -- a device with the same entry of a destination sends packets for it to the same port
-pub next-same : (before after : Device) (dest : ℕ) → after.kind ≡ before.kind
+pub next-same : (before after : Registers) (dest : ℕ) → after.kind ≡ before.kind
     → after.ports ≡ before.ports → after.default_port ≡ before.default_port
     → entry_of after dest ≡ entry_of before dest
     → next_port after dest ≡ next_port before dest

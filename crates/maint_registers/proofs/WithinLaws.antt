@@ -7,7 +7,7 @@ use Rattle.maint_registers.specs.declared.registers.Kind.{Kind}
 use Rattle.maint_registers.specs.declared.registers.Kind.TheVariants.{Endpoint, Switch}
 use Rattle.maint_registers.specs.declared.table.Register.{Register}
 use Rattle.maint_registers.specs.declared.table.Register.TheVariants.{Fixed, PortInformation, BaseId, HostLock, ComponentTag, RouteSelect, RouteEntry, DefaultPort}
-use Rattle.maint_registers.specs.Devices.{Device, no_routes, new_endpoint, new_switch}
+use Rattle.maint_registers.specs.Devices.{Registers, no_routes, new_endpoint, new_switch}
 use Rattle.maint_registers.specs.Table.{Row, table, column, in_rows, status_port, status_of, register_at}
 use Rattle.maint_registers.specs.Access.{value_of, value_at, written_to, written_at, locked}
 use Rattle.maint_registers.specs.Within.{IsWithin}
@@ -46,7 +46,7 @@ new_switch_within ports linked most = record {
   default_port = omega arith;
 }
 
-pub base_id_within : (device : Device) (id : ℕ) → IsWithin device → id < 0x100
+pub base_id_within : (device : Registers) (id : ℕ) → IsWithin device → id < 0x100
     → IsWithin (record device { base_id = id })
 base_id_within device id within range = record {
   ports = within.ports;
@@ -60,7 +60,7 @@ base_id_within device id within range = record {
   default_port = within.default_port;
 }
 
-pub large_within : (device : Device) (id : ℕ) → IsWithin device → id < 0x10000
+pub large_within : (device : Registers) (id : ℕ) → IsWithin device → id < 0x10000
     → IsWithin (record device { large_id = id })
 large_within device id within range = record {
   ports = within.ports;
@@ -74,7 +74,7 @@ large_within device id within range = record {
   default_port = within.default_port;
 }
 
-pub lock_within : (device : Device) (id : ℕ) → IsWithin device → id < 0x10000
+pub lock_within : (device : Registers) (id : ℕ) → IsWithin device → id < 0x10000
     → IsWithin (record device { lock = id })
 lock_within device id within range = record {
   ports = within.ports;
@@ -88,7 +88,7 @@ lock_within device id within range = record {
   default_port = within.default_port;
 }
 
-pub tag_within : (device : Device) (tag : ℕ) → IsWithin device → tag < 0x100000000
+pub tag_within : (device : Registers) (tag : ℕ) → IsWithin device → tag < 0x100000000
     → IsWithin (record device { tag = tag })
 tag_within device tag within range = record {
   ports = within.ports;
@@ -102,7 +102,7 @@ tag_within device tag within range = record {
   default_port = within.default_port;
 }
 
-pub select_within : (device : Device) (dest : ℕ) → IsWithin device → dest < 0x400
+pub select_within : (device : Registers) (dest : ℕ) → IsWithin device → dest < 0x400
     → IsWithin (record device { select = dest })
 select_within device dest within range = record {
   ports = within.ports;
@@ -116,7 +116,7 @@ select_within device dest within range = record {
   default_port = within.default_port;
 }
 
-pub route_within : (device : Device) (dest port : ℕ) → IsWithin device → port < 0x100
+pub route_within : (device : Registers) (dest port : ℕ) → IsWithin device → port < 0x100
     → IsWithin (record device { routes = slice_set device.routes dest port })
 route_within device dest port within range =
     let long = length-set device.routes dest port in
@@ -133,7 +133,7 @@ route_within device dest port within range =
       default_port = within.default_port;
     }
 
-pub default_within : (device : Device) (port : ℕ) → IsWithin device → port < 0x100
+pub default_within : (device : Registers) (port : ℕ) → IsWithin device → port < 0x100
     → IsWithin (record device { default_port = port })
 default_within device port within range = record {
   ports = within.ports;
@@ -147,7 +147,7 @@ default_within device port within range = record {
   default_port = range;
 }
 
-pub links_within : (device : Device) (linked : ℕ) → IsWithin device
+pub links_within : (device : Registers) (linked : ℕ) → IsWithin device
     → IsWithin (record device { linked = linked })
 links_within device linked within = record {
   ports = within.ports;
@@ -170,10 +170,11 @@ locked_within lock id below range = go (lock == 0xffff) (lock == id)
     go false true = omega arith
     go false false = below
 
-module _ (device next : Device) (value : ℕ) (within : IsWithin device) (range : value < 0x100000000)
+module _ (device next : Registers) (value : ℕ) (within : IsWithin device)
+    (range : value < 0x100000000)
   where
     -- a device that is within is the next one
-    this : (written : Device) → IsWithin written → Some written ≡ Some next → IsWithin next
+    this : (written : Registers) → IsWithin written → Some written ≡ Some next → IsWithin next
     this written fits is = let same : written ≡ next = cc in subst IsWithin same fits
 
     register_within : (register : Register) → written_to device value register ≡ Some next
@@ -192,7 +193,7 @@ module _ (device next : Device) (value : ℕ) (within : IsWithin device) (range 
     register_within DefaultPort is = this _ (default_within device _ within (omega arith)) is
 
 -- whatever is written, the device stays within
-pub written_within : (device next : Device) (offset value : ℕ) → IsWithin device
+pub written_within : (device next : Registers) (offset value : ℕ) → IsWithin device
     → value < 0x100000000 → written_at device offset value ≡ Some next → IsWithin next
 written_within device next offset value within range = go (register_at device offset)
   where
@@ -229,7 +230,7 @@ rows_fit kind (row ∷ rows) offset all =
     go Switch true endpoint switch rest = switch
     go k false endpoint switch rest = rest
 
-status_fits : (device : Device) (o : Option ℕ)
+status_fits : (device : Registers) (o : Option ℕ)
     → fit (option_map (λ n. Fixed (status_of device n)) o) ≡ true
 status_fits device None = refl
 status_fits device (Some n) = go (device.linked / 2 ^ n % 2 == 1)
@@ -238,7 +239,7 @@ status_fits device (Some n) = go (device.linked / 2 ^ n % 2 == 1)
     go true = refl
     go false = refl
 
-registers_fit : (device : Device) (offset : ℕ) → fit (register_at device offset) ≡ true
+registers_fit : (device : Registers) (offset : ℕ) → fit (register_at device offset) ≡ true
 registers_fit device offset =
     go (in_rows device.kind table offset) (rows_fit device.kind table offset refl)
   where
@@ -248,7 +249,7 @@ registers_fit device offset =
     go None all = status_fits device (status_port device.ports offset)
     go (Some register) all = all
 
-value_fits : (device : Device) (port : ℕ) (register : Register) → IsWithin device → port < 0x100
+value_fits : (device : Registers) (port : ℕ) (register : Register) → IsWithin device → port < 0x100
     → fits register ≡ true → value_of device port register < 0x100000000
 value_fits device port (Fixed value) within range fit = ltb-true value 0x100000000 fit
 value_fits device port PortInformation within range fit = let most = within.ports in omega arith
@@ -268,7 +269,7 @@ value_fits device port RouteEntry within range fit =
 value_fits device port DefaultPort within range fit = let most = within.default_port in omega arith
 
 -- what is read is a word
-pub read_fits : (device : Device) (offset port value : ℕ) → IsWithin device → port < 0x100
+pub read_fits : (device : Registers) (offset port value : ℕ) → IsWithin device → port < 0x100
     → value_at device offset port ≡ Some value → value < 0x100000000
 read_fits device offset port value within range =
     go (register_at device offset) (registers_fit device offset)

@@ -5,20 +5,20 @@ use Rattle.std.proofs.lemmas.List.Elements.{All-get_or}
 use Rattle.std.proofs.lemmas.Option.{same_Some}
 use Rattle.maint_registers.specs.declared.table.Register.{Register}
 use Rattle.maint_registers.specs.declared.table.Register.TheVariants.{Fixed, PortInformation, BaseId, HostLock, ComponentTag, RouteSelect, RouteEntry, DefaultPort}
-use Rattle.maint_registers.specs.Devices.{Device, IsDevice}
+use Rattle.maint_registers.specs.Devices.{Registers, IsDevice}
 use Rattle.maint_registers.specs.Table.{register_at}
 use Rattle.maint_registers.specs.Access.{value_of, value_at, written_to, written_at}
 use Rattle.maint_registers.specs.Laws.{Bits, written_bits, only, other_bits}
 use Rattle.maint_registers.specs.Within.{IsWithin}
 
 -- a register that stands at its offset shows its value there
-shown : (device : Device) (offset port : ℕ) (register : Register) (value : ℕ)
+shown : (device : Registers) (offset port : ℕ) (register : Register) (value : ℕ)
     → register_at device offset ≡ Some register → value_of device port register ≡ value
     → value_at device offset port ≡ Some value
 shown device offset port register value at is =
     ap (option_map (value_of device port)) at ∙ ap (λ n. Some n) is
 
-module _ (device next : Device) (offset value port : ℕ)
+module _ (device next : Registers) (offset value port : ℕ)
     (is_device : IsDevice device) (range : value < 2 ^ 32) where
   -- the register shows afterwards what was written, and its other bits
   abbrev becomes : Register → Bits → Type 0
@@ -26,13 +26,13 @@ module _ (device next : Device) (offset value port : ℕ)
       value_at next offset port ≡ Some (only bits value + other_bits device register)
 
   -- one step from a device that was written to what it shows
-  step : (register : Register) (bits wanted : Bits) (written : Device)
+  step : (register : Register) (bits wanted : Bits) (written : Registers)
       → Some written ≡ Some next → Some wanted ≡ Some bits
       → register_at written offset ≡ Some register
       → value_of written port register ≡ only wanted value + other_bits device register
       → becomes register bits
   step register bits wanted written e w at is =
-      subst (λ (d : Device).
+      subst (λ (d : Registers).
       value_at d offset port ≡ Some (only bits value + other_bits device register))
       (same_Some written next e)
       (shown written offset port register (only bits value + other_bits device register) at
@@ -55,7 +55,7 @@ module _ (device next : Device) (offset value port : ℕ)
       step RouteEntry bits _ _ e w at (omega (arith, here))
   after DefaultPort bits at w e = step DefaultPort bits _ _ e w at (omega arith)
 
-pub shows_written : (device next : Device) (offset value port : ℕ) (register : Register)
+pub shows_written : (device next : Registers) (offset value port : ℕ) (register : Register)
     (bits : Bits) → IsDevice device → register_at device offset ≡ Some register
     → written_bits register ≡ Some bits → value < 2 ^ 32
     → written_at device offset value ≡ Some next
@@ -64,7 +64,7 @@ shows_written device next offset value port register bits is at has range wrote 
     after device next offset value port is range register bits at has
     (sym (ap (option_and_then (written_to device value)) at) ∙ wrote)
 
-module _ (device : Device) (port : ℕ) (within : IsWithin device) where
+module _ (device : Registers) (port : ℕ) (within : IsWithin device) where
   abbrev has_both : Register → Bits → Type 0
   has_both register bits =
       value_of device port register
@@ -97,7 +97,7 @@ module _ (device : Device) (port : ℕ) (within : IsWithin device) where
   both DefaultPort bits w =
       let most = within.default_port in is_both DefaultPort bits _ w (omega arith)
 
-pub shows_both : (device : Device) (offset port value : ℕ) (register : Register) (bits : Bits)
+pub shows_both : (device : Registers) (offset port value : ℕ) (register : Register) (bits : Bits)
     → IsWithin device → register_at device offset ≡ Some register
     → written_bits register ≡ Some bits → value_at device offset port ≡ Some value
     → value ≡ only bits value + other_bits device register

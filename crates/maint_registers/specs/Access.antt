@@ -3,12 +3,12 @@ use Rattle.std.specs.Prelude.{ℕ, ◌+◌, ◌*◌, ◌/◌, ◌%◌, ◌==◌,
 use Rattle.std.specs.Option.{option_and_then}
 use Rattle.maint_registers.specs.declared.table.Register.{Register}
 use Rattle.maint_registers.specs.declared.table.Register.TheVariants.{Fixed, PortInformation, BaseId, HostLock, ComponentTag, RouteSelect, RouteEntry, DefaultPort}
-use Rattle.maint_registers.specs.Devices.{Device}
+use Rattle.maint_registers.specs.Devices.{Registers}
 use Rattle.maint_registers.specs.Table.{register_at}
 use Rattle.maint_registers.specs.Routes.{entry_of}
 
 -- what a request that came to a port reads in a register; bits without a meaning are 0
-abbrev pub value_of : Device → ℕ → Register → ℕ
+abbrev pub value_of : Registers → ℕ → Register → ℕ
 value_of device port (Fixed value) = value
 value_of device port PortInformation = device.ports * 0x100 + port
 value_of device port BaseId = device.base_id * 0x10000 + device.large_id
@@ -19,7 +19,7 @@ value_of device port RouteEntry = entry_of device device.select
 value_of device port DefaultPort = device.default_port
 
 -- what it reads at an offset, if a register stands there
-abbrev pub value_at : Device → ℕ → ℕ → Option ℕ
+abbrev pub value_at : Registers → ℕ → ℕ → Option ℕ
 value_at device offset port = option_map (value_of device port) (register_at device offset)
 
 -- The lock after the ID of a host is written to it: a free lock is taken, the holder's own ID frees
@@ -29,7 +29,7 @@ abbrev pub locked : ℕ → ℕ → ℕ
 locked lock id = if lock == 0xffff then id else (if lock == id then 0xffff else lock)
 
 -- the device after a write to a register, if that can be written
-abbrev pub written_to : Device → ℕ → Register → Option Device
+abbrev pub written_to : Registers → ℕ → Register → Option Registers
 written_to device value (Fixed shown) = None
 written_to device value PortInformation = None
 written_to device value BaseId = Some (record device { base_id = value / 0x10000 % 0x100 })
@@ -42,6 +42,6 @@ written_to device value RouteEntry =
 written_to device value DefaultPort = Some (record device { default_port = value % 0x100 })
 
 -- the device after a write to an offset, if a register stands there that can be written
-abbrev pub written_at : Device → ℕ → ℕ → Option Device
+abbrev pub written_at : Registers → ℕ → ℕ → Option Registers
 written_at device offset value =
     option_and_then (written_to device value) (register_at device offset)

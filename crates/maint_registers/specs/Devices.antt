@@ -9,7 +9,7 @@ use Rattle.maint_registers.specs.declared.registers.Kind.TheVariants.{Endpoint, 
 -- none does.
 -- `routes` has the entry of each destination from 0 to 1023, of either size; entry and default port
 -- count for a switch alone, and `select` is the destination whose entry can be read and written.
-pub record Device : Type 0 where
+pub record Registers : Type 0 where
   pub kind : Kind
   pub ports : ℕ
   pub linked : ℕ
@@ -24,13 +24,13 @@ pub record Device : Type 0 where
 -- It is the same device, whatever was written to it: of the same kind, with the same ports, the
 -- same
 -- links and the same ID of 16 bits, which no write changes.
-pub record IsSameDevice (before after : Device) : Type 0 where
+pub record IsSameDevice (before after : Registers) : Type 0 where
   pub kind : after.kind ≡ before.kind
   pub ports : after.ports ≡ before.ports
   pub linked : after.linked ≡ before.linked
   pub large_id : after.large_id ≡ before.large_id
 
-abbrev pub is_switch : Device → Bool
+abbrev pub is_switch : Registers → Bool
 is_switch device = is_kind device.kind
   where
     is_kind : Kind → Bool
@@ -38,7 +38,7 @@ is_switch device = is_kind device.kind
     is_kind Switch = true
 
 -- what is true of the registers of every device
-pub record IsDevice (device : Device) : Type 0 where
+pub record IsDevice (device : Registers) : Type 0 where
   pub most_ports : device.ports ≤ 16
   pub endpoint_ports : is_switch device ≡ false → device.ports ≡ 1
   pub switch_id : is_switch device ≡ true → device.base_id ≡ 0
@@ -55,7 +55,7 @@ unfoldable pub no_routes : List ℕ
 no_routes = replicate 1024 255
 
 -- an endpoint at first: it has no ID of 16 bits, which is 0xffff, nobody holds it, and its tag is 0
-abbrev pub new_endpoint : ℕ → Bool → Device
+abbrev pub new_endpoint : ℕ → Bool → Registers
 new_endpoint id linked = record {
   kind = Endpoint;
   ports = 1;
@@ -70,7 +70,7 @@ new_endpoint id linked = record {
 }
 
 -- a switch at first: nobody holds it, its tag is 0, and it discards every packet
-abbrev pub new_switch : ℕ → ℕ → Device
+abbrev pub new_switch : ℕ → ℕ → Registers
 new_switch ports linked = record {
   kind = Switch;
   ports = ports;

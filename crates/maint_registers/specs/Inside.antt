@@ -1,8 +1,8 @@
 -- The fields of `Registers`, which hold what contracts see.
 use Rattle.maint_registers.specs.declared.registers.Registers.TheInside.{Inside}
-use Rattle.maint_registers.specs.Devices.{Device}
+use Rattle.maint_registers.specs.Devices.{Registers}
 
-abbrev pub device_of : Inside → Device
+abbrev pub device_of : Inside → Registers
 device_of fields = record {
   kind = fields.kind;
   ports = fields.ports;
@@ -16,7 +16,7 @@ device_of fields = record {
   default_port = fields.default_port;
 }
 
-abbrev pub inside_of : Device → Inside
+abbrev pub inside_of : Registers → Inside
 inside_of device = record {
   kind = device.kind;
   ports = device.ports;

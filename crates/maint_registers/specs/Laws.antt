@@ -4,7 +4,7 @@
 use Rattle.std.specs.Prelude.{◌≡◌, ◌≢◌, ℕ, ◌+◌, ◌*◌, ◌/◌, ◌%◌, ◌^◌, ◌<◌, ◌↔◌, Option, Some, None}
 use Rattle.maint_registers.specs.declared.table.Register.{Register}
 use Rattle.maint_registers.specs.declared.table.Register.TheVariants.{Fixed, PortInformation, BaseId, HostLock, ComponentTag, RouteSelect, RouteEntry, DefaultPort}
-use Rattle.maint_registers.specs.Devices.{Device, IsDevice, with_link}
+use Rattle.maint_registers.specs.Devices.{Registers, IsDevice, with_link}
 use Rattle.maint_registers.specs.Table.{status_of, register_at}
 use Rattle.maint_registers.specs.Access.{value_at, written_at, locked}
 use Rattle.maint_registers.specs.Within.{IsWithin}
@@ -31,14 +31,14 @@ only bits value = value / 2 ^ bits.lowest % 2 ^ bits.count * 2 ^ bits.lowest
 
 -- what a register shows in its other bits, which a write leaves: the ID of 16 bits beside that of 8
 -- bits, else 0
-abbrev pub other_bits : Device → Register → ℕ
+abbrev pub other_bits : Registers → Register → ℕ
 other_bits device BaseId = device.large_id
 other_bits device register = 0
 
 -- Whoever writes to a register then reads there what was written in the bits that a write changes,
 -- and in all others what stood there.
 abbrev pub ShowsWritten : Type 0
-ShowsWritten = (device next : Device) (offset value port : ℕ) (register : Register) (bits : Bits)
+ShowsWritten = (device next : Registers) (offset value port : ℕ) (register : Register) (bits : Bits)
     → IsDevice device
     → register_at device offset ≡ Some register
     → written_bits register ≡ Some bits
@@ -48,7 +48,7 @@ ShowsWritten = (device next : Device) (offset value port : ℕ) (register : Regi
 
 -- What a register shows is its bits that a write changes, and its other bits beside them.
 abbrev pub ShowsBoth : Type 0
-ShowsBoth = (device : Device) (offset port value : ℕ) (register : Register) (bits : Bits)
+ShowsBoth = (device : Registers) (offset port value : ℕ) (register : Register) (bits : Bits)
     → IsWithin device
     → register_at device offset ≡ Some register
     → written_bits register ≡ Some bits
@@ -65,26 +65,26 @@ StaysForOthers = (lock id : ℕ) → lock ≢ 0xffff → lock ≢ id → locked 
 
 -- A write to any other register leaves the lock.
 abbrev pub LockStays : Type 0
-LockStays = (device next : Device) (offset value : ℕ) → offset ≢ 0x68
+LockStays = (device next : Registers) (offset value : ℕ) → offset ≢ 0x68
     → written_at device offset value ≡ Some next → next.lock ≡ device.lock
 
 -- And a write to any other register leaves the tag.
 abbrev pub TagStays : Type 0
-TagStays = (device next : Device) (offset value : ℕ) → offset ≢ 0x6c
+TagStays = (device next : Registers) (offset value : ℕ) → offset ≢ 0x6c
     → written_at device offset value ≡ Some next → next.tag ≡ device.tag
 
 -- No write changes the ID of 16 bits.
 abbrev pub LargeStays : Type 0
-LargeStays = (device next : Device) (offset value : ℕ)
+LargeStays = (device next : Registers) (offset value : ℕ)
     → written_at device offset value ≡ Some next → next.large_id ≡ device.large_id
 
 -- A port whose link is set shows it.
 abbrev pub ShowsLink : Type 0
-ShowsLink = (device : Device) (port : ℕ)
+ShowsLink = (device : Registers) (port : ℕ)
     → status_of (record device { linked = with_link device.linked port }) port ≡ 2
 
 -- And every other port shows what it showed.
 abbrev pub OthersStay : Type 0
-OthersStay = (device : Device) (port other : ℕ) → other ≢ port
+OthersStay = (device : Registers) (port other : ℕ) → other ≢ port
     → status_of (record device { linked = with_link device.linked port }) other
     ≡ status_of device other

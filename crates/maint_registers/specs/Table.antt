@@ -7,7 +7,7 @@ use Rattle.maint_registers.specs.declared.registers.Kind.{Kind}
 use Rattle.maint_registers.specs.declared.registers.Kind.TheVariants.{Endpoint, Switch}
 use Rattle.maint_registers.specs.declared.table.Register.{Register}
 use Rattle.maint_registers.specs.declared.table.Register.TheVariants.{Fixed, PortInformation, BaseId, HostLock, ComponentTag, RouteSelect, RouteEntry, DefaultPort}
-use Rattle.maint_registers.specs.Devices.{Device}
+use Rattle.maint_registers.specs.Devices.{Registers}
 
 -- an offset, the register of an endpoint there, and that of a switch
 abbrev pub Row : Type 0
@@ -49,11 +49,11 @@ status_port zero offset = None
 status_port (suc n) offset = if status_offset n == offset then Some n else status_port n offset
 
 -- 2 with a link, 1 without
-abbrev pub status_of : Device → ℕ → ℕ
+abbrev pub status_of : Registers → ℕ → ℕ
 status_of device n = if device.linked / 2 ^ n % 2 == 1 then 2 else 1
 
 -- the register that stands at an offset of a device, if one does
-abbrev pub register_at : Device → ℕ → Option Register
+abbrev pub register_at : Registers → ℕ → Option Register
 register_at device offset =
     option_or (in_rows device.kind table offset)
     (option_map (λ n. Fixed (status_of device n)) (status_port device.ports offset))

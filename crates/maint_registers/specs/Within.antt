@@ -1,10 +1,10 @@
 -- Each number of a device fits its register, and stays so whatever is written.
 use Rattle.std.specs.Prelude.{◌≡◌, ℕ, ◌<◌, ◌≤◌, Bool, length, All, slice_set, Some}
-use Rattle.maint_registers.specs.Devices.{Device, new_endpoint, new_switch}
+use Rattle.maint_registers.specs.Devices.{Registers, new_endpoint, new_switch}
 use Rattle.maint_registers.specs.Access.{value_at, written_at}
 
 -- each number of a device fits its register
-pub record IsWithin (device : Device) : Type 0 where
+pub record IsWithin (device : Registers) : Type 0 where
   pub ports : device.ports ≤ 16
   pub base_id : device.base_id < 0x100
   pub large_id : device.large_id < 0x10000
@@ -23,32 +23,32 @@ NewSwitchIsWithin = (ports linked : ℕ) → ports ≤ 16 → IsWithin (new_swit
 
 -- A word is written, and the device stays within.
 abbrev pub WrittenStaysWithin : Type 0
-WrittenStaysWithin = (device next : Device) (offset value : ℕ) → IsWithin device
+WrittenStaysWithin = (device next : Registers) (offset value : ℕ) → IsWithin device
     → value < 0x100000000 → written_at device offset value ≡ Some next → IsWithin next
 
 -- What is read is a word.
 abbrev pub ReadsWord : Type 0
-ReadsWord = (device : Device) (offset port value : ℕ) → IsWithin device → port < 0x100
+ReadsWord = (device : Registers) (offset port value : ℕ) → IsWithin device → port < 0x100
     → value_at device offset port ≡ Some value → value < 0x100000000
 
 -- Every value that fits may be set.
 abbrev pub LargeStaysWithin : Type 0
-LargeStaysWithin = (device : Device) (id : ℕ) → IsWithin device → id < 0x10000
+LargeStaysWithin = (device : Registers) (id : ℕ) → IsWithin device → id < 0x10000
     → IsWithin (record device { large_id = id })
 
 abbrev pub LockStaysWithin : Type 0
-LockStaysWithin = (device : Device) (id : ℕ) → IsWithin device → id < 0x10000
+LockStaysWithin = (device : Registers) (id : ℕ) → IsWithin device → id < 0x10000
     → IsWithin (record device { lock = id })
 
 abbrev pub RouteStaysWithin : Type 0
-RouteStaysWithin = (device : Device) (dest port : ℕ) → IsWithin device → port < 0x100
+RouteStaysWithin = (device : Registers) (dest port : ℕ) → IsWithin device → port < 0x100
     → IsWithin (record device { routes = slice_set device.routes dest port })
 
 abbrev pub DefaultStaysWithin : Type 0
-DefaultStaysWithin = (device : Device) (port : ℕ) → IsWithin device → port < 0x100
+DefaultStaysWithin = (device : Registers) (port : ℕ) → IsWithin device → port < 0x100
     → IsWithin (record device { default_port = port })
 
 -- How many links there are bounds no register.
 abbrev pub LinksStayWithin : Type 0
-LinksStayWithin = (device : Device) (linked : ℕ) → IsWithin device
+LinksStayWithin = (device : Registers) (linked : ℕ) → IsWithin device
     → IsWithin (record device { linked = linked })

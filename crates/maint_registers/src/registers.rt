@@ -41,9 +41,9 @@ pub struct Registers {
 }
 
 impl Model for Registers {
-    ghost use Rattle.maint_registers.specs.Devices.{Device, IsDevice};
+    ghost use Rattle.maint_registers.specs.Devices.{Registers, IsDevice};
 
-    ghost Value = { Device };
+    ghost Value = { Registers };
 
     ghost use Rattle.maint_registers.specs.Inside.{device_of, inside_of};
 

@@ -2,7 +2,7 @@
 ghost use Rattle.std.specs.Prelude.{◌≡◌, IfOk};
 ghost use Rattle.fabric_script.specs.Scripts.{ScriptPasses};
 ghost use Rattle.fabric_map.specs.Numbered.{IsNumbered};
-ghost use Rattle.fabric_map.specs.Routes.{Registers};
+ghost use Rattle.fabric_map.specs.Routes.{AllRegisters};
 ghost use Rattle.fabric_map.specs.Plain.{topology_of, registers_of};
 ghost use Rattle.host_enumerate.specs.Devised.{IsHost, devices_of, links_of};
 
@@ -17,7 +17,7 @@ pub fn number_script(alloc: Global, script: &Script, host: u8) -> Result<Map, En
     requires passes { ScriptPasses script.now.names.items script.now.lines.items }
     requires host { IsHost (devices_of script.now.lines.items) (links_of script.now.lines.items)
         host }
-    ensures { IfOk result (λ map. (after : Registers) × IsNumbered
+    ensures { IfOk result (λ map. (after : AllRegisters) × IsNumbered
         (topology_of (devices_of script.now.lines.items) (links_of script.now.lines.items) host)
         map.devices.items map.entries.items
         (registers_of (devices_of script.now.lines.items)) after) }

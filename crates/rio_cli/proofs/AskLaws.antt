@@ -4,7 +4,7 @@ use Rattle.std.specs.Result.{IsErrOf}
 use Rattle.std.specs.Io.KnownBytes.{Appends}
 use Rattle.fabric_script.specs.declared.lines.Numbered.{Numbered}
 use Rattle.fabric_map.specs.Topology.{Topology}
-use Rattle.fabric_map.specs.Routes.{Registers}
+use Rattle.fabric_map.specs.Routes.{AllRegisters}
 use Rattle.fabric_map.specs.Plain.{registers_of}
 use Rattle.fabric_map.specs.Numbered.{IsNumbered}
 use Rattle.fabric_map.specs.declared.map.Map.{Map}
@@ -90,7 +90,7 @@ module _ {K : Type 0} (written : K → Option (List ℕ)) (faults : K → ℕ)
       (HasMet no_edits written last) AtLock
 
   -- what is said of the registers of the host's fabric is said of those of the lines
-  by_lines : (P : Topology → Registers → Type 0) → P (topology_in first) (registers_in first)
+  by_lines : (P : Topology → AllRegisters → Type 0) → P (topology_in first) (registers_in first)
       → P (topology_for lines host) (registers_for lines)
   by_lines P is = subst (P (topology_in first)) new.registers is
 

@@ -7,7 +7,7 @@ use Rattle.rio_chars.specs.Written.{Writes}
 use Rattle.rio_chars.specs.declared.outbox.Outbox.{Outbox}
 use Rattle.rio_chars.proofs.WrittenLaws.{Writes-whole, Writes-front, Writes-rose}
 use Rattle.fabric_script.specs.declared.lines.Numbered.{Numbered}
-use Rattle.fabric_map.specs.Routes.{Registers}
+use Rattle.fabric_map.specs.Routes.{AllRegisters}
 use Rattle.fabric_map.specs.declared.map.Device.{Device}
 use Rattle.fabric_map.specs.declared.map.Entry.{Entry}
 use Rattle.fabric_trace.specs.Text.{trace_text}
@@ -55,7 +55,7 @@ front_behind w m w' before text told front = record {
 }
 
 module _ (names : List (List ℕ)) (lines : List Numbered) (host : ℕ) (status : Status)
-    (w m : Option (List ℕ)) (f : ℕ) (w' : Option (List ℕ)) (f2 : ℕ) (after : Registers)
+    (w m : Option (List ℕ)) (f : ℕ) (w' : Option (List ℕ)) (f2 : ℕ) (after : AllRegisters)
     (asks : ToldAsks names lines host w m after) where
   -- the map was told, or a front of it
   pub says_map : (devices : List Device) (entries : List Entry)

@@ -9,7 +9,7 @@ use Rattle.fabric_script.specs.Known.{of_set_up}
 use Rattle.fabric_script.specs.Scripts.{IsScriptIn, RefusedIn}
 use Rattle.fabric_script.specs.Reasons.{reason_number}
 use Rattle.fabric_map.specs.Topology.{Topology}
-use Rattle.fabric_map.specs.Routes.{Registers}
+use Rattle.fabric_map.specs.Routes.{AllRegisters}
 use Rattle.fabric_map.specs.Plain.{topology_of, registers_of}
 use Rattle.fabric_map.specs.Numbered.{IsNumbered}
 use Rattle.fabric_map.specs.declared.map.Device.{Device}
@@ -66,7 +66,7 @@ abbrev pub topology_for : List Numbered → ℕ → Topology
 topology_for lines host = topology_of (devices_of lines) (links_of lines) host
 
 -- the registers behind set-up lines
-abbrev pub registers_for : List Numbered → Registers
+abbrev pub registers_for : List Numbered → AllRegisters
 registers_for lines = registers_of (devices_of lines)
 
 -- The host of a new fabric of its script, which has asked nothing yet.
@@ -83,7 +83,8 @@ pub record IsNewHost {K : Type 0} (written : K → Option (List ℕ)) (faults : 
 -- From the state behind the set-up lines on a host has made asks. These are their lines; they may
 -- stand in a trace, every event that was acted on was sent, and they lead to these registers, but
 -- for what the host wrote to its own.
-pub record HasAsked (lines : List Numbered) (host : ℕ) (trace : List TraceLine) (after : Registers)
+pub record HasAsked (lines : List Numbered) (host : ℕ) (trace : List TraceLine)
+    (after : AllRegisters)
     : Type 0 where
   pub end : Seen
   pub tid : ℕ
@@ -93,7 +94,7 @@ pub record HasAsked (lines : List Numbered) (host : ℕ) (trace : List TraceLine
 
 -- The lines of the asks of a host were written, and lead to these registers.
 pub record ToldAsks (names : List (List ℕ)) (lines : List Numbered) (host : ℕ)
-    (written written_after : Option (List ℕ)) (after : Registers) : Type 0 where
+    (written written_after : Option (List ℕ)) (after : AllRegisters) : Type 0 where
   pub trace : List TraceLine
   pub asked : HasAsked lines host trace after
   pub told : Appends written written_after (trace_text names trace)
@@ -114,17 +115,17 @@ pub record ToldPart (names : List (List ℕ)) (lines : List Numbered) (host : �
 
 -- The fabric is numbered, and no device that is reached had the lock of another host.
 pub record IsMapOf (lines : List Numbered) (host : ℕ) (devices : List Device)
-    (entries : List Entry) (after : Registers) : Type 0 where
+    (entries : List Entry) (after : AllRegisters) : Type 0 where
   pub numbered : IsNumbered (topology_for lines host) devices entries (registers_for lines) after
   pub free : IsLockFree (topology_for lines host) (registers_for lines)
 
 -- by what the asks came to; no event is acted on that was not sent
 abbrev pub Maps : List (List ℕ) → List Numbered → ℕ → Option (List ℕ) → Option (List ℕ)
     → Result Map EnumEnd → Type 0
-Maps names lines host written written_after (Ok map) = (after : Registers)
+Maps names lines host written written_after (Ok map) = (after : AllRegisters)
     × ToldAsks names lines host written written_after after
     × IsMapOf lines host map.devices.items map.entries.items after
-Maps names lines host written written_after (Err (Ends.LockedBy path id)) = (after : Registers)
+Maps names lines host written written_after (Err (Ends.LockedBy path id)) = (after : AllRegisters)
     × ToldAsks names lines host written written_after after
     × EndsAtLock (topology_for lines host) (registers_for lines) after path id
 Maps names lines host written written_after (Err (Ends.Undetected port event)) = ⊥
@@ -144,7 +145,7 @@ numbered_text names trace devices entries =
 pub record NumbersTo (names : List (List ℕ)) (lines : List Numbered) (host : ℕ) (text : List ℕ)
     : Type 0 where
   pub trace : List TraceLine
-  pub after : Registers
+  pub after : AllRegisters
   pub asked : HasAsked lines host trace after
   pub devices : List Device
   pub entries : List Entry
@@ -156,7 +157,7 @@ pub record NumbersTo (names : List (List ℕ)) (lines : List Numbered) (host : �
 pub record LocksTo (names : List (List ℕ)) (lines : List Numbered) (host : ℕ) (text : List ℕ)
     : Type 0 where
   pub trace : List TraceLine
-  pub after : Registers
+  pub after : AllRegisters
   pub asked : HasAsked lines host trace after
   pub path : List ℕ
   pub id : ℕ

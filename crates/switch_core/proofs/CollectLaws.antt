@@ -1,6 +1,6 @@
 -- What an endpoint collects where its first packet is a request.
 use Rattle.std.proofs.Common.{◌≡◌, ℕ, ◌+◌, min, true, false, Some, List, ap, sym, ◌∙◌, if◌then◌else◌}
-use Rattle.maint_registers.specs.Devices.{Device}
+use Rattle.maint_registers.specs.Devices.{Registers}
 use Rattle.maint_packets.specs.declared.request.Request.{Request}
 use Rattle.maint_packets.specs.Requests.{request_of}
 use Rattle.maint_packets.specs.Responses.{response_bytes}
@@ -10,7 +10,7 @@ use Rattle.switch_core.specs.Faces.{Face, has_room}
 use Rattle.switch_core.specs.EndpointSteps.{first_held, collected_of, collected_head, collected}
 use Rattle.switch_core.proofs.RequestLaws.{answer_prio}
 
-module _ (device : Device) (face : Face) (packet : List ℕ) (request : Request)
+module _ (device : Registers) (face : Face) (packet : List ℕ) (request : Request)
     (held : first_held face ≡ Some packet) (asks : request_of packet ≡ Some request) where
   collected-is : collected device face
       ≡ (if has_room face (min (request.prio + 1) 3) then Answered packet

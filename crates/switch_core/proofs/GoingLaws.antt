@@ -1,7 +1,7 @@
 -- The packet that goes first, and the step that it makes.
 use Rattle.std.proofs.Common.{◌≡◌, ℕ, true, false, Bool, Option, Some, None, IsSome, is_some, unwrap_or, List, refl, sym, ap, ◌∙◌, if◌then◌else◌}
 use Rattle.rio_packets.specs.Fields.{prio_of, is_request}
-use Rattle.maint_registers.specs.Devices.{Device}
+use Rattle.maint_registers.specs.Devices.{Registers}
 use Rattle.maint_packets.specs.declared.next_hop.Next.{Next}
 use Rattle.maint_packets.specs.declared.next_hop.Next.TheVariants.{Nowhere, RegisterUnit, Port}
 use Rattle.maint_packets.specs.declared.request.Request.{Request}
@@ -27,13 +27,13 @@ hops-by false true false next to is = absurd cc
 hops-by false false request next to is = refl
 
 -- a packet that goes to a port is not at the end of its hops
-pub hops_left : (device : Device) (packet : List ℕ) (to : ℕ) → next_of device packet ≡ Port to
+pub hops_left : (device : Registers) (packet : List ℕ) (to : ℕ) → next_of device packet ≡ Port to
     → is_at_end packet ≡ false
 hops_left device packet to is =
     hops-by (is_foreign packet) (is_at_end packet) (is_request packet) _ to is
 
 -- a packet can go if there is room for what becomes of it
-pub can_go : (device : Device) (faces : List Face) (prio port : ℕ) (packet : List ℕ)
+pub can_go : (device : Registers) (faces : List Face) (prio port : ℕ) (packet : List ℕ)
     → head_of (face_at faces port) prio ≡ Some packet → prio_of packet ≡ prio
     → (next : Next) → next_of device packet ≡ next
     → (next ≡ RegisterUnit → is_request packet ≡ true)
@@ -48,13 +48,13 @@ can_go device faces prio port packet head same (Port to) is asks =
 -- ---- the first step
 
 -- what is found first makes the step
-pub makes_step : (device : Device) (faces : List Face) (o : Option Step)
+pub makes_step : (device : Registers) (faces : List Face) (o : Option Step)
     → first_step device faces ≡ o → IsSome o → o ≡ Some (step_of device faces)
 makes_step device faces None is some = cc
 makes_step device faces (Some step) is some =
     ap (λ (p : Option Step). Some (unwrap_or p Nothing)) (sym is)
 
-pub no_step : (device : Device) (faces : List Face) → first_step device faces ≡ None
+pub no_step : (device : Registers) (faces : List Face) → first_step device faces ≡ None
     → None ≡ going_of (step_of device faces)
 no_step device faces is = ap (λ (p : Option Step). going_of (unwrap_or p Nothing)) (sym is)
 
@@ -67,10 +67,10 @@ under : {A : Type 0} (t : Bool) (x y : A) → (if t then Some x else None) ≡ S
 under true x y e = (cc, refl)
 under false x y e = absurd cc
 
-abbrev response_to : Device → ℕ → Request → List ℕ
+abbrev response_to : Registers → ℕ → Request → List ℕ
 response_to device port request = response_bytes (request_answered device request port).response
 
-module _ (device : Device) (faces : List Face) (going : Going) (goes : Goes device faces going)
+module _ (device : Registers) (faces : List Face) (going : Going) (goes : Goes device faces going)
     (packet : List ℕ) (held : head_of (face_at faces going.port) going.prio ≡ Some packet) where
   same : goes.stands.packet ≡ packet
   same = inside _ _ (sym goes.stands.held ∙ held)

@@ -2,7 +2,7 @@
 use Rattle.std.proofs.Common.{◌≡◌, ℕ, ◌+◌, ◌<◌, min, true, false, Bool, Option, Some, None, unwrap_or, IsSome, List, [], ◌∷◌, slice_get, get_or, All, refl, sym, ap, ◌∙◌, arith, if◌then◌else◌}
 use Rattle.rio_packets.specs.Hops.{closed, message_ended, is_large}
 use Rattle.rio_packets.specs.Fields.{prio_of, dest_of, source_of, hop_place, is_request, body_of}
-use Rattle.maint_registers.specs.Devices.{Device}
+use Rattle.maint_registers.specs.Devices.{Registers}
 use Rattle.maint_registers.specs.Access.{value_at, written_at}
 use Rattle.maint_packets.specs.declared.request.Op.{Op}
 use Rattle.maint_packets.specs.declared.request.Op.TheVariants.{Read, Write, BadRead, BadWrite}
@@ -71,7 +71,7 @@ response_bytes-prio response =
     (behind_ids (if response.write then 3 else 2) response.status response.tid response.hop 0
     response.words)
 
-answered_to-prio : (device : Device) (request : Request) (port : ℕ) (op : Op)
+answered_to-prio : (device : Registers) (request : Request) (port : ℕ) (op : Op)
     → (answered_to device request port op).response.prio ≡ min (request.prio + 1) 3
 answered_to-prio device request port Read = read (value_at device request.offset port)
   where
@@ -82,7 +82,7 @@ answered_to-prio device request port Read = read (value_at device request.offset
 answered_to-prio device request port (Write value) =
     written (written_at device request.offset value)
   where
-    written : (next : Option Device) → (request_written device request next).response.prio
+    written : (next : Option Registers) → (request_written device request next).response.prio
         ≡ min (request.prio + 1) 3
     written (Some next) = refl
     written None = refl
@@ -90,7 +90,7 @@ answered_to-prio device request port BadRead = refl
 answered_to-prio device request port BadWrite = refl
 
 -- the priority of the response to a request
-pub answer_prio : (device : Device) (request : Request) (port : ℕ)
+pub answer_prio : (device : Registers) (request : Request) (port : ℕ)
     → prio_of (response_bytes (request_answered device request port).response)
     ≡ min (request.prio + 1) 3
 answer_prio device request port =

@@ -1,7 +1,7 @@
 -- The step of a first packet.
 use Rattle.std.proofs.Common.{◌≡◌, ℕ, ◌+◌, min, true, false, Bool, Some, None, is_some, List, refl, sym, ap, ◌∙◌, if◌then◌else◌}
 use Rattle.rio_packets.specs.Fields.{prio_of, is_request}
-use Rattle.maint_registers.specs.Devices.{Device}
+use Rattle.maint_registers.specs.Devices.{Registers}
 use Rattle.maint_packets.specs.declared.next_hop.Next.{Next}
 use Rattle.maint_packets.specs.declared.next_hop.Next.TheVariants.{RegisterUnit, Port}
 use Rattle.maint_packets.specs.declared.request.Request.{Request}
@@ -18,7 +18,7 @@ is_some-if : {A : Type 0} (b : Bool) (x : A) → b ≡ is_some (if b then Some x
 is_some-if true x = refl
 is_some-if false x = refl
 
-module _ (device : Device) (faces : List Face) (prio port : ℕ) (packet : List ℕ)
+module _ (device : Registers) (faces : List Face) (prio port : ℕ) (packet : List ℕ)
     (head : head_of (face_at faces port) prio ≡ Some packet) (same : prio_of packet ≡ prio) where
   -- the step goes by where the packet goes next
   pub step_at-next : (next : Next) → next_of device packet ≡ next → step_at device faces prio port

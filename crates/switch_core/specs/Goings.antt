@@ -1,7 +1,7 @@
 -- The packet of a switch that goes first, by where it stands and where it goes.
 use Rattle.std.specs.Prelude.{◌≡◌, ◌<◌, ◌+◌, ℕ, Bool, true, min, List, length, Option, Some, None}
 use Rattle.rio_packets.specs.Fields.{prio_of}
-use Rattle.maint_registers.specs.Devices.{Device}
+use Rattle.maint_registers.specs.Devices.{Registers}
 use Rattle.maint_packets.specs.declared.next_hop.Next.{Next}
 use Rattle.maint_packets.specs.declared.next_hop.Next.TheVariants.{Nowhere, RegisterUnit, Port}
 use Rattle.maint_packets.specs.NextHops.{next_of}
@@ -31,7 +31,7 @@ abbrev pub has_place : List Face → Going → Bool
 has_place faces going = has_place_by faces going.port going.prio going.next
 
 -- the first packet of its priority at its port goes there
-pub record GoingStands (device : Device) (faces : List Face) (going : Going) : Type 0 where
+pub record GoingStands (device : Registers) (faces : List Face) (going : Going) : Type 0 where
   pub packet : List ℕ
   pub port : going.port < length faces
   pub prio : going.prio < 4
@@ -41,6 +41,6 @@ pub record GoingStands (device : Device) (faces : List Face) (going : Going) : T
   pub to : (to : ℕ) → going.next ≡ Port to → to < length faces
 
 -- it makes the step of the switch
-pub record Goes (device : Device) (faces : List Face) (going : Going) : Type 0 where
+pub record Goes (device : Registers) (faces : List Face) (going : Going) : Type 0 where
   pub stands : GoingStands device faces going
   pub step : step_at device faces going.prio going.port ≡ Some (step_of device faces)

@@ -100,7 +100,7 @@ fn has_place<P: PortFace>(ports: &[P], going: Going) -> bool
 
 impl Going {
     ghost use Rattle.std.specs.Prelude.{◌≡◌, ◌≢◌, List, ℕ, Some};
-    ghost use Rattle.maint_registers.specs.Devices.{Device, IsSameDevice};
+    ghost use Rattle.maint_registers.specs.Devices.{Registers, IsSameDevice};
     ghost use Rattle.switch_core.specs.Faces.{faces_of, face_at, head_of, AllAlike};
     ghost use Rattle.switch_core.specs.SwitchSteps.{step_of, faces_after, switch_after};
     ghost use Rattle.switch_core.specs.Goings.{Goes};
@@ -108,7 +108,7 @@ impl Going {
 
     /// The packet, as it stands at its port.
     pub fn packet<'a, P: PortFace>(&self, ports: &'a [P]) -> &'a Packet
-        requires { (device : Device)
+        requires { (device : Registers)
             × Goes device (faces_of P.received P.queued ports.now) self.now }
         ensures { head_of (face_at (faces_of P.received P.queued ports.now) self.now.port)
             self.now.prio ≡ Some result.now }
@@ -123,9 +123,9 @@ impl Going {
     /// lowered; or it is dropped, if it goes nowhere.
     pub fn pass_on<P: PortFace>(self, ports: &mut [P])
         requires next { self.next ≢ Next.RegisterUnit }
-        requires goes { (device : Device)
+        requires goes { (device : Registers)
             × Goes device (faces_of P.received P.queued ports.old) self }
-        ensures faces { (device : Device)
+        ensures faces { (device : Registers)
             → Goes device (faces_of P.received P.queued ports.old) self
             → faces_of P.received P.queued ports.new
             ≡ faces_after (faces_of P.received P.queued ports.old)

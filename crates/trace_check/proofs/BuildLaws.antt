@@ -1,7 +1,7 @@
 -- What a line of set-up leaves of the network and of the links as they are kept.
 use Rattle.std.proofs.Common.{◌≡◌, ℕ, Bool, ◌+◌, ◌≤◌, false, ◌⊎◌, inl, inr, List, [], ◌∷◌, ◌++◌, length, length-append, replicate, slice_get, slice_set, option_map, Option, Some, None, refl, sym, ap, ◌∙◌, subst, arith, if◌then◌else◌}
 use Rattle.link_buffers.specs.Queues.{no_packets}
-use Rattle.maint_registers.specs.Devices.{Device, is_switch, new_endpoint, new_switch}
+use Rattle.maint_registers.specs.Devices.{Registers, is_switch, new_endpoint, new_switch}
 use Rattle.fabric_script.specs.declared.lines.Line.{Line}
 use Rattle.fabric_script.specs.declared.lines.Line.TheVariants.{Endpoint, Switch, Link, Buffers, Route, Default, Lock, Large, Credits}
 use Rattle.fabric_script.specs.declared.ports.PortRef.{PortRef}
@@ -57,7 +57,7 @@ joined_bare kept none = record {
 
 -- ---- a change of one node
 
-pub built_change : (net : Network) (old new : Kept) (node : ℕ) (change : Device → Device)
+pub built_change : (net : Network) (old new : Kept) (node : ℕ) (change : Registers → Registers)
     → IsBuilt net old → new.registers.items ≡ with_device old.registers.items node change
     → new ≡ record old { registers = new.registers } → IsBuilt (with_change net node change) new
 built_change net old new node change built is rest =
@@ -65,7 +65,8 @@ built_change net old new node change built is rest =
     let same = length-with_device net.registers node change in
     let kept : IsNetwork n (with_change net node change) new = record {
       count = same;
-      registers = is ∙ ap (λ (d : List Device). with_device d node change) built.network.registers;
+      registers = is
+          ∙ ap (λ (d : List Registers). with_device d node change) built.network.registers;
       buffers = subst (λ (k : Kept). IsTable n (λ p m. m ≡ net.buffers p) k.buffers.items)
           (sym rest) built.network.buffers;
       received = subst
@@ -121,7 +122,7 @@ built_link net old mid new a b built first first_rest second second_rest =
 pub port_kept : (net : Network) (kept : Kept) (p : PortRef) → IsBuilt net kept
     → IsIn (length net.registers) p → IsIn (length kept.registers.items) p
 port_kept net kept p built is_in =
-    subst (λ (d : List Device). IsIn (length d) p) (sym built.network.registers) is_in
+    subst (λ (d : List Registers). IsIn (length d) p) (sym built.network.registers) is_in
 
 pub port_linked : (old mid : Kept) (a p : PortRef) → IsIn (length old.registers.items) p
     → mid.registers.items ≡ with_device old.registers.items a.node (linked_at a.port)
@@ -175,7 +176,7 @@ none_in : (lanes : ℕ → List Item) → ((r : ℕ) → lanes r ≡ []) → no_
 none_in lanes none = λ i. packets_in (sym (none 0) i) ∷ packets_in (sym (none 1) i)
     ∷ packets_in (sym (none 2) i) ∷ packets_in (sym (none 3) i) ∷ []
 
-pub built_node : (net : Network) (old new : Kept) (device : Device) → IsBuilt net old
+pub built_node : (net : Network) (old new : Kept) (device : Registers) → IsBuilt net old
     → new.registers.items ≡ old.registers.items ++ device ∷ []
     → new.buffers.items ≡ old.buffers.items ++ replicate 16 8
     → new.received.items ≡ old.received.items ++ replicate 16 no_packets
@@ -193,7 +194,7 @@ built_node net old new device built registers buffers received waiting lent =
     let Lent : PortRef → List (List ℕ) → Type 0 = λ p list. list ≡ packets_in (net.lent p) in
     let kept : IsNetwork (n + 1) (with_node net device) new = record {
       count = more;
-      registers = registers ∙ ap (λ (d : List Device). d ++ device ∷ []) built.network.registers;
+      registers = registers ∙ ap (λ (d : List Registers). d ++ device ∷ []) built.network.registers;
       buffers = subst (IsTable (n + 1) Buffers) (sym buffers)
           (table_more n Buffers Buffers old.buffers.items 8 built.network.buffers
           (λ p m is_in has. has) (λ p new. sym (built.beyond p (omega (arith, new)))));
@@ -221,7 +222,7 @@ built_node net old new device built registers buffers received waiting lent =
 
 -- ---- links
 
-joined_node : (net : Network) (old new : Links) (device : Device) → AreJoined net old
+joined_node : (net : Network) (old new : Links) (device : Registers) → AreJoined net old
     → new.peers.items ≡ old.peers.items ++ replicate 16 None
     → AreJoined (with_node net device) new
 joined_node net old new device joined is =
@@ -238,7 +239,7 @@ joined_node net old new device joined is =
     }
 
 -- a node's registers say nothing of the links that are kept
-joined_change : (net : Network) (kept : Links) (node : ℕ) (change : Device → Device)
+joined_change : (net : Network) (kept : Links) (node : ℕ) (change : Registers → Registers)
     → AreJoined net kept → AreJoined (with_change net node change) kept
 joined_change net kept node change joined =
     let same = length-with_device net.registers node change in
@@ -324,5 +325,5 @@ pub kind_of : (switch : Bool) (net : Network) (kept : Kept) (node : ℕ) → IsB
     → switch_at net node ≡ Some switch → IsKindThere switch kept.registers.items node
 kind_of switch net kept node built is =
     kind_there switch kept.registers.items node
-    (subst (λ (d : List Device). option_map is_switch (slice_get d node) ≡ Some switch)
+    (subst (λ (d : List Registers). option_map is_switch (slice_get d node) ≡ Some switch)
     (sym built.network.registers) is)

@@ -2,7 +2,7 @@
 -- part, and lists of which laws do not hold.
 use Rattle.std.specs.Prelude.{◌≡◌, ℕ, true, List, [], ◌∷◌}
 use Rattle.rio_packets.specs.Fields.{prio_of}
-use Rattle.maint_registers.specs.Devices.{Device, new_endpoint, new_switch}
+use Rattle.maint_registers.specs.Devices.{Registers, new_endpoint, new_switch}
 use Rattle.fabric_script.specs.declared.ports.PortRef.{PortRef}
 use Rattle.fabric_script.specs.Ports.{port_at}
 use Rattle.fabric_model.specs.Network.{Item, Network, port_of, bare}
@@ -10,7 +10,7 @@ use Rattle.fabric_model.specs.Steps.{Hold, Take, Leave, Move, Drop, Answer, Step
 use Rattle.fabric_model.specs.Laws.Examples.{packet, other}
 
 -- a switch with three ports and these entries, which sends what has none to port 1
-abbrev pub switch_with : List ℕ → Device
+abbrev pub switch_with : List ℕ → Registers
 switch_with routes = record (new_switch 3 7) { routes = routes; default_port = 1 }
 
 -- Endpoint 0 is linked to switch 2, and endpoint 1 to switch 3. Two links join the switches:

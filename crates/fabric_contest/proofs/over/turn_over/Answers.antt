@@ -1,7 +1,7 @@
 use Rattle.std.proofs.Common.{◌≡◌, List, OnOk, rules, sym, subst}
-use Rattle.maint_registers.specs.Devices.{Device}
+use Rattle.maint_registers.specs.Devices.{Registers}
 use Rattle.fabric_map.specs.Topology.{Topology}
-use Rattle.fabric_map.specs.Routes.{Registers}
+use Rattle.fabric_map.specs.Routes.{AllRegisters}
 use Rattle.fabric_map.specs.Plain.{registers_of}
 use Rattle.fabric_ports.specs.declared.fabric.Fabric.{Fabric}
 use Rattle.fabric_maint.specs.Going.{topology_in, StandsFor}
@@ -26,7 +26,7 @@ returns-clause-stands c =
 pub returns-clause-turned : goal.returns-clause-turned
 returns-clause-turned c =
     let made = c.resting-maint.ensures in
-    let Turned : Topology → Registers → List Device → Type 0 =
+    let Turned : Topology → AllRegisters → List Registers → Type 0 =
     λ view old new. OnOk c.make_turn.result (state_in view (registers_of new)
     c.make_turn.new.walker.machine ≡ walker_turned (machine_in view c.args.walker.now) old) in
     let view = view_of c.args.script.now.lines.items c.args.host in
@@ -41,7 +41,7 @@ returns-clause-turned c =
 pub returns-clause-can : goal.returns-clause-can
 returns-clause-can c =
     let made = c.resting-maint.ensures in
-    let Can : Topology → List Device → Type 0 =
+    let Can : Topology → List Registers → Type 0 =
     λ view new. OnOk c.make_turn.result
     (CanStep view (registers_of new) c.make_turn.new.walker.machine) in
     let view = view_of c.args.script.now.lines.items c.args.host in

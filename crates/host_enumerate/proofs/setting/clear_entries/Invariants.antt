@@ -1,6 +1,6 @@
 use Rattle.std.proofs.Common.{◌≡◌, Some}
 use Rattle.fabric_script.specs.declared.ports.PortRef.{PortRef}
-use Rattle.maint_registers.specs.Devices.{Device}
+use Rattle.maint_registers.specs.Devices.{Registers}
 use Rattle.fabric_map.specs.Topology.{entered}
 use Rattle.host_enumerate.specs.Asking.{Becomes}
 use Rattle.host_enumerate.specs.Setting.{IsCleared}
@@ -14,7 +14,7 @@ invariant-loop-id g l = record {
       → g.M.Maint.Follows origin l.maint;
   cleared : (at : PortRef)
       → entered (g.M.Maint.topology l.initial.maint) l.path ≡ Some at
-      → (held : Device)
+      → (held : Registers)
       × Becomes (g.M.Maint.registers l.initial.maint) (g.M.Maint.registers l.maint) at.node held
       × IsCleared l.host_id l.id (g.M.Maint.registers l.initial.maint at.node) held;
   undetected : g.M.Maint.undetected l.maint ≡ g.M.Maint.undetected l.initial.maint;

@@ -1,6 +1,6 @@
 use Rattle.std.proofs.Common.{◌%◌, ap, subst, ◌∙◌}
 use Rattle.fabric_script.specs.declared.ports.PortRef.{PortRef}
-use Rattle.maint_registers.specs.Devices.{Device}
+use Rattle.maint_registers.specs.Devices.{Registers}
 use Rattle.fabric_map.specs.declared.map.Kind.TheVariants.{Switch}
 use Rattle.fabric_map.specs.Topology.{entered}
 use Rattle.host_enumerate.specs.Asking.{Becomes}
@@ -147,7 +147,7 @@ returns-clause-registers g c goal_at enters =
     c.requires.askable.1.leads cleared.0 cleared.1
     (c.in_ok-set_entry.ensures.registers at
     (ap (λ t. entered t c.args.path.now) cleared.0.stays ∙ c.requires.askable.1.leads)) in
-    subst (λ (p : PortRef). (held : Device) × Becomes old end p.node held
+    subst (λ (p : PortRef). (held : Registers) × Becomes old end p.node held
     × SwitchIsSetUp c.args.host_id p.port (old p.node) held)
     (same_end topology c.args.path.now at goal_at c.requires.askable.1.leads enters)
     (with_entry found.0 c.args.host_id at.port, done.0, done.1)

@@ -1,7 +1,7 @@
 use Rattle.std.proofs.Common.{◌≡◌, ◌%◌, slice_set, Some, true, sym, subst, refl}
 use Rattle.std.proofs.lemmas.Result.{IfOk-weaker}
 use Rattle.fabric_script.specs.declared.ports.PortRef.{PortRef}
-use Rattle.maint_registers.specs.Devices.{Device, is_switch}
+use Rattle.maint_registers.specs.Devices.{Registers, is_switch}
 use Rattle.fabric_map.specs.Topology.{entered}
 use Rattle.host_enumerate.specs.Asking.{IsAskable, IsWritable, Becomes}
 use Rattle.host_enumerate.specs.Setting.{with_entry}
@@ -30,7 +30,7 @@ write-requires-2-clause-askable g c =
     let mid = g.M.Maint.registers c.write.new.maint in
     let first = selected (g.M.Maint.topology c.args.maint.now) old mid c.args.path.now asked.1
     c.from.result c.in_ok-write.ensures.registers asked.2.leads asked.4 in
-    let there : Device = record (mid asked.1.node) {
+    let there : Registers = record (mid asked.1.node) {
       routes = slice_set (mid asked.1.node).routes (mid asked.1.node).select
           (c.from-2.result % 0x100);
     } in (

@@ -1,6 +1,6 @@
 use Rattle.std.proofs.Common.{rules, ◌≡◌, ◌∙◌, subst, arith}
 use Rattle.fabric_map.specs.Walked.{onward}
-use Rattle.fabric_map.specs.Routes.{Registers}
+use Rattle.fabric_map.specs.Routes.{AllRegisters}
 use Rattle.host_enumerate.specs.Underway.{IsUnderway}
 use Rattle.host_enumerate.specs.Ends.{IsEnded, EndsAtLock}
 use Rattle.host_enumerate.proofs.Looked.{handed_on, ended_longer}
@@ -47,7 +47,7 @@ returns-in_err-found-clause-end g t c =
     (λ at id. g.M.Maint.IsWhole c.look_behind.new.maint
     × ((origin : _) → g.M.Maint.Follows origin c.args.maint.now
     → g.M.Maint.Follows origin c.look_behind.new.maint)
-    × ((before : Registers)
+    × ((before : AllRegisters)
     → IsUnderway (g.M.Maint.topology c.args.maint.now) before
     (g.M.Maint.registers c.args.maint.now) c.args.numbering.now.host_id
     c.args.numbering.now.devices.items c.args.numbering.now.next_id
@@ -62,7 +62,7 @@ returns-in_err-found-clause-end g t c =
     (λ at id. g.M.Maint.IsWhole c.look_behind.new.maint
     × ((origin : _) → g.M.Maint.Follows origin c.loop-port.maint
     → g.M.Maint.Follows origin c.look_behind.new.maint)
-    × ((before : Registers)
+    × ((before : AllRegisters)
     → IsUnderway (g.M.Maint.topology c.loop-port.maint) before
     (g.M.Maint.registers c.loop-port.maint) c.loop-port.numbering.host_id
     c.loop-port.numbering.devices.items c.loop-port.numbering.next_id
@@ -72,7 +72,7 @@ returns-in_err-found-clause-end g t c =
     (λ at id. g.M.Maint.IsWhole c.look_behind.new.maint
     × ((origin : _) → g.M.Maint.Follows origin c.args.maint.now
     → g.M.Maint.Follows origin c.look_behind.new.maint)
-    × ((before : Registers)
+    × ((before : AllRegisters)
     → IsUnderway (g.M.Maint.topology c.args.maint.now) before
     (g.M.Maint.registers c.args.maint.now) c.args.numbering.now.host_id
     c.args.numbering.now.devices.items c.args.numbering.now.next_id
@@ -216,7 +216,7 @@ returns-in_err-explore-clause-end g t c =
     (λ at id. g.M.Maint.IsWhole c.explore.new.maint
     × ((origin : _) → g.M.Maint.Follows origin c.args.maint.now
     → g.M.Maint.Follows origin c.explore.new.maint)
-    × ((before : Registers)
+    × ((before : AllRegisters)
     → IsUnderway (g.M.Maint.topology c.args.maint.now) before
     (g.M.Maint.registers c.args.maint.now) c.args.numbering.now.host_id
     c.args.numbering.now.devices.items c.args.numbering.now.next_id
@@ -231,7 +231,7 @@ returns-in_err-explore-clause-end g t c =
     (λ at id. g.M.Maint.IsWhole c.explore.new.maint
     × ((origin : _) → g.M.Maint.Follows origin c.look_behind.new.maint
     → g.M.Maint.Follows origin c.explore.new.maint)
-    × ((before : Registers)
+    × ((before : AllRegisters)
     → IsUnderway (g.M.Maint.topology c.look_behind.new.maint) before
     (g.M.Maint.registers c.look_behind.new.maint) c.look_behind.new.numbering.host_id
     c.look_behind.new.numbering.devices.items c.look_behind.new.numbering.next_id
@@ -241,7 +241,7 @@ returns-in_err-explore-clause-end g t c =
     (λ at id. g.M.Maint.IsWhole c.explore.new.maint
     × ((origin : _) → g.M.Maint.Follows origin c.args.maint.now
     → g.M.Maint.Follows origin c.explore.new.maint)
-    × ((before : Registers)
+    × ((before : AllRegisters)
     → IsUnderway (g.M.Maint.topology c.args.maint.now) before
     (g.M.Maint.registers c.args.maint.now) c.args.numbering.now.host_id
     c.args.numbering.now.devices.items c.args.numbering.now.next_id

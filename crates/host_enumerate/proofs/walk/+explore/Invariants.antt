@@ -1,6 +1,6 @@
 use Rattle.std.proofs.Common.{◌≡◌, ◌≤◌, ◌-◌, length}
 use Rattle.fabric_map.specs.Walked.{onward}
-use Rattle.fabric_map.specs.Routes.{Registers}
+use Rattle.fabric_map.specs.Routes.{AllRegisters}
 use Rattle.host_enumerate.specs.Underway.{IsUnderway}
 use Rattle.host_enumerate.specs.Founds.{IsFound}
 use Rattle.host_enumerate.proofs.walk.+explore.Given as goal
@@ -16,7 +16,7 @@ invariant-loop-port g l = record {
       → g.M.Maint.Follows origin l.maint;
   found : IsFound (g.M.Maint.topology l.initial.maint) (g.M.Maint.registers l.maint)
       l.initial.numbering.host_id l.numbering.devices.items l.switch;
-  tried : (before : Registers)
+  tried : (before : AllRegisters)
       → IsUnderway (g.M.Maint.topology l.initial.maint) before
       (g.M.Maint.registers l.initial.maint) l.initial.numbering.host_id
       l.initial.numbering.devices.items l.initial.numbering.next_id (onward l.switch.path 0)

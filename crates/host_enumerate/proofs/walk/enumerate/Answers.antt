@@ -1,5 +1,5 @@
 use Rattle.std.proofs.Common.{◌/◌, [], ◌∙◌, sym, ap, subst}
-use Rattle.fabric_map.specs.Routes.{Registers}
+use Rattle.fabric_map.specs.Routes.{AllRegisters}
 use Rattle.fabric_map.specs.Numbered.{entries_of, IsNumbered}
 use Rattle.host_enumerate.specs.Underway.{IsUnderway}
 use Rattle.host_enumerate.specs.Ends.{IsEnded, EndsAtLock}
@@ -60,7 +60,7 @@ returns-in_err-devices-clause-end g c =
     (λ at id. g.M.Maint.IsWhole c.number_devices.new.maint
     × ((origin : _) → g.M.Maint.Follows origin c.read.new.maint
     → g.M.Maint.Follows origin c.number_devices.new.maint)
-    × ((before : Registers) → IsUnderway (g.M.Maint.topology c.read.new.maint) before
+    × ((before : AllRegisters) → IsUnderway (g.M.Maint.topology c.read.new.maint) before
     (g.M.Maint.registers c.read.new.maint) (c.in_ok-own_id.own_id / 65536) [] 0 []
     → EndsAtLock (g.M.Maint.topology c.read.new.maint) before
     (g.M.Maint.registers c.number_devices.new.maint) at id))

@@ -1,7 +1,7 @@
 use Rattle.std.proofs.Common.{ap, subst, ◌∙◌}
 use Rattle.fabric_map.specs.Topology.{entered}
 use Rattle.fabric_map.specs.Walked.{onward}
-use Rattle.fabric_map.specs.Routes.{Registers}
+use Rattle.fabric_map.specs.Routes.{AllRegisters}
 use Rattle.host_enumerate.specs.Underway.{IsUnderway}
 use Rattle.host_enumerate.specs.Ends.{IsEnded, EndsAtLock}
 use Rattle.host_enumerate.proofs.Looking.{found_askable, found_short, status_answers, unlinked, linked, unlinked_passed, settable_now}
@@ -112,7 +112,7 @@ returns-in_err-kind-clause-end g c =
     (λ at id. g.M.Maint.IsWhole c.meet.new.maint
     × ((origin : _) → g.M.Maint.Follows origin c.args.maint.now
     → g.M.Maint.Follows origin c.meet.new.maint)
-    × ((before : Registers)
+    × ((before : AllRegisters)
     → IsUnderway (g.M.Maint.topology c.args.maint.now) before
     (g.M.Maint.registers c.args.maint.now) c.args.numbering.now.host_id
     c.args.numbering.now.devices.items c.args.numbering.now.next_id
@@ -127,7 +127,7 @@ returns-in_err-kind-clause-end g c =
     (λ at id. g.M.Maint.IsWhole c.meet.new.maint
     × ((origin : _) → g.M.Maint.Follows origin c.set_entry.new.maint
     → g.M.Maint.Follows origin c.meet.new.maint)
-    × ((before : Registers)
+    × ((before : AllRegisters)
     → IsUnderway (g.M.Maint.topology c.set_entry.new.maint) before
     (g.M.Maint.registers c.set_entry.new.maint) c.args.numbering.now.host_id
     c.args.numbering.now.devices.items c.args.numbering.now.next_id c.onward-path.result
@@ -136,7 +136,7 @@ returns-in_err-kind-clause-end g c =
     (λ at id. g.M.Maint.IsWhole c.meet.new.maint
     × ((origin : _) → g.M.Maint.Follows origin c.args.maint.now
     → g.M.Maint.Follows origin c.meet.new.maint)
-    × ((before : Registers)
+    × ((before : AllRegisters)
     → IsUnderway (g.M.Maint.topology c.args.maint.now) before
     (g.M.Maint.registers c.args.maint.now) c.args.numbering.now.host_id
     c.args.numbering.now.devices.items c.args.numbering.now.next_id

@@ -1,6 +1,6 @@
 use Rattle.std.proofs.Common.{[], ◌∙◌, refl, subst}
 use Rattle.fabric_map.specs.Walked.{onward}
-use Rattle.fabric_map.specs.Routes.{Registers}
+use Rattle.fabric_map.specs.Routes.{AllRegisters}
 use Rattle.host_enumerate.specs.Underway.{IsUnderway}
 use Rattle.host_enumerate.specs.Ends.{IsEnded, EndsAtLock}
 use Rattle.host_enumerate.proofs.Looked.{handed_on, ended_longer}
@@ -21,7 +21,7 @@ returns-in_err-meet-clause-end g c =
     (λ at id. g.M.Maint.IsWhole c.meet.new.maint
     × ((origin : _) → g.M.Maint.Follows origin c.args.maint.now
     → g.M.Maint.Follows origin c.meet.new.maint)
-    × ((before : Registers) → IsUnderway (g.M.Maint.topology c.args.maint.now) before
+    × ((before : AllRegisters) → IsUnderway (g.M.Maint.topology c.args.maint.now) before
     (g.M.Maint.registers c.args.maint.now) c.args.host_id [] 0 []
     → EndsAtLock (g.M.Maint.topology c.args.maint.now) before (g.M.Maint.registers c.meet.new.maint)
     at id)))
@@ -33,14 +33,14 @@ returns-in_err-meet-clause-end g c =
     (λ at id. g.M.Maint.IsWhole c.meet.new.maint
     × ((origin : _) → g.M.Maint.Follows origin c.args.maint.now
     → g.M.Maint.Follows origin c.meet.new.maint)
-    × ((before : Registers) → IsUnderway (g.M.Maint.topology c.args.maint.now) before
+    × ((before : AllRegisters) → IsUnderway (g.M.Maint.topology c.args.maint.now) before
     (g.M.Maint.registers c.args.maint.now) c.args.host_id c.new.result.items 0
     c.of_host-host.result → EndsAtLock (g.M.Maint.topology c.args.maint.now) before
     (g.M.Maint.registers c.meet.new.maint) at id))
     (λ at id. g.M.Maint.IsWhole c.meet.new.maint
     × ((origin : _) → g.M.Maint.Follows origin c.args.maint.now
     → g.M.Maint.Follows origin c.meet.new.maint)
-    × ((before : Registers) → IsUnderway (g.M.Maint.topology c.args.maint.now) before
+    × ((before : AllRegisters) → IsUnderway (g.M.Maint.topology c.args.maint.now) before
     (g.M.Maint.registers c.args.maint.now) c.args.host_id [] 0 []
     → EndsAtLock (g.M.Maint.topology c.args.maint.now) before (g.M.Maint.registers c.meet.new.maint)
     at id))
@@ -100,7 +100,7 @@ returns-in_err-kind-clause-end g c =
     (λ at id. g.M.Maint.IsWhole c.meet-2.new.maint
     × ((origin : _) → g.M.Maint.Follows origin c.args.maint.now
     → g.M.Maint.Follows origin c.meet-2.new.maint)
-    × ((before : Registers) → IsUnderway (g.M.Maint.topology c.args.maint.now) before
+    × ((before : AllRegisters) → IsUnderway (g.M.Maint.topology c.args.maint.now) before
     (g.M.Maint.registers c.args.maint.now) c.args.host_id [] 0 []
     → EndsAtLock (g.M.Maint.topology c.args.maint.now) before
     (g.M.Maint.registers c.meet-2.new.maint) at id)))
@@ -112,7 +112,7 @@ returns-in_err-kind-clause-end g c =
     (λ at id. g.M.Maint.IsWhole c.meet-2.new.maint
     × ((origin : _) → g.M.Maint.Follows origin c.meet.new.maint
     → g.M.Maint.Follows origin c.meet-2.new.maint)
-    × ((before : Registers) → IsUnderway (g.M.Maint.topology c.meet.new.maint) before
+    × ((before : AllRegisters) → IsUnderway (g.M.Maint.topology c.meet.new.maint) before
     (g.M.Maint.registers c.meet.new.maint) c.meet.new.numbering.host_id
     c.meet.new.numbering.devices.items
     c.meet.new.numbering.next_id c.onward-path.result
@@ -121,7 +121,7 @@ returns-in_err-kind-clause-end g c =
     (λ at id. g.M.Maint.IsWhole c.meet-2.new.maint
     × ((origin : _) → g.M.Maint.Follows origin c.args.maint.now
     → g.M.Maint.Follows origin c.meet-2.new.maint)
-    × ((before : Registers) → IsUnderway (g.M.Maint.topology c.args.maint.now) before
+    × ((before : AllRegisters) → IsUnderway (g.M.Maint.topology c.args.maint.now) before
     (g.M.Maint.registers c.args.maint.now) c.args.host_id [] 0 []
     → EndsAtLock (g.M.Maint.topology c.args.maint.now) before
     (g.M.Maint.registers c.meet-2.new.maint) at id))
@@ -222,7 +222,7 @@ returns-in_err-explore-clause-end g c =
     (λ at id. g.M.Maint.IsWhole c.explore.new.maint
     × ((origin : _) → g.M.Maint.Follows origin c.args.maint.now
     → g.M.Maint.Follows origin c.explore.new.maint)
-    × ((before : Registers) → IsUnderway (g.M.Maint.topology c.args.maint.now) before
+    × ((before : AllRegisters) → IsUnderway (g.M.Maint.topology c.args.maint.now) before
     (g.M.Maint.registers c.args.maint.now) c.args.host_id [] 0 []
     → EndsAtLock (g.M.Maint.topology c.args.maint.now) before
     (g.M.Maint.registers c.explore.new.maint) at id)))
@@ -234,7 +234,7 @@ returns-in_err-explore-clause-end g c =
     (λ at id. g.M.Maint.IsWhole c.explore.new.maint
     × ((origin : _) → g.M.Maint.Follows origin c.meet-2.new.maint
     → g.M.Maint.Follows origin c.explore.new.maint)
-    × ((before : Registers) → IsUnderway (g.M.Maint.topology c.meet-2.new.maint) before
+    × ((before : AllRegisters) → IsUnderway (g.M.Maint.topology c.meet-2.new.maint) before
     (g.M.Maint.registers c.meet-2.new.maint) c.meet-2.new.numbering.host_id
     c.meet-2.new.numbering.devices.items
     c.meet-2.new.numbering.next_id (onward c.onward-path.result 0)
@@ -243,7 +243,7 @@ returns-in_err-explore-clause-end g c =
     (λ at id. g.M.Maint.IsWhole c.explore.new.maint
     × ((origin : _) → g.M.Maint.Follows origin c.args.maint.now
     → g.M.Maint.Follows origin c.explore.new.maint)
-    × ((before : Registers) → IsUnderway (g.M.Maint.topology c.args.maint.now) before
+    × ((before : AllRegisters) → IsUnderway (g.M.Maint.topology c.args.maint.now) before
     (g.M.Maint.registers c.args.maint.now) c.args.host_id [] 0 []
     → EndsAtLock (g.M.Maint.topology c.args.maint.now) before
     (g.M.Maint.registers c.explore.new.maint) at id))

@@ -1,5 +1,5 @@
 use Rattle.std.proofs.Common.{◌<◌, refl, sym, subst}
-use Rattle.fabric_map.specs.Routes.{Registers}
+use Rattle.fabric_map.specs.Routes.{AllRegisters}
 use Rattle.host_enumerate.specs.Underway.{AreUntagged}
 use Rattle.fabric_maint.specs.Going.{topology_in}
 use Rattle.fabric_maint.specs.declared.maint.FabricMaint.{FabricMaint}
@@ -47,13 +47,13 @@ returns-clause-untagged g c =
       tid = 0;
       undetected = 0;
     } in
-    subst (λ (r : Registers). AreUntagged (topology_in maint) r)
+    subst (λ (r : AllRegisters). AreUntagged (topology_in maint) r)
     (sym (returns-clause-registers g c))
     (new_is maint c.requires.passes c.requires.host c.requires.stands c.requires.named).untagged
 
 pub returns-clause-host_has_id : goal.returns-clause-host_has_id
 returns-clause-host_has_id g c =
-    subst (λ (r : Registers). (r c.args.host).base_id < 255)
+    subst (λ (r : AllRegisters). (r c.args.host).base_id < 255)
     (sym (returns-clause-registers g c)) c.requires.host.has_id
 
 pub returns-clause-rests : goal.returns-clause-rests

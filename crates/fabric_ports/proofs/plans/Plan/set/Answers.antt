@@ -1,6 +1,6 @@
 use Rattle.std.proofs.Common.{◌≡◌, ℕ, true, false, ◌<◌, List, length, get_or, refl, sym, ap, ◌∙◌, subst, arith}
 use Rattle.std.specs.Vec.{with_item}
-use Rattle.maint_registers.specs.Devices.{Device}
+use Rattle.maint_registers.specs.Devices.{Registers}
 use Rattle.fabric_model.specs.Network.{Network}
 use Rattle.fabric_trace.specs.Events.{ArePorts}
 use Rattle.fabric_trace.specs.Runs.{set_up}
@@ -14,11 +14,11 @@ use Rattle.fabric_ports.proofs.PortPlans.{plan-buffers, plan-telling}
 use Rattle.fabric_ports.proofs.plans.Plan.set.Goals as goal
 
 -- the plan with another device in place of one
-abbrev with_written : Plan → ℕ → Device → Plan
+abbrev with_written : Plan → ℕ → Registers → Plan
 with_written plan i device = record plan { devices = with_item plan.devices i device }
 
-written_plans : (old : Plan) (net : Network) (node i : ℕ) (read written : Device)
-    (change : Device → Device) → KeepsPorts change → i ≡ node → i < length old.devices.items
+written_plans : (old : Plan) (net : Network) (node i : ℕ) (read written : Registers)
+    (change : Registers → Registers) → KeepsPorts change → i ≡ node → i < length old.devices.items
     → read ≡ get_or old.devices.items i read → written ≡ change read → PlansFor old net
     → PlansFor (with_written old i written) (with_change net node change)
 written_plans old net node i read written change same at within value is plans =
@@ -26,8 +26,8 @@ written_plans old net node i read written change same at within value is plans =
     (changed_at old.devices.items node i read written change at within value is) refl refl refl
     plans
 
-written_counts : (old : Plan) (node i : ℕ) (read written : Device)
-    (change : Device → Device) → KeepsPorts change → i ≡ node → i < length old.devices.items
+written_counts : (old : Plan) (node i : ℕ) (read written : Registers)
+    (change : Registers → Registers) → KeepsPorts change → i ≡ node → i < length old.devices.items
     → read ≡ get_or old.devices.items i read → written ≡ change read
     → counts_of (with_written old i written).devices.items ≡ counts_of old.devices.items
 written_counts old node i read written change same at within value is =
@@ -164,7 +164,7 @@ pub returns-in-Lock-clause-plans : goal.returns-in-Lock-clause-plans
 returns-in-Lock-clause-plans c = λ net plans line_may.
     let old = c.args.self.now in
     let may = c.requires.may in
-    let there = subst (λ (x : List Device). c.in-Lock.node < length x) may.plans.registers
+    let there = subst (λ (x : List Registers). c.in-Lock.node < length x) may.plans.registers
     (subst (MaySetUp may.net) c.in-Lock.is may.may).0 in
     let at = c.from-in-Lock.ensures in
     let within : c.from-in-Lock.result < length old.devices.items = grind (arith, there, at) in
@@ -178,7 +178,7 @@ pub returns-in-Lock-clause-counts : goal.returns-in-Lock-clause-counts
 returns-in-Lock-clause-counts c =
     let old = c.args.self.now in
     let may = c.requires.may in
-    let there = subst (λ (x : List Device). c.in-Lock.node < length x) may.plans.registers
+    let there = subst (λ (x : List Registers). c.in-Lock.node < length x) may.plans.registers
     (subst (MaySetUp may.net) c.in-Lock.is may.may).0 in
     let at = c.from-in-Lock.ensures in
     let within : c.from-in-Lock.result < length old.devices.items = grind (arith, there, at) in

@@ -1,5 +1,5 @@
 use Rattle.std.proofs.Common.{true, false, ◌≡◌, ◌<◌, ℕ, List, length, get_or, refl, sym, ap, ◌∙◌, subst, arith}
-use Rattle.maint_registers.specs.Devices.{Device}
+use Rattle.maint_registers.specs.Devices.{Registers}
 use Rattle.maint_registers.proofs.ChangeLaws.{changed_at}
 use Rattle.fabric_model.specs.Network.{Network}
 use Rattle.fabric_trace.specs.Settings.{defaulted, held_by, large_set, routed, set_up, with_change}
@@ -57,11 +57,11 @@ returns-in-Buffers c = λ net built may.
 
 -- ---- registers
 
-abbrev with_written : Kept → ℕ → Device → Kept
+abbrev with_written : Kept → ℕ → Registers → Kept
 with_written kept i device = record kept { registers = with_item kept.registers i device }
 
-written : (net : Network) (old : Kept) (node i : ℕ) (read device : Device)
-    (change : Device → Device) → IsBuilt net old → i ≡ node → i < length old.registers.items
+written : (net : Network) (old : Kept) (node i : ℕ) (read device : Registers)
+    (change : Registers → Registers) → IsBuilt net old → i ≡ node → i < length old.registers.items
     → read ≡ get_or old.registers.items i read → device ≡ change read
     → IsBuilt (with_change net node change) (with_written old i device)
 written net old node i read device change built same within value is =
@@ -136,7 +136,7 @@ pub returns-in-Lock : goal.returns-in-Lock
 returns-in-Lock c = λ net built may.
     let old = c.args.self.now in
     let i = c.from-in-Lock.result in
-    let there = subst (λ (d : List Device). c.in-Lock.node < length d)
+    let there = subst (λ (d : List Registers). c.in-Lock.node < length d)
     (sym built.network.registers) (subst (MaySetUp net) c.in-Lock.is may.may).0 in
     let at = c.from-in-Lock.ensures in
     let within : i < length old.registers.items = grind (arith, there, at) in
