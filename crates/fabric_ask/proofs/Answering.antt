@@ -14,7 +14,7 @@ use Rattle.fabric_model.specs.Steps.{Leave, AtNode}
 use Rattle.fabric_trace.specs.Fold.{seen}
 use Rattle.fabric_trace.specs.Known.{Seen}
 use Rattle.fabric_trace.specs.Lines.{TraceLine, Stepped}
-use Rattle.fabric_trace.proofs.Keeping.{IsGood}
+use Rattle.fabric_trace.proofs.Parts.Keeping.{IsGood}
 use Rattle.fabric_ask.specs.Only.{IsClear}
 use Rattle.fabric_ask.specs.Course.{IsLaid}
 use Rattle.fabric_ask.specs.Asks.{IsAsk}

@@ -28,9 +28,9 @@ use Rattle.fabric_trace.specs.Known.{Seen}
 use Rattle.fabric_trace.specs.Lines.{TraceLine, Stepped, Lacked, Full}
 use Rattle.fabric_trace.specs.Parts.{Made, PartSteps}
 use Rattle.fabric_trace.specs.Served.{face_in, IsCollect}
-use Rattle.fabric_trace.proofs.Folding.{seen-append}
-use Rattle.fabric_trace.proofs.Keeping.{IsGood, good_by_priority, made_keeps}
-use Rattle.fabric_trace.proofs.Making.{one_part, made-append, made_by}
+use Rattle.fabric_trace.proofs.Parts.Folding.{seen-append}
+use Rattle.fabric_trace.proofs.Parts.Keeping.{IsGood, good_by_priority, made_keeps}
+use Rattle.fabric_trace.proofs.Parts.Making.{one_part, made-append, made_by}
 use Rattle.fabric_ask.specs.Only.{Held, Waits, IsOnly, IsClear}
 use Rattle.fabric_ask.specs.Course.{IsDevicePort, IsEndpointIn, IsLaid, FinalAt, AtHost, NotHost}
 use Rattle.fabric_ask.specs.Asks.{AskRounds, most_rounds, IsAsk}

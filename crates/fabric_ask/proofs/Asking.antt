@@ -21,8 +21,8 @@ use Rattle.fabric_trace.specs.Known.{Seen}
 use Rattle.fabric_trace.specs.Lines.{TraceLine}
 use Rattle.fabric_trace.specs.Parts.{Made}
 use Rattle.fabric_trace.specs.Served.{IsCollect}
-use Rattle.fabric_trace.proofs.Folding.{seen-append}
-use Rattle.fabric_trace.proofs.Keeping.{IsGood, made_keeps}
+use Rattle.fabric_trace.proofs.Parts.Folding.{seen-append}
+use Rattle.fabric_trace.proofs.Parts.Keeping.{IsGood, made_keeps}
 use Rattle.fabric_ask.proofs.Serving.{first_only}
 use Rattle.fabric_ask.proofs.Passing.{turn_some}
 use Rattle.fabric_ask.specs.Only.{Held, Waits, IsOnly, IsClear}

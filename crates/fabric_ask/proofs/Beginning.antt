@@ -12,7 +12,7 @@ use Rattle.fabric_model.specs.Network.{port_of, room_out, IsEndpoint, link_in}
 use Rattle.fabric_model.specs.Steps.{Take, AtNode}
 use Rattle.fabric_model.proofs.Peers.{ArePeers, link_peers}
 use Rattle.fabric_model.proofs.Nodes.{few_prio}
-use Rattle.fabric_trace.proofs.Walks.{peers_round}
+use Rattle.fabric_trace.proofs.Network.Walks.{peers_round}
 use Rattle.fabric_trace.specs.Blocks.{take_lines, Asks, pumps}
 use Rattle.fabric_trace.specs.Fold.{seen}
 use Rattle.fabric_trace.specs.Known.{Found, Seen}
@@ -21,10 +21,10 @@ use Rattle.fabric_trace.specs.Parts.{Done, PartSteps, PartLacks}
 use Rattle.fabric_trace.specs.Ready.{IsReady}
 use Rattle.fabric_trace.specs.Rounds.{Follows, NamesNothing, ServeNodes}
 use Rattle.fabric_trace.specs.Served.{face_in, collect_lines, IsCollect}
-use Rattle.fabric_trace.proofs.Existing.{Exists, good_of, ready_on, settle_exists, serve_all_exist, joined_exist}
-use Rattle.fabric_trace.proofs.Keeping.{IsGood, made_keeps, legal_links}
-use Rattle.fabric_trace.proofs.Making.{one_part, made-append}
-use Rattle.fabric_trace.proofs.Rounds.{AreFound, all_found}
+use Rattle.fabric_trace.proofs.Traces.Existing.{Exists, good_of, ready_on, settle_exists, serve_all_exist, joined_exist}
+use Rattle.fabric_trace.proofs.Parts.Keeping.{IsGood, made_keeps, legal_links}
+use Rattle.fabric_trace.proofs.Parts.Making.{one_part, made-append}
+use Rattle.fabric_trace.proofs.Rounds.Blocks.{AreFound, all_found}
 use Rattle.fabric_ask.specs.Asks.{CarryAll, CollectNodes, Handles, AskRound, holds_some, AskRounds, most_rounds, IsAsk}
 use Rattle.fabric_ask.specs.Noise.{stirred, IsCarry}
 use Rattle.fabric_ask.proofs.Carrying.{turn_goes, round_goes, stirred_goes, has_carried}

@@ -5,7 +5,7 @@ use Rattle.link_model.specs.Said.{said}
 use Rattle.link_wires.specs.Kept.{IsSubsequence}
 use Rattle.link_wires.specs.declared.edits.Edit.{Edit}
 use Rattle.link_machine.specs.Calls.{pumped}
-use Rattle.link_rest.specs.Acts.{At}
+use Rattle.link_machine.specs.Acts.{At}
 use Rattle.link_watch.specs.declared.side.Side.TheVariants.{A}
 use Rattle.fabric_script.specs.declared.ports.PortRef.{PortRef}
 use Rattle.fabric_model.specs.Network.{same_port, port_of, peer_in, link_in}
@@ -23,19 +23,19 @@ use Rattle.switch_core.specs.declared.endpoint.Collected.TheVariants as Collects
 use Rattle.switch_core.specs.EndpointSteps.{collected}
 use Rattle.maint_registers.specs.Devices.{Registers, is_switch}
 use Rattle.fabric_trace.specs.Rounds.{Follows, NamesNothing, Joined, ServesAll, ServeRests, ServeGoes, ServeNodes}
-use Rattle.fabric_trace.proofs.Folding.{seen-append}
-use Rattle.fabric_trace.proofs.Keeping.{IsGood, made_keeps, legal_links}
-use Rattle.fabric_trace.proofs.Making.{AreOthers, Reaches, pump_reaches, made-append, made_by}
-use Rattle.fabric_trace.proofs.Rounds.{AreFound, all_found, by_test, serves_made}
-use Rattle.fabric_trace.proofs.Running.{acts_reach, move_made}
-use Rattle.fabric_trace.proofs.Walks.{peers_round}
+use Rattle.fabric_trace.proofs.Parts.Folding.{seen-append}
+use Rattle.fabric_trace.proofs.Parts.Keeping.{IsGood, made_keeps, legal_links}
+use Rattle.fabric_trace.proofs.Parts.Making.{AreOthers, Reaches, pump_reaches, made-append, made_by}
+use Rattle.fabric_trace.proofs.Rounds.Blocks.{AreFound, all_found, by_test, serves_made}
+use Rattle.fabric_trace.proofs.Rounds.Running.{acts_reach, move_made}
+use Rattle.fabric_trace.proofs.Network.Walks.{peers_round}
 use Rattle.fabric_ask.specs.Noise.{stirred, IsCarry}
 use Rattle.fabric_ask.specs.Asks.{CarryAll, CollectsAll, CollectNodes, Handles, AskRound, holds_some, AskRounds, CollectRests, CollectStops, CollectGoes}
 use Rattle.fabric_ask.specs.Travel.{GoesOn}
 use Rattle.fabric_ask.proofs.Collecting.{collect_lines_made}
-use Rattle.link_rest.specs.Calm.{IsCalm}
+use Rattle.link_machine.specs.Calm.{IsCalm}
 use Rattle.fabric_ask.proofs.Carrying.{has_carried}
-use Rattle.link_rest.proofs.Calming.{calm_round, turns_calm, acts_calm}
+use Rattle.link_machine.proofs.Settling.Calming.{calm_round, turns_calm, acts_calm}
 use Rattle.fabric_ask.proofs.Quieting.{IsSamePort, OnlySteps, steps_same, serves_steps, serve_steps, collects_steps, handles_steps}
 
 -- each link of the fabric is calm

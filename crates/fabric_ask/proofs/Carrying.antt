@@ -9,8 +9,8 @@ use Rattle.link_watch.specs.declared.side.Side.TheVariants.{A, B}
 use Rattle.link_wires.specs.Wires.{fits}
 use Rattle.link_wires.specs.declared.edits.Edit.{Edit}
 use Rattle.link_machine.specs.Calls.{pumped, pump_notes, has_none}
-use Rattle.link_rest.specs.Acts.{At, acts_notes}
-use Rattle.link_rest.specs.Rest.{IsSettled}
+use Rattle.link_machine.specs.Acts.{At, acts_notes}
+use Rattle.link_machine.specs.Rest.{IsSettled}
 use Rattle.rio_chars.specs.declared.chars.Char.{Char}
 use Rattle.fabric_script.specs.declared.ports.PortRef.{PortRef}
 use Rattle.fabric_model.specs.Network.{same_port}
@@ -21,12 +21,12 @@ use Rattle.fabric_trace.specs.Fold.{changed, edit_of, edited_by, seen}
 use Rattle.fabric_trace.specs.Known.{Seen, link_at}
 use Rattle.fabric_trace.specs.Lines.{TraceLine, Begun, steps_of}
 use Rattle.fabric_trace.specs.Parts.{Made, Done, PartBegins}
-use Rattle.fabric_trace.proofs.Folding.{seen-append}
-use Rattle.fabric_trace.proofs.Keeping.{IsGood, made_keeps, steps_of-append}
-use Rattle.fabric_trace.proofs.Making.{AreOthers, others_here, others_on, others_round, one_part, made-append, pump_reaches}
-use Rattle.fabric_trace.proofs.Running.{acts_reach}
-use Rattle.fabric_trace.proofs.Starting.{settles_rest}
-use Rattle.fabric_trace.proofs.Walks.{peers_round, elsewhere_here}
+use Rattle.fabric_trace.proofs.Parts.Folding.{seen-append}
+use Rattle.fabric_trace.proofs.Parts.Keeping.{IsGood, made_keeps, steps_of-append}
+use Rattle.fabric_trace.proofs.Parts.Making.{AreOthers, others_here, others_on, others_round, one_part, made-append, pump_reaches}
+use Rattle.fabric_trace.proofs.Rounds.Running.{acts_reach}
+use Rattle.fabric_trace.proofs.SetUps.Starting.{settles_rest}
+use Rattle.fabric_trace.proofs.Network.Walks.{peers_round, elsewhere_here}
 use Rattle.fabric_ask.specs.Only.{is_end, AreAt}
 use Rattle.fabric_ask.specs.Noise.{edit_line, is_idle, edit_lines, stirred, IsCarry}
 

@@ -24,12 +24,12 @@ use Rattle.fabric_trace.specs.Parts.{Made}
 use Rattle.fabric_trace.specs.Rounds.{Joined}
 use Rattle.fabric_trace.specs.Served.{face_in, collect_lines, HasResponseForm, IsCollect}
 use Rattle.fabric_trace.specs.Views.{lists_in, queue}
-use Rattle.fabric_trace.proofs.Faces.{CollectNeeds, collect_needs, head_held}
+use Rattle.fabric_trace.proofs.Network.Faces.{CollectNeeds, collect_needs, head_held}
 use Rattle.link_buffers.specs.Queues.{list_at}
 use Rattle.switch_core.proofs.OrderLaws.{greatest_first-is}
-use Rattle.fabric_trace.proofs.Keeping.{IsGood, good_by_priority, made_keeps}
-use Rattle.fabric_trace.proofs.Rounds.{by_test}
-use Rattle.fabric_trace.proofs.Running.{block_made}
+use Rattle.fabric_trace.proofs.Parts.Keeping.{IsGood, good_by_priority, made_keeps}
+use Rattle.fabric_trace.proofs.Rounds.Blocks.{by_test}
+use Rattle.fabric_trace.proofs.Rounds.Running.{block_made}
 use Rattle.fabric_ask.specs.Only.{Held, IsOnly, IsClear}
 use Rattle.fabric_ask.specs.Course.{HandledAs, GoesOut}
 use Rattle.fabric_ask.specs.Asks.{CollectsAll, CollectNodes, CollectRests, CollectStops, CollectGoes}

@@ -3,7 +3,7 @@ use Rattle.std.proofs.Common.{◌≡◌, ◌<◌, ◌||◌, Bool, true, false, L
 use Rattle.std.proofs.lemmas.Bool.{or_right}
 use Rattle.std.specs.List.{AllByRecursion}
 use Rattle.rio_packets.specs.Fields.{prio_of}
-use Rattle.link_rest.specs.Rest.{IsSettled}
+use Rattle.link_machine.specs.Rest.{IsSettled}
 use Rattle.link_wires.specs.declared.edits.Edit.{Edit}
 use Rattle.fabric_script.specs.declared.ports.PortRef.{PortRef}
 use Rattle.fabric_model.specs.Network.{Item, Network, same_port, peer_in, link_in}
@@ -14,11 +14,11 @@ use Rattle.fabric_trace.specs.Lines.{TraceLine, steps_of}
 use Rattle.fabric_trace.specs.Links.{IsLink}
 use Rattle.fabric_trace.specs.Parts.{Made, Done}
 use Rattle.fabric_trace.specs.Rounds.{Follows, NamesNothing, Joined}
-use Rattle.fabric_trace.proofs.Folding.{seen-append}
-use Rattle.fabric_trace.proofs.Serving.{link_round}
-use Rattle.fabric_trace.proofs.Keeping.{IsGood, IsKept, made_keeps}
-use Rattle.fabric_trace.proofs.Making.{made-append, made_by}
-use Rattle.fabric_trace.proofs.Rounds.{AreFound}
+use Rattle.fabric_trace.proofs.Parts.Folding.{seen-append}
+use Rattle.fabric_trace.proofs.Links.Serving.{link_round}
+use Rattle.fabric_trace.proofs.Parts.Keeping.{IsGood, IsKept, made_keeps}
+use Rattle.fabric_trace.proofs.Parts.Making.{made-append, made_by}
+use Rattle.fabric_trace.proofs.Rounds.Blocks.{AreFound}
 use Rattle.fabric_ask.specs.Only.{Held, Waits, alone, IsOnly, IsClear, IsLent, is_end, Carried, Stays, Lends, Crosses, IsSame}
 use Rattle.fabric_ask.specs.Noise.{IsCarry}
 use Rattle.fabric_ask.specs.Asks.{CarryAll}

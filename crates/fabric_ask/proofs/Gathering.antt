@@ -17,11 +17,11 @@ use Rattle.fabric_trace.specs.Parts.{Done}
 use Rattle.fabric_trace.specs.Ready.{IsReady}
 use Rattle.fabric_trace.specs.Rounds.{Joined}
 use Rattle.fabric_trace.specs.Served.{face_in, collect_lines, IsCollect}
-use Rattle.fabric_trace.proofs.Boards.{seen_board}
-use Rattle.fabric_trace.proofs.Existing.{Exists, good_of, ready_on, AreKinds, all_kinds, joined_exist}
-use Rattle.fabric_trace.proofs.Keeping.{IsGood, passes_first}
-use Rattle.fabric_trace.proofs.Making.{made-append}
-use Rattle.fabric_trace.proofs.Tracing.{collect_form}
+use Rattle.fabric_trace.proofs.Network.Boards.{seen_board}
+use Rattle.fabric_trace.proofs.Traces.Existing.{Exists, good_of, ready_on, AreKinds, all_kinds, joined_exist}
+use Rattle.fabric_trace.proofs.Parts.Keeping.{IsGood, passes_first}
+use Rattle.fabric_trace.proofs.Parts.Making.{made-append}
+use Rattle.fabric_trace.proofs.Traces.Tracing.{collect_form}
 use Rattle.fabric_ask.specs.Asks.{CollectsAll, CollectNodes, CollectGoes, CollectRests, CollectStops}
 use Rattle.fabric_ask.proofs.Collecting.{Makes, Leaving, Answering, collect_makes, collect_lines_made}
 

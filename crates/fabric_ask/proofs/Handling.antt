@@ -15,9 +15,9 @@ use Rattle.fabric_trace.specs.Lines.{TraceLine, Stepped, steps_of}
 use Rattle.fabric_trace.specs.Parts.{Made}
 use Rattle.fabric_trace.specs.Rounds.{Joined, ServesAll, ServeRests, ServeGoes, ServeNodes}
 use Rattle.fabric_trace.specs.Served.{IsMove}
-use Rattle.fabric_trace.proofs.Keeping.{IsGood, made_keeps, legal_links}
-use Rattle.fabric_trace.proofs.Rounds.{by_test}
-use Rattle.fabric_trace.proofs.Running.{move_made}
+use Rattle.fabric_trace.proofs.Parts.Keeping.{IsGood, made_keeps, legal_links}
+use Rattle.fabric_trace.proofs.Rounds.Blocks.{by_test}
+use Rattle.fabric_trace.proofs.Rounds.Running.{move_made}
 use Rattle.fabric_ask.specs.Only.{Held, IsOnly}
 use Rattle.fabric_ask.specs.Course.{IsDevicePort, HandledAs, Moves, Falls, IsHeard, GoesOut}
 use Rattle.fabric_ask.proofs.Alone.{none_first}

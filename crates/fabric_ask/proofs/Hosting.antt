@@ -15,8 +15,8 @@ use Rattle.fabric_model.specs.Laws.Priorities.{ByPriority}
 use Rattle.fabric_trace.specs.Known.{Seen}
 use Rattle.fabric_trace.specs.Lines.{Empty, TraceLine, Stepped, Lacked, Full}
 use Rattle.fabric_trace.specs.Served.{face_in, collect_lines, IsCollect}
-use Rattle.fabric_trace.proofs.Faces.{head_held}
-use Rattle.fabric_trace.proofs.Keeping.{IsGood}
+use Rattle.fabric_trace.proofs.Network.Faces.{head_held}
+use Rattle.fabric_trace.proofs.Parts.Keeping.{IsGood}
 use Rattle.fabric_ask.specs.Only.{Held, IsOnly, IsClear}
 use Rattle.fabric_ask.proofs.Serving.{is_one, head_is, greatest-none}
 use Rattle.fabric_ask.proofs.Collecting.{Makes, Leaving, Answering, collect_makes}

@@ -12,9 +12,9 @@ use Rattle.fabric_trace.specs.Fold.{seen}
 use Rattle.fabric_trace.specs.Known.{Seen}
 use Rattle.fabric_trace.specs.Lines.{TraceLine}
 use Rattle.fabric_trace.specs.Served.{IsCollect}
-use Rattle.fabric_trace.proofs.Keeping.{IsGood}
-use Rattle.fabric_trace.proofs.Making.{made_by}
-use Rattle.fabric_trace.proofs.Rounds.{all_found}
+use Rattle.fabric_trace.proofs.Parts.Keeping.{IsGood}
+use Rattle.fabric_trace.proofs.Parts.Making.{made_by}
+use Rattle.fabric_trace.proofs.Rounds.Blocks.{all_found}
 use Rattle.fabric_ask.specs.Only.{Waits, IsOnly, IsClear}
 use Rattle.fabric_ask.specs.Course.{IsEndpointIn, IsLaid, Handled, Home, Away, Rounded, Waited, Handed}
 use Rattle.fabric_ask.specs.Asks.{CarryAll, Handles, AskRound, holds_some, AskRounds}

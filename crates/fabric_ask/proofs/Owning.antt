@@ -20,8 +20,8 @@ use Rattle.fabric_trace.specs.Known.{Seen, peer_of}
 use Rattle.fabric_trace.specs.Fold.{edit_of, edited_by, got_from, fired_from, seen_line, seen}
 use Rattle.fabric_trace.specs.Lines.{Sent, Got, Fired, TraceLine, Begun, Stepped, Signed, Lacked, Ended, Undetected}
 use Rattle.fabric_trace.specs.Parts.{Part, PartBegins, PartLacks, PartEnds, PartNames, PartSteps, PartServes, PartTurns, PartTells, PartDelivers, PartFires, Made, Done, Then}
-use Rattle.fabric_trace.proofs.Boards.{seen_board}
-use Rattle.fabric_trace.proofs.Keeping.{IsGood}
+use Rattle.fabric_trace.proofs.Network.Boards.{seen_board}
+use Rattle.fabric_trace.proofs.Parts.Keeping.{IsGood}
 use Rattle.fabric_model.proofs.Lanes.{AreWell}
 use Rattle.fabric_trace.specs.Ready.{IsReady}
 use Rattle.maint_registers.specs.Within.{IsWithin}

@@ -2,7 +2,7 @@
 use Rattle.std.proofs.Common.{◌≡◌, ℕ, suc, ◌||◌, ◌==◌, Bool, true, false, List, [], ◌∷◌, ◌++◌, Option, Some, None, refl, sym, ap, ◌∙◌, subst, cond}
 use Rattle.std.specs.Bool.{⊤}
 use Rattle.link_model.specs.Places.{at_rest}
-use Rattle.link_rest.specs.Rest.{IsQuiet}
+use Rattle.link_machine.specs.Rest.{IsQuiet}
 use Rattle.link_wires.specs.declared.edits.Edit.{Edit}
 use Rattle.maint_registers.specs.Devices.{Registers, is_switch}
 use Rattle.fabric_script.specs.declared.ports.PortRef.{PortRef}
@@ -15,8 +15,8 @@ use Rattle.fabric_trace.specs.Known.{Found, Wire, Seen, link_at}
 use Rattle.fabric_trace.specs.Views.{Half}
 use Rattle.fabric_trace.specs.Lines.{Full, TraceLine, Begun, Stepped, Signed, Lacked, Ended, Undetected}
 use Rattle.fabric_trace.specs.Rounds.{Follows, NamesNothing, Joined, ServesAll, ServeRests, ServeGoes, ServeNodes}
-use Rattle.fabric_trace.proofs.Keeping.{IsGood, made_keeps}
-use Rattle.fabric_trace.proofs.Rounds.{AreFound, all_found, by_test}
+use Rattle.fabric_trace.proofs.Parts.Keeping.{IsGood, made_keeps}
+use Rattle.fabric_trace.proofs.Rounds.Blocks.{AreFound, all_found, by_test}
 use Rattle.fabric_ask.specs.Only.{is_end}
 use Rattle.fabric_ask.specs.Noise.{IsCarry}
 use Rattle.fabric_ask.specs.Asks.{CarryAll, CollectsAll, CollectNodes, Handles, AskRound, CollectRests, CollectStops, CollectGoes}

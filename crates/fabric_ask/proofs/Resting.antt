@@ -14,14 +14,14 @@ use Rattle.fabric_trace.specs.Known.{Seen, Found}
 use Rattle.fabric_trace.specs.Lines.{TraceLine, Stepped, steps_of, Full, Lacked}
 use Rattle.fabric_trace.specs.Parts.{Made, PartSteps, PartLacks}
 use Rattle.fabric_trace.specs.Served.{collect_lines}
-use Rattle.fabric_trace.proofs.Folding.{seen-append}
-use Rattle.fabric_trace.proofs.Keeping.{IsGood, made_keeps, legal_links}
+use Rattle.fabric_trace.proofs.Parts.Folding.{seen-append}
+use Rattle.fabric_trace.proofs.Parts.Keeping.{IsGood, made_keeps, legal_links}
 use Rattle.rio_packets.specs.Fields.{prio_of}
 use Rattle.rio_packets.specs.LinkForm.{Passes}
 use Rattle.rio_packets.proofs.FormLaws.{Passes-from_form}
 use Rattle.maint_packets.specs.Requests.{request_body}
 use Rattle.fabric_trace.specs.Rounds.{Follows, NamesNothing}
-use Rattle.fabric_trace.proofs.Making.{one_part, made-append, made_by}
+use Rattle.fabric_trace.proofs.Parts.Making.{one_part, made-append, made_by}
 use Rattle.fabric_ask.specs.Answered.{IsReplied}
 use Rattle.fabric_ask.specs.Asks.{AskRounds, most_rounds, IsAsk}
 use Rattle.fabric_ask.specs.Own.{CollectsNothing, NeverAnswers}

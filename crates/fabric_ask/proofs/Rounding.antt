@@ -11,9 +11,9 @@ use Rattle.fabric_trace.specs.Known.{Seen}
 use Rattle.fabric_trace.specs.Lines.{TraceLine}
 use Rattle.fabric_trace.specs.Parts.{Made, Done}
 use Rattle.fabric_trace.specs.Rounds.{ServeNodes}
-use Rattle.fabric_trace.proofs.Keeping.{IsGood}
-use Rattle.fabric_trace.proofs.Making.{made-append, made_by}
-use Rattle.fabric_trace.proofs.Rounds.{all_found}
+use Rattle.fabric_trace.proofs.Parts.Keeping.{IsGood}
+use Rattle.fabric_trace.proofs.Parts.Making.{made-append, made_by}
+use Rattle.fabric_trace.proofs.Rounds.Blocks.{all_found}
 use Rattle.fabric_ask.specs.Only.{Held, Waits, IsOnly}
 use Rattle.fabric_ask.specs.Course.{IsDevicePort, HandledAs, IsEndpointIn, IsLaid, Handled, Home, Away, Rounded, Waited, Handed}
 use Rattle.fabric_ask.specs.Asks.{CarryAll, CollectNodes, Handles, AskRound}

@@ -30,9 +30,9 @@ use Rattle.fabric_model.proofs.Peers.{port_is}
 use Rattle.fabric_trace.specs.Known.{Seen}
 use Rattle.fabric_trace.specs.Lines.{NoStep, Stepped, Lacked}
 use Rattle.fabric_trace.specs.Served.{face_in, faces_in, step_lines, ResponseHasForm, IsMove}
-use Rattle.fabric_trace.proofs.Faces.{room_is, face_is, port_there, StepNeeds, step_needs}
-use Rattle.fabric_trace.proofs.Keeping.{IsGood, good_by_priority}
-use Rattle.fabric_trace.proofs.Lanes.{lane_at}
+use Rattle.fabric_trace.proofs.Network.Faces.{room_is, face_is, port_there, StepNeeds, step_needs}
+use Rattle.fabric_trace.proofs.Parts.Keeping.{IsGood, good_by_priority}
+use Rattle.fabric_trace.proofs.Network.Lanes.{lane_at}
 use Rattle.std.specs.Option.{option_and_then}
 use Rattle.fabric_ask.specs.Only.{Spot, Held, Waits, alone, IsOnly, IsClear}
 use Rattle.fabric_ask.specs.Course.{IsDevicePort, HandledAs, Moves, Falls, IsHeard}

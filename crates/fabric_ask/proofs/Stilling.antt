@@ -11,17 +11,17 @@ use Rattle.fabric_trace.specs.Parts.{Made, PartSteps, PartLacks}
 use Rattle.fabric_model.specs.Steps.{Take, AtNode}
 use Rattle.fabric_model.proofs.Nodes.{few_prio}
 use Rattle.fabric_trace.specs.Rounds.{Follows, NamesNothing}
-use Rattle.fabric_trace.proofs.Folding.{seen-append}
-use Rattle.fabric_trace.proofs.Keeping.{IsGood, made_keeps}
-use Rattle.fabric_trace.proofs.Making.{made_by, one_part}
-use Rattle.link_rest.specs.Rest.{IsQuiet}
+use Rattle.fabric_trace.proofs.Parts.Folding.{seen-append}
+use Rattle.fabric_trace.proofs.Parts.Keeping.{IsGood, made_keeps}
+use Rattle.fabric_trace.proofs.Parts.Making.{made_by, one_part}
+use Rattle.link_machine.specs.Rest.{IsQuiet}
 use Rattle.rio_packets.specs.Fields.{prio_of}
 use Rattle.rio_packets.proofs.FormLaws.{Passes-from_form}
 use Rattle.maint_packets.specs.Requests.{request_body}
 use Rattle.maint_packets.specs.declared.request.Request.{Request}
 use Rattle.fabric_ask.specs.Quiet.{AreQuiet}
 use Rattle.fabric_ask.specs.Asks.{AskRounds, most_rounds, IsAsk}
-use Rattle.link_rest.proofs.Calming.{quiet_calm}
+use Rattle.link_machine.proofs.Settling.Calming.{quiet_calm}
 use Rattle.fabric_ask.proofs.Calming.{AllCalm, rounds_still}
 
 -- ---- links at rest are calm

@@ -22,9 +22,9 @@ use Rattle.fabric_trace.specs.Fold.{seen}
 use Rattle.fabric_trace.specs.Known.{Seen}
 use Rattle.fabric_trace.specs.Lines.{TraceLine}
 use Rattle.fabric_trace.specs.Served.{IsCollect}
-use Rattle.fabric_trace.proofs.Folding.{seen-append}
-use Rattle.fabric_trace.proofs.Keeping.{IsGood}
-use Rattle.fabric_trace.proofs.Making.{made-append}
+use Rattle.fabric_trace.proofs.Parts.Folding.{seen-append}
+use Rattle.fabric_trace.proofs.Parts.Keeping.{IsGood}
+use Rattle.fabric_trace.proofs.Parts.Making.{made-append}
 use Rattle.fabric_ask.specs.Only.{Held, Waits, IsOnly, IsClear}
 use Rattle.fabric_ask.specs.Course.{HandledAs, Moves, Falls, IsHeard, GoesOut, IsEndpointIn, IsLaid, Handled, Home, Away, Rounded, Waited, Handed, Final, Fell, WasHeard, HasLeft, FinalAt, AtHost, NotHost}
 use Rattle.fabric_ask.specs.Asks.{AskRound, holds_some, AskRounds}

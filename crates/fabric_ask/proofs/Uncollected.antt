@@ -13,11 +13,11 @@ use Rattle.fabric_trace.specs.Lines.{TraceLine, Begun, Stepped, Signed, Lacked, 
 use Rattle.fabric_trace.specs.Parts.{Made, Done}
 use Rattle.fabric_trace.specs.Served.{IsCollect}
 use Rattle.fabric_trace.specs.Rounds.{Follows, NamesNothing, Joined, ServesAll, ServeRests, ServeGoes, ServeNodes}
-use Rattle.fabric_trace.proofs.Keeping.{IsGood, made_keeps, legal_links}
-use Rattle.fabric_trace.proofs.Folding.{seen-append}
-use Rattle.fabric_trace.proofs.Making.{made-append, made_by}
-use Rattle.fabric_trace.proofs.Rounds.{AreFound, all_found, by_test, serves_made}
-use Rattle.fabric_trace.proofs.Running.{move_made}
+use Rattle.fabric_trace.proofs.Parts.Keeping.{IsGood, made_keeps, legal_links}
+use Rattle.fabric_trace.proofs.Parts.Folding.{seen-append}
+use Rattle.fabric_trace.proofs.Parts.Making.{made-append, made_by}
+use Rattle.fabric_trace.proofs.Rounds.Blocks.{AreFound, all_found, by_test, serves_made}
+use Rattle.fabric_trace.proofs.Rounds.Running.{move_made}
 use Rattle.fabric_ask.specs.Only.{AreAt}
 use Rattle.fabric_ask.specs.Noise.{IsCarry}
 use Rattle.fabric_ask.specs.Asks.{CarryAll, CollectsAll, CollectNodes, Handles, AskRound, holds_some, AskRounds, Unheld, CollectRests, CollectStops, CollectGoes}

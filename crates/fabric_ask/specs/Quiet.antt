@@ -1,7 +1,7 @@
 -- Links at which nothing is on its way.
 use Rattle.std.specs.Prelude.{List}
 use Rattle.std.specs.List.{AllByRecursion}
-use Rattle.link_rest.specs.Rest.{IsQuiet}
+use Rattle.link_machine.specs.Rest.{IsQuiet}
 use Rattle.fabric_script.specs.declared.ports.PortRef.{PortRef}
 use Rattle.fabric_trace.specs.Known.{Seen, link_at}
 

@@ -13,9 +13,9 @@ use Rattle.fabric_map.specs.Plain.{ports_of_switch, topology_of, registers_of}
 use Rattle.fabric_model.specs.Network.{Network}
 use Rattle.fabric_trace.specs.Runs.{bare, set_up, set_up_all, begins, start}
 use Rattle.fabric_trace.specs.SetUps.{IsSetUp}
-use Rattle.fabric_trace.proofs.Happening.{may_set_up}
-use Rattle.fabric_trace.proofs.Starting.{set_up_bare}
-use Rattle.fabric_trace.proofs.SettingUp.{set_up-links}
+use Rattle.fabric_trace.proofs.SetUps.Happening.{may_set_up}
+use Rattle.fabric_trace.proofs.SetUps.Starting.{set_up_bare}
+use Rattle.fabric_trace.proofs.SetUps.SettingUp.{set_up-links}
 use Rattle.fabric_ask.specs.Course.{IsEndpointIn, IsLaid}
 use Rattle.fabric_ask.specs.Only.{IsClear}
 use Rattle.fabric_ask.specs.Quiet.{AreQuiet}

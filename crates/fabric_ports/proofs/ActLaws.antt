@@ -11,14 +11,14 @@ use Rattle.link_wires.specs.declared.edits.Edited.{Edited}
 use Rattle.link_wires.specs.declared.edits.Edited.TheVariants as Edits
 use Rattle.link_machine.specs.Calls.{pumped, pump_notes, has_chars, first_takes, delivery_from, delivered_from, delivery_notes, timed_out_at, time_out_notes}
 use Rattle.link_machine.specs.States.{LinkState, at_end}
-use Rattle.link_rest.specs.Acts as acts
-use Rattle.link_rest.specs.Acts.{At, FoundAt, reached_by, after_act}
+use Rattle.link_machine.specs.Acts as acts
+use Rattle.link_machine.specs.Acts.{At, FoundAt, reached_by, after_act}
 use Rattle.link_law.specs.Answers.{delivery_taken, delivery_answer, UnlessGivenUp, OnGivenUp}
 use Rattle.link_law.specs.Does.{Comes, Stops, Ends, end_of}
 use Rattle.link_law.specs.declared.answers.LinkEnd.{LinkEnd}
 use Rattle.link_law.specs.declared.answers.LinkEnd.TheVariants.{Undetected, Failed, NoMemory}
 use Rattle.link_law.proofs.DeliverLaws.{one_comes, one_stops, through_is, found_is}
-use Rattle.link_rest.specs.Settling.{SchedulePart}
+use Rattle.link_machine.specs.Settling.{SchedulePart}
 use Rattle.fabric_ports.specs.Acting.{part_of, Acts}
 use Rattle.fabric_ports.specs.declared.actions.Acted.{Acted}
 use Rattle.fabric_ports.specs.declared.actions.Action.{Action}

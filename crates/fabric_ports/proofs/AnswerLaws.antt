@@ -20,10 +20,10 @@ use Rattle.fabric_trace.specs.Fold.{seen}
 use Rattle.fabric_trace.specs.Known.{Seen}
 use Rattle.fabric_trace.specs.Lines.{TraceLine, Stepped}
 use Rattle.fabric_trace.specs.Text.{trace_line_text, trace_text}
-use Rattle.fabric_trace.proofs.Boards.{seen_board}
-use Rattle.fabric_trace.proofs.Existing.{ready_on}
-use Rattle.fabric_trace.proofs.Folding.{seen-append}
-use Rattle.fabric_trace.proofs.Making.{made-append}
+use Rattle.fabric_trace.proofs.Network.Boards.{seen_board}
+use Rattle.fabric_trace.proofs.Traces.Existing.{ready_on}
+use Rattle.fabric_trace.proofs.Parts.Folding.{seen-append}
+use Rattle.fabric_trace.proofs.Parts.Making.{made-append}
 use Rattle.fabric_ask.specs.Answered.{IsReplied, response_home, after_request}
 use Rattle.fabric_ask.specs.Asks.{IsAsk}
 use Rattle.fabric_ask.specs.Course.{IsLaid}

@@ -19,10 +19,10 @@ use Rattle.fabric_trace.specs.Lines.{Full, TraceLine, Stepped, Lacked}
 use Rattle.fabric_trace.specs.Parts.{PartSteps, PartLacks}
 use Rattle.fabric_trace.specs.Rounds.{Follows, NamesNothing}
 use Rattle.fabric_trace.specs.Served.{face_in, collect_lines, IsCollect}
-use Rattle.fabric_trace.proofs.Boards.{seen_board}
-use Rattle.fabric_trace.proofs.Folding.{seen-append}
-use Rattle.fabric_trace.proofs.Keeping.{few_prio, IsGood, made_keeps}
-use Rattle.fabric_trace.proofs.Making.{one_part, made_by}
+use Rattle.fabric_trace.proofs.Network.Boards.{seen_board}
+use Rattle.fabric_trace.proofs.Parts.Folding.{seen-append}
+use Rattle.fabric_trace.proofs.Parts.Keeping.{few_prio, IsGood, made_keeps}
+use Rattle.fabric_trace.proofs.Parts.Making.{one_part, made_by}
 use Rattle.fabric_ask.specs.Asks.{AskRounds, most_rounds, IsAsk}
 use Rattle.fabric_ask.specs.Own.{CollectsNothing}
 use Rattle.fabric_ask.specs.Quiet.{AreQuiet}

@@ -10,9 +10,9 @@ use Rattle.link_wires.specs.Wires.{bursts}
 use Rattle.link_wires.specs.Deliveries.{told_of}
 use Rattle.link_machine.specs.Calls.{pump_notes, has_chars, told_notes, delivery_from, delivered_from, delivery_notes, is_silent, time_out_notes}
 use Rattle.link_machine.specs.States.{LinkState}
-use Rattle.link_rest.specs.Acts as acts
-use Rattle.link_rest.specs.Acts.{Act, Reached, At, FoundAt, reached_by, after_act, act_notes, acts_notes, goes}
-use Rattle.link_rest.proofs.Lines.{goes_one}
+use Rattle.link_machine.specs.Acts as acts
+use Rattle.link_machine.specs.Acts.{Act, Reached, At, FoundAt, reached_by, after_act, act_notes, acts_notes, goes}
+use Rattle.link_machine.proofs.Settling.Lines.{goes_one}
 use Rattle.fabric_script.specs.declared.ports.PortRef.{PortRef}
 use Rattle.fabric_model.specs.Network.{peer_in, link_in}
 use Rattle.fabric_model.proofs.Peers.{ArePeers}
@@ -21,9 +21,9 @@ use Rattle.fabric_trace.specs.Lines.{TraceLine, Begun, Lacked}
 use Rattle.fabric_trace.specs.Known.{Seen, peer_of, port_seen, link_at}
 use Rattle.fabric_trace.specs.Fold.{seen}
 use Rattle.fabric_trace.specs.Blocks.{port_at_side, lines_of, pumps, delivers, time_out_lines, IsSettle, WithPeer, WithLink, IsBlock}
-use Rattle.fabric_trace.proofs.Folding.{seen-append}
-use Rattle.fabric_trace.proofs.Making.{sent_round, delivery_round}
-use Rattle.fabric_trace.proofs.Running.{fired_round, silent_round}
+use Rattle.fabric_trace.proofs.Parts.Folding.{seen-append}
+use Rattle.fabric_trace.proofs.Parts.Making.{sent_round, delivery_round}
+use Rattle.fabric_trace.proofs.Rounds.Running.{fired_round, silent_round}
 use Rattle.fabric_ports.specs.Acting.{line_for, part_of, answer_of, lack_lines}
 use Rattle.fabric_ports.specs.declared.actions.Acted.{Acted}
 use Rattle.fabric_ports.specs.declared.actions.Acted.TheVariants.{Done, Short, Early}

@@ -21,10 +21,10 @@ use Rattle.fabric_trace.specs.Blocks.{port_at_side, line_of, lines_of}
 use Rattle.fabric_trace.specs.Known.{Seen, peer_of, link_at, port_seen, wire_state}
 use Rattle.fabric_trace.specs.Fold.{got_from, fired_from, seen_line, seen}
 use Rattle.fabric_trace.specs.Lines.{TraceLine, steps_of}
-use Rattle.fabric_trace.proofs.Folding.{network_is}
+use Rattle.fabric_trace.proofs.Parts.Folding.{network_is}
 use Rattle.fabric_trace.specs.Views.{lists_in}
-use Rattle.fabric_trace.proofs.Making.{AreOthers}
-use Rattle.fabric_trace.proofs.Serving.{Untouched}
+use Rattle.fabric_trace.proofs.Parts.Making.{AreOthers}
+use Rattle.fabric_trace.proofs.Links.Serving.{Untouched}
 use Rattle.fabric_ports.specs.Places.{AreFirsts, IsEndpointAt, port_count, place_of}
 use Rattle.fabric_ports.specs.Showing.{ends_of, wires_of, ShowsCable, AreRegisters, ShowsFabric}
 use Rattle.fabric_ports.specs.declared.fabric.Cable.{Cable}

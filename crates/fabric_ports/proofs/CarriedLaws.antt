@@ -10,8 +10,8 @@ use Rattle.fabric_trace.specs.Blocks.{pumps, WithPeer}
 use Rattle.fabric_trace.specs.Fold.{seen}
 use Rattle.fabric_trace.specs.Known.{Seen, peer_of}
 use Rattle.fabric_trace.specs.Lines.{TraceLine, Begun}
-use Rattle.fabric_trace.proofs.Folding.{seen-append}
-use Rattle.fabric_trace.proofs.Making.{made-append}
+use Rattle.fabric_trace.proofs.Parts.Folding.{seen-append}
+use Rattle.fabric_trace.proofs.Parts.Making.{made-append}
 use Rattle.fabric_ask.specs.Noise.{stirred}
 use Rattle.fabric_ports.specs.Blocked.{Blocked, BlockedShort, BlockEnds}
 use Rattle.fabric_ports.specs.Carrying.{AreLinked, WithLeft, Turns, BothTurn, Stirs, BothStir, LinkCarries}

@@ -11,9 +11,9 @@ use Rattle.fabric_trace.specs.Lines.{TraceLine}
 use Rattle.fabric_trace.specs.Parts.{Made, Done}
 use Rattle.fabric_trace.specs.Ready.{IsReady}
 use Rattle.fabric_trace.specs.Rounds.{Follows, NamesNothing}
-use Rattle.fabric_trace.proofs.Keeping.{IsGood, made_keeps}
-use Rattle.fabric_trace.proofs.Making.{made-append, made_by}
-use Rattle.fabric_trace.proofs.Rounds.{AreFound, all_found}
+use Rattle.fabric_trace.proofs.Parts.Keeping.{IsGood, made_keeps}
+use Rattle.fabric_trace.proofs.Parts.Making.{made-append, made_by}
+use Rattle.fabric_trace.proofs.Rounds.Blocks.{AreFound, all_found}
 use Rattle.fabric_ask.specs.Asks.{CarryAll}
 use Rattle.fabric_ask.proofs.Beginning.{carry_all_exist}
 use Rattle.fabric_ask.proofs.Carrying.{has_carried}

@@ -10,11 +10,11 @@ use Rattle.fabric_trace.specs.Lines.{TraceLine}
 use Rattle.fabric_trace.specs.Parts.{Made}
 use Rattle.fabric_trace.specs.Ready.{IsReady}
 use Rattle.fabric_trace.specs.Rounds.{Follows, NamesNothing}
-use Rattle.fabric_trace.proofs.Existing.{settle_exists}
-use Rattle.fabric_trace.proofs.Folding.{seen-append}
-use Rattle.fabric_trace.proofs.Keeping.{IsGood, made_keeps}
-use Rattle.fabric_trace.proofs.Making.{made-append, made_by}
-use Rattle.fabric_trace.proofs.Walks.{peers_round}
+use Rattle.fabric_trace.proofs.Traces.Existing.{settle_exists}
+use Rattle.fabric_trace.proofs.Parts.Folding.{seen-append}
+use Rattle.fabric_trace.proofs.Parts.Keeping.{IsGood, made_keeps}
+use Rattle.fabric_trace.proofs.Parts.Making.{made-append, made_by}
+use Rattle.fabric_trace.proofs.Network.Walks.{peers_round}
 use Rattle.fabric_ask.specs.Noise.{stirred}
 use Rattle.fabric_ask.proofs.Carrying.{KeepsOn, turn_goes, stirred_goes}
 use Rattle.fabric_ports.specs.Carrying.{WithLeft, Turns, BothTurn, Stirs, BothStir, LinkCarries}

@@ -6,7 +6,7 @@ use Rattle.std.specs.List.{slice_get}
 use Rattle.maint_registers.specs.Devices.{Registers, is_switch}
 use Rattle.fabric_model.specs.Network.{Network, switch_at, with_device}
 use Rattle.fabric_model.proofs.Devices.{map-with_device}
-use Rattle.fabric_trace.proofs.KindLaws.{IsKindThere, kind_there}
+use Rattle.fabric_trace.proofs.SetUps.KindLaws.{IsKindThere, kind_there}
 use Rattle.fabric_ports.specs.Places.{AreFirsts, port_count, HasPort}
 use Rattle.fabric_ports.specs.Plans.{counts_of, HasPorts}
 use Rattle.fabric_ports.specs.Showing.{AreRegisters}

@@ -25,9 +25,9 @@ use Rattle.fabric_trace.specs.Known.{Wire, Seen, wire_state, port_seen, link_at}
 use Rattle.fabric_trace.specs.Lines as traced
 use Rattle.fabric_trace.specs.Lines.{TraceLine, Begun, Lacked}
 use Rattle.fabric_trace.specs.Text.{trace_text}
-use Rattle.fabric_trace.proofs.Folding.{wire_own, wire_other}
-use Rattle.fabric_trace.proofs.Making.{AreOthers}
-use Rattle.fabric_trace.proofs.Walks.{elsewhere_here}
+use Rattle.fabric_trace.proofs.Parts.Folding.{wire_own, wire_other}
+use Rattle.fabric_trace.proofs.Parts.Making.{AreOthers}
+use Rattle.fabric_trace.proofs.Network.Walks.{elsewhere_here}
 use Rattle.fabric_ports.specs.Acting.{lack_lines, edit_acted}
 use Rattle.fabric_ports.specs.Blocked.{Blocked, BlockedShort}
 use Rattle.fabric_ports.specs.Ends.{IsPlaceOf}

@@ -32,7 +32,7 @@ use Rattle.fabric_ports.specs.declared.answers.Happened.TheVariants.{Other}
 use Rattle.fabric_ports.specs.Blocked.{Blocked, BlockedShort, BlockEnds}
 use Rattle.fabric_ports.specs.Ends.{PortIsLinked}
 use Rattle.fabric_ports.specs.declared.fabric.Fabric.{Fabric}
-use Rattle.fabric_trace.proofs.Unique.{block_one}
+use Rattle.fabric_trace.proofs.Traces.Unique.{block_one}
 use Rattle.fabric_ports.specs.Events.{body_in, request_by, answer_taken, happened, Did, Evented, CutShort, EventEnds, IsAtLink}
 use Rattle.fabric_ports.specs.Places.{IsEndpointAt, IsSwitchAt}
 use Rattle.fabric_ports.specs.Showing.{ShowsFabric}

@@ -12,7 +12,7 @@ use Rattle.fabric_model.proofs.Peers.{port_is, same_port-refl}
 use Rattle.fabric_trace.specs.Known.{Seen, port_seen}
 use Rattle.fabric_trace.specs.Served.{face_in}
 use Rattle.fabric_trace.specs.Views.{packets_in, lists_in, queue}
-use Rattle.fabric_trace.proofs.Lanes.{packets-append, behind_is, lane_at, lists_set, lane_other}
+use Rattle.fabric_trace.proofs.Network.Lanes.{packets-append, behind_is, lane_at, lists_set, lane_other}
 
 -- ---- without the first packet that a port has received
 

@@ -10,8 +10,8 @@ use Rattle.fabric_trace.specs.Lines.{TraceLine}
 use Rattle.fabric_trace.specs.Ready.{IsReady}
 use Rattle.fabric_trace.specs.Rounds.{Follows, NamesNothing}
 use Rattle.fabric_trace.specs.Served.{IsCollect}
-use Rattle.fabric_trace.proofs.Existing.{ready_on, good_of}
-use Rattle.fabric_trace.proofs.Folding.{seen-append}
+use Rattle.fabric_trace.proofs.Traces.Existing.{ready_on, good_of}
+use Rattle.fabric_trace.proofs.Parts.Folding.{seen-append}
 use Rattle.fabric_ask.specs.Asks.{AskRound, AskRounds, Unheld, holds_some}
 use Rattle.fabric_ask.specs.Travel.{GoesOn as Continues}
 use Rattle.fabric_ask.proofs.Beginning.{more_exists}

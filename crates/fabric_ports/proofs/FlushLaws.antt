@@ -13,7 +13,7 @@ use Rattle.link_wires.specs.declared.edits.Edit.{Edit}
 use Rattle.fabric_trace.specs.Fold.{seen}
 use Rattle.fabric_trace.specs.Known.{Seen}
 use Rattle.fabric_trace.specs.Lines.{TraceLine}
-use Rattle.fabric_trace.proofs.Existing.{ready_on}
+use Rattle.fabric_trace.proofs.Traces.Existing.{ready_on}
 use Rattle.fabric_ask.proofs.Beginning.{ask_exists}
 use Rattle.fabric_ports.specs.Asking.{CanAsk, Replied, AskEnds, Unwritten}
 use Rattle.fabric_ports.specs.Fetching.{response_or_end, response_in, ask_answer}

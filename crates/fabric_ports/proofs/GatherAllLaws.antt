@@ -6,7 +6,7 @@ use Rattle.maint_registers.specs.Devices.{Registers, is_switch}
 use Rattle.fabric_trace.specs.Fold.{seen}
 use Rattle.fabric_trace.specs.Known.{Seen}
 use Rattle.fabric_trace.specs.Lines.{TraceLine}
-use Rattle.fabric_trace.proofs.Existing.{ready_on}
+use Rattle.fabric_trace.proofs.Traces.Existing.{ready_on}
 use Rattle.fabric_ask.specs.Asks.{CollectNodes, Handles, AskRound}
 use Rattle.fabric_ask.proofs.Beginning.{handles_exist}
 use Rattle.fabric_ports.specs.Carrying.{WithLeft, LinksCarry}

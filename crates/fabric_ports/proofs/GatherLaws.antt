@@ -16,9 +16,9 @@ use Rattle.fabric_trace.specs.Known.{Seen, port_seen}
 use Rattle.fabric_trace.specs.Lines.{Full as NoRoom, Empty as NoPacket, TraceLine, Stepped, Lacked}
 use Rattle.fabric_trace.specs.Served.{face_in, collect_lines, IsCollect}
 use Rattle.fabric_trace.specs.Views.{lists_in}
-use Rattle.fabric_trace.proofs.Existing.{ready_on}
-use Rattle.fabric_trace.proofs.Folding.{seen-append}
-use Rattle.fabric_trace.proofs.Keeping.{IsGood}
+use Rattle.fabric_trace.proofs.Traces.Existing.{ready_on}
+use Rattle.fabric_trace.proofs.Parts.Folding.{seen-append}
+use Rattle.fabric_trace.proofs.Parts.Keeping.{IsGood}
 use Rattle.fabric_ask.specs.Asks.{CollectsAll, holds_some, CollectGoes, CollectStops, CollectRests}
 use Rattle.fabric_ask.proofs.Collecting.{none_first_held, collect_lines_made}
 use Rattle.fabric_ask.proofs.Gathering.{collect_exists, stays_endpoint, collected_fewer}

@@ -4,7 +4,7 @@ use Rattle.rio_chars.specs.declared.chars.Char.{Char}
 use Rattle.link_wires.specs.declared.edits.Edit.{Edit}
 use Rattle.link_watch.specs.declared.side.Side.TheVariants.{A}
 use Rattle.link_machine.specs.Calls.{has_none}
-use Rattle.link_rest.specs.Acts.{acts_notes}
+use Rattle.link_machine.specs.Acts.{acts_notes}
 use Rattle.link_law.specs.Resting.{has_no_work}
 use Rattle.link_law.proofs.RestLaws.{IsIdle, idle_by, idle_round, idle_notes, idle_settles, wires_empty}
 use Rattle.fabric_script.specs.declared.ports.PortRef.{PortRef}

@@ -13,9 +13,9 @@ use Rattle.fabric_trace.specs.Known.{Seen}
 use Rattle.fabric_trace.specs.Lines.{TraceLine, Begun, Stepped, Signed, Lacked, Ended, Undetected as Unsent}
 use Rattle.fabric_trace.specs.Parts.{Made}
 use Rattle.fabric_trace.specs.Served.{face_in, collect_lines, IsCollect}
-use Rattle.fabric_trace.proofs.Boards.{seen_board}
-use Rattle.fabric_trace.proofs.Folding.{seen-append}
-use Rattle.fabric_trace.proofs.Making.{made-append}
+use Rattle.fabric_trace.proofs.Network.Boards.{seen_board}
+use Rattle.fabric_trace.proofs.Parts.Folding.{seen-append}
+use Rattle.fabric_trace.proofs.Parts.Making.{made-append}
 use Rattle.fabric_ask.specs.Own.{IsElsewhere, CollectsNothing}
 use Rattle.fabric_ports.specs.Events.{Did, answer_collected}
 use Rattle.fabric_ports.specs.Fetching.{left_of, NoLeave, NoneLeaves, Leaves}

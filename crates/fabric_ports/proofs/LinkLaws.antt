@@ -11,7 +11,7 @@ use Rattle.link_watch.specs.declared.note.Note.{Note}
 use Rattle.link_watch.specs.declared.side.Side.{Side}
 use Rattle.link_machine.specs.Sound.{IsSoundLink}
 use Rattle.link_machine.specs.States.{Wires, LinkState, link}
-use Rattle.link_rest.specs.Acts.{Act, At, FoundAt, goes, acts_notes}
+use Rattle.link_machine.specs.Acts.{Act, At, FoundAt, goes, acts_notes}
 use Rattle.link_law.specs.Does.{Comes, Stops}
 use Rattle.fabric_script.specs.declared.ports.PortRef.{PortRef}
 use Rattle.fabric_model.specs.Network.{link_in}
@@ -21,11 +21,11 @@ use Rattle.fabric_trace.specs.Known.{Seen, port_seen, link_at}
 use Rattle.fabric_trace.specs.Lines.{TraceLine, Begun}
 use Rattle.fabric_trace.specs.Blocks.{port_at_side, lines_of, IsBlock}
 use Rattle.fabric_trace.specs.Text.{trace_text}
-use Rattle.fabric_trace.proofs.Folding.{seen-append, lines-append}
-use Rattle.fabric_trace.proofs.Existing.{good_of}
-use Rattle.fabric_trace.proofs.Keeping.{IsGood, made_keeps}
-use Rattle.fabric_trace.proofs.Making.{Reaches}
-use Rattle.fabric_trace.proofs.Running.{acts_reach}
+use Rattle.fabric_trace.proofs.Parts.Folding.{seen-append, lines-append}
+use Rattle.fabric_trace.proofs.Traces.Existing.{good_of}
+use Rattle.fabric_trace.proofs.Parts.Keeping.{IsGood, made_keeps}
+use Rattle.fabric_trace.proofs.Parts.Making.{Reaches}
+use Rattle.fabric_trace.proofs.Rounds.Running.{acts_reach}
 use Rattle.trace_lines.specs.Watching.{WritesNotes}
 use Rattle.trace_lines.specs.declared.watching.LinkLines.{LinkLines}
 use Rattle.fabric_ports.specs.Acting.{line_for, part_of, answer_of, lack_lines}

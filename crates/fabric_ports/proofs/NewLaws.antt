@@ -26,9 +26,9 @@ use Rattle.fabric_trace.specs.Parts.{Done}
 use Rattle.fabric_trace.specs.Runs.{bare, set_up, set_up_all, begins}
 use Rattle.fabric_trace.specs.SetUps.{MaySetUp, MaySetUpAll}
 use Rattle.fabric_trace.specs.Views.{packets_in}
-use Rattle.fabric_trace.proofs.Existing.{ready_begun}
-use Rattle.fabric_trace.proofs.Happening.{may_set_up, ports_there}
-use Rattle.fabric_trace.proofs.Starting.{set_up_bare}
+use Rattle.fabric_trace.proofs.Traces.Existing.{ready_begun}
+use Rattle.fabric_trace.proofs.SetUps.Happening.{may_set_up, ports_there}
+use Rattle.fabric_trace.proofs.SetUps.Starting.{set_up_bare}
 use Rattle.fabric_ports.specs.Places.{IsEndpointAt, place_of}
 use Rattle.fabric_ports.specs.Showing.{ends_of, ShowsCable, LeadToLinks, ShowsFabric}
 use Rattle.fabric_ports.specs.Standing.{Stands}

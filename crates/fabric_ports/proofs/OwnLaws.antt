@@ -12,7 +12,7 @@ use Rattle.fabric_trace.specs.Fold.{seen}
 use Rattle.fabric_trace.specs.Known.{Seen}
 use Rattle.fabric_trace.specs.Lines.{TraceLine}
 use Rattle.fabric_trace.specs.Parts.{Done}
-use Rattle.fabric_trace.proofs.Existing.{ready_on}
+use Rattle.fabric_trace.proofs.Traces.Existing.{ready_on}
 use Rattle.fabric_ask.specs.Course.{IsDevicePort, IsLaid}
 use Rattle.fabric_ask.proofs.Owning.{own_ready}
 use Rattle.fabric_ports.specs.OwnRegisters.{HasEndpoint, device_with, seen_with, OwnWritten}

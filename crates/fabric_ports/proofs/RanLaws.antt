@@ -10,7 +10,7 @@ use Rattle.fabric_trace.specs.Lines.{TraceLine}
 use Rattle.fabric_trace.specs.Parts.{Made}
 use Rattle.fabric_trace.specs.Rounds.{Follows, NamesNothing, Joined}
 use Rattle.fabric_trace.specs.Text.{trace_line_text, trace_text}
-use Rattle.fabric_trace.proofs.Folding.{seen-append}
+use Rattle.fabric_trace.proofs.Parts.Folding.{seen-append}
 use Rattle.fabric_ports.specs.Ran.{Kind, Ran, RanShort, RanEnds}
 use Rattle.fabric_ports.specs.Standing.{Stands}
 use Rattle.fabric_ports.specs.declared.answers.EventEnd.{EventEnd}

@@ -13,12 +13,12 @@ use Rattle.fabric_trace.specs.Lines.{TraceLine, Begun}
 use Rattle.fabric_trace.specs.Parts.{Made}
 use Rattle.fabric_trace.specs.Ready.{IsReady}
 use Rattle.fabric_trace.specs.Rounds.{ServeNodes, Round, Rounds}
-use Rattle.fabric_trace.proofs.Existing.{serve_all_exist, rounds_exist, ready_on}
-use Rattle.fabric_trace.proofs.Folding.{seen-append}
-use Rattle.fabric_trace.proofs.Keeping.{IsGood}
-use Rattle.fabric_trace.proofs.Making.{made-append}
-use Rattle.fabric_trace.proofs.Rounds.{all_found, settle_all_come, round_come}
-use Rattle.fabric_trace.proofs.Running.{link_made, move_made}
+use Rattle.fabric_trace.proofs.Traces.Existing.{serve_all_exist, rounds_exist, ready_on}
+use Rattle.fabric_trace.proofs.Parts.Folding.{seen-append}
+use Rattle.fabric_trace.proofs.Parts.Keeping.{IsGood}
+use Rattle.fabric_trace.proofs.Parts.Making.{made-append}
+use Rattle.fabric_trace.proofs.Rounds.Blocks.{all_found, settle_all_come, round_come}
+use Rattle.fabric_trace.proofs.Rounds.Running.{link_made, move_made}
 use Rattle.fabric_ports.specs.Blocked.{Blocked, BlockedShort, BlockEnds}
 use Rattle.fabric_ports.specs.Ran.{Kind, Ran, RanShort, RanEnds, LinksSettle, SwitchesServe, Serves}
 use Rattle.fabric_ports.specs.Showing.{ShowsFabric}

@@ -18,11 +18,11 @@ use Rattle.fabric_trace.specs.Parts.{Made, Done}
 use Rattle.fabric_trace.specs.Rounds.{ServesAll, ServeRests, ServeGoes}
 use Rattle.fabric_trace.specs.Served.{faces_in, step_lines, IsMove}
 use Rattle.fabric_trace.specs.Views.{lists_in}
-use Rattle.fabric_trace.proofs.Folding.{seen-append}
-use Rattle.fabric_trace.proofs.Keeping.{IsGood}
-use Rattle.fabric_trace.proofs.Making.{made-append}
-use Rattle.fabric_trace.proofs.RoundsEnd.{move_empties}
-use Rattle.fabric_trace.proofs.Running.{move_made}
+use Rattle.fabric_trace.proofs.Parts.Folding.{seen-append}
+use Rattle.fabric_trace.proofs.Parts.Keeping.{IsGood}
+use Rattle.fabric_trace.proofs.Parts.Making.{made-append}
+use Rattle.fabric_trace.proofs.Rounds.RoundsEnd.{move_empties}
+use Rattle.fabric_trace.proofs.Rounds.Running.{move_made}
 use Rattle.fabric_ports.specs.Events.{Did, IsSwitchStep}
 use Rattle.fabric_ports.specs.Places.{place_of}
 use Rattle.fabric_ports.specs.Ran.{Kind, Ran, Serves}

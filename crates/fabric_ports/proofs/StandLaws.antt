@@ -6,11 +6,11 @@ use Rattle.fabric_trace.specs.Fold.{seen}
 use Rattle.fabric_trace.specs.Known.{Seen}
 use Rattle.fabric_trace.specs.Lines.{TraceLine, Begun}
 use Rattle.fabric_trace.specs.Parts.Part.{PartBegins}
-use Rattle.fabric_trace.proofs.Folding.{seen-append}
-use Rattle.fabric_trace.proofs.Existing.{good_of}
-use Rattle.fabric_trace.proofs.Keeping.{made_keeps}
-use Rattle.fabric_trace.proofs.Making.{one_part, made-append}
-use Rattle.fabric_trace.proofs.Running.{block_made}
+use Rattle.fabric_trace.proofs.Parts.Folding.{seen-append}
+use Rattle.fabric_trace.proofs.Traces.Existing.{good_of}
+use Rattle.fabric_trace.proofs.Parts.Keeping.{made_keeps}
+use Rattle.fabric_trace.proofs.Parts.Making.{one_part, made-append}
+use Rattle.fabric_trace.proofs.Rounds.Running.{block_made}
 use Rattle.fabric_ports.specs.declared.fabric.Fabric.{Fabric}
 use Rattle.fabric_ports.specs.Showing.{ShowsFabric}
 use Rattle.fabric_ports.specs.Standing.{Stands}

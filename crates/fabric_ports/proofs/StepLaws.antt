@@ -30,8 +30,8 @@ use Rattle.fabric_trace.specs.Known.{Seen, port_seen}
 use Rattle.fabric_trace.specs.Lines.{TraceLine, NoStep, Lacked}
 use Rattle.fabric_trace.specs.Served.{face_in, faces_from, faces_in, step_lines, ResponseHasForm, IsMove}
 use Rattle.fabric_trace.specs.Text.{trace_line_text, trace_text}
-use Rattle.fabric_trace.proofs.Faces.{face_is, StepNeeds, step_needs}
-use Rattle.fabric_trace.proofs.Keeping.{few_prio}
+use Rattle.fabric_trace.proofs.Network.Faces.{face_is, StepNeeds, step_needs}
+use Rattle.fabric_trace.proofs.Parts.Keeping.{few_prio}
 use Rattle.fabric_ports.specs.declared.fabric.Fabric.{Fabric}
 use Rattle.fabric_ports.specs.Events.{Did, IsSwitchStep}
 use Rattle.fabric_ports.specs.Showing.{ShowsFabric}

@@ -18,8 +18,8 @@ use Rattle.fabric_trace.specs.Known.{Seen}
 use Rattle.fabric_trace.specs.Lines.{TraceLine, Begun}
 use Rattle.fabric_trace.specs.Parts.Part.{PartBegins}
 use Rattle.fabric_trace.specs.Text.{trace_text}
-use Rattle.fabric_trace.proofs.Folding.{seen-append}
-use Rattle.fabric_trace.proofs.Making.{one_part, made-append}
+use Rattle.fabric_trace.proofs.Parts.Folding.{seen-append}
+use Rattle.fabric_trace.proofs.Parts.Making.{one_part, made-append}
 use Rattle.fabric_ask.specs.Noise.{Gives, edit_line, is_idle, edit_lines, stirred}
 use Rattle.fabric_ask.proofs.Carrying.{edit_is}
 use Rattle.fabric_ports.specs.Carrying.{WithLeft, Edits as EditsWire, Stirs}

@@ -6,10 +6,10 @@ use Rattle.link_wires.specs.declared.edits.Edited.{Edited}
 use Rattle.link_wires.specs.declared.edits.Edited.TheVariants as Edits
 use Rattle.link_machine.specs.Calls.{has_chars, is_silent}
 use Rattle.link_machine.specs.States.{LinkState}
-use Rattle.link_rest.specs.Acts as acts
-use Rattle.link_rest.specs.Acts.{At}
-use Rattle.link_rest.specs.Schedules.{Is}
-use Rattle.link_rest.specs.Settling.{SchedulePart, Settles}
+use Rattle.link_machine.specs.Acts as acts
+use Rattle.link_machine.specs.Acts.{At}
+use Rattle.link_machine.specs.Schedules.{Is}
+use Rattle.link_machine.specs.Settling.{SchedulePart, Settles}
 use Rattle.link_law.specs.Does.{Comes, Ends}
 use Rattle.link_law.specs.declared.answers.LinkEnd.{LinkEnd}
 use Rattle.link_law.specs.declared.answers.LinkEnd.TheVariants.{Undetected, Failed, NoMemory}

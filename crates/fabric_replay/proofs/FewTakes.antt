@@ -3,7 +3,7 @@ use Rattle.std.proofs.Common.{◌≡◌, ◌≢◌, ℕ, ◌+◌, ◌≤◌, zer
 use Rattle.link_watch.specs.declared.note.Note.{Note}
 use Rattle.link_watch.specs.declared.note.Note.TheVariants as Notes
 use Rattle.link_machine.specs.Calls.{has_chars, pump_notes, delivery_notes, is_silent, time_out_notes}
-use Rattle.link_rest.specs.Acts.{At, acts_notes}
+use Rattle.link_machine.specs.Acts.{At, acts_notes}
 use Rattle.link_wires.specs.Wires.{fits}
 use Rattle.link_wires.specs.declared.edits.Edit.{Edit}
 use Rattle.link_watch.specs.declared.side.Side.TheVariants.{A}
@@ -31,7 +31,7 @@ use Rattle.fabric_trace.specs.Lines.{Full, Short, TraceLine, Begun, Stepped, Lac
 use Rattle.fabric_trace.specs.Rounds.{Follows, NamesNothing, Joined, SettleAll, ServesAll, ServeRests, ServeGoes, ServeNodes, Round, Rounds}
 use Rattle.fabric_trace.specs.Runs.{start, EventThen, Names, RunsFrom, Runs}
 use Rattle.fabric_trace.specs.Served.{step_lines, collect_lines}
-use Rattle.fabric_trace.proofs.Keeping.{steps_of-append}
+use Rattle.fabric_trace.proofs.Parts.Keeping.{steps_of-append}
 
 -- how many packets the lines take
 abbrev taken : List TraceLine → ℕ

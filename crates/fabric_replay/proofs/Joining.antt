@@ -9,7 +9,7 @@ use Rattle.fabric_trace.specs.Known.{Found, Seen}
 use Rattle.std.proofs.lemmas.List.{append-nil}
 use Rattle.fabric_trace.specs.Lines.{TraceLine, Begun, Undetected}
 use Rattle.fabric_trace.specs.Runs.{Follows, BlockThen, Names, NamesNothing, RunsFrom, BlocksFrom}
-use Rattle.fabric_trace.proofs.Folding.{seen-append}
+use Rattle.fabric_trace.proofs.Parts.Folding.{seen-append}
 
 by_test : {P Q C D : Type 0} (test : Bool) → (P → C) → (Q → D) → MatchBool test P Q
     → MatchBool test C D

@@ -18,8 +18,8 @@ use Rattle.fabric_trace.specs.Fold.{seen}
 use Rattle.fabric_trace.specs.Known.{Found, Seen}
 use Rattle.fabric_trace.specs.Lines.{TraceLine}
 use Rattle.fabric_trace.specs.Runs.{bare, set_up, set_up_all, begins, start}
-use Rattle.fabric_trace.proofs.Boards.{seen_board, found_linked}
-use Rattle.fabric_trace.proofs.SettingUp.{made_by, set_up-kinds}
+use Rattle.fabric_trace.proofs.Network.Boards.{seen_board, found_linked}
+use Rattle.fabric_trace.proofs.SetUps.SettingUp.{made_by, set_up-kinds}
 use Rattle.fabric_ports.specs.Places.{HasPort}
 use Rattle.fabric_ports.specs.Showing.{ends_of, ShowsCable}
 use Rattle.fabric_ports.specs.Standing.{Stands}

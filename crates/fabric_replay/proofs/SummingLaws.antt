@@ -12,7 +12,7 @@ use Rattle.fabric_trace.specs.Fold.{seen}
 use Rattle.fabric_trace.specs.Lines.{TraceLine, steps_of}
 use Rattle.fabric_trace.specs.Runs.{start, Runs}
 use Rattle.fabric_trace.specs.Text.{trace_text}
-use Rattle.fabric_trace.proofs.Balancing.{runs_stand, runs_balance}
+use Rattle.fabric_trace.proofs.SetUps.Balancing.{runs_stand, runs_balance}
 use Rattle.fabric_replay.specs.Replaying.{ReplayedWhole, ReplayedUnsent}
 use Rattle.fabric_replay.specs.Summing.{CountsLines, Summed, SummedUnsent, EndsLike}
 use Rattle.fabric_replay.specs.Tallies.{IsCount, begun_with, Tallied}

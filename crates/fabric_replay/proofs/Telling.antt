@@ -18,9 +18,9 @@ use Rattle.fabric_trace.specs.Known.{Found, Seen}
 use Rattle.fabric_trace.specs.Lines.{TraceLine, Begun, Ended, Undetected}
 use Rattle.fabric_trace.specs.Runs.{bare, set_up_all, start, BlockThen, NamesNothing, BlocksFrom, RunsFrom, Runs, Begins}
 use Rattle.fabric_trace.specs.Text.{trace_line_text, trace_text}
-use Rattle.fabric_trace.proofs.Boards.{happens_still}
-use Rattle.fabric_trace.proofs.Folding.{seen-append}
-use Rattle.fabric_trace.proofs.Happening.{may_happen}
+use Rattle.fabric_trace.proofs.Network.Boards.{happens_still}
+use Rattle.fabric_trace.proofs.Parts.Folding.{seen-append}
+use Rattle.fabric_trace.proofs.SetUps.Happening.{may_happen}
 use Rattle.fabric_ports.specs.Events.{MayFollow, Evented, Exposed, CutShort}
 use Rattle.fabric_ports.specs.Standing.{Stands}
 use Rattle.fabric_ports.specs.declared.answers.Happened.{Happened}

@@ -14,9 +14,9 @@ use Rattle.fabric_trace.specs.Runs.{bare, Runs, Begins}
 use Rattle.fabric_trace.specs.SetUps.{MaySetUpAll}
 use Rattle.fabric_trace.specs.Shown.{Shown}
 use Rattle.fabric_trace.specs.Text.{trace_text}
-use Rattle.fabric_trace.proofs.Happening.{may_set_up}
-use Rattle.fabric_trace.proofs.Shows.{runs_shown, fronts_shown, blocks_shown}
-use Rattle.fabric_trace.proofs.Unique.{runs_one, first_blocks_front}
+use Rattle.fabric_trace.proofs.SetUps.Happening.{may_set_up}
+use Rattle.fabric_trace.proofs.Shown.Shows.{runs_shown, fronts_shown, blocks_shown}
+use Rattle.fabric_trace.proofs.Traces.Unique.{runs_one, first_blocks_front}
 use Rattle.fabric_replay.specs.Going.{ToldFront, ToldWhole}
 use Rattle.fabric_replay.specs.Replaying.{Replayed, ReplayedWhole, ReplayedUnsent, ReplayedFront}
 use Rattle.fabric_replay.proofs.Cutting.{cut_text, part_more}

@@ -13,8 +13,8 @@ use Rattle.link_watch.specs.declared.side.Side.TheVariants.{A, B}
 use Rattle.link_wires.specs.Wires.{fits}
 use Rattle.link_wires.specs.declared.edits.Edit.{Edit}
 use Rattle.link_machine.specs.Calls.{has_chars, pump_notes, delivery_notes, is_silent, time_out_notes}
-use Rattle.link_rest.specs.Acts.{Act, At, acts_notes}
-use Rattle.link_rest.specs.Settling.{Settles}
+use Rattle.link_machine.specs.Acts.{Act, At, acts_notes}
+use Rattle.link_machine.specs.Settling.{Settles}
 use Rattle.fabric_script.specs.declared.ports.PortRef.{PortRef}
 use Rattle.fabric_script.specs.declared.lines.Line.{Line}
 use Rattle.fabric_script.specs.declared.lines.Line.TheVariants.{Send, Read, Write, Pump, Deliver, Alter, Erase, Insert, Timeout, Settle, Move, Collect, Run, Send16, Read16, Write16}

@@ -1,7 +1,7 @@
 -- What `run` does: rounds, in each of which every link settles in the order of its line, and then
 -- every switch in the order of its line makes steps until no packet of it can go.
 use Rattle.std.specs.Prelude.{◌≡◌, ℕ, zero, suc, List, [], ◌∷◌, ◌++◌, Option, Some, None, MatchBool}
-use Rattle.link_rest.specs.Rest.{IsSettled}
+use Rattle.link_machine.specs.Rest.{IsSettled}
 use Rattle.maint_registers.specs.Devices.{Registers, is_switch}
 use Rattle.fabric_script.specs.declared.ports.PortRef.{PortRef}
 use Rattle.fabric_model.specs.Steps.{DeviceStep, ByDevice}

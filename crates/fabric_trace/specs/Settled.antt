@@ -1,7 +1,7 @@
 -- Each event is over when the next one begins, by the lines alone: nothing was found that was not
 -- sent, and a link that was to settle is at rest.
 use Rattle.std.specs.Prelude.{◌≡◌, List, [], ◌∷◌, Option, Some, None}
-use Rattle.link_rest.specs.Rest.{IsSettled}
+use Rattle.link_machine.specs.Rest.{IsSettled}
 use Rattle.fabric_script.specs.declared.ports.PortRef.{PortRef}
 use Rattle.fabric_script.specs.declared.lines.Line.{Line}
 use Rattle.fabric_script.specs.declared.lines.Line.TheVariants.{Settle}

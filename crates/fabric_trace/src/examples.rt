@@ -4,7 +4,7 @@ ghost use Rattle.std.specs.Prelude.{◌≡◌, ◌≢◌, ℕ, false, List, [], 
 ghost use Rattle.rio_chars.specs.declared.chars.Char.{Char};
 ghost use Rattle.link_model.specs.Symbols.{packet_accepted};
 ghost use Rattle.link_model.specs.declared.event.Event.TheVariants.{Ctl, Pkt};
-ghost use Rattle.link_rest.specs.Rest.{IsSettled};
+ghost use Rattle.link_machine.specs.Rest.{IsSettled};
 ghost use Rattle.maint_packets.specs.declared.next_hop.Next.TheVariants.{Port};
 ghost use Rattle.fabric_script.specs.declared.lines.Line.TheVariants.{Settle, Run};
 ghost use Rattle.fabric_model.specs.Network.{Network};

@@ -3,7 +3,7 @@
 ghost use Rattle.std.specs.Prelude.{◌≡◌, ◌≢◌, ◌↔◌, ℕ, ◌+◌, ◌++◌, false, true, List, [], Some, None};
 ghost use Rattle.rio_chars.specs.declared.chars.Char.{Char};
 ghost use Rattle.link_model.specs.Output as out;
-ghost use Rattle.link_rest.specs.Rest.{IsSettled};
+ghost use Rattle.link_machine.specs.Rest.{IsSettled};
 ghost use Rattle.link_wires.specs.Deliveries.{undetected};
 ghost use Rattle.fabric_script.specs.Lines.{is_event};
 ghost use Rattle.fabric_script.specs.Scripts.{ScriptPasses};

@@ -13,7 +13,7 @@ use Rattle.fabric_model.specs.Laws.Leaving.{IsAfterMoves, moves}
 use Rattle.fabric_model.proofs.Lists.{all-parts}
 use Rattle.fabric_trace.specs.Lines.{steps_of}
 use Rattle.fabric_trace.specs.Runs.{start, set_up_all, bare}
-use Rattle.fabric_trace.proofs.Starting.{lawful}
+use Rattle.fabric_trace.proofs.SetUps.Starting.{lawful}
 use Rattle.io_memory.specs.declared.meeting.Met.TheVariants.{Done}
 use Rattle.io_script.specs.declared.lines.NumberedIo.{NumberedIo}
 use Rattle.io_rounds.specs.Stations.{met_by}

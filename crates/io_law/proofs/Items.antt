@@ -20,7 +20,7 @@ use Rattle.fabric_trace.specs.Lines.{Full as NoRoom, TraceLine, Stepped, Lacked,
 use Rattle.fabric_trace.specs.Runs.{start, set_up_all, bare}
 use Rattle.fabric_trace.specs.Served.{face_in, collect_lines}
 use Rattle.fabric_trace.specs.SetUps.{IsSetUp}
-use Rattle.fabric_trace.proofs.Starting.{lawful}
+use Rattle.fabric_trace.proofs.SetUps.Starting.{lawful}
 use Rattle.fabric_ports.specs.Events.{happened, answer_taken, answer_collected}
 use Rattle.fabric_ports.specs.declared.answers.Happened.{Happened}
 use Rattle.fabric_ports.specs.declared.answers.Happened.TheVariants as Answers

@@ -4,7 +4,7 @@ use Rattle.std.proofs.Common.{◌≡◌, ℕ, zero, suc, List, [], ◌∷◌, �
 use Rattle.maint_registers.specs.Devices.{Registers, is_switch}
 use Rattle.link_watch.specs.declared.note.Note.{Note}
 use Rattle.link_watch.specs.declared.note.Note.TheVariants as Notes
-use Rattle.link_rest.specs.Acts.{At, acts_notes}
+use Rattle.link_machine.specs.Acts.{At, acts_notes}
 use Rattle.switch_core.specs.declared.endpoint.Collected.{Collected}
 use Rattle.switch_core.specs.declared.endpoint.Collected.TheVariants as Collects
 use Rattle.fabric_script.specs.declared.ports.PortRef.{PortRef}
@@ -15,7 +15,7 @@ use Rattle.fabric_trace.specs.Known.{Found, Seen, link_at}
 use Rattle.fabric_trace.specs.Lines.{TraceLine, Begun, Stepped, Signed, Lacked, Ended, Undetected}
 use Rattle.fabric_trace.specs.Rounds.{Follows, NamesNothing, Joined, SettleAll, ServesAll, ServeRests, ServeGoes, ServeNodes, Round, Rounds}
 use Rattle.fabric_trace.specs.Served.{collect_lines}
-use Rattle.fabric_trace.proofs.Rounds.{by_test}
+use Rattle.fabric_trace.proofs.Rounds.Blocks.{by_test}
 
 -- the steps at nodes among these lines are such
 abbrev pub OnlyAt : (NodeStep → Type 0) → List TraceLine → Type 0

@@ -12,7 +12,7 @@ use Rattle.fabric_model.proofs.Lists.{all-append, all_weaker}
 use Rattle.fabric_model.proofs.Holding.{how_often-append}
 use Rattle.fabric_trace.specs.Lines.{steps_of}
 use Rattle.fabric_trace.specs.Runs.{start, set_up_all, bare}
-use Rattle.fabric_trace.proofs.Starting.{lawful}
+use Rattle.fabric_trace.proofs.SetUps.Starting.{lawful}
 use Rattle.io_rounds.specs.Tasks.{IoTask, Carry, Ask, Settle, Turn, Reply, Fetch, Finish}
 use Rattle.io_rounds.specs.Going.{IoState, IoGoes, IoBegins, IoTurns, IoActs, IoEnds, IoComes, Here, Further}
 use Rattle.io_law.specs.Items.{replied_behind, network_at, asked_by, replied_by, io_replied, came}

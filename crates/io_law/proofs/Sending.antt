@@ -12,8 +12,8 @@ use Rattle.fabric_model.proofs.Lists.{all-append, all-parts}
 use Rattle.fabric_trace.specs.Lines.{TraceLine, steps_of}
 use Rattle.fabric_trace.specs.Runs.{start, set_up_all, bare}
 use Rattle.fabric_trace.specs.SetUps.{IsSetUp}
-use Rattle.fabric_trace.proofs.Keeping.{steps_of-append}
-use Rattle.fabric_trace.proofs.Starting.{lawful}
+use Rattle.fabric_trace.proofs.Parts.Keeping.{steps_of-append}
+use Rattle.fabric_trace.proofs.SetUps.Starting.{lawful}
 use Rattle.io_rounds.specs.Going.{IoState, IoGoes, IoComes, Here, Further}
 use Rattle.io_law.specs.Items.{network_at, asked_by, replied_by, io_asked, io_replied}
 use Rattle.io_law.proofs.Fit.{IsFit, fit_comes}

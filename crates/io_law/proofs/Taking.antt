@@ -20,8 +20,8 @@ use Rattle.fabric_trace.specs.Lines.{Full as NoRoom, TraceLine, Begun, Stepped, 
 use Rattle.fabric_trace.specs.Runs.{start, set_up_all, bare}
 use Rattle.fabric_trace.specs.Served.{face_in, collect_lines}
 use Rattle.fabric_trace.specs.SetUps.{IsSetUp}
-use Rattle.fabric_trace.proofs.Keeping.{steps_of-append}
-use Rattle.fabric_trace.proofs.Starting.{legal}
+use Rattle.fabric_trace.proofs.Parts.Keeping.{steps_of-append}
+use Rattle.fabric_trace.proofs.SetUps.Starting.{legal}
 use Rattle.fabric_ports.specs.Events.{happened}
 use Rattle.io_rounds.specs.Stations.{kept_of_node}
 use Rattle.io_rounds.specs.Tasks.{IoTask, Carry, Ask, Settle, Turn, Reply, Fetch, Finish, task_event}

@@ -12,12 +12,12 @@ use Rattle.fabric_trace.specs.Lines.{TraceLine, Begun, steps_of}
 use Rattle.fabric_trace.specs.Parts.{Made, Done, Then, PartBegins}
 use Rattle.fabric_trace.specs.Runs.{start, set_up_all, bare}
 use Rattle.fabric_trace.specs.SetUps.{IsSetUp}
-use Rattle.fabric_trace.proofs.Folding.{network_is}
-use Rattle.fabric_trace.proofs.Happening.{may_set_up}
-use Rattle.fabric_trace.proofs.Keeping.{steps_of-append, made_keeps}
-use Rattle.fabric_trace.proofs.Making.{made-append}
-use Rattle.fabric_trace.proofs.Running.{block_made}
-use Rattle.fabric_trace.proofs.Starting.{set_up_bare, good_start}
+use Rattle.fabric_trace.proofs.Parts.Folding.{network_is}
+use Rattle.fabric_trace.proofs.SetUps.Happening.{may_set_up}
+use Rattle.fabric_trace.proofs.Parts.Keeping.{steps_of-append, made_keeps}
+use Rattle.fabric_trace.proofs.Parts.Making.{made-append}
+use Rattle.fabric_trace.proofs.Rounds.Running.{block_made}
+use Rattle.fabric_trace.proofs.SetUps.Starting.{set_up_bare, good_start}
 use Rattle.fabric_ports.specs.Events.{happened}
 use Rattle.fabric_ports.specs.declared.answers.Happened.{Happened}
 use Rattle.fabric_ports.specs.declared.answers.Happened.TheVariants as Answers

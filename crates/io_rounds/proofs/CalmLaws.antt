@@ -1,8 +1,8 @@
 -- In events without edits nothing that was not sent is acted on.
 use Rattle.std.proofs.Common.{◌≡◌, ℕ, zero, suc, Bool, true, false, List, [], ◌∷◌, Some, None, refl, sym, ap, ◌∙◌, subst, if◌then◌else◌}
 use Rattle.link_machine.specs.States.{link}
-use Rattle.link_rest.specs.Calm.{IsCalm}
-use Rattle.link_rest.proofs.Calming.{acts_calm, new_calm}
+use Rattle.link_machine.specs.Calm.{IsCalm}
+use Rattle.link_machine.proofs.Settling.Calming.{acts_calm, new_calm}
 use Rattle.fabric_script.specs.declared.ports.PortRef.{PortRef}
 use Rattle.fabric_script.specs.declared.lines.Line.{Line}
 use Rattle.fabric_script.specs.declared.lines.Line.TheVariants.{Send, Run, Collect}
@@ -21,12 +21,12 @@ use Rattle.fabric_trace.specs.Parts.{Made, Done}
 use Rattle.fabric_trace.specs.Rounds.{Follows, NamesNothing, SettleAll, ServeNodes, Round, Rounds}
 use Rattle.fabric_trace.specs.Runs.{begins}
 use Rattle.fabric_trace.specs.Served.{face_in, collect_lines}
-use Rattle.fabric_trace.proofs.Boards.{seen_board}
-use Rattle.fabric_trace.proofs.Folding.{seen-append}
-use Rattle.fabric_trace.proofs.Keeping.{IsGood, made_keeps}
-use Rattle.fabric_trace.proofs.Making.{made-append, made_by}
-use Rattle.fabric_trace.proofs.Rounds.{AreFound, all_found}
-use Rattle.fabric_trace.proofs.Running.{acts_reach}
+use Rattle.fabric_trace.proofs.Network.Boards.{seen_board}
+use Rattle.fabric_trace.proofs.Parts.Folding.{seen-append}
+use Rattle.fabric_trace.proofs.Parts.Keeping.{IsGood, made_keeps}
+use Rattle.fabric_trace.proofs.Parts.Making.{made-append, made_by}
+use Rattle.fabric_trace.proofs.Rounds.Blocks.{AreFound, all_found}
+use Rattle.fabric_trace.proofs.Rounds.Running.{acts_reach}
 use Rattle.fabric_ask.proofs.Calming.{steps_still, serve_made, after_link}
 use Rattle.fabric_ask.proofs.Quieting.{OnlySteps, serve_steps}
 use Rattle.io_rounds.specs.Calm.{LinksAreCalm}

@@ -14,9 +14,9 @@ use Rattle.fabric_model.specs.Network.{Network}
 use Rattle.fabric_trace.specs.Lines.{Ended}
 use Rattle.fabric_trace.specs.Runs.{bare, set_up, set_up_all, begins, start, RunsFrom, Runs}
 use Rattle.fabric_trace.specs.SetUps.{MaySetUp, MaySetUpAll}
-use Rattle.fabric_trace.proofs.Happening.{may_set_up}
-use Rattle.fabric_trace.proofs.SettingUp.{set_up-event}
-use Rattle.fabric_trace.proofs.Shows.{runs_shown}
+use Rattle.fabric_trace.proofs.SetUps.Happening.{may_set_up}
+use Rattle.fabric_trace.proofs.SetUps.SettingUp.{set_up-event}
+use Rattle.fabric_trace.proofs.Shown.Shows.{runs_shown}
 use Rattle.fabric_replay.proofs.Joining.{runs-append}
 use Rattle.std.proofs.lemmas.Bool.{false≢true}
 use Rattle.io_script.specs.declared.lines.NumberedIo.{NumberedIo}

@@ -20,8 +20,8 @@ use Rattle.fabric_trace.specs.Known.{Seen, Found}
 use Rattle.fabric_trace.specs.Lines.{Full as NoRoom, TraceLine, Begun, Stepped, Lacked}
 use Rattle.fabric_trace.specs.Runs.{bare, set_up_all, start, BlocksFrom}
 use Rattle.fabric_trace.specs.Served.{face_in, collect_lines, IsCollect}
-use Rattle.fabric_trace.proofs.Boards.{happens_still}
-use Rattle.fabric_trace.proofs.Folding.{seen-append}
+use Rattle.fabric_trace.proofs.Network.Boards.{happens_still}
+use Rattle.fabric_trace.proofs.Parts.Folding.{seen-append}
 use Rattle.fabric_ask.proofs.Gathering.{stays_endpoint, collected_fewer}
 use Rattle.fabric_ports.specs.Events.{MayFollow, Evented, Exposed, EventEnds, answer_collected}
 use Rattle.fabric_ports.specs.declared.answers.EventEnd.{EventEnd}

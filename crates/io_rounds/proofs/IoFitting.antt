@@ -13,8 +13,8 @@ use Rattle.fabric_script.proofs.ScriptLaws.{Passes-from_script}
 use Rattle.fabric_script.proofs.SetUpLaws.{set_up_passes}
 use Rattle.fabric_model.specs.Network.{Network}
 use Rattle.fabric_trace.specs.Runs.{bare, set_up, set_up_all, start}
-use Rattle.fabric_trace.proofs.Rounds.{by_test}
-use Rattle.fabric_trace.proofs.KnownNetworks.{KnowsNetwork, endpoint_at, knows-after, knows_bare}
+use Rattle.fabric_trace.proofs.Rounds.Blocks.{by_test}
+use Rattle.fabric_trace.proofs.SetUps.KnownNetworks.{KnowsNetwork, endpoint_at, knows-after, knows_bare}
 use Rattle.script_input.specs.Inputs.{set_up_bytes}
 use Rattle.io_script.specs.declared.lines.IoLine.{IoLine}
 use Rattle.io_script.specs.declared.lines.IoLine.TheVariants.{Memory, NRead, NWrite, NWriteR, SWrite, Round}

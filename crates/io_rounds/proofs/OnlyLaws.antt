@@ -6,7 +6,7 @@ use Rattle.fabric_model.specs.Laws.Freeing.{IsFront}
 use Rattle.fabric_trace.specs.Blocks.{IsBlock}
 use Rattle.fabric_trace.specs.Fold.{seen}
 use Rattle.fabric_trace.specs.Runs.{start}
-use Rattle.fabric_trace.proofs.Unique.{block_one}
+use Rattle.fabric_trace.proofs.Traces.Unique.{block_one}
 use Rattle.fabric_ports.specs.Events.{happened}
 use Rattle.fabric_ports.specs.declared.answers.Happened.{Happened}
 use Rattle.fabric_ports.specs.declared.answers.Happened.TheVariants as Answers

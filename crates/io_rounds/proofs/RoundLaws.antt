@@ -8,7 +8,7 @@ use Rattle.fabric_script.specs.declared.lines.Numbered.{Numbered}
 use Rattle.fabric_trace.specs.Runs.{start}
 use Rattle.fabric_ports.specs.declared.answers.Happened.{Happened}
 use Rattle.fabric_replay.proofs.Naming.{names_suffice, names_few}
-use Rattle.fabric_trace.proofs.Boards.{seen_board}
+use Rattle.fabric_trace.proofs.Network.Boards.{seen_board}
 use Rattle.io_rounds.specs.declared.course.Course.{Course}
 use Rattle.io_rounds.specs.Tasks.{IoTask, Settle, Turn, endpoints_from}
 use Rattle.io_rounds.specs.Going.{IoState, endpoints_of}

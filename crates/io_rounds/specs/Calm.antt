@@ -1,6 +1,6 @@
 -- Links on which nothing but what was sent is on its way.
 use Rattle.std.specs.Prelude.{◌≡◌, Some}
-use Rattle.link_rest.specs.Calm.{IsCalm}
+use Rattle.link_machine.specs.Calm.{IsCalm}
 use Rattle.fabric_script.specs.declared.ports.PortRef.{PortRef}
 use Rattle.fabric_model.specs.Network.{peer_in}
 use Rattle.fabric_trace.specs.Known.{Seen, link_at}

@@ -11,10 +11,10 @@ use Rattle.link_law.specs.Answers.{delivery_taken, delivery_answer, UnlessGivenU
 use Rattle.link_machine.specs.States.{wire_at}
 use Rattle.link_law.specs.declared.answers.LinkEnd.{LinkEnd}
 use Rattle.link_law.specs.declared.answers.LinkEnd.TheVariants.{Undetected, Failed, NoMemory}
-use Rattle.link_rest.specs.Acts.{Act, Deliver, Reached, At, FoundAt, reached_by, after_act, act_notes, acts_notes}
-use Rattle.link_rest.specs.Schedules.{Is}
-use Rattle.link_rest.specs.Settling.{SchedulePart, Empties, first_has_chars, of_end, all_chars}
-use Rattle.link_rest.proofs.Lines.{goes_one}
+use Rattle.link_machine.specs.Acts.{Act, Deliver, Reached, At, FoundAt, reached_by, after_act, act_notes, acts_notes}
+use Rattle.link_machine.specs.Schedules.{Is}
+use Rattle.link_machine.specs.Settling.{SchedulePart, Empties, first_has_chars, of_end, all_chars}
+use Rattle.link_machine.proofs.Settling.Lines.{goes_one}
 use Rattle.link_law.specs.Does.{Comes, Stops, Ends}
 use Rattle.link_law.proofs.DoesLaws.{IsWatch, comes_where, ends_where, comes_none, stops_at_once}
 

@@ -5,10 +5,10 @@ use Rattle.link_watch.proofs.StopLaws.{stopped_at_once, stopped_then, stopped_be
 use Rattle.link_machine.specs.Prelude.{Note, Side, A, B, LinkState, Stopped}
 use Rattle.link_law.specs.declared.answers.LinkEnd.{LinkEnd}
 use Rattle.link_law.specs.declared.answers.LinkEnd.TheVariants.{Undetected, Failed, NoMemory}
-use Rattle.link_rest.specs.Schedules.{NextOf, WhereOf}
-use Rattle.link_rest.specs.Acts.{Act, Reached, At, FoundAt, after_act, act_notes, goes, acts_notes}
-use Rattle.link_rest.specs.Settling.{SchedulePart, Empties, of_end, first_has_chars, all_chars}
-use Rattle.link_rest.proofs.Drains.{goes-append, goes_none}
+use Rattle.link_machine.specs.Schedules.{NextOf, WhereOf}
+use Rattle.link_machine.specs.Acts.{Act, Reached, At, FoundAt, after_act, act_notes, goes, acts_notes}
+use Rattle.link_machine.specs.Settling.{SchedulePart, Empties, of_end, first_has_chars, all_chars}
+use Rattle.link_machine.proofs.Settling.Drains.{goes-append, goes_none}
 use Rattle.link_law.specs.Does.{Comes, Stops, Ends, CallDid}
 
 notes_found : (side : Side) (e : Event) (ys : List Act) → acts_notes (FoundAt side e) ys ≡ []

@@ -5,13 +5,13 @@ use Rattle.link_machine.specs.Prelude.{Note, Side, A, B, NoteEnd, LinkState, pum
 use Rattle.link_watch.specs.declared.watch.NoteEnd.TheVariants as Stop
 use Rattle.link_law.specs.declared.answers.LinkEnd.{LinkEnd}
 use Rattle.link_law.specs.declared.answers.LinkEnd.TheVariants.{Undetected, Failed, NoMemory}
-use Rattle.link_rest.specs.Schedules.{NextOf}
-use Rattle.link_rest.specs.Schedules.LoopOf.{LoopRests, LoopGoesOn}
-use Rattle.link_rest.specs.Acts.{Act, Pump, Tell, Fire, Reached, At, FoundAt, goes, acts_notes, OnState}
-use Rattle.link_rest.specs.Settling.{SchedulePart, Empties, Drains, TakesTurn, TimesOut, Requests, may_fire, of_end, is_busy}
-use Rattle.link_rest.proofs.Drains.{goes-append, goes_none, rounds, round_goes, rested_is_idle, three_rounds}
-use Rattle.link_rest.proofs.DrainCounts.{drain_exists}
-use Rattle.link_rest.proofs.Ends.{acts_keep, found_none, turn_can, requests_can}
+use Rattle.link_machine.specs.Schedules.{NextOf}
+use Rattle.link_machine.specs.Schedules.LoopOf.{LoopRests, LoopGoesOn}
+use Rattle.link_machine.specs.Acts.{Act, Pump, Tell, Fire, Reached, At, FoundAt, goes, acts_notes, OnState}
+use Rattle.link_machine.specs.Settling.{SchedulePart, Empties, Drains, TakesTurn, TimesOut, Requests, may_fire, of_end, is_busy}
+use Rattle.link_machine.proofs.Settling.Drains.{goes-append, goes_none, rounds, round_goes, rested_is_idle, three_rounds}
+use Rattle.link_machine.proofs.Settling.DrainCounts.{drain_exists}
+use Rattle.link_machine.proofs.Settling.Ends.{acts_keep, found_none, turn_can, requests_can}
 use Rattle.link_law.specs.Does.{Comes, Stops, Ends, TellsOnce, Pumps, end_of}
 use Rattle.link_law.proofs.DoesLaws.{IsWatch, Follows, comes_where, stops_where, notes-append, comes_next, ends_next, ends_early}
 use Rattle.link_law.proofs.DeliverLaws.{Only, one_comes, one_stops}

@@ -8,7 +8,7 @@ use Rattle.link_port.specs.declared.kinds.OutKind.{OutKind}
 use Rattle.link_port.specs.declared.kinds.OutKind.TheVariants as OutKinds
 use Rattle.link_port.specs.declared.kinds.InKind.{InKind}
 use Rattle.link_port.specs.declared.kinds.InKind.TheVariants as InKinds
-use Rattle.link_rest.specs.Settling.{is_retry_stopped, has_failed, may_fire, is_none, is_done, is_ok}
+use Rattle.link_machine.specs.Settling.{is_retry_stopped, has_failed, may_fire, is_none, is_done, is_ok}
 
 abbrev pub retry_kind : OutKind → Bool
 retry_kind OutKinds.Ok = false

@@ -9,12 +9,12 @@ use Rattle.link_model.specs.Outstanding.{Outstanding}
 use Rattle.link_port.specs.Prelude.{PortState, burst_of, standing, waiting_in, turn_sends, is_ready}
 use Rattle.link_port.specs.Turns.{port_turn}
 use Rattle.link_machine.specs.Prelude.{Side, A, B, LinkState, from_end, turned_round, pumped, pump_notes, sent_notes, has_none, is_silent}
-use Rattle.link_rest.specs.Acts.{Act, At, goes}
-use Rattle.link_rest.specs.Schedules.{NextOf}
-use Rattle.link_rest.specs.Schedules.LoopOf.{LoopRests}
-use Rattle.link_rest.specs.Settling.{SchedulePart, is_retry_stopped, has_failed, is_done, is_some, waits, rests_to, first_rests, is_busy, Drains, Restarts, Requests, Recovers, Tells, SendsAll, Settles}
-use Rattle.link_rest.proofs.Drains.{goes_none}
-use Rattle.link_rest.proofs.Settled.{FromSending, FromTelling, FromRecovering}
+use Rattle.link_machine.specs.Acts.{Act, At, goes}
+use Rattle.link_machine.specs.Schedules.{NextOf}
+use Rattle.link_machine.specs.Schedules.LoopOf.{LoopRests}
+use Rattle.link_machine.specs.Settling.{SchedulePart, is_retry_stopped, has_failed, is_done, is_some, waits, rests_to, first_rests, is_busy, Drains, Restarts, Requests, Recovers, Tells, SendsAll, Settles}
+use Rattle.link_machine.proofs.Settling.Drains.{goes_none}
+use Rattle.link_machine.proofs.Settling.Settled.{FromSending, FromTelling, FromRecovering}
 use Rattle.link_law.specs.Resting.{rest_both, none_waits, none_tells, are_idle, has_no_work}
 use Rattle.link_law.proofs.IdleTurns.{idle_pumped, idle_chars}
 

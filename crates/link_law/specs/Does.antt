@@ -4,9 +4,9 @@ use Rattle.rio_chars.specs.Faults.{Rose}
 use Rattle.link_machine.specs.Prelude.{Stopped, Note, Side, LinkState, NoteEnd}
 use Rattle.link_law.specs.declared.answers.LinkEnd.{LinkEnd}
 use Rattle.link_law.specs.declared.answers.LinkEnd.TheVariants.{Undetected, Failed, NoMemory}
-use Rattle.link_rest.specs.Acts.{Act, Pump, Tell, Reached, At, FoundAt, goes, acts_notes, holds_at}
-use Rattle.link_rest.specs.Settling.{SchedulePart}
-use Rattle.link_rest.specs.Schedules.{WhereOf, Is}
+use Rattle.link_machine.specs.Acts.{Act, Pump, Tell, Reached, At, FoundAt, goes, acts_notes, holds_at}
+use Rattle.link_machine.specs.Settling.{SchedulePart}
+use Rattle.link_machine.specs.Schedules.{WhereOf, Is}
 use Rattle.link_watch.specs.declared.watch.NoteEnd.TheVariants as Stop
 
 -- a part of the schedule was done from a link on, up to here, and its notes were taken in

@@ -3,7 +3,7 @@ use Rattle.std.specs.Prelude.{◌&&◌, not, Bool}
 use Rattle.link_port.specs.Ports.{PortState}
 use Rattle.link_machine.specs.Calls.{is_silent}
 use Rattle.link_machine.specs.States.{LinkState}
-use Rattle.link_rest.specs.Settling.{rests_to, waits}
+use Rattle.link_machine.specs.Settling.{rests_to, waits}
 
 -- both directions are at rest
 abbrev pub rest_both : PortState → PortState → Bool

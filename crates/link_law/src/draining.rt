@@ -2,9 +2,9 @@
 ghost use Rattle.std.specs.Prelude.{◌≡◌, not};
 ghost use Rattle.link_port.specs.Ports.{PortState};
 ghost use Rattle.link_machine.specs.Prelude.{A, B, IsSoundLink, link};
-ghost use Rattle.link_rest.specs.Acts.{At, goes};
-ghost use Rattle.link_rest.specs.Schedules.{NextOf};
-ghost use Rattle.link_rest.specs.Settling.{Empties, Drains, TakesTurn, is_busy};
+ghost use Rattle.link_machine.specs.Acts.{At, goes};
+ghost use Rattle.link_machine.specs.Schedules.{NextOf};
+ghost use Rattle.link_machine.specs.Settling.{Empties, Drains, TakesTurn, is_busy};
 ghost use Rattle.link_law.specs.Does.{CallDid, FailuresCounted};
 
 use crate::answers::LinkEnd;

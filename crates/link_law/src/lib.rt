@@ -14,10 +14,9 @@
 //! - [`LinkEnd`] and [`Fired`]: why a delivery or settling ended, and what came of a time-out; the
 //!   other answers are those of `link_wires` and `link_watch`
 //!
-//! What each call does and notes is defined in `link_machine`, with its law, and the schedule of
-//! settling in `link_rest`. `specs` has what the calls answer, `Answers`; what a call does of a
-//! part of the schedule, `Does`; `Carried`, what a delivery told; and `Resting`, which link has
-//! nothing to do.
+//! What each call does and notes is defined in `link_machine`, with its law, and so is the schedule
+//! of settling. `specs` has what the calls answer, `Answers`; what a call does of a part of the
+//! schedule, `Does`; `Carried`, what a delivery told; and `Resting`, which link has nothing to do.
 #![tactic(auto)]
 
 mod answers;

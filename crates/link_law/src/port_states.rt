@@ -2,7 +2,7 @@
 ghost use Rattle.std.specs.Prelude.{◌≡◌, [], IsTrue};
 ghost use Rattle.link_machine.specs.States.{Wires, link, from_end};
 ghost use Rattle.link_port.specs.Turns.{turn_sends, is_ready as starts_packet};
-ghost use Rattle.link_rest.specs.Settling.{waits, is_retry_stopped, has_failed, may_fire, is_done as done, is_ok, rests_to};
+ghost use Rattle.link_machine.specs.Settling.{waits, is_retry_stopped, has_failed, may_fire, is_done as done, is_ok, rests_to};
 ghost use Rattle.link_law.specs.Resting.{rest_both as both_rest, none_waits as no_packet_waits, none_tells as no_port_tells, are_idle as idle_ports};
 
 use link_port::{InKind, OutKind, Port};

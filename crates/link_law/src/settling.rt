@@ -2,10 +2,10 @@
 ghost use Rattle.std.specs.Prelude.{◌≡◌, ◌≤◌, IsErrOf, OnOk, IfErr};
 ghost use Rattle.rio_chars.specs.Faults.{Rose};
 ghost use Rattle.link_machine.specs.Prelude.{A, B, IsSoundLink, link};
-ghost use Rattle.link_rest.specs.Acts.{At, goes};
-ghost use Rattle.link_rest.specs.Rest.{IsQuiet, IsSettled};
-ghost use Rattle.link_rest.specs.Schedules.{NextOf};
-ghost use Rattle.link_rest.specs.Settling.{Restarts, TimesOut, Requests, Recovers, Tells, SendsAll, Settles};
+ghost use Rattle.link_machine.specs.Acts.{At, goes};
+ghost use Rattle.link_machine.specs.Rest.{IsQuiet, IsSettled};
+ghost use Rattle.link_machine.specs.Schedules.{NextOf};
+ghost use Rattle.link_machine.specs.Settling.{Restarts, TimesOut, Requests, Recovers, Tells, SendsAll, Settles};
 ghost use Rattle.link_law.specs.Does.{Comes, Ends, CallDid, FailuresCounted};
 
 use crate::answers::LinkEnd;

@@ -1,6 +1,6 @@
 //! Sides that tell their free buffers.
 ghost use Rattle.link_machine.specs.Prelude.{IsSoundLink, link};
-ghost use Rattle.link_rest.specs.Settling.{Tells};
+ghost use Rattle.link_machine.specs.Settling.{Tells};
 ghost use Rattle.link_law.specs.Does.{CallDid, FailuresCounted, TellsOnce};
 
 use crate::answers::LinkEnd;

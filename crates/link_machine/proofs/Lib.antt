@@ -6,3 +6,4 @@ pub mod Turning
 pub mod Machine
 pub mod Serving
 pub mod Ways
+pub mod Settling

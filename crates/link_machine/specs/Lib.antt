@@ -6,3 +6,10 @@ pub mod Queues
 pub mod Layer
 pub mod Runs
 pub mod Prelude
+pub mod Led
+pub mod Schedules
+pub mod Acts
+pub mod Settling
+pub mod Rest
+pub mod Counts
+pub mod Calm

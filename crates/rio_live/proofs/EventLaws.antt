@@ -16,8 +16,8 @@ use Rattle.fabric_script.proofs.ScriptLaws.{names_stay, name_kept}
 use Rattle.fabric_model.specs.Network.{Network}
 use Rattle.fabric_trace.specs.Events.{MayHappen}
 use Rattle.fabric_trace.specs.Runs.{bare, set_up, set_up_all}
-use Rattle.fabric_trace.proofs.Happening.{may_happen}
-use Rattle.fabric_trace.proofs.SettingUp.{set_up-event}
+use Rattle.fabric_trace.proofs.SetUps.Happening.{may_happen}
+use Rattle.fabric_trace.proofs.SetUps.SettingUp.{set_up-event}
 
 -- ---- what is known behind set-up lines
 

@@ -15,7 +15,7 @@ use Rattle.fabric_trace.specs.Blocks.{IsBlock}
 use Rattle.fabric_trace.specs.Fold.{seen}
 use Rattle.fabric_trace.specs.Lines.{TraceLine, Begun}
 use Rattle.fabric_trace.specs.Runs.{bare, set_up_all, start, BlocksFrom}
-use Rattle.fabric_trace.proofs.Boards.{happens_still}
+use Rattle.fabric_trace.proofs.Network.Boards.{happens_still}
 use Rattle.fabric_ports.specs.Events.{MayFollow}
 use Rattle.fabric_ports.specs.Standing.{Stands}
 use Rattle.fabric_ports.specs.declared.fabric.Fabric.{Fabric}

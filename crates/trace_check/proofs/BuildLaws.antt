@@ -9,7 +9,7 @@ use Rattle.fabric_model.specs.Network.{Item, Network, bare, peer_in, same_port, 
 use Rattle.fabric_model.proofs.Devices.{length-with_device}
 use Rattle.fabric_model.proofs.Peers.{apart_back, same_port-refl}
 use Rattle.fabric_trace.specs.Settings.{defaulted, held_by, large_set, linked_at, routed, set_up, with_buffers, with_change, with_end, with_node}
-use Rattle.fabric_trace.proofs.KindLaws.{IsKindThere, kind_there}
+use Rattle.fabric_trace.proofs.SetUps.KindLaws.{IsKindThere, kind_there}
 use Rattle.fabric_trace.specs.Views.{lists_in, packets_in}
 use Rattle.trace_check.specs.declared.links.Links.{Links}
 use Rattle.trace_check.specs.declared.network.Network.{Network as Kept}

@@ -9,14 +9,14 @@ use Rattle.link_model.specs.Reading.{placed}
 use Rattle.link_model.specs.Said.{said}
 use Rattle.link_model.proofs.FrontLaws.{front-place}
 use Rattle.link_model.proofs.PlacesLaws.{place_after-append, place_after-cons, place_after-none, run-none, run-one}
-use Rattle.link_rest.proofs.SaidLaws.{said-append}
+use Rattle.link_machine.proofs.Settling.SaidLaws.{said-append}
 use Rattle.rio_framer.specs.declared.events.Events.{Events}
 use Rattle.rio_framer.specs.declared.events.Told.{Told}
 use Rattle.rio_framer.specs.Framing.{Framing, framing_after}
 use Rattle.rio_framer.specs.Giving.{listed, told_of_events}
 use Rattle.rio_framer.proofs.GivingLaws.{events_by-front, listed-front}
 use Rattle.fabric_trace.specs.Allowance.{raised_all}
-use Rattle.fabric_trace.proofs.Raising.{raised-append}
+use Rattle.fabric_trace.proofs.Allowance.Raising.{raised-append}
 use Rattle.trace_check.specs.Running.{Come, run_hears, notes, packets_come, PortRun, told_events}
 use Rattle.trace_check.proofs.Running.{packets-append}
 

@@ -10,7 +10,7 @@ use Rattle.fabric_script.specs.declared.ports.PortRef.{PortRef}
 use Rattle.fabric_model.specs.Network.{first_packet, Item, Network}
 use Rattle.fabric_trace.specs.Owned.{HasEvent}
 use Rattle.fabric_trace.specs.Views.{lists_in, packets_in}
-use Rattle.fabric_trace.proofs.Lanes.{lane_at}
+use Rattle.fabric_trace.proofs.Network.Lanes.{lane_at}
 use Rattle.trace_check.specs.Expecting.{OneIsLacked}
 
 module _ (net : Network) (p : PortRef) where

@@ -23,21 +23,21 @@ use Rattle.fabric_trace.specs.Parts.{Made}
 use Rattle.fabric_trace.specs.Runs.{bare, set_up_all, begins, start, Runs}
 use Rattle.fabric_trace.specs.SetUps.{IsSetUp, MaySetUpAll}
 use Rattle.fabric_trace.specs.Wires.{WireChars, StoodThere}
-use Rattle.fabric_trace.proofs.Coming.{numbered-append}
-use Rattle.fabric_trace.proofs.Folding.{network_is}
-use Rattle.fabric_trace.proofs.FreesRead.{frees_all}
-use Rattle.fabric_trace.proofs.Fronting.{cut, cut_came}
-use Rattle.fabric_trace.proofs.HoldsRead.{got-append, holds-append}
-use Rattle.fabric_trace.proofs.Keeping.{steps_of-append}
-use Rattle.fabric_trace.proofs.Starting.{set_up_bare, legal, made, wires_fold, holds_came}
+use Rattle.fabric_trace.proofs.Holds.Coming.{numbered-append}
+use Rattle.fabric_trace.proofs.Parts.Folding.{network_is}
+use Rattle.fabric_trace.proofs.Frees.FreesRead.{frees_all}
+use Rattle.fabric_trace.proofs.Parts.Fronting.{cut, cut_came}
+use Rattle.fabric_trace.proofs.Holds.HoldsRead.{got-append, holds-append}
+use Rattle.fabric_trace.proofs.Parts.Keeping.{steps_of-append}
+use Rattle.fabric_trace.proofs.SetUps.Starting.{set_up_bare, legal, made, wires_fold, holds_came}
 use Rattle.fabric_trace.specs.Allowance.{allowance, FreesAllowed}
 use Rattle.fabric_trace.specs.Owned.{HasEvent, IsOwned, AreOwned}
 use Rattle.trace_check.specs.Wires.{are_short, wires_after}
 use Rattle.trace_check.specs.Checks.{freed, net_after, EditFits, OnWires, LineIsStep, HoldHasCome, IsAllowed, SendMayBe, LinePasses, PassAll}
-use Rattle.fabric_trace.proofs.Allowing.{allowed_at, freed_is, heard_is}
-use Rattle.fabric_trace.proofs.Sending.{owned_at}
-use Rattle.fabric_trace.proofs.Shows.{runs_shown}
-use Rattle.fabric_trace.proofs.Wiring.{seen_links, chars_of}
+use Rattle.fabric_trace.proofs.Allowance.Allowing.{allowed_at, freed_is, heard_is}
+use Rattle.fabric_trace.proofs.Shown.Sending.{owned_at}
+use Rattle.fabric_trace.proofs.Shown.Shows.{runs_shown}
+use Rattle.fabric_trace.proofs.Shown.Wiring.{seen_links, chars_of}
 use Rattle.trace_check.proofs.Edits.{ToldBy, ToldAt, EditsTold, told_at, runs_told, wires_are, stood_at}
 
 -- ---- wires

@@ -10,7 +10,7 @@ use Rattle.fabric_script.specs.declared.ports.PortRef.{PortRef}
 use Rattle.fabric_model.specs.Network.{first_packet, Item, Lanes, Network, with_lane, with_lent}
 use Rattle.fabric_model.specs.Steps.{behind_first, moved_item, Needs, only_first, Step}
 use Rattle.fabric_trace.specs.Views.{lists_in, packets_in}
-use Rattle.fabric_trace.proofs.Lanes.{behind_is, first_is, lane_at, lane_other, lent_other, lent_own, lists_set, of_prio_is, packets-append}
+use Rattle.fabric_trace.proofs.Network.Lanes.{behind_is, first_is, lane_at, lane_other, lent_other, lent_own, lists_set, of_prio_is, packets-append}
 use Rattle.trace_check.specs.declared.network.Network.{Network as Kept}
 use Rattle.trace_check.specs.Networks.{MakesIt}
 use Rattle.trace_check.specs.Tables.{IsIn, IsTable, table_place}

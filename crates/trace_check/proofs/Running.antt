@@ -8,7 +8,7 @@ use Rattle.link_model.specs.Events.{same_event}
 use Rattle.link_model.specs.Places.{Place, place_start, place_after}
 use Rattle.link_model.specs.Said.{said}
 use Rattle.link_model.proofs.PlacesLaws.{place_after-append, place_after-none}
-use Rattle.link_rest.proofs.SaidLaws.{said-append}
+use Rattle.link_machine.proofs.Settling.SaidLaws.{said-append}
 use Rattle.link_wires.specs.Kept.{behind, behind_some, behind_all}
 use Rattle.link_wires.proofs.KeptLaws.{all_then, all-more}
 use Rattle.fabric_script.specs.declared.ports.PortRef.{PortRef}
@@ -18,14 +18,14 @@ use Rattle.fabric_trace.specs.Lines.{Sent, Got, Fired, TraceLine, Begun, Stepped
 use Rattle.fabric_trace.specs.Fold.{says}
 use Rattle.fabric_trace.specs.Holds.{got, holds, numbered_packets}
 use Rattle.fabric_trace.specs.Frees.{frees_by}
-use Rattle.fabric_trace.proofs.Coming.{numbered-append}
-use Rattle.fabric_trace.proofs.Folding.{says_none}
-use Rattle.fabric_trace.proofs.HoldsRead.{got-append, holds-append}
+use Rattle.fabric_trace.proofs.Holds.Coming.{numbered-append}
+use Rattle.fabric_trace.proofs.Parts.Folding.{says_none}
+use Rattle.fabric_trace.proofs.Holds.HoldsRead.{got-append, holds-append}
 use Rattle.fabric_trace.specs.Allowance.{raised_all}
 use Rattle.trace_check.specs.Checks.{freed, unheld, HoldHasCome}
 use Rattle.trace_check.specs.Reaches.{IsPortRun}
 use Rattle.trace_check.specs.Running.{Come, packets_come, behind_packet, PortRun, new_run, run_hears, holds_one, frees_one, run_after, MayHold}
-use Rattle.fabric_trace.proofs.Raising.{raised-append}
+use Rattle.fabric_trace.proofs.Allowance.Raising.{raised-append}
 
 -- ---- packets alone
 

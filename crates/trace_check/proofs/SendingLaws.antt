@@ -10,7 +10,7 @@ use Rattle.fabric_script.specs.declared.ports.PortRef.{PortRef}
 use Rattle.fabric_model.specs.Network.{Network}
 use Rattle.fabric_trace.specs.Owned.{HasPacket}
 use Rattle.fabric_trace.specs.Views.{packets_in}
-use Rattle.fabric_trace.proofs.Lanes.{lane_at}
+use Rattle.fabric_trace.proofs.Network.Lanes.{lane_at}
 use Rattle.trace_check.specs.Sending.{AreToSend}
 
 same_other : (other packet : List ℕ) → Decides (pointwise nat_eq other packet) (other ≡ packet)

@@ -18,8 +18,8 @@ use Rattle.fabric_model.proofs.Peers.{apart_back, port_is, same_port-refl}
 use Rattle.fabric_trace.specs.Runs.{bare, set_up, set_up_all}
 use Rattle.fabric_trace.specs.Settings.{defaulted, held_by, large_set, linked_at, routed}
 use Rattle.fabric_trace.specs.SetUps.{MaySetUpAll}
-use Rattle.fabric_trace.proofs.Happening.{may_set_up}
-use Rattle.fabric_trace.proofs.SettingUp.{set_up_all-append, lines_at}
+use Rattle.fabric_trace.proofs.SetUps.Happening.{may_set_up}
+use Rattle.fabric_trace.proofs.SetUps.SettingUp.{set_up_all-append, lines_at}
 use Rattle.trace_check.specs.Starting.{AreEnds, ArePortsIn, MayStandBehind}
 use Rattle.trace_check.specs.Tables.{IsIn, IsTable, table_place}
 use Rattle.trace_check.proofs.TableLaws.{place_within, table_set}

@@ -1,4 +1,4 @@
-use Rattle.fabric_trace.proofs.Existing.{good_of}
+use Rattle.fabric_trace.proofs.Traces.Existing.{good_of}
 use Rattle.fabric_ask.proofs.Quieting.{round_quiet}
 use Rattle.fabric_ask.proofs.Rounding.{rounded}
 use Rattle.fabric_ask.proofs.Uncollected.{round_apart}

@@ -1,4 +1,4 @@
-use Rattle.fabric_trace.proofs.Existing.{good_of}
+use Rattle.fabric_trace.proofs.Traces.Existing.{good_of}
 use Rattle.fabric_ask.proofs.Answering.{is_replied, goes_there}
 use Rattle.fabric_ask.proofs.laws.asks_are_answered.Goals as goal
 

@@ -1,4 +1,4 @@
-use Rattle.fabric_trace.proofs.Existing.{good_of}
+use Rattle.fabric_trace.proofs.Traces.Existing.{good_of}
 use Rattle.fabric_ask.proofs.Stilling.{ask_still}
 use Rattle.fabric_ask.proofs.laws.without_edits_nothing_is_unsent.Goals as goal
 

@@ -1,4 +1,4 @@
-use Rattle.fabric_trace.proofs.Worked.{elsewhere_breaks, joined_breaks, held_breaks, came_breaks, order_breaks, got_breaks, another_breaks, sent_breaks, fired_breaks}
+use Rattle.fabric_trace.proofs.Worked.WorkedRuns.{elsewhere_breaks, joined_breaks, held_breaks, came_breaks, order_breaks, got_breaks, another_breaks, sent_breaks, fired_breaks}
 use Rattle.fabric_trace.proofs.examples.laws_can_fail.Goals as goal
 
 pub returns : goal.returns

@@ -1,4 +1,4 @@
-use Rattle.fabric_trace.proofs.Worked.{freed_breaks, twice_breaks, pieces_said, noted_breaks, later_breaks, allowed_breaks, once_allowed, too_many_breaks}
+use Rattle.fabric_trace.proofs.Worked.WorkedRuns.{freed_breaks, twice_breaks, pieces_said, noted_breaks, later_breaks, allowed_breaks, once_allowed, too_many_breaks}
 use Rattle.fabric_trace.proofs.examples.laws_of_frees_can_fail.Goals as goal
 
 pub returns : goal.returns

@@ -1,4 +1,4 @@
-use Rattle.fabric_trace.proofs.Worked.{idle_runs}
+use Rattle.fabric_trace.proofs.Worked.WorkedRuns.{idle_runs}
 use Rattle.fabric_trace.proofs.examples.small_run.Goals as goal
 
 pub returns : goal.returns

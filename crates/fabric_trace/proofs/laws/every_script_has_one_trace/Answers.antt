@@ -1,4 +1,4 @@
-use Rattle.fabric_trace.proofs.Tracing.{script_has_one}
+use Rattle.fabric_trace.proofs.Traces.Tracing.{script_has_one}
 use Rattle.fabric_trace.proofs.laws.every_script_has_one_trace.Goals as goal
 
 pub returns : goal.returns

@@ -1,4 +1,4 @@
-use Rattle.fabric_trace.proofs.Unique.{first_blocks_front}
+use Rattle.fabric_trace.proofs.Traces.Unique.{first_blocks_front}
 use Rattle.fabric_trace.proofs.laws.first_blocks_are_a_front.Goals as goal
 
 pub returns : goal.returns

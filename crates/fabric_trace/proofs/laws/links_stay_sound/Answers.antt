@@ -1,4 +1,4 @@
-use Rattle.fabric_trace.proofs.Starting.{links_sound, never_failed}
+use Rattle.fabric_trace.proofs.SetUps.Starting.{links_sound, never_failed}
 use Rattle.fabric_trace.proofs.laws.links_stay_sound.Goals as goal
 
 pub returns : goal.returns

@@ -1,4 +1,4 @@
-use Rattle.fabric_trace.proofs.Existing.{rounds_behind}
+use Rattle.fabric_trace.proofs.Traces.Existing.{rounds_behind}
 use Rattle.fabric_trace.proofs.laws.rounds_exist.Goals as goal
 
 pub returns : goal.returns

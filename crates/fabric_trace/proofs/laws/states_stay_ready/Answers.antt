@@ -1,4 +1,4 @@
-use Rattle.fabric_trace.proofs.Existing.{ready_begun, ready_on}
+use Rattle.fabric_trace.proofs.Traces.Existing.{ready_begun, ready_on}
 use Rattle.fabric_trace.proofs.laws.states_stay_ready.Goals as goal
 
 pub returns : goal.returns

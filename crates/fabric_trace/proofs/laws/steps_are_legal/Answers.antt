@@ -1,4 +1,4 @@
-use Rattle.fabric_trace.proofs.Starting.{legal, front_legal, lawful, runs_lawful}
+use Rattle.fabric_trace.proofs.SetUps.Starting.{legal, front_legal, lawful, runs_lawful}
 use Rattle.fabric_trace.proofs.laws.steps_are_legal.Goals as goal
 
 pub returns : goal.returns

@@ -1,4 +1,4 @@
-use Rattle.fabric_trace.proofs.Starting.{frees_allowed}
+use Rattle.fabric_trace.proofs.SetUps.Starting.{frees_allowed}
 use Rattle.fabric_trace.proofs.laws.what_a_port_frees_was_allowed.Goals as goal
 
 pub returns : goal.returns

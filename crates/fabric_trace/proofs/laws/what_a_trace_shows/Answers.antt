@@ -1,4 +1,4 @@
-use Rattle.fabric_trace.proofs.Shows.{runs_shown, fronts_shown, blocks_shown}
+use Rattle.fabric_trace.proofs.Shown.Shows.{runs_shown, fronts_shown, blocks_shown}
 use Rattle.fabric_trace.proofs.laws.what_a_trace_shows.Goals as goal
 
 pub returns : goal.returns

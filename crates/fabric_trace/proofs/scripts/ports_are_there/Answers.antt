@@ -1,4 +1,4 @@
-use Rattle.fabric_trace.proofs.Happening.{ports_there}
+use Rattle.fabric_trace.proofs.SetUps.Happening.{ports_there}
 use Rattle.fabric_trace.proofs.scripts.ports_are_there.Goals as goal
 
 pub returns : goal.returns

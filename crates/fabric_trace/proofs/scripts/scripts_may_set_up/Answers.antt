@@ -1,4 +1,4 @@
-use Rattle.fabric_trace.proofs.Happening.{may_set_up}
+use Rattle.fabric_trace.proofs.SetUps.Happening.{may_set_up}
 use Rattle.fabric_trace.proofs.scripts.scripts_may_set_up.Goals as goal
 
 pub returns : goal.returns

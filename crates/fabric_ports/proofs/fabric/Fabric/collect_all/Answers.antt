@@ -1,6 +1,6 @@
 use Rattle.std.proofs.Common.{◌++◌, sym, ◌∙◌}
 use Rattle.fabric_trace.specs.Fold.{seen}
-use Rattle.fabric_trace.proofs.Keeping.{good_by_priority}
+use Rattle.fabric_trace.proofs.Parts.Keeping.{good_by_priority}
 use Rattle.fabric_ports.proofs.GatherLaws.{endpoint_on, gathered_fewer, gather_begins, gather_more, gather_stops, gather_rests}
 use Rattle.fabric_ports.proofs.SettlingLaws.{good_behind}
 use Rattle.fabric_ports.proofs.fabric.Fabric.collect_all.Goals as goal

@@ -13,7 +13,7 @@ use Rattle.fabric_ports.specs.Standing.{Stands}
 use Rattle.fabric_ports.proofs.RanLaws.{handed_on}
 use Rattle.fabric_ports.proofs.RoundLaws.{run_blocked, run_ends}
 use Rattle.fabric_ports.specs.declared.answers.Happened.TheVariants.{Other}
-use Rattle.fabric_trace.proofs.Existing.{ready_on}
+use Rattle.fabric_trace.proofs.Traces.Existing.{ready_on}
 use Rattle.fabric_ports.proofs.EventLaws.{end_of, ids_are, taken_line, sent_block, evented, linked_evented, ends_on, none_taken, at_link_is, other_happened}
 use Rattle.fabric_ports.proofs.fabric.Fabric.event.Goals as goal
 

@@ -4,7 +4,7 @@ use Rattle.rio_packets.specs.Fields.{prio_of}
 use Rattle.link_buffers.specs.Queues.{list_at}
 use Rattle.link_port.specs.Ports.{PortState}
 use Rattle.fabric_model.specs.Network.{port_of, room_out}
-use Rattle.fabric_trace.proofs.Faces.{room_is}
+use Rattle.fabric_trace.proofs.Network.Faces.{room_is}
 use Rattle.fabric_ports.proofs.NodeLaws.{with_port, has_port, port_read}
 use Rattle.fabric_ports.proofs.SendLaws.{did_full, did_take}
 use Rattle.fabric_ports.proofs.fabric.Fabric.send.Goals as goal

@@ -1,6 +1,6 @@
 use Rattle.std.proofs.Common.{◌++◌, subst}
 use Rattle.fabric_trace.specs.Fold.{seen}
-use Rattle.fabric_trace.proofs.Keeping.{good_by_priority}
+use Rattle.fabric_trace.proofs.Parts.Keeping.{good_by_priority}
 use Rattle.fabric_ports.specs.Events.{IsSwitchStep}
 use Rattle.fabric_ports.proofs.SettlingLaws.{good_behind, switch_stays}
 use Rattle.fabric_ports.proofs.ServeLaws.{held_fewer, serves_begin, serves_more, serves_end}

@@ -1,6 +1,6 @@
 use Rattle.std.proofs.Common.{rules}
 use Rattle.link_machine.specs.Prelude.{B, link}
-use Rattle.link_rest.specs.Settling.{Empties}
+use Rattle.link_machine.specs.Settling.{Empties}
 use Rattle.link_law.proofs.DoesLaws.{IsWatch, did_next, did_early, empties_follow}
 use Rattle.link_law.proofs.link.Link.round.Given.{Over}
 use Rattle.link_law.proofs.link.Link.round.Goals as goal

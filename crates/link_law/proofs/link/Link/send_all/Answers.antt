@@ -1,8 +1,8 @@
 use Rattle.std.proofs.Common.{refl, sym, ap, ◌∙◌, rules}
 use Rattle.link_port.specs.Prelude.{PortState, is_ready}
 use Rattle.link_machine.specs.States.{link}
-use Rattle.link_rest.specs.Settling.{is_retry_stopped}
-use Rattle.link_rest.proofs.Sending.{Sending}
+use Rattle.link_machine.specs.Settling.{is_retry_stopped}
+use Rattle.link_machine.proofs.Settling.Sending.{Sending}
 use Rattle.link_law.proofs.SendLaws.{quiet_first, sent_none, sent_on, sent_over, sent_ends, last_did, sound_round, all_comes, all_did}
 use Rattle.link_law.proofs.DoesLaws.{IsWatch, did_end}
 use Rattle.link_law.proofs.link.Link.send_all.Given.{Over}

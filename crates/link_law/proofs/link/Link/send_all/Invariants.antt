@@ -1,6 +1,6 @@
 use Rattle.std.proofs.Common.{◌≡◌}
 use Rattle.link_machine.specs.States.{link}
-use Rattle.link_rest.proofs.Ends.{left_at}
+use Rattle.link_machine.proofs.Settling.Ends.{left_at}
 use Rattle.link_law.proofs.SendLaws.{Sent}
 use Rattle.link_law.proofs.link.Link.send_all.Given as goal
 

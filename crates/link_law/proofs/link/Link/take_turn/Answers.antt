@@ -1,5 +1,5 @@
 use Rattle.link_machine.specs.States.{link}
-use Rattle.link_rest.specs.Settling.{Drains}
+use Rattle.link_machine.specs.Settling.{Drains}
 use Rattle.link_law.specs.Does.{Pumps, end_of}
 use Rattle.link_law.proofs.Noting.{given_is}
 use Rattle.link_law.proofs.DoesLaws.{IsWatch, did_next, did_early}

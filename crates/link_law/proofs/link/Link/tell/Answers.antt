@@ -2,7 +2,7 @@ use Rattle.std.proofs.Common.{List, [], ◌∷◌, refl, ap, subst, ◌∙◌}
 use Rattle.rio_chars.specs.declared.chars.Char.{Char}
 use Rattle.link_port.specs.Turns.{tell_sends}
 use Rattle.link_machine.specs.Prelude.{Stopped, Wires, link, from_end, told_from, sent_notes}
-use Rattle.link_rest.specs.Acts.{Tell}
+use Rattle.link_machine.specs.Acts.{Tell}
 use Rattle.link_law.specs.Does.{TellsOnce, end_of}
 use Rattle.link_law.specs.declared.answers.LinkEnd.TheVariants.{NoMemory}
 use Rattle.link_law.proofs.Noting.{given_is}

@@ -2,7 +2,7 @@ use Rattle.std.proofs.Common.{◌≡◌, Some, ap, refl, sym, ◌∙◌, subst, 
 use Rattle.rio_packets.specs.Fields.{prio_of}
 use Rattle.fabric_model.specs.Network.{room_in}
 use Rattle.fabric_model.specs.Steps.{after_hold, only_first}
-use Rattle.fabric_trace.proofs.Lanes.{only_is}
+use Rattle.fabric_trace.proofs.Network.Lanes.{only_is}
 use Rattle.trace_check.specs.Networks.{IsNetwork, with_lending, without_waiting}
 use Rattle.trace_check.proofs.network.Network.hold.Goals as goal
 

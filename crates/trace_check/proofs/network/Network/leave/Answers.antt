@@ -1,6 +1,6 @@
 use Rattle.std.proofs.Common.{◌≡◌, None, Some, arith, false, sym, ◌∙◌, rules, tests}
 use Rattle.maint_packets.specs.Requests.{request_of}
-use Rattle.fabric_trace.proofs.Faces.{not_asked}
+use Rattle.fabric_trace.proofs.Network.Faces.{not_asked}
 use Rattle.trace_check.proofs.network.Network.leave.Goals as goal
 
 pub returns : goal.returns

@@ -6,7 +6,7 @@ use Rattle.maint_packets.specs.declared.request.Request.{Request}
 use Rattle.maint_packets.specs.Requests.{request_of}
 use Rattle.maint_packets.specs.Responses.{response_bytes}
 use Rattle.fabric_model.specs.Serving.{device_after}
-use Rattle.fabric_trace.proofs.Faces.{response_is}
+use Rattle.fabric_trace.proofs.Network.Faces.{response_is}
 use Rattle.trace_check.proofs.network.Network.respond.Goals as goal
 
 -- what is no request changes no registers

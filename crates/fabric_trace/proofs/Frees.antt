@@ -1,0 +1,6 @@
+-- What a port frees was acknowledged.
+pub mod HeardRows
+pub mod Heard
+pub mod FreesStill
+pub mod FreesRead
+pub mod Notings

@@ -1,0 +1,270 @@
+-- The packets that a delivery frees are acknowledged by what it says.
+use Rattle.std.proofs.Common.{◌≡◌, ◌≢◌, inl, inr, ℕ, suc, ◌+◌, ◌-◌, ◌%◌, ◌<◌, ◌==◌, ◌++◌, Bool, true, false, List, [], ◌∷◌, All, length, map, take, Option, Some, None, option_to_list, refl, sym, ap, ◌∙◌, subst, arith, append_assoc, length-take, if◌then◌else◌}
+use Rattle.std.proofs.lemmas.Bool.{eqb-true, cases_lt}
+use Rattle.std.proofs.lemmas.List.{append-nil, length-map}
+use Rattle.std.proofs.lemmas.List.Elements.{All-head, All-tail}
+use Rattle.rio_packets.specs.Fields.{prio_of}
+use Rattle.rio_symbols.specs.Fields.{Fields}
+use Rattle.rio_symbols.specs.declared.stype0.TheConstants.{PACKET_ACCEPTED, PACKET_RETRY, PACKET_NOT_ACCEPTED, LINK_RESPONSE}
+use Rattle.link_buffers.specs.Priorities.{packets_of}
+use Rattle.link_buffers.proofs.PriorityLaws.{Covers-take, map-prio_of-packets_of}
+use Rattle.link_model.specs.declared.event.Event.{Event}
+use Rattle.link_model.specs.declared.event.Event.TheVariants.{Ctl, Pkt, Bad}
+use Rattle.link_model.specs.Output as out
+use Rattle.link_model.specs.Output.{Stype0, PacketAccepted, PacketRetry, PacketNotAccepted, LinkResponse, OtherStype0, stype0, hears, hears_report, accepted, retried, responded}
+use Rattle.link_port.specs.Ports.{PortState, IsPort}
+use Rattle.link_port.specs.States.{prios_of, IsOutput}
+use Rattle.link_port.specs.Steps.{acts, symbol_heard}
+use Rattle.link_port.proofs.HearLaws.{report_prios}
+use Rattle.link_sound.specs.Meanings.{oldest_of}
+use Rattle.link_sound.proofs.Reported.{report_oldest}
+use Rattle.rio_chars.specs.declared.chars.Char.{Char}
+use Rattle.link_model.specs.Places.{Place, run, place_after}
+use Rattle.link_model.specs.Said.{said}
+use Rattle.link_port.specs.Steps.{is_acted}
+use Rattle.link_sound.specs.Sound.{IsSound}
+use Rattle.link_sound.proofs.Promises.{not_failed}
+use Rattle.link_machine.specs.Queues.{Queues, queues_between}
+use Rattle.link_machine.proofs.Flowing.{IsFlowing, AreFlowing, comes_flowing}
+use Rattle.link_machine.proofs.Arriving.{HasAckAt, run_has}
+use Rattle.link_machine.proofs.Walking.{Stays}
+use Rattle.link_wires.specs.Deliveries.{Flow, Delivered, Through, Unsent, begun, moves_of, done, met, comes, goes_on, come, ended, delivered}
+use Rattle.link_wires.specs.Kept.{behind}
+use Rattle.link_wires.specs.Kept.IsSubsequence.{EndsWithin, TakesWithin}
+use Rattle.link_wires.specs.declared.moves.Move.{Move}
+use Rattle.link_wires.specs.declared.moves.Move.TheVariants.{Held, Freed}
+use Rattle.fabric_trace.specs.Frees.{Acknowledges, IsSaid}
+use Rattle.fabric_trace.proofs.Holds.Coming.{none_within, within-append, within_more}
+use Rattle.fabric_trace.proofs.Frees.HeardRows.{Tells, heard_rows}
+
+-- ---- one event
+
+-- a symbol of a kind, by its stype0
+abbrev IsKind : ℕ → Stype0 → Type 0
+IsKind s0 PacketAccepted = s0 ≡ PACKET_ACCEPTED
+IsKind s0 PacketRetry = Unit {0}
+IsKind s0 PacketNotAccepted = Unit {0}
+IsKind s0 LinkResponse = s0 ≡ LINK_RESPONSE
+IsKind s0 OtherStype0 = Unit {0}
+
+kind_by : (s0 : ℕ) (a b c d : Bool) → (a ≡ true → s0 ≡ PACKET_ACCEPTED)
+    → (d ≡ true → s0 ≡ LINK_RESPONSE)
+    → IsKind s0 (if a then PacketAccepted else (if
+    b then PacketRetry else (if
+    c then PacketNotAccepted else (if d then LinkResponse else OtherStype0))))
+kind_by s0 true b c d first last = first refl
+kind_by s0 false true c d first last = tt
+kind_by s0 false false true d first last = tt
+kind_by s0 false false false true first last = last refl
+kind_by s0 false false false false first last = tt
+
+kind_is : (s0 : ℕ) → IsKind s0 (stype0 s0)
+kind_is s0 =
+    kind_by s0 (s0 == PACKET_ACCEPTED) (s0 == PACKET_RETRY) (s0 == PACKET_NOT_ACCEPTED)
+    (s0 == LINK_RESPONSE) (λ e. eqb-true s0 PACKET_ACCEPTED e) (λ e. eqb-true s0 LINK_RESPONSE e)
+
+tells_of : (symbol : Fields) (j : ℕ) (kind : Stype0) → IsKind symbol.s0 kind
+    → Tells kind symbol.p0 j → Acknowledges j (Ctl symbol)
+tells_of symbol j PacketAccepted is tells = inl (is, tells)
+tells_of symbol j PacketRetry is tells = absurd tells
+tells_of symbol j PacketNotAccepted is tells = absurd tells
+tells_of symbol j LinkResponse is tells = inr is
+tells_of symbol j OtherStype0 is tells = absurd tells
+
+-- What an event frees, it acknowledges, and the oldest packet is then the next one.
+record EventFrees (n : ℕ) (port : PortState) (e : Event) : Type 0 where
+  pub oldest : oldest_of (acts port e).port.output ≡ (n + length (acts port e).freed) % 32
+  pub acknowledges : (i : ℕ) → i < length (acts port e).freed → Acknowledges (n + i) e
+
+frees_none : (n : ℕ) (port : PortState) (e : Event) → (acts port e).freed ≡ []
+    → (acts port e).port.output ≡ port.output → oldest_of port.output ≡ n % 32 → EventFrees n port e
+frees_none n port e none same is =
+    let zero_freed : length (acts port e).freed ≡ 0 = ap length none in
+    record {
+      oldest = ap oldest_of same ∙ is
+          ∙ (let more : n ≡ n + length (acts port e).freed =
+          omega (arith, zero_freed) in ap (λ k. k % 32) more);
+      acknowledges = λ i few. absurd (omega (arith, few, zero_freed));
+    }
+
+event_frees : (n : ℕ) (port : PortState) (e : Event) → IsPort port
+    → IsOutput (acts port e).port.output → (acts port e).port.output ≢ out.Output.Failed
+    → oldest_of port.output ≡ n % 32 → EventFrees n port e
+event_frees n port (Ctl symbol) is bounded working oldest =
+    let row =
+    heard_rows n (stype0 symbol.s0) (hears_report symbol port.output) symbol.p0
+    (report_oldest symbol port.output ∙ oldest) bounded working in
+    let k = (symbol_heard port symbol).freed in
+    let prios = prios_of port.output in
+    let some =
+    map-prio_of-packets_of (take k prios) port.queued is.sends.four
+    (Covers-take k prios port.queued is.covered) is.sends.sorted in
+    let count =
+    sym (length-map (packets_of (take k prios) port.queued) prio_of) ∙ ap length some in
+    let taken = length-take k prios in
+    let most = row.few in
+    let same = ap length (report_prios symbol port.output) in
+    let freed : length (packets_of (take k prios) port.queued) ≡ k =
+    omega (arith, count, taken, most, same) in
+    record {
+      oldest = row.oldest ∙ ap (λ m. (n + m) % 32) (sym freed);
+      acknowledges = λ i few.
+          tells_of symbol (n + i) (stype0 symbol.s0) (kind_is symbol.s0)
+          (row.tells i (omega (arith, few, freed)));
+    }
+event_frees n port (Pkt ack packet) is bounded working oldest =
+    frees_none n port (Pkt ack packet) refl refl oldest
+event_frees n port (Bad cause) is bounded working oldest =
+    frees_none n port (Bad cause) refl refl oldest
+
+-- ---- a flow
+
+abbrev pub freed_count : List Move → ℕ
+freed_count [] = 0
+freed_count (Held packet ∷ moves) = freed_count moves
+freed_count (Freed packet ∷ moves) = suc (freed_count moves)
+
+pub freed-append : (xs ys : List Move) → freed_count (xs ++ ys) ≡ freed_count xs + freed_count ys
+freed-append [] ys = omega arith
+freed-append (Held packet ∷ xs) ys = freed-append xs ys
+freed-append (Freed packet ∷ xs) ys = let more = freed-append xs ys in omega (arith, more)
+
+freed_all : (packets : List (List ℕ))
+    → freed_count (map (λ packet. Freed packet) packets) ≡ length packets
+freed_all [] = refl
+freed_all (packet ∷ packets) = let more = freed_all packets in omega (arith, more)
+
+pub freed_of : (held : Option (List ℕ)) (freed : List (List ℕ))
+    → freed_count (map (λ packet. Held packet) (option_to_list held) ++ map (λ packet. Freed packet)
+    freed) ≡ length freed
+freed_of None freed = freed_all freed
+freed_of (Some packet) freed = freed_all freed
+
+-- after these events: each packet freed, numbered from n on, is acknowledged by one of them, and
+-- the next is the oldest
+pub record HasFreed (n : ℕ) (said : List Event) (flow : Flow) : Type 0 where
+  pub oldest : oldest_of flow.port.output ≡ (n + freed_count flow.told.moves) % 32
+  pub all : (i : ℕ) → i < freed_count flow.told.moves → IsSaid (n + i) said
+
+abbrev pub HaveFreed : ℕ → List Event → Delivered → Type 0
+HaveFreed n said (Through flow) = HasFreed n said flow
+HaveFreed n said (Unsent told e) = (i : ℕ) → i < freed_count told.moves → IsSaid (n + i) said
+
+said_more : {j : ℕ} {said : List Event} (more : List Event) → IsSaid j said
+    → IsSaid j (said ++ more)
+said_more more s =
+    record { event = s.event; among = within_more more s.among; acknowledges = s.acknowledges }
+
+done_frees : (n : ℕ) (said : List Event) (e : Event) (acted kept : List Event) (flow : Flow)
+    (b : PortState) (kept_a : List Event) (begin : Queues)
+    → IsFlowing b kept_a begin flow → IsFlowing b kept_a begin (done e acted kept flow)
+    → HasFreed n said flow → HasFreed n (said ++ e ∷ []) (done e acted kept flow)
+done_frees n said e acted kept flow b kept_a begin before next h =
+    let m = freed_count flow.told.moves in
+    let frees =
+    event_frees (n + m) flow.port e before.port next.port.outstanding
+    (not_failed (acts flow.port e).port b _ _ next.sound) h.oldest in
+    let count : freed_count (flow.told.moves ++ moves_of (acts flow.port e))
+    ≡ m + length (acts flow.port e).freed =
+    freed-append flow.told.moves (moves_of (acts flow.port e))
+    ∙ ap (λ k. m + k) (freed_of (acts flow.port e).held (acts flow.port e).freed) in
+    let sum : (n + m) + length (acts flow.port e).freed
+    ≡ n + freed_count (flow.told.moves ++ moves_of (acts flow.port e)) = omega (arith, count) in
+    record {
+      oldest = frees.oldest ∙ ap (λ k. k % 32) sum;
+      all = λ i few. elim (cases_lt i m) [
+        | inl old ↦ said_more (e ∷ []) (h.all i old)
+        | inr new ↦
+            let j : i ≡ m + (i - m) = omega (arith, new) in
+            let small : i - m < length (acts flow.port e).freed = omega (arith, few, count, new) in
+            let number : (n + m) + (i - m) ≡ n + i = omega (arith, new) in
+            record {
+              event = e;
+              among = within-append (none_within said) (TakesWithin e EndsWithin);
+              acknowledges =
+                  subst (λ k. Acknowledges k e) number (frees.acknowledges (i - m) small);
+            }
+      ];
+    }
+
+met_frees : (n : ℕ) (said : List Event) (at : ℕ) (e : Event) (kept : Option (List Event))
+    (flow : Flow) (b : PortState) (kept_a : List Event) (begin : Queues)
+    → IsFlowing b kept_a begin flow → AreFlowing b kept_a begin (met at e kept flow)
+    → HasFreed n said flow → HaveFreed n (said ++ e ∷ []) (met at e kept flow)
+met_frees n said at e None flow b kept_a begin before next h =
+    λ i few. said_more (e ∷ []) (h.all i few)
+met_frees n said at e (Some kept) flow b kept_a begin before next h =
+    done_frees n said e (e ∷ []) kept flow b kept_a begin before next h
+
+comes_frees : (n : ℕ) (said : List Event) (flow : Flow) (placed : ℕ × Event) (b : PortState)
+    (kept_a : List Event) (begin : Queues)
+    → IsFlowing b kept_a begin flow → AreFlowing b kept_a begin (comes flow placed)
+    → HasFreed n said flow → HaveFreed n (said ++ placed.1 ∷ []) (comes flow placed)
+comes_frees n said flow placed b kept_a begin before next h =
+    (elim (is_acted flow.port placed.1) as (λ t. AreFlowing b kept_a begin
+    (if t then met placed.0 placed.1 (behind placed.1 flow.kept) flow else Through
+    (done placed.1 [] flow.kept flow))
+    → HaveFreed n (said ++ placed.1 ∷ [])
+    (if t then met placed.0 placed.1 (behind placed.1 flow.kept) flow else Through
+    (done placed.1 [] flow.kept flow))) [
+      | true ↦ λ (f : AreFlowing b kept_a begin
+          (met placed.0 placed.1 (behind placed.1 flow.kept) flow)). met_frees n said placed.0
+          placed.1 (behind placed.1 flow.kept) flow b kept_a begin before f h
+      | false ↦
+          λ (f : IsFlowing b kept_a begin (done placed.1 [] flow.kept flow)). done_frees n said
+          placed.1 [] flow.kept flow b kept_a begin before f h
+    ]) next
+
+abbrev events_of : List (ℕ × Event) → List Event
+events_of events = map (λ (event : ℕ × Event). event.1) events
+
+on_frees : (n : ℕ) (said rest : List Event) (more : Flow → Delivered) (d : Delivered)
+    (b : PortState) (kept_a : List Event) (begin : Queues)
+    → ((f : Flow) → IsFlowing b kept_a begin f → HasFreed n said f
+    → HaveFreed n (said ++ rest) (more f)) → AreFlowing b kept_a begin d → HaveFreed n said d
+    → HaveFreed n (said ++ rest) (goes_on more d)
+on_frees n said rest more (Through f) b kept_a begin next flowing h = next f flowing h
+on_frees n said rest more (Unsent told e) b kept_a begin next flowing h =
+    λ i few. said_more rest (h i few)
+
+come_frees : (n : ℕ) (events : List (ℕ × Event)) (said : List Event) (flow : Flow)
+    (b : PortState) (kept_a : List Event) (begin : Queues) → IsPort b → All HasAckAt events
+    → IsFlowing b kept_a begin flow → HasFreed n said flow
+    → HaveFreed n (said ++ events_of events) (come events flow)
+unfolding come
+come_frees n [] said flow b kept_a begin far has flowing h =
+    subst (λ (l : List Event). HasFreed n l flow) (sym (append-nil said)) h
+come_frees n (placed ∷ events) said flow b kept_a begin far has flowing h =
+    let own = All-head HasAckAt placed events has in
+    let more = All-tail HasAckAt placed events has in
+    let next = comes_flowing b kept_a begin flow placed far own flowing in
+    subst (λ (l : List Event). HaveFreed n l (goes_on (come events) (comes flow placed)))
+    (append_assoc said (placed.1 ∷ []) (events_of events))
+    (on_frees n (said ++ placed.1 ∷ []) (events_of events) (come events) (comes flow placed) b
+    kept_a begin
+    (λ f g k. come_frees n events (said ++ placed.1 ∷ []) f b kept_a begin far more g k) next
+    (comes_frees n said flow placed b kept_a begin flowing next h))
+
+ended_frees : (n : ℕ) (said : List Event) (place : Place) (count : ℕ) (d : Delivered)
+    → HaveFreed n said d → HaveFreed n said (ended place count d)
+ended_frees n said place count (Through flow) h = record { oldest = h.oldest; all = h.all }
+ended_frees n said place count (Unsent told e) h = h
+
+-- a delivery to a port whose oldest packet is the n-th
+pub delivered_frees : (n : ℕ) (a b : PortState) (kept_a kept_b : List Event) (chars : List Char)
+    → IsPort a → IsPort b → IsSound a b kept_a kept_b → oldest_of a.output ≡ n % 32
+    → HaveFreed n (said a.place chars) (delivered a kept_b chars)
+delivered_frees n a b kept_a kept_b chars near far sound is =
+    ended_frees n (said a.place chars) (place_after a.place chars) _
+    (come (run a.place 0 chars) (begun a kept_b))
+    (come_frees n (run a.place 0 chars) [] (begun a kept_b) b kept_a (queues_between a b) far
+    (run_has a.place 0 chars)
+    (record {
+      port = near;
+      sound = subst (λ (l : List Event). IsSound a b l kept_b) (sym (append-nil kept_a)) sound;
+      walks = Stays;
+    })
+    (record {
+      oldest = is ∙ (let more : n ≡ n + 0 = omega arith in ap (λ k. k % 32) more);
+      all = λ i few. absurd (omega (arith, few));
+    }))

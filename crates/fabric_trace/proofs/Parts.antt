@@ -1,0 +1,5 @@
+-- What lines lead to, part by part.
+pub mod Folding
+pub mod Keeping
+pub mod Making
+pub mod Fronting

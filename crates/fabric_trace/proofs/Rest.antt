@@ -1,0 +1,4 @@
+-- Links at rest.
+pub mod RoundsRest
+pub mod Resting
+pub mod RunsRest

@@ -1,0 +1,117 @@
+-- What a switch makes of a packet is in its link form if all that the network holds is: so each
+-- switch has a move.
+use Rattle.std.proofs.Common.{◌≡◌, ℕ, ◌<◌, true, List, Option, Some, None, option_map, slice_get, unwrap_or, arith, refl, sym, ap, ◌∙◌, subst}
+use Rattle.rio_packets.specs.Fields.{prio_of}
+use Rattle.rio_packets.specs.LinkForm.{Passes}
+use Rattle.maint_registers.specs.Devices.{Registers, is_switch}
+use Rattle.maint_registers.specs.Within.{IsWithin}
+use Rattle.maint_packets.specs.declared.next_hop.Next.{Next}
+use Rattle.maint_packets.specs.declared.next_hop.Next.TheVariants.{Nowhere, RegisterUnit, Port}
+use Rattle.maint_packets.specs.declared.request.Request.{Request}
+use Rattle.maint_packets.specs.NextHops.{next_of}
+use Rattle.maint_packets.specs.Requests.{request_of}
+use Rattle.maint_packets.specs.Responses.{response_bytes}
+use Rattle.maint_packets.specs.Answers.{request_answered}
+use Rattle.maint_packets.proofs.AnswerLaws.{responses_pass}
+use Rattle.switch_core.specs.declared.switch.Step as switch
+use Rattle.switch_core.specs.declared.switch.Step.TheVariants.{Moved, Dropped, Answered, Nothing}
+use Rattle.switch_core.specs.Faces.{Face, face_at, head_of, has_room}
+use Rattle.switch_core.specs.Order.{least_first}
+use Rattle.switch_core.specs.SwitchSteps.{answer_step, step_to, step_of_head, step_at, first_step, step_of}
+use Rattle.switch_core.proofs.OrderLaws.{least_first-is, greatest_first-is}
+use Rattle.fabric_script.specs.declared.ports.PortRef.{PortRef}
+use Rattle.fabric_model.specs.Network.{Network, IsSwitch}
+use Rattle.fabric_model.specs.Laws.Forms.{IsFormed}
+use Rattle.fabric_model.proofs.Forms.{device_at}
+use Rattle.fabric_trace.specs.Known.{Seen}
+use Rattle.fabric_trace.specs.Served.{face_in, faces_in, step_lines, ResponseHasForm, IsMove}
+use Rattle.fabric_trace.proofs.Network.Faces.{head_held, face_is, if_some}
+use Rattle.fabric_trace.proofs.Parts.Keeping.{IsGood, good_by_priority, passes_first}
+
+-- a node's device
+pub record StandsAt (net : Network) (node : ℕ) : Type 0 where
+  pub device : Registers
+  pub stands : slice_get net.registers node ≡ Some device
+
+-- a switch is one of the devices
+pub switch_stands : (net : Network) (node : ℕ) → IsSwitch net node → StandsAt net node
+switch_stands net node switch = by_found (slice_get net.registers node) refl switch
+  where
+    by_found : (found : Option Registers) → slice_get net.registers node ≡ found
+        → option_map is_switch found ≡ Some true → StandsAt net node
+    by_found None at is = absurd cc
+    by_found (Some device) at is = record { device = device; stands = at }
+
+module _ (s : Seen) (node : ℕ) (device : Registers) (good : IsGood s) (formed : IsFormed s.network)
+    (stands : slice_get s.network.registers node ≡ Some device) where
+  answer_form : (port : ℕ) (packet : List ℕ) (asks : Option Request) (step : switch.Step) → port
+      < device.ports → Passes packet → request_of packet ≡ asks
+      → answer_step device (faces_in s.network node device) port packet asks ≡ Some step
+      → ResponseHasForm step
+  answer_form port packet None step there passes asks is = absurd cc
+  answer_form port packet (Some request) step there passes asks is =
+      let response = response_bytes (request_answered device request port).response in
+      let within : IsWithin device = device_at s.network.registers node device stands
+      formed.registers in
+      let most = within.ports in
+      let made =
+      if_some (has_room (face_at (faces_in s.network node device) port) (prio_of response))
+      (Answered port packet response) step is in
+      subst ResponseHasForm made.1
+      (responses_pass device packet request port within (omega arith) passes asks)
+
+  to_form : (port : ℕ) (packet : List ℕ) (next : Next) (step : switch.Step) → port < device.ports
+      → Passes packet → step_to device (faces_in s.network node device) port packet next ≡ Some step
+      → ResponseHasForm step
+  to_form port packet Nowhere step there passes is =
+      let same : Dropped port packet ≡ step = cc in
+      subst ResponseHasForm same tt
+  to_form port packet RegisterUnit step there passes is =
+      answer_form port packet (request_of packet) step there passes refl is
+  to_form port packet (Port to) step there passes is =
+      let made = if_some (has_room (face_at (faces_in s.network node device) to) (prio_of packet))
+      (Moved port to packet) step is in
+      subst ResponseHasForm made.1 tt
+
+  head_form : (port r : ℕ) (head : Option (List ℕ)) (step : switch.Step) → port < device.ports
+      → head_of (face_at (faces_in s.network node device) port) r ≡ head
+      → step_of_head device (faces_in s.network node device) port head ≡ Some step
+      → ResponseHasForm step
+  head_form port r None step there head is = absurd cc
+  head_form port r (Some packet) step there head is =
+      let p : PortRef = record { node = node; port = port } in
+      let own : head_of (face_in s.network p) r ≡ Some packet =
+      ap (λ (f : Face). head_of f r) (sym (face_is s.network node device port there))
+      ∙ head in
+      to_form port packet (next_of device packet) step there
+      (passes_first s good p packet
+      (head_held s.network p r packet (good_by_priority good) own).first) is
+
+  first_form : (found : Option switch.Step) → first_step device (faces_in s.network node device)
+      ≡ found → ResponseHasForm (unwrap_or found Nothing)
+  first_form None is = tt
+  first_form (Some step) is =
+      let faces = faces_in s.network node device in
+      let of_prio = greatest_first-is (λ prio. least_first (step_at device faces prio) device.ports)
+      4 step is in
+      let at = least_first-is (step_at device faces of_prio.0) device.ports step of_prio.2 in
+      head_form at.0 of_prio.0 (head_of (face_at faces at.0) of_prio.0) step at.1 refl at.2
+
+  -- what a switch makes is in its link form
+  pub step_form : ResponseHasForm (step_of device (faces_in s.network node device))
+  step_form = first_form (first_step device (faces_in s.network node device)) refl
+
+-- A switch has a move, if only the one that no packet of it can go.
+pub move_exists : (s : Seen) (node : ℕ) → IsGood s → IsFormed s.network → IsSwitch s.network node
+    → (step : switch.Step) × IsMove s.network node (step_lines node step)
+move_exists s node good formed kind =
+    let found = switch_stands s.network node kind in (
+      step_of found.device (faces_in s.network node found.device),
+      record {
+        switch = kind;
+        device = found.device;
+        stands = found.stands;
+        form = step_form s node found.device good formed found.stands;
+        lines = refl;
+      },
+    )
