@@ -40,7 +40,7 @@ ghost use Rattle.fabric_trace.specs.Shown.{Shown};
 ghost use Rattle.fabric_trace.specs.Wires.{WireFold};
 
 /// A script has at most one trace.
-#[tactic(auto, using(crate::proofs::Unique::runs_one))]
+#[tactic(auto, using(crate::proofs::Traces::Unique::runs_one))]
 pub fn one_trace()
     ensures { (script : List Numbered) (a b : List TraceLine) → Runs script a → Runs script b
         → a ≡ b }
