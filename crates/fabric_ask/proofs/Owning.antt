@@ -90,7 +90,7 @@ module _ (host : ℕ) (device : Registers) (endpoint : is_switch device ≡ fals
         absurd (some_none (next_at (own net) n packet) none named)
     | inr other ↦
         ap (option_and_then
-            (λ (d : Registers). if is_switch d then Some (next_of d packet) else None))
+        (λ (d : Registers). if is_switch d then Some (next_of d packet) else None))
         (sym (own_at net.registers host device n (λ same. omega (arith, other, same)))) ∙ named
   ]
     where

@@ -51,7 +51,7 @@ pub switch_of : (fabric : Fabric) (s : Seen) (node : ℕ) → ShowsFabric fabric
     → IsSwitch s.network node → IsSwitchAt fabric.devices.items node
 switch_of fabric s node shows is = by_device (slice_get fabric.devices.items node) refl
     (ap (λ (l : List Registers). option_map is_switch (slice_get l node)) (sym shows.registers)
-        ∙ is)
+    ∙ is)
   where
     by_device : (o : Option Registers) → slice_get fabric.devices.items node ≡ o
         → option_map is_switch o ≡ Some true → IsSwitchAt fabric.devices.items node
@@ -79,8 +79,8 @@ ids_are fabric s node place device shows at same value =
     ap (λ (devices : List Registers). slice_get devices node) shows.registers ∙ read in
     fun_ext (λ (large : Bool).
     sym (ap
-        (λ (o : Option Registers). unwrap_or
-            (option_map (λ (d : Registers). sender_id d large) o) 0)
+    (λ (o : Option Registers). unwrap_or
+    (option_map (λ (d : Registers). sender_id d large) o) 0)
     known))
 
 -- the packet that a line gives is that of its contents

@@ -189,7 +189,7 @@ pub endpoint_of : {from : Seen} {lines : List TraceLine} {fabric : Fabric} (n : 
 endpoint_of n stands kind =
     stands.shows.endpoints n
     (ap (λ (l : List Registers). option_map is_switch (slice_get l n)) stands.shows.registers
-        ∙ kind)
+    ∙ kind)
 
 pub endpoint_kind : (devices : List Registers) (n : ℕ) → IsEndpointAt devices n
     → option_map is_switch (slice_get devices n) ≡ Some false

@@ -35,7 +35,7 @@ pub own_is : {from : Seen} {lines : List TraceLine} {fabric : Fabric} (node plac
     → read ≡ get_or fabric.devices.items place read → read ≡ device
 own_is {from} {lines} {fabric} node place device read stands known same value =
     let there = ap (λ (l : List Registers). slice_get l node) (sym stands.shows.registers)
-        ∙ known in
+    ∙ known in
     same_Some read device
     (sym (device_read fabric.devices.items node place device read there same value) ∙ there)
 

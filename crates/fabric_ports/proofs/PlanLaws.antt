@@ -179,7 +179,7 @@ counts-device devices new device ports is same =
 
 change_lists : (devices : List Registers) (firsts : List ℕ) (ports : List PortPlan)
     (cables : List Cable) (net : Network) (n : ℕ) (change : Registers → Registers)
-        → KeepsPorts change
+    → KeepsPorts change
     → Lists devices firsts ports cables net
     → Lists (with_device devices n change) firsts ports cables (with_change net n change)
 change_lists devices firsts ports cables net n change same l = record {
