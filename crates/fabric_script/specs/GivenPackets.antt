@@ -1,24 +1,24 @@
 -- Packets that lines give to endpoints.
-use Rattle.std.specs.Prelude.{ℕ, Bool, true, false, Option, Some, None}
+use Rattle.std.specs.Prelude.{ℕ, Bool, true, false}
 use Rattle.fabric_script.specs.declared.given_packets.Contents.{Contents}
 use Rattle.fabric_script.specs.declared.given_packets.Contents.TheVariants as Of
 use Rattle.fabric_script.specs.declared.given_packets.GivenPacket.{GivenPacket}
 use Rattle.fabric_script.specs.declared.lines.Line.{Line}
 use Rattle.fabric_script.specs.declared.lines.Line.TheVariants.{Send, Read, Write, Send16, Read16, Write16}
 
--- the endpoint that a line gives a packet with 16-bit IDs
-abbrev pub large_taker : Line → Option ℕ
-large_taker (Send16 node prio ftype dest hex) = Some node
-large_taker (Read16 node prio dest hop tid offset) = Some node
-large_taker (Write16 node prio dest hop tid offset value) = Some node
-large_taker _ = None
+-- whether a line gives an endpoint a packet with 16-bit IDs
+abbrev pub gives_large_packet : Line → Bool
+gives_large_packet (Send16 node prio ftype dest hex) = true
+gives_large_packet (Read16 node prio dest hop tid offset) = true
+gives_large_packet (Write16 node prio dest hop tid offset value) = true
+gives_large_packet _ = false
 
--- the endpoint that a line gives a packet
-abbrev pub taker : Line → Option ℕ
-taker (Send node prio ftype dest hex) = Some node
-taker (Read node prio dest hop tid offset) = Some node
-taker (Write node prio dest hop tid offset value) = Some node
-taker line = large_taker line
+-- whether a line gives an endpoint a packet
+abbrev pub gives_packet : Line → Bool
+gives_packet (Send node prio ftype dest hex) = true
+gives_packet (Read node prio dest hop tid offset) = true
+gives_packet (Write node prio dest hop tid offset value) = true
+gives_packet line = gives_large_packet line
 
 -- the line that gives an endpoint a packet of a priority, with IDs of a size, to a destination
 abbrev pub given_line : ℕ → ℕ → Bool → ℕ → Contents → Line

@@ -4,6 +4,7 @@ pub mod Forms
 pub mod Texts
 pub mod Lines
 pub mod GivenPackets
+pub mod Operations
 pub mod Reasons
 pub mod Known
 pub mod Links

@@ -1,10 +1,11 @@
 -- The texts of lines, as they are printed.
-use Rattle.std.specs.Prelude.{ℕ, ◌<◌, Bool, true, false, List, [], ◌∷◌, ◌++◌, length}
+use Rattle.std.specs.Prelude.{ℕ, ◌<◌, List, [], ◌∷◌, ◌++◌, length, map}
 use Rattle.std.specs.List.{flat_map}
 use Rattle.fabric_script.specs.declared.lines.Line.{Line}
 use Rattle.fabric_script.specs.declared.lines.Line.TheVariants.{Endpoint, Switch, Link, Buffers, Route, Default, Lock, Large, Credits, Send, Read, Write, Send16, Read16, Write16, Pump, Deliver, Alter, Insert, Erase, Timeout, Settle, Move, Collect, Run}
 use Rattle.fabric_script.specs.declared.lines.Numbered.{Numbered}
-use Rattle.fabric_script.specs.Lines.{line_text}
+use Rattle.fabric_script.specs.Lines.{line_text, new_name, values_of}
+use Rattle.fabric_script.specs.Texts.{value_text}
 
 -- the nodes that a line names have a name
 abbrev pub AreNamed : List (List ℕ) → Line → Type 0
@@ -34,19 +35,9 @@ AreNamed names (Move node) = node < length names
 AreNamed names (Collect node) = node < length names
 AreNamed names (Run n) = Unit {0}
 
--- whether a line gives a packet with 8-bit device IDs to an endpoint
-abbrev pub gives_packet : Line → Bool
-gives_packet (Send node prio ftype dest hex) = true
-gives_packet (Read node prio dest hop tid offset) = true
-gives_packet (Write node prio dest hop tid offset value) = true
-gives_packet _ = false
-
--- whether a line gives a packet with 16-bit device IDs to an endpoint
-abbrev pub gives_large_packet : Line → Bool
-gives_large_packet (Send16 node prio ftype dest hex) = true
-gives_large_packet (Read16 node prio dest hop tid offset) = true
-gives_large_packet (Write16 node prio dest hop tid offset value) = true
-gives_large_packet _ = false
+-- the texts of what the words of a line say, behind its keyword
+abbrev pub value_texts : List (List ℕ) → Line → List (List ℕ)
+value_texts names line = map (value_text names) (values_of (new_name names line) line)
 
 -- a text with these words behind it, a space before each
 abbrev pub after_words : List ℕ → List (List ℕ) → List ℕ

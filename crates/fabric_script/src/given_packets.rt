@@ -1,7 +1,7 @@
 //! Packets that lines give to endpoints.
 
-ghost use Rattle.std.specs.Prelude.{◌≡◌, ◌<◌, true, false, None, IfSome, MatchOption};
-ghost use Rattle.fabric_script.specs.GivenPackets.{taker, large_taker, given_line, line_giving};
+ghost use Rattle.std.specs.Prelude.{◌≡◌, ◌<◌, true, false, IfSome, MatchOption};
+ghost use Rattle.fabric_script.specs.GivenPackets.{gives_packet, gives_large_packet, given_line, line_giving};
 
 use crate::hex::Hex;
 use crate::lines::Line;
@@ -45,9 +45,9 @@ pub struct GivenPacket<'a> {
 
 impl Line {
     /// The packet that the line gives to an endpoint, if it gives one.
-    pub fn gives(&self) -> Option<GivenPacket<'_>>
+    pub(crate) fn gives(&self) -> Option<GivenPacket<'_>>
         ensures packet { MatchOption result
-            (taker self.now ≡ None)
+            (gives_packet self.now ≡ false)
             (λ given. self.now ≡ line_giving given) }
         ensures dest { IfSome result (λ given. given.large ≡ false → given.dest < 256) }
     {
@@ -89,7 +89,7 @@ impl Line {
     /// The packet with 16-bit IDs that the line gives to an endpoint, if it gives one.
     fn gives_large(&self) -> Option<GivenPacket<'_>>
         ensures packet { MatchOption result
-            (large_taker self.now ≡ None)
+            (gives_large_packet self.now ≡ false)
             (λ given. (self.now ≡ line_giving given) × (given.large ≡ true)) }
     {
         match self {

@@ -7,21 +7,22 @@
 //! - `Forms`: the keyword and the kinds of words of each kind of line;
 //! - `Names`, `Texts`, `Lines`: the text of each word, and the words of a line;
 //! - `Hits`: which words each kind may be, and which reason hits the others;
-//! - `Refusals`: the reasons that look at a whole line, after what `Known` says of the earlier ones;
+//! - `Refusals`: the reasons that look at a whole line, after what `Known` says of earlier ones;
 //! - `LargeIds`: which 16-bit device IDs the lines give nodes;
 //! - `Reading`, `Scripts`: which lines and which bytes are spelled, and which are refused;
 //! - `SetUps`: what is known of one event behind set-up lines;
-//! - `GivenPackets`: the line that gives an endpoint a packet.
+//! - `GivenPackets`, `Operations`: the line that gives an endpoint a packet, and the line that asks
+//!   for any other operation of a fabric.
 //!
 //! `parse_set_up` reads set-up lines alone. `read_set_up` does so too, and keeps in `SetUp` what is
 //! known behind them, so that `SetUp::read_event` reads one event after another.
 //!
 //! The types are `Script`, its `Numbered` lines, `Line` and their parts `Name`, `Hex` and
-//! `PortRef`; `GivenPacket` is what a line says of a packet that it gives to an endpoint; `Reason`,
-//! `Refusal` and `ScriptEnd` say why there is no script. The module `laws` has each law as the
-//! contract of a function with an empty body: a text is one line at most, and no reason hits it
-//! then; bytes spell one script at most, or are refused once; a script that passes is spelled by its
-//! text; its 16-bit device IDs differ.
+//! `PortRef`; `Operation` is what a line asks of a fabric, and its `GivenPacket` what it says of a
+//! packet that it gives to an endpoint; `Reason`, `Refusal` and `ScriptEnd` say why there is no
+//! script. The module `laws` has each law as the contract of a function with an empty body: a text
+//! is one line at most, and no reason hits it then; bytes spell one script at most, or are refused
+//! once; a script that passes is spelled by its text; its 16-bit device IDs differ.
 //!
 //! `advise` says what in the text of a refused line is to blame.
 //!
@@ -42,6 +43,7 @@ mod lines;
 mod links;
 mod names;
 mod numbers;
+mod operations;
 mod ports;
 mod reasons;
 mod refusals;
@@ -63,6 +65,7 @@ pub use line_texts::{line_text, print};
 pub use lines::{Line, Numbered, Script};
 pub use names::{Name, read_name};
 pub use numbers::read_number;
+pub use operations::{Action, Operation, WireEdit};
 pub use ports::PortRef;
 pub use reasons::Reason;
 pub use scripts::{Refusal, ScriptEnd, parse, parse_set_up};
