@@ -1,5 +1,5 @@
 -- What taking all words of a form says.
-use Rattle.std.proofs.Common.{◌≡◌, ◌≢◌, ℕ, ◌<◌, ◌^◌, All, MatchOption, IfSome, IfNone, List, [], ◌∷◌, ◌==◌, length, Option, Some, None, Result, Ok, Err, MatchResult, unwrap_or, inl, inr, refl, sym, ap, ◌∙◌, subst, arith}
+use Rattle.std.proofs.Common.{◌≡◌, ◌≢◌, ℕ, ◌<◌, ◌^◌, All, MatchOption, IfSome, IfNone, List, [], ◌∷◌, ◌++◌, ◌==◌, length, Option, Some, None, Result, Ok, Err, MatchResult, unwrap_or, inl, inr, refl, sym, ap, ◌∙◌, subst, arith}
 use Rattle.std.specs.Fmt.{decimal}
 use Rattle.std.specs.Option.{ok_or}
 use Rattle.rio_chars.specs.CharText.{char_text_of, HasByte}
@@ -12,7 +12,7 @@ use Rattle.fabric_script.specs.Forms.{Field, Number, Hex, Digits, Character}
 use Rattle.fabric_script.specs.Texts.{Value, Counted, Bytes, InDigits, Code, value_text, hex_text, digits_text}
 use Rattle.fabric_script.specs.Known.{Known}
 use Rattle.fabric_script.specs.Hits.{FitsField, Hits, NumberIsBad, HexIsBad, DigitsAreBad, CharacterIsBad}
-use Rattle.fabric_script.specs.Words.{Left, reason_at_end, with_reason, noted_by, ok_of, first_word, after_word, TakesWord, TakesFirst, Takes, ReadsNumber}
+use Rattle.fabric_script.specs.Words.{Left, NoMore, More, TakesAll, reason_at_end, with_reason, noted_by, ok_of, first_word, after_word, TakesWord, TakesFirst, Takes, ReadsNumber}
 
 pub end_of-words : (words : List (List ℕ)) (hit : Option Reason) → 0 < length words
     → reason_at_end record { words = words; hit = hit } ≡ Some UnknownLine
@@ -62,7 +62,8 @@ takes {T} known field value stand_in old next new word read answer result first 
     (sym (resulted ∙ ap (λ a. unwrap_or a stand_in) answered))
     record {
       first = by_words old.words old.hit read first
-          (subst (λ n. new ≡ record { words = n.words; hit = noted_by n.hit read }) rest noted) reads;
+          (subst (λ n. new ≡ record { words = n.words; hit = noted_by n.hit read }) rest noted)
+          reads;
     }
   where
     by_read : (words : List (List ℕ)) (hit : Option Reason) (read : Result T Reason) → new
@@ -96,6 +97,14 @@ takes {T} known field value stand_in old next new word read answer result first 
               (λ w. TakesWord known field (value (unwrap_or (ok_of read) stand_in)) w hit new.hit)
               first r.1,
         )
+
+-- one word more is taken behind others
+pub takes_one_more : {known : Known} {fields : List Field} {values : List Value} {field : Field}
+    {value : Value} {left next last : Left} → TakesAll known fields values left next
+    → Takes known field value next last
+    → TakesAll known (fields ++ field ∷ []) (values ++ value ∷ []) left last
+takes_one_more NoMore more = More more NoMore
+takes_one_more (More first rest) more = More first (takes_one_more rest more)
 
 -- ---- what each reader says, as a kind of word
 

@@ -1,9 +1,9 @@
 //! Each form of a line, word by word.
 
-ghost use Rattle.std.specs.Prelude.{IfOk};
+ghost use Rattle.std.specs.Prelude.{IfOk, ◌≤◌};
 ghost use Rattle.fabric_script.specs.declared.forms.Form.{Form as AForm};
 ghost use Rattle.fabric_script.specs.Known.{Known as AKnown};
-ghost use Rattle.fabric_script.specs.LineWords.{TakesLine};
+ghost use Rattle.fabric_script.specs.LineWords.{TakesLine, TakesRequest};
 
 use crate::forms::Form;
 use crate::known::Known;
@@ -156,17 +156,29 @@ fn send(alloc: Global, words: &mut Words, known: &Known) -> Result<Line, AllocEr
     })
 }
 
-/// Takes the words of a `read` line.
-fn read(words: &mut Words, known: &Known) -> Line
-    ensures { TakesLine known.now AForm.Read words.old result words.new }
+/// What the words of a request to read or write a register say.
+#[derive(Clone, Copy)]
+struct Asked {
+    node: u8,
+    prio: u8,
+    dest: u32,
+    hop: u8,
+    tid: u8,
+    offset: u32,
+}
+
+/// Takes the words of a request to read or write a register, with an ID of at most this number.
+fn request(words: &mut Words, known: &Known, most: u32) -> Asked
+    ensures takes { TakesRequest known.now most result words.old words.new }
+    ensures range { result.dest ≤ most }
 {
     let node = words.node(known);
     let prio = words.byte(0, 3);
-    let dest = words.byte(0, 255);
+    let dest = words.number(0, most);
     let hop = words.byte(0, 255);
     let tid = words.byte(0, 255);
     let offset = words.digits(6);
-    Line::Read {
+    Asked {
         node,
         prio,
         dest,
@@ -176,24 +188,34 @@ fn read(words: &mut Words, known: &Known) -> Line
     }
 }
 
+/// Takes the words of a `read` line.
+fn read(words: &mut Words, known: &Known) -> Line
+    ensures { TakesLine known.now AForm.Read words.old result words.new }
+{
+    let asked = request(words, known, 255);
+    Line::Read {
+        node: asked.node,
+        prio: asked.prio,
+        dest: asked.dest as u8,
+        hop: asked.hop,
+        tid: asked.tid,
+        offset: asked.offset,
+    }
+}
+
 /// Takes the words of a `write` line.
 fn write(words: &mut Words, known: &Known) -> Line
     ensures { TakesLine known.now AForm.Write words.old result words.new }
 {
-    let node = words.node(known);
-    let prio = words.byte(0, 3);
-    let dest = words.byte(0, 255);
-    let hop = words.byte(0, 255);
-    let tid = words.byte(0, 255);
-    let offset = words.digits(6);
+    let asked = request(words, known, 255);
     let value = words.digits(8);
     Line::Write {
-        node,
-        prio,
-        dest,
-        hop,
-        tid,
-        offset,
+        node: asked.node,
+        prio: asked.prio,
+        dest: asked.dest as u8,
+        hop: asked.hop,
+        tid: asked.tid,
+        offset: asked.offset,
         value,
     }
 }
@@ -220,19 +242,14 @@ fn send16(alloc: Global, words: &mut Words, known: &Known) -> Result<Line, Alloc
 fn read16(words: &mut Words, known: &Known) -> Line
     ensures { TakesLine known.now AForm.Read16 words.old result words.new }
 {
-    let node = words.node(known);
-    let prio = words.byte(0, 3);
-    let dest = words.number(0, MOST_ID) as u16;
-    let hop = words.byte(0, 255);
-    let tid = words.byte(0, 255);
-    let offset = words.digits(6);
+    let asked = request(words, known, MOST_ID);
     Line::Read16 {
-        node,
-        prio,
-        dest,
-        hop,
-        tid,
-        offset,
+        node: asked.node,
+        prio: asked.prio,
+        dest: asked.dest as u16,
+        hop: asked.hop,
+        tid: asked.tid,
+        offset: asked.offset,
     }
 }
 
@@ -240,20 +257,15 @@ fn read16(words: &mut Words, known: &Known) -> Line
 fn write16(words: &mut Words, known: &Known) -> Line
     ensures { TakesLine known.now AForm.Write16 words.old result words.new }
 {
-    let node = words.node(known);
-    let prio = words.byte(0, 3);
-    let dest = words.number(0, MOST_ID) as u16;
-    let hop = words.byte(0, 255);
-    let tid = words.byte(0, 255);
-    let offset = words.digits(6);
+    let asked = request(words, known, MOST_ID);
     let value = words.digits(8);
     Line::Write16 {
-        node,
-        prio,
-        dest,
-        hop,
-        tid,
-        offset,
+        node: asked.node,
+        prio: asked.prio,
+        dest: asked.dest as u16,
+        hop: asked.hop,
+        tid: asked.tid,
+        offset: asked.offset,
         value,
     }
 }
