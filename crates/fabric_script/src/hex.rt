@@ -38,14 +38,26 @@ impl Hex {
     }
 }
 
-/// The bytes that a word spells: two digits a byte, or a hyphen for no bytes.
+/// The bytes that a word spells, as those of a line.
 pub(crate) fn read_hex(alloc: Global, word: &[u8]) -> Result<Option<Hex>, AllocError>
     ensures { IfOk result (λ read. MatchOption read
         ((bytes : List ℕ) → All (λ byte. byte < 256) bytes → word.now ≢ hex_text bytes)
         (λ hex. All (λ byte. byte < 256) hex × (word.now ≡ hex_text hex))) }
 {
+    match read_bytes(alloc, word)? {
+        Some(bytes) => Ok(Some(Hex::new(bytes))),
+        None => Ok(None),
+    }
+}
+
+/// The bytes that a word spells: two digits a byte, or a hyphen for no bytes.
+pub fn read_bytes(alloc: Global, word: &[u8]) -> Result<Option<Vec<u8>>, AllocError>
+    ensures { IfOk result (λ read. MatchOption read
+        ((bytes : List ℕ) → All (λ byte. byte < 256) bytes → word.now ≢ hex_text bytes)
+        (λ bytes. All (λ byte. byte < 256) bytes.items × (word.now ≡ hex_text bytes.items))) }
+{
     if word == b"-".as_slice() {
-        return Ok(Some(Hex::new(Vec::new(alloc))));
+        return Ok(Some(Vec::new(alloc)));
     }
     if word.is_empty() {
         return Ok(None);
@@ -53,11 +65,11 @@ pub(crate) fn read_hex(alloc: Global, word: &[u8]) -> Result<Option<Hex>, AllocE
     let Some(bytes) = rio_chars::read_hex(alloc, word)? else {
         return Ok(None);
     };
-    Ok(Some(Hex::new(bytes)))
+    Ok(Some(bytes))
 }
 
 /// The number that a word spells in just so many hexadecimal digits.
-pub(crate) fn read_digits(word: &[u8], count: usize) -> Option<u32>
+pub fn read_digits(word: &[u8], count: usize) -> Option<u32>
     requires { count ≤ 8 }
     ensures { MatchOption result
         ((n : ℕ) → n < 16 ^ count → word.now ≢ digits_text count n)

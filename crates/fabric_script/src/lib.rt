@@ -56,21 +56,21 @@ mod writing;
 
 pub use advice::{Advice, WordKind, advise};
 pub use given_packets::{Contents, GivenPacket, RequestHead};
-pub use hex::Hex;
+pub use hex::{Hex, read_bytes, read_digits};
 pub use laws::{
     large_ids_are_apart, line_or_reason, one_line, one_reason, one_refusal, one_script,
     printed_scripts_are_read, script_or_refusal, taken_large_ids,
 };
 pub use line_texts::{line_text, print};
 pub use lines::{Line, Numbered, Script};
-pub use names::{Name, read_name};
+pub use names::{Name, find_name, read_name};
 pub use numbers::read_number;
 pub use operations::{Action, Operation, WireEdit};
 pub use ports::PortRef;
 pub use reasons::Reason;
-pub use scripts::{Refusal, ScriptEnd, parse, parse_set_up};
+pub use scripts::{Refusal, ScriptEnd, is_skipped, parse, parse_set_up};
 pub use set_ups::{EventEnd, SetUp, read_set_up};
 pub use soak::soak_script;
-pub use spaced::{write_name, write_port};
+pub use spaced::{put_bytes, put_node, put_number, put_value, write_name, write_port};
 pub use words::split_word;
 pub use writing::write_line;

@@ -63,8 +63,8 @@ impl Name {
         self.items.as_slice()
     }
 
-    /// Whether the name is this word, whose key this is. The bytes are compared only if the keys are
-    /// the same.
+    /// Whether the name is this word, whose key this is. The bytes are compared only if the keys
+    /// are the same.
     fn is_word(&self, word: &[u8], key: u64) -> bool
         requires { key ≡ key_of word.now }
         ensures { IsTrue result ↔ (self.now ≡ word.now) }
@@ -131,8 +131,20 @@ fn is_digit(c: u8) -> bool
     matches!(c, b'0'..=b'9')
 }
 
-/// The number of the node with this name. The hint at the place of its key is the number of the last
-/// name there, mostly this one. A hint that is wrong costs time alone.
+/// The number of the node with this name.
+pub fn find_name(names: &[Name], word: &[u8]) -> Option<u8>
+    requires { length names.now ≤ 64 }
+    ensures { MatchOption result
+        (¬ Contains names.now word.now)
+        (λ n. (n < length names.now) × (name_of names.now n ≡ word.now)) }
+{
+    let key = key_of(word);
+    let place = names.iter().position(|name| name.is_word(word, key))?;
+    Some(place as u8)
+}
+
+/// The same, where the hint at the place of its key is the number of the last name there, mostly
+/// this one. A hint that is wrong costs time alone.
 pub(crate) fn find(names: &[Name], hints: &[u8; PLACES], word: &[u8]) -> Option<u8>
     requires { length names.now ≤ 64 }
     ensures { MatchOption result
@@ -144,8 +156,7 @@ pub(crate) fn find(names: &[Name], hints: &[u8; PLACES], word: &[u8]) -> Option<
     if is_at(names, hint, word, key) {
         return Some(hint);
     }
-    let place = names.iter().position(|name| name.is_word(word, key))?;
-    Some(place as u8)
+    find_name(names, word)
 }
 
 /// Whether a word, whose key this is, is the name with this number.

@@ -143,8 +143,8 @@ pub(crate) fn read_lines(
     Ok(lines)
 }
 
-/// Whether a piece of text is counted and not kept: it is empty or a comment.
-fn is_skipped(text: &[u8]) -> bool
+/// Whether a line of text is counted and not kept: it is empty or a comment.
+pub fn is_skipped(text: &[u8]) -> bool
     ensures { result ≡ is_skipped text.now }
 {
     matches!(text, [] | [b'#', ..])

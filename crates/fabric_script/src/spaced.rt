@@ -13,7 +13,7 @@ use crate::ports::PortRef;
 use rio_chars::{Char, Outbox, Sink, char_text};
 
 /// Puts a node.
-pub(crate) fn put_node<K: Sink>(outbox: &mut Outbox<K>, names: &[Name], node: u8)
+pub fn put_node<K: Sink>(outbox: &mut Outbox<K>, names: &[Name], node: u8)
     requires { node < length names.now }
     ensures { Writes K.written K.faults outbox.old outbox.new
         (after_words [] (name_of names.now node ∷ [])) }
@@ -33,7 +33,7 @@ pub(crate) fn put_port<K: Sink>(outbox: &mut Outbox<K>, names: &[Name], port: Po
 }
 
 /// Puts a number.
-pub(crate) fn put_number<K: Sink>(outbox: &mut Outbox<K>, n: u32)
+pub fn put_number<K: Sink>(outbox: &mut Outbox<K>, n: u32)
     ensures { Writes K.written K.faults outbox.old outbox.new (after_words [] (decimal n ∷ [])) }
 {
     outbox.write(b" ");
@@ -84,7 +84,7 @@ pub(crate) fn put_char<K: Sink>(outbox: &mut Outbox<K>, ch: Char)
 }
 
 /// Puts bytes in hexadecimal, and a hyphen for no bytes.
-pub(crate) fn put_bytes<K: Sink>(outbox: &mut Outbox<K>, bytes: &[u8])
+pub fn put_bytes<K: Sink>(outbox: &mut Outbox<K>, bytes: &[u8])
     ensures { Writes K.written K.faults outbox.old outbox.new
         (after_words [] (hex_text bytes.now ∷ [])) }
 {
@@ -105,8 +105,8 @@ pub(crate) fn put_offset<K: Sink>(outbox: &mut Outbox<K>, offset: u32)
     outbox.write_hex(&offset.to_be_bytes()[1..]);
 }
 
-/// Puts what a register is to hold, in eight hexadecimal digits.
-pub(crate) fn put_value<K: Sink>(outbox: &mut Outbox<K>, value: u32)
+/// Puts a value of 32 bits, in eight hexadecimal digits.
+pub fn put_value<K: Sink>(outbox: &mut Outbox<K>, value: u32)
     ensures { Writes K.written K.faults outbox.old outbox.new
         (after_words [] (digits_text 8 value ∷ [])) }
 {

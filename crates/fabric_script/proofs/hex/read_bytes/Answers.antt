@@ -1,6 +1,6 @@
 use Rattle.std.proofs.Common.{rules}
 use Rattle.fabric_script.proofs.HexWords.{no_hex}
-use Rattle.fabric_script.proofs.hex.read_hex.Goals as goal
+use Rattle.fabric_script.proofs.hex.read_bytes.Goals as goal
 
 pub returns-in_default : goal.returns-in_default
 returns-in_default c =
