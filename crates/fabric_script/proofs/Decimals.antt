@@ -46,7 +46,10 @@ no_decimal-long word long n below e =
 
 pub decimal_zero : (word : List ℕ) → get_or word 0 0 ≡ 48 → length word ≡ 1 → word ≡ decimal 0
 decimal_zero [] first one = absurd (omega arith)
-decimal_zero (c ∷ []) first one = let digit = decimal_digit 0 (omega arith) in let e : c ≡ 48 + 0 = omega (arith, first) in cc
+decimal_zero (c ∷ []) first one =
+    let digit = decimal_digit 0 (omega arith) in
+    let e : c ≡ 48 + 0 = omega (arith, first) in
+    cc
 decimal_zero (c ∷ d ∷ word) first one = absurd (omega arith)
 
 -- one digit more was read

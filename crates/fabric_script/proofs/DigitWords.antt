@@ -75,8 +75,10 @@ no_digits-stop word count i within none n below e =
 
 append_one-injective : (a b : List ℕ) (x y : ℕ) → a ++ x ∷ [] ≡ b ++ y ∷ [] → (a ≡ b) × (x ≡ y)
 append_one-injective [] [] x y e = (refl, cc)
-append_one-injective [] (d ∷ b) x y e = absurd (let n = ap length e in let m = length-append b (y ∷ []) in omega arith)
-append_one-injective (c ∷ a) [] x y e = absurd (let n = ap length e in let m = length-append a (x ∷ []) in omega arith)
+append_one-injective [] (d ∷ b) x y e =
+    absurd (omega (arith, ap length e, length-append b (y ∷ [])))
+append_one-injective (c ∷ a) [] x y e =
+    absurd (omega (arith, ap length e, length-append a (x ∷ [])))
 append_one-injective (c ∷ a) (d ∷ b) x y e =
     let rest = append_one-injective a b x y cc in
     let first : c ≡ d = cc in

@@ -11,6 +11,7 @@ pub mod ReadLaws
 pub mod KnownLaws
 pub mod Marks
 pub mod ScriptLaws
+pub mod PieceLaws
 pub mod Joins
 pub mod SpacedWords
 pub mod PrintLaws

@@ -82,7 +82,10 @@ byte_of_digits a b below_a below_b high low =
     omega arith
 
 char_text-injective : (c d : Char) → HasByte c → HasByte d → char_text_of c ≡ char_text_of d → c ≡ d
-char_text-injective (Data a) (Data b) has has' e = let high : hex_digit (a / 16) ≡ hex_digit (b / 16) = cc in let low : hex_digit (a % 16) ≡ hex_digit (b % 16) = cc in ap {A = ℕ} {B = Char} (λ n. Data n) (byte_of_digits a b has has' high low)
+char_text-injective (Data a) (Data b) has has' e =
+    let high : hex_digit (a / 16) ≡ hex_digit (b / 16) = cc in
+    let low : hex_digit (a % 16) ≡ hex_digit (b % 16) = cc in
+    ap {A = ℕ} {B = Char} (λ n. Data n) (byte_of_digits a b has has' high low)
 char_text-injective (Data a) (Special b) has has' e =
     let first : 100 ≡ 107 = ap {A = List ℕ} {B = ℕ} (λ t. get_or t 0 0) e
     in
@@ -95,7 +98,10 @@ char_text-injective (Special a) (Data b) has has' e =
     let first : 107 ≡ 100 = ap {A = List ℕ} {B = ℕ} (λ t. get_or t 0 0) e
     in
     absurd (omega (arith, first))
-char_text-injective (Special a) (Special b) has has' e = let high : hex_digit (a / 16) ≡ hex_digit (b / 16) = cc in let low : hex_digit (a % 16) ≡ hex_digit (b % 16) = cc in ap {A = ℕ} {B = Char} (λ n. Special n) (byte_of_digits a b has has' high low)
+char_text-injective (Special a) (Special b) has has' e =
+    let high : hex_digit (a / 16) ≡ hex_digit (b / 16) = cc in
+    let low : hex_digit (a % 16) ≡ hex_digit (b % 16) = cc in
+    ap {A = ℕ} {B = Char} (λ n. Special n) (byte_of_digits a b has has' high low)
 char_text-injective (Special a) Invalid has has' e =
     let first : 107 ≡ 105 = ap {A = List ℕ} {B = ℕ} (λ t. get_or t 0 0) e
     in

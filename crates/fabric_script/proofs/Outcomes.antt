@@ -160,7 +160,9 @@ step known field fields value values (word ∷ words) hit words_next hit_next re
             ];
             from = λ enough. elim (p.from (omega arith))
                 [ inl same ↦ inl (same ∙ said.2) | inr hits ↦ inr (hits.0, inr hits.1, hits.2) ];
-            fits = λ none. let f = p.fits none in (sym said.2 ∙ f.0, (said.0, f.1), ap₂ ◌∷◌ said.1 f.2);
+            fits = λ none.
+                let f = p.fits none in
+                (sym said.2 ∙ f.0, (said.0, f.1), ap₂ ◌∷◌ said.1 f.2);
           }
           | inr bad ↦
               let lesser = noted_lesser hit bad.0 in
@@ -183,7 +185,7 @@ step known field fields value values (word ∷ words) hit words_next hit_next re
                   ]
                   | inr hits ↦ inr (hits.0, inr hits.1, hits.2)
                 ];
-                fits = λ none. let f = p.fits none in absurd (not_noted hit bad.0 (sym bad.2 ∙ f.0));
+                fits = λ none. absurd (not_noted hit bad.0 (sym bad.2 ∙ (p.fits none).0));
               }
         ]
 

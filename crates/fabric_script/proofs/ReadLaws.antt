@@ -219,7 +219,10 @@ reads_hit known text form left left_after line reason orderly behind takes ended
         let same : found.0 ≡ reason = let e = sym found.2 ∙ noted in cc in
         a_word known text form left.words reason orderly behind.0 count
         (subst (λ r. HitsOne known r (fields_of form) left.words) same found.1)
-        (λ other h. let low = o.least other h in let at : rank left_after.hit ≡ reason_number reason = ap rank noted in omega arith)
+        (λ other h.
+        let low = o.least other h in
+        let at : rank left_after.hit ≡ reason_number reason = ap rank noted in
+        omega arith)
 
     by_rest : length (fields_of form) ≤ length left.words → (rest : List (List ℕ))
         → left_after.words ≡ rest → LeastHit known text reason
@@ -254,7 +257,9 @@ reads_none known text form left left_after line orderly behind takes ended =
         orderly takes.takes
 
     by_rest : (rest : List (List ℕ)) → left_after.words ≡ rest → Says known text line
-    by_rest (word ∷ words) more = absurd (let e = sym (end_of-more left_after word words more) ∙ ended in cc)
+    by_rest (word ∷ words) more =
+        let e = sym (end_of-more left_after word words more) ∙ ended in
+        absurd cc
     by_rest [] none =
         let f = o.fits (sym (end_of-none left_after none) ∙ ended) in
         let own = own_values text (keyword_of form) left.words line behind.0 in

@@ -55,8 +55,8 @@ pub enum Advice {
 }
 
 /// What in the text of a line is to blame that `parse` refuses for this reason. What the advice
-/// says is true of the text. It says nothing of a reason that other lines decide, and of a line that
-/// has the shape of its kind and each word spelled as it must be.
+/// says is true of the text. It says nothing of a reason that other lines decide, and of a line
+/// that has the shape of its kind and each word spelled as it must be.
 pub fn advise(alloc: Global, text: &[u8], reason: u8) -> Advice
     ensures so { IsTrueOf text.now result }
     ensures nothing { Contains (1 ∷ 2 ∷ 3 ∷ 9 ∷ []) reason → result ≡ Advice.Nothing

@@ -5,7 +5,8 @@ use Rattle.fabric_script.specs.Known.{Known, nothing_in}
 use Rattle.fabric_script.specs.Scripts.{RefusedIn}
 use Rattle.fabric_script.specs.declared.scripts.Refusal.{Refusal}
 use Rattle.fabric_script.proofs.KnownLaws.{links-after}
-use Rattle.fabric_script.proofs.ScriptLaws.{SpellsFrom-skip, SpellsFrom-keep, RefusedAt-from_turn, pieces-road, orderly-spelled}
+use Rattle.fabric_script.proofs.ScriptLaws.{orderly-spelled}
+use Rattle.fabric_script.proofs.PieceLaws.{SpellsFrom-skip, SpellsFrom-keep, RefusedAt-from_turn, pieces-road}
 use Rattle.fabric_script.proofs.scripts.read_lines.Goals as goal
 
 pub loop-text-preserved-then-is_skipped : goal.loop-text-preserved-then-is_skipped
