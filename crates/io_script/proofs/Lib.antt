@@ -4,7 +4,6 @@ pub mod IoReadLaws
 pub mod IoThrough
 pub mod IoOnce
 pub mod IoFabric
-pub mod IoTexts
 pub mod IoTakes
 pub mod IoWhole
 pub mod IoNamed

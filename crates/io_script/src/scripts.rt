@@ -3,7 +3,7 @@ ghost use Rattle.std.specs.Prelude.{◌≡◌, ◌+◌, ◌≤◌, ◌⊎◌, �
 ghost use Rattle.fabric_script.specs.declared.lines.Numbered.{Numbered as NumberedLine};
 ghost use Rattle.fabric_script.specs.declared.scripts.ScriptEnd.TheVariants.{NoMemory};
 ghost use Rattle.fabric_script.specs.Known.{Known};
-ghost use Rattle.fabric_script.specs.Scripts.{is_skipped, ScriptPasses};
+ghost use Rattle.fabric_script.specs.Scripts.{ScriptPasses};
 ghost use Rattle.fabric_script.specs.SetUps.{NoEvents};
 ghost use Rattle.script_input.specs.Inputs.{texts_of};
 ghost use Rattle.io_script.specs.declared.lines.NumberedIo.{NumberedIo as ANumberedIo};
@@ -15,7 +15,7 @@ ghost use Rattle.io_script.specs.IoTaking.{links_among, switches_of, IsFabric};
 use crate::lines::{IoScript, NumberedIo};
 use crate::reading::{Earlier, read_io_line};
 use crate::words::Fabric;
-use fabric_script::{Line, Numbered, Refusal, Script, ScriptEnd, parse_set_up};
+use fabric_script::{Line, Numbered, Refusal, Script, ScriptEnd, is_skipped, parse_set_up};
 use script_input::{next_line, split_input, unparted};
 use std::alloc::{AllocError, Global};
 
@@ -127,13 +127,6 @@ fn refused_at(line: u32, reason: u8) -> Result<Vec<NumberedIo>, ScriptEnd>
     ensures { result ≡ Err (ScriptEnd.Refused (record { line = line; reason = reason })) }
 {
     Err(ScriptEnd::Refused(Refusal { line, reason }))
-}
-
-/// Whether a text is counted and not kept: it is empty or a comment.
-fn is_skipped(text: &[u8]) -> bool
-    ensures { result ≡ is_skipped text.now }
-{
-    matches!(text, [] | [b'#', ..])
 }
 
 /// Whether each node is a switch, in the order of their lines.

@@ -2,20 +2,18 @@
 //!
 //! A word that a reason hits is answered by a stand-in, and the least reason is noted. So a form
 //! takes all its words in one go, and asks at their end.
-ghost use Rattle.std.specs.Prelude.{◌≡◌, ◌≢◌, ℕ, ◌^◌, ◌<◌, ◌≤◌, List, All, Contains, IfOk, IsTrue, MatchOption, MatchResult, length, slice_index_or, false, if◌then◌else◌};
+ghost use Rattle.std.specs.Prelude.{◌≡◌, ◌≢◌, ℕ, ◌≤◌, IfOk, IsTrue, MatchOption, MatchResult, length, slice_index_or, false, if◌then◌else◌};
 ghost use Rattle.std.specs.Fmt.{decimal};
 ghost use Rattle.fabric_script.specs.Known.{Known};
-ghost use Rattle.fabric_script.specs.Names.{name_of};
-ghost use Rattle.fabric_script.specs.Texts.{NodeValue, Counted, Bytes, InDigits, digits_text, hex_text, value_text};
+ghost use Rattle.fabric_script.specs.Texts.{NodeValue, Counted, Bytes, InDigits, value_text};
 ghost use Rattle.io_packets.specs.Forms.{is_size, is_stream_size};
 ghost use Rattle.io_script.specs.IoForms.{AnEndpoint, DeviceNumber, MemorySize, ReadSize, Address};
 ghost use Rattle.io_script.specs.IoTaking.{data_field, io_noted_by, io_ok_of, with_io_reason, IsFabric, TakesIo};
 ghost use Rattle.io_script.specs.IoWords.{FitsIo, HitsIoWord};
 
 use crate::reasons::IoReason;
-use fabric_script::{Name, Reason, read_name, read_number};
+use fabric_script::{Name, Reason, find_name, read_bytes, read_digits, read_name, read_number};
 use io_packets::{Load, is_size, is_stream_size};
-use rio_chars::{read_hex, read_hex_byte};
 use std::alloc::{AllocError, Global};
 
 /// What is kept of a fabric: the names of its nodes, whether each is a switch, and how many links
@@ -117,28 +115,20 @@ fn read_endpoint(fabric: Fabric<'_>, word: &[u8]) -> Result<u8, IoReason>
     if read_name(word).is_none() {
         return Err(IoReason::OfScript(Reason::BadName));
     }
-    let Some(node) = place_of(fabric.names, word) else {
+    let Some(node) = find_name(fabric.names, word) else {
         return Err(IoReason::OfScript(Reason::UnknownNode));
     };
     if is_switch(fabric.switches, node) {
         return Err(IoReason::OfScript(Reason::WrongKind));
     }
-    Ok(node as u8)
-}
-
-/// The number of the node with this name.
-fn place_of(names: &[Name], word: &[u8]) -> Option<usize>
-    ensures { MatchOption result (¬ Contains names.now word.now)
-        (λ n. (n < length names.now) × (name_of names.now n ≡ word.now)) }
-{
-    names.iter().position(|name| name.as_slice() == word)
+    Ok(node)
 }
 
 /// Whether a node is a switch.
-fn is_switch(switches: &[bool], node: usize) -> bool
+fn is_switch(switches: &[bool], node: u8) -> bool
     ensures { result ≡ slice_index_or switches.now node false }
 {
-    match switches.get(node) {
+    match switches.get(usize::from(node)) {
         Some(switch) => *switch,
         None => false,
     }
@@ -200,35 +190,11 @@ fn read_address(word: &[u8]) -> Result<u32, IoReason>
         × (word.now ≡ value_text known.names (InDigits 8 n)))
         (λ reason. HitsIoWord known reason Address word.now) }
 {
-    match read_eight_digits(word) {
+    match read_digits(word, 8) {
         Some(addr) if addr % 8 == 0 => Ok(addr),
         Some(_) => Err(IoReason::Misaligned),
         None => Err(IoReason::OfScript(Reason::BadHex)),
     }
-}
-
-/// The number that a word says in eight hexadecimal digits.
-fn read_eight_digits(word: &[u8]) -> Option<u32>
-    ensures { MatchOption result
-        ((n : ℕ) → n < 16 ^ 8 → word.now ≢ digits_text 8 n)
-        (λ n. (n < 16 ^ 8) × (word.now ≡ digits_text 8 n)) }
-{
-    let [a, b, c, d, e, f, g, h] = word else {
-        return None;
-    };
-    let Some(first) = read_hex_byte(*a, *b) else {
-        return None;
-    };
-    let Some(second) = read_hex_byte(*c, *d) else {
-        return None;
-    };
-    let Some(third) = read_hex_byte(*e, *f) else {
-        return None;
-    };
-    let Some(fourth) = read_hex_byte(*g, *h) else {
-        return None;
-    };
-    Some(u32::from_be_bytes([first, second, third, fourth]))
 }
 
 /// The data of a write, or the reason that hits the word.
@@ -258,22 +224,4 @@ fn fits(count: usize, stream: bool) -> bool
     } else {
         is_size(count)
     }
-}
-
-/// The bytes that a word says in hexadecimal digits, or a hyphen for none.
-fn read_bytes(alloc: Global, word: &[u8]) -> Result<Option<Vec<u8>>, AllocError>
-    ensures { IfOk result (λ read. MatchOption read
-        ((bytes : List ℕ) → All (λ byte. byte < 256) bytes → word.now ≢ hex_text bytes)
-        (λ bytes. All (λ byte. byte < 256) bytes.items × (word.now ≡ hex_text bytes.items))) }
-{
-    if word == b"-".as_slice() {
-        return Ok(Some(Vec::new(alloc)));
-    }
-    if word.is_empty() {
-        return Ok(None);
-    }
-    let Some(bytes) = read_hex(alloc, word)? else {
-        return Ok(None);
-    };
-    Ok(Some(bytes))
 }

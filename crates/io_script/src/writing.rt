@@ -4,12 +4,11 @@ ghost use Rattle.std.specs.Fmt.{decimal};
 ghost use Rattle.rio_chars.specs.Written.{Writes};
 ghost use Rattle.fabric_script.specs.LineTexts.{after_words};
 ghost use Rattle.fabric_script.specs.Names.{name_of};
-ghost use Rattle.fabric_script.specs.Texts.{digits_text, hex_text, value_text};
+ghost use Rattle.fabric_script.specs.Texts.{digits_text, value_text};
 ghost use Rattle.io_script.specs.IoLines.{io_line_text, io_values_of, IsNamed};
 
 use crate::lines::IoLine;
-use fabric_script::Name;
-use io_packets::Load;
+use fabric_script::{Name, put_bytes, put_node, put_number, put_value};
 use rio_chars::{Outbox, Sink};
 
 /// Writes the text of a line, without its line feed. Its node has a name.
@@ -29,8 +28,8 @@ fn write_words<K: Sink>(outbox: &mut Outbox<K>, names: &[Name], line: &IoLine)
 {
     match line {
         IoLine::Memory { node, bytes } => {
-            write_node(outbox, names, *node);
-            write_number(outbox, *bytes);
+            put_node(outbox, names, *node);
+            put_number(outbox, *bytes);
         }
         IoLine::NRead {
             node,
@@ -39,7 +38,7 @@ fn write_words<K: Sink>(outbox: &mut Outbox<K>, names: &[Name], line: &IoLine)
             size,
         } => {
             write_place(outbox, names, *node, *dest, *addr);
-            write_number(outbox, u32::from(*size));
+            put_number(outbox, u32::from(*size));
         }
         IoLine::NWrite {
             node,
@@ -60,7 +59,7 @@ fn write_words<K: Sink>(outbox: &mut Outbox<K>, names: &[Name], line: &IoLine)
             load,
         } => {
             write_place(outbox, names, *node, *dest, *addr);
-            write_load(outbox, load);
+            put_bytes(outbox, load.as_slice());
         }
         IoLine::Round => {}
     }
@@ -72,48 +71,7 @@ fn write_place<K: Sink>(outbox: &mut Outbox<K>, names: &[Name], node: u8, dest: 
     ensures { Writes K.written K.faults outbox.old outbox.new
         (after_words [] (name_of names.now node ∷ decimal dest ∷ digits_text 8 addr ∷ [])) }
 {
-    write_node(outbox, names, node);
-    write_number(outbox, u32::from(dest));
-    write_addr(outbox, addr);
-}
-
-/// Writes a node.
-fn write_node<K: Sink>(outbox: &mut Outbox<K>, names: &[Name], node: u8)
-    requires { node < length names.now }
-    ensures { Writes K.written K.faults outbox.old outbox.new
-        (after_words [] (name_of names.now node ∷ [])) }
-{
-    outbox.write(b" ");
-    outbox.write(names[usize::from(node)].as_slice());
-}
-
-/// Writes a number.
-fn write_number<K: Sink>(outbox: &mut Outbox<K>, number: u32)
-    ensures { Writes K.written K.faults outbox.old outbox.new
-        (after_words [] (decimal number ∷ [])) }
-{
-    outbox.write(b" ");
-    outbox.write_decimal(number);
-}
-
-/// Writes an address.
-fn write_addr<K: Sink>(outbox: &mut Outbox<K>, addr: u32)
-    ensures { Writes K.written K.faults outbox.old outbox.new
-        (after_words [] (digits_text 8 addr ∷ [])) }
-{
-    outbox.write(b" ");
-    outbox.write_hex(&addr.to_be_bytes());
-}
-
-/// Writes data.
-fn write_load<K: Sink>(outbox: &mut Outbox<K>, load: &Load)
-    ensures { Writes K.written K.faults outbox.old outbox.new
-        (after_words [] (hex_text load.now ∷ [])) }
-{
-    outbox.write(b" ");
-    if load.as_slice().is_empty() {
-        outbox.write(b"-");
-    } else {
-        outbox.write_hex(load.as_slice());
-    }
+    put_node(outbox, names, node);
+    put_number(outbox, u32::from(dest));
+    put_value(outbox, addr);
 }

@@ -1,8 +1,7 @@
-use Rattle.std.proofs.Common.{◌≡◌, ◌+◌, Err, Ok, option_map, sym, ap, ◌∙◌, subst, arith, rules}
+use Rattle.std.proofs.Common.{◌≡◌, ◌+◌, Err, Ok, ap, subst, arith, rules}
 use Rattle.fabric_script.specs.declared.scripts.Refusal.{Refusal}
 use Rattle.fabric_script.specs.declared.scripts.ScriptEnd.TheVariants.{Refused}
 use Rattle.fabric_script.specs.SetUps.{for_event}
-use Rattle.script_input.specs.Inputs.{texts_of}
 use Rattle.io_script.specs.IoScripts.{IsIoRefused}
 use Rattle.io_script.proofs.IoFabric.{fabric_of}
 use Rattle.io_script.proofs.IoNamed.{script_named}
@@ -47,19 +46,15 @@ pub returns-in_err-lines-in-Some-clause-refused : goal.returns-in_err-lines-in-S
 returns-in_err-lines-in-Some-clause-refused c = λ refusal is.
     let split = c.split_input-count.ensures in
     let script = c.in_ok-script.script in
-    let texts = texts_of c.in-Some.behind.now in
-    let behind = sym split.behind
-    ∙ ap (λ o. option_map (λ behind. texts_of behind.now) o) c.in-Some.is in
     let short = split.short in
     let most = c.requires in
-    let fabric = fabric_of c.split_input-count.result.0.now script.names.items script.lines.items
-    (omega (arith, short, most)) c.in_ok-script.ensures.script in
     let end = c.in_err-lines-in-Some.field-0.0 in
     let same : end ≡ Refused refusal = search rules in
     line_refused c.args.bytes.now c.split_input-count.result.0.now script.names.items
-    script.lines.items c.split_input-count.result.2 split.set_up split.lines
-    c.in_ok-script.ensures.script texts behind refusal.line refusal.reason
-    (c.in_err-lines-in-Some.ensures.refused refusal (ap (λ e. Err e) same) _ fabric)
+    script.lines.items c.split_input-count.result.2 c.split_input-count.result.1 split.set_up
+    split.lines split.behind c.in_ok-script.ensures.script c.in-Some.behind c.in-Some.is
+    (omega (arith, short, most)) refusal.line refusal.reason
+    (c.in_err-lines-in-Some.ensures.refused refusal (ap (λ e. Err e) same))
 
 pub returns-in_err-lines-in-Some-clause-only : goal.returns-in_err-lines-in-Some-clause-only
 returns-in_err-lines-in-Some-clause-only c =
@@ -76,17 +71,13 @@ pub returns-in_ok-lines-in-Some-clause-script : goal.returns-in_ok-lines-in-Some
 returns-in_ok-lines-in-Some-clause-script c =
     let split = c.split_input-count.ensures in
     let script = c.in_ok-script.script in
-    let texts = texts_of c.in-Some.behind.now in
-    let behind = sym split.behind
-    ∙ ap (λ o. option_map (λ behind. texts_of behind.now) o) c.in-Some.is in
     let short = split.short in
     let most = c.requires in
-    let fabric = fabric_of c.split_input-count.result.0.now script.names.items script.lines.items
-    (omega (arith, short, most)) c.in_ok-script.ensures.script in
     whole_script c.args.bytes.now c.split_input-count.result.0.now script.names.items
-    script.lines.items c.split_input-count.result.2 split.set_up split.lines
-    c.in_ok-script.ensures.script texts behind c.in_ok-lines-in-Some.lines.items
-    (c.in_ok-lines-in-Some.ensures.lines _ fabric)
+    script.lines.items c.split_input-count.result.2 c.split_input-count.result.1 split.set_up
+    split.lines split.behind c.in_ok-script.ensures.script c.in-Some.behind c.in-Some.is
+    (omega (arith, short, most)) c.in_ok-lines-in-Some.lines.items
+    c.in_ok-lines-in-Some.ensures.lines
 
 pub returns-in_ok-lines-in-Some-clause-named : goal.returns-in_ok-lines-in-Some-clause-named
 returns-in_ok-lines-in-Some-clause-named c =
@@ -113,14 +104,12 @@ pub returns-in-None-clause-refused : goal.returns-in-None-clause-refused
 returns-in-None-clause-refused c = λ refusal is.
     let split = c.split_input-count.ensures in
     let script = c.in_ok-script.script in
-    let none = sym split.behind
-    ∙ ap (λ o. option_map (λ behind. texts_of behind.now) o) c.in-None.is in
     let hit : Refusal = record { line = c.split_input-count.result.2 + 1; reason = 15 } in
     let same : hit ≡ refusal = cc (c.unparted.ensures, is) in
     subst (λ r. IsIoRefused c.args.bytes.now r.line r.reason) same
     (not_parted c.args.bytes.now c.split_input-count.result.0.now script.names.items
-    script.lines.items c.split_input-count.result.2 split.set_up split.lines
-    c.in_ok-script.ensures.script none)
+    script.lines.items c.split_input-count.result.2 c.split_input-count.result.1 split.set_up
+    split.lines split.behind c.in_ok-script.ensures.script c.in-None.is)
 
 pub returns-in-None-clause-only : goal.returns-in-None-clause-only
 returns-in-None-clause-only c =

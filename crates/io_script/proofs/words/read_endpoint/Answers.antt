@@ -1,4 +1,4 @@
-use Rattle.std.proofs.Common.{◌≡◌, true, false, not, Contains, sym, ap, ◌∙◌, subst, refl, rules, arith}
+use Rattle.std.proofs.Common.{◌≡◌, true, false, not, Contains, sym, ap, ◌∙◌, subst, refl, rules}
 use Rattle.fabric_script.specs.Hits.{NodeIsBad, NodeIsUnknown}
 use Rattle.fabric_script.specs.Names.{is_name}
 use Rattle.fabric_script.specs.Texts.{NodeValue}
@@ -24,12 +24,6 @@ returns-then-is_switch c = λ known is.
     let wrong = switch_at known c.args.fabric.switches.now c.in-Some.node is.switched
     (sym c.is_switch.ensures ∙ c.if-is_switch.true) in
     IsWrong (NodeValue c.in-Some.node) at.0 at.1 (ap not wrong) refl
-
-pub overflow_cast-result : goal.overflow_cast-result
-overflow_cast-result c =
-    let few = c.requires in
-    let within = c.in-Some.ensures.0 in
-    omega (arith, few, within)
 
 pub returns : goal.returns
 returns c = λ known is.

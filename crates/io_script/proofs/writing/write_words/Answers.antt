@@ -5,11 +5,12 @@ use Rattle.io_script.proofs.writing.write_words.Goals as goal
 pub returns-in-NRead : goal.returns-in-NRead
 returns-in-NRead g c =
     rw c.in-NRead.is (Writes-then _ _ c.write_place.ensures
-    (rw c.from.ensures at c.write_number-in-NRead.ensures))
+    (rw c.from.ensures at c.put_number-in-NRead.ensures))
 
 pub returns-in-NWrite : goal.returns-in-NWrite
 returns-in-NWrite g c =
-    let written = Writes-then _ _ c.write_place-in-NWrite.ensures c.write_load.ensures in
+    let loaded = rw c.as_slice.ensures.value at c.put_bytes.ensures in
+    let written = Writes-then _ _ c.write_place-in-NWrite.ensures loaded in
     elim c.in-NWrite.is [
       | inl is ↦ rw is written
       | inr other ↦ elim other [ inl is ↦ rw is written | inr is ↦ rw is written ]
