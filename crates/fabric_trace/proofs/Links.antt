@@ -3,6 +3,7 @@ pub mod Bursts
 pub mod Cuts
 pub mod Calling
 pub mod Delivering
+pub mod EachEvent
 pub mod Serving
 pub mod EitherEnd
 pub mod Telling

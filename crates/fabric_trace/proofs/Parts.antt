@@ -2,4 +2,6 @@
 pub mod Folding
 pub mod Keeping
 pub mod Making
+pub mod Quiet
+pub mod Carrying
 pub mod Fronting

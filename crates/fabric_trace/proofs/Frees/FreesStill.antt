@@ -1,28 +1,14 @@
--- What a port freed along lines, and lines in which it gets and frees nothing.
-use Rattle.std.proofs.Common.{◌≡◌, ℕ, ◌+◌, ◌%◌, ◌==◌, ◌++◌, Bool, true, false, List, [], ◌∷◌, Option, Some, None, refl, sym, ap, ◌∙◌, subst, arith, append_assoc, if◌then◌else◌}
-use Rattle.std.proofs.lemmas.List.{append-nil}
+-- What a port got and freed along lines, and lines in which it gets and frees nothing.
+use Rattle.std.proofs.Common.{◌≡◌, ℕ, ◌+◌, ◌%◌, ◌++◌, List, [], ◌∷◌, None, refl, sym, ap, ◌∙◌, subst, arith, if◌then◌else◌}
 use Rattle.rio_chars.specs.declared.chars.Char.{Char}
-use Rattle.link_model.specs.declared.event.Event.{Event}
-use Rattle.link_model.specs.declared.event.Event.TheVariants.{Ctl, Pkt, Bad}
-use Rattle.rio_symbols.specs.declared.stype1.TheConstants.{RESTART_FROM_RETRY, LINK_REQUEST}
-use Rattle.link_model.specs.Outstanding.{Outstanding, from_ack}
-use Rattle.link_model.specs.Output as out
 use Rattle.link_model.specs.Places.{place_start, place_after}
-use Rattle.link_model.specs.Said.{said}
-use Rattle.link_port.specs.Turns.{timed_out}
 use Rattle.link_sound.specs.Meanings.{oldest_of}
-use Rattle.link_watch.specs.declared.note.Note.TheVariants as Notes
-use Rattle.link_wires.specs.declared.edits.Edit.{Edit}
 use Rattle.fabric_script.specs.declared.ports.PortRef.{PortRef}
-use Rattle.fabric_model.specs.Network.{same_port}
-use Rattle.fabric_model.specs.Steps.{Linked, AtNode, ByDevice}
-use Rattle.fabric_model.proofs.Peers.{port_is}
+use Rattle.fabric_model.specs.Steps.{Hold, Free, Linked, AtNode, ByDevice}
 use Rattle.fabric_trace.specs.Lines.{Sent, Got, Fired, TraceLine, Begun, Stepped, Signed, Lacked, Ended, Undetected}
-use Rattle.fabric_trace.specs.Views.{Half, half_of}
-use Rattle.fabric_trace.specs.Known.{Seen, with_half, peer_of, port_seen}
-use Rattle.fabric_trace.specs.Fold.{edit_of, edited_by, event_leaves, sends, says, half_sent, fired_from, signed, seen}
+use Rattle.fabric_trace.specs.Known.{Seen}
 use Rattle.fabric_trace.specs.Frees.{Gotten, nothing_got, gets, frees_by, FreeSaid, FreesSaid}
-use Rattle.fabric_trace.proofs.Holds.Still.{AreStill}
+use Rattle.fabric_trace.proofs.Parts.Quiet.{IsQuietLine, IsQuiet, StaysSo}
 
 -- ---- folds
 
@@ -71,161 +57,50 @@ pub record IsFreed (before : List TraceLine) (s : Seen) (p : PortRef) : Type 0 w
 
 -- ---- lines in which a port gets and frees nothing
 
-record StaysFreed (s t : Seen) (c : PortRef) : Type 0 where
-  pub place : (t.halves c).place ≡ (s.halves c).place
-  pub oldest : oldest_of (t.halves c).output ≡ oldest_of (s.halves c).output
-  pub unfaithful : t.unfaithful ≡ s.unfaithful
+quiet_line : (c : PortRef) (line : TraceLine) (known : Gotten) (j : ℕ) → IsQuietLine c line
+    → FreeSaid c known j line × (frees_by c line ≡ 0) × (gets c known line ≡ known)
+quiet_line c (Begun line) known j quiet = (tt, refl, refl)
+quiet_line c (Stepped (Linked (Hold q packet))) known j quiet = (tt, refl, refl)
+quiet_line c (Stepped (Linked (Free q packet))) known j quiet =
+    (λ own. absurd (cc (own, quiet)), ap (λ own. if own then 1 else 0) quiet, refl)
+quiet_line c (Stepped (AtNode step)) known j quiet = (tt, refl, refl)
+quiet_line c (Stepped (ByDevice step)) known j quiet = (tt, refl, refl)
+quiet_line c (Signed (Sent p chars)) known j quiet = (tt, refl, refl)
+quiet_line c (Signed (Got q chars)) known j quiet = (
+  tt,
+  refl,
+  ap (λ own. if own then record { before = known.before ++ known.last; last = chars } else known)
+      quiet,
+)
+quiet_line c (Signed (Fired p)) known j quiet = (tt, refl, refl)
+quiet_line c (Lacked lack) known j quiet = (tt, refl, refl)
+quiet_line c Ended known j quiet = (tt, refl, refl)
+quiet_line c (Undetected number q e) known j quiet = (tt, refl, refl)
 
-stays_here : (s : Seen) (c : PortRef) → StaysFreed s s c
-stays_here s c = record { place = refl; oldest = refl; unfaithful = refl }
+quiet_lines : (c : PortRef) (lines : List TraceLine) (known : Gotten) (j : ℕ) → IsQuiet c lines
+    → FreesSaid c known j lines × (frees_all c lines ≡ 0) × (gets_all c known lines ≡ known)
+quiet_lines c [] known j quiet = (tt, refl, refl)
+quiet_lines c (line ∷ lines) known j quiet =
+    let one = quiet_line c line known j quiet.0 in
+    let more = quiet_lines c lines (gets c known line) (j + frees_by c line) quiet.1 in
+    let first = one.1 in
+    let rest = more.1 in
+    ((one.0, more.0), omega (arith, first, rest), more.2 ∙ one.2)
 
-half_stays : (halves : PortRef → Half) (p : PortRef) (half : Half) (c : PortRef)
-    → half.place ≡ (halves p).place → oldest_of half.output ≡ oldest_of (halves p).output
-    → ((with_half halves p half c).place ≡ (halves c).place)
-    × (oldest_of (with_half halves p half c).output ≡ oldest_of (halves c).output)
-half_stays halves p half c place oldest =
-    elim (same_port c p) as (λ x. same_port c p ≡ x
-    → ((if x then half else halves c).place ≡ (halves c).place)
-    × (oldest_of (if x then half else halves c).output ≡ oldest_of (halves c).output)) [
-      | true ↦ λ (is : same_port c p ≡ true). (
-        place ∙ ap (λ x. (halves x).place)
-            (sym (port_is c p is)),
-        oldest ∙ ap (λ x. oldest_of (halves x).output) (sym (port_is c p is)),
-      )
-      | false ↦ λ (is : same_port c p ≡ false). (refl, refl)
-    ] refl
-
-restart_oldest : (b : Bool) (w : Outstanding)
-    → oldest_of (if b then out.Output.Ok (from_ack w.oldest w.report) else out.Output.RetryStopped
-    w) ≡ w.oldest
-restart_oldest true w = refl
-restart_oldest false w = refl
-
-request_oldest : (b asked : Bool) (w : Outstanding)
-    → oldest_of (if b then out.Output.ErrorStopped true w else out.Output.ErrorStopped asked w)
-    ≡ w.oldest
-request_oldest true asked w = refl
-request_oldest false asked w = refl
-
-event_oldest : (e : Event) (output : out.Output)
-    → oldest_of (event_leaves e output) ≡ oldest_of output
-event_oldest (Ctl symbol) (out.Output.Ok w) = refl
-event_oldest (Ctl symbol) (out.Output.RetryStopped w) =
-    restart_oldest (symbol.s1 == RESTART_FROM_RETRY) w
-event_oldest (Ctl symbol) (out.Output.ErrorStopped asked w) =
-    request_oldest (symbol.s1 == LINK_REQUEST) asked w
-event_oldest (Ctl symbol) out.Output.Failed = refl
-event_oldest (Pkt ack packet) (out.Output.Ok w) = refl
-event_oldest (Pkt ack packet) (out.Output.RetryStopped w) = refl
-event_oldest (Pkt ack packet) (out.Output.ErrorStopped asked w) = refl
-event_oldest (Pkt ack packet) out.Output.Failed = refl
-event_oldest (Bad cause) output = refl
-
-sends_oldest : (es : List Event) (output : out.Output)
-    → oldest_of (sends output es) ≡ oldest_of output
-unfolding sends
-sends_oldest [] output = refl
-sends_oldest (e ∷ es) output = sends_oldest es (event_leaves e output) ∙ event_oldest e output
-
-time_out_oldest : (output : out.Output) → oldest_of (out.times_out output) ≡ oldest_of output
-time_out_oldest (out.Output.Ok w) = refl
-time_out_oldest (out.Output.RetryStopped w) = refl
-time_out_oldest (out.Output.ErrorStopped asked w) = refl
-time_out_oldest out.Output.Failed = refl
-
-edited_stays : (s : Seen) (edit : Option (PortRef × Edit)) (c : PortRef)
-    → StaysFreed s (edited_by s edit) c
-edited_stays s None c = stays_here s c
-edited_stays s (Some edit) c = record { place = refl; oldest = refl; unfaithful = refl }
-
-fired_stays : (s : Seen) (peer : Option PortRef) (p c : PortRef)
-    → StaysFreed s (fired_from s peer p) c
-fired_stays s None p c = stays_here s c
-fired_stays s (Some q) p c =
-    let both =
-    half_stays s.halves p (half_of (timed_out (port_seen s p))) c refl
-    (time_out_oldest (s.halves p).output) in
-    record { place = both.0; oldest = both.1; unfaithful = refl }
-
-sent_stays : (s : Seen) (p : PortRef) (chars : List Char) (c : PortRef)
-    → StaysFreed s (signed s (Sent p chars)) c
-sent_stays s p chars c =
-    let both =
-    half_stays s.halves p (half_sent (s.halves p) chars) c refl
-    (sends_oldest (says chars) (s.halves p).output) in
-    record { place = both.0; oldest = both.1; unfaithful = refl }
-
-one_freed : (before : List TraceLine) (s t : Seen) (line : TraceLine) (c : PortRef)
-    → ((known : Gotten) → gets c known line ≡ known) → frees_by c line ≡ 0
-    → ((known : Gotten) (j : ℕ) → FreeSaid c known j line)
-    → StaysFreed s t c → IsFreed before s c → IsFreed (before ++ line ∷ []) t c
-one_freed before s t line c same none said stays h =
-    let got : gets_all c nothing_got (before ++ line ∷ []) ≡ gets_all c nothing_got before =
-    gets-append c nothing_got before (line ∷ []) ∙ same (gets_all c nothing_got before) in
-    let frees : frees_all c (before ++ line ∷ []) ≡ frees_all c before =
-    (let all = frees-append c before (line ∷ []) in omega (arith, all, none)) in
+pub quiet_freed : (c : PortRef) (before lines : List TraceLine) (s t : Seen) → IsQuiet c lines
+    → StaysSo s t c → IsFreed before s c → IsFreed (before ++ lines) t c
+quiet_freed c before lines s t quiet stays h =
+    let known = gets_all c nothing_got before in
+    let nothing = quiet_lines c lines known (0 + frees_all c before) quiet in
+    let got : gets_all c nothing_got (before ++ lines) ≡ known =
+    gets-append c nothing_got before lines ∙ nothing.2 in
+    let none = nothing.1 in
+    let all = frees-append c before lines in
+    let frees : frees_all c (before ++ lines) ≡ frees_all c before = omega (arith, all, none) in
     record {
-      said = said-join c before (line ∷ []) nothing_got 0 h.said
-          (said (gets_all c nothing_got before) (0 + frees_all c before), tt);
-      place = λ still. stays.place ∙ h.place (sym stays.unfaithful ∙ still)
+      said = said-join c before lines nothing_got 0 h.said nothing.0;
+      place = λ still. stays.place ∙ h.place (stays.found still)
           ∙ ap (λ (g : Gotten). place_after place_start (all_got g)) (sym got);
-      oldest = λ still. stays.oldest ∙ h.oldest (sym stays.unfaithful ∙ still)
+      oldest = λ still. stays.oldest ∙ h.oldest (stays.found still)
           ∙ ap (λ k. k % 32) (sym frees);
     }
-
-still_more : (x : TraceLine) (xs before : List TraceLine) (t : Seen) (c : PortRef)
-    → IsFreed ((before ++ x ∷ []) ++ xs) t c → IsFreed (before ++ x ∷ xs) t c
-still_more x xs before t c h =
-    subst (λ (l : List TraceLine). IsFreed l t c) (append_assoc before (x ∷ []) xs) h
-
-pub still_freed : (lines before : List TraceLine) (s : Seen) (c : PortRef) → AreStill lines
-    → IsFreed before s c → IsFreed (before ++ lines) (seen s lines) c
-unfolding AreStill
-still_freed [] before s c still h =
-    subst (λ (l : List TraceLine). IsFreed l s c) (sym (append-nil before)) h
-still_freed (Begun line ∷ lines) before s c still h =
-    still_more _ lines before _ c
-    (still_freed lines (before ++ Begun line ∷ []) _ c still
-    (one_freed before s _ (Begun line) c (λ k. refl) refl (λ k j. tt)
-    (edited_stays s (edit_of line) c) h))
-still_freed (Stepped (Linked step) ∷ lines) before s c still h = absurd still
-still_freed (Stepped (AtNode step) ∷ lines) before s c still h =
-    still_more _ lines before _ c
-    (still_freed lines (before ++ Stepped (AtNode step) ∷ []) _ c still
-    (one_freed before s _ (Stepped (AtNode step)) c (λ k. refl) refl (λ k j. tt) (record {
-      place = refl;
-      oldest = refl;
-      unfaithful = refl;
-    }) h))
-still_freed (Stepped (ByDevice step) ∷ lines) before s c still h =
-    still_more _ lines before _ c
-    (still_freed lines (before ++ Stepped (ByDevice step) ∷ []) _ c still
-    (one_freed before s _ (Stepped (ByDevice step)) c (λ k. refl) refl (λ k j. tt) (record {
-      place = refl;
-      oldest = refl;
-      unfaithful = refl;
-    }) h))
-still_freed (Signed (Sent p chars) ∷ lines) before s c still h =
-    still_more _ lines before _ c
-    (still_freed lines (before ++ Signed (Sent p chars) ∷ []) _ c still
-    (one_freed before s _ (Signed (Sent p chars)) c (λ k. refl) refl (λ k j. tt)
-    (sent_stays s p chars c) h))
-still_freed (Signed (Got q chars) ∷ lines) before s c still h = absurd still
-still_freed (Signed (Fired p) ∷ lines) before s c still h =
-    still_more _ lines before _ c
-    (still_freed lines (before ++ Signed (Fired p) ∷ []) _ c still
-    (one_freed before s _ (Signed (Fired p)) c (λ k. refl) refl (λ k j. tt)
-    (fired_stays s (peer_of s p) p c) h))
-still_freed (Lacked lack ∷ lines) before s c still h =
-    still_more _ lines before _ c
-    (still_freed lines (before ++ Lacked lack ∷ []) s c still
-    (one_freed before s s (Lacked lack) c (λ k. refl) refl (λ k j. tt) (stays_here s c) h))
-still_freed (Ended ∷ lines) before s c still h =
-    still_more _ lines before _ c
-    (still_freed lines (before ++ Ended ∷ []) s c still
-    (one_freed before s s Ended c (λ k. refl) refl (λ k j. tt) (stays_here s c) h))
-still_freed (Undetected number q e ∷ lines) before s c still h =
-    still_more _ lines before _ c
-    (still_freed lines (before ++ Undetected number q e ∷ []) s c still
-    (one_freed before s s (Undetected number q e) c (λ k. refl) refl (λ k j. tt) (stays_here s c)
-    h))

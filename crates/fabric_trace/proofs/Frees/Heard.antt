@@ -1,8 +1,7 @@
 -- The packets that a delivery frees are acknowledged by what it says.
-use Rattle.std.proofs.Common.{◌≡◌, ◌≢◌, inl, inr, ℕ, suc, ◌+◌, ◌-◌, ◌%◌, ◌<◌, ◌==◌, ◌++◌, Bool, true, false, List, [], ◌∷◌, All, length, map, take, Option, Some, None, option_to_list, refl, sym, ap, ◌∙◌, subst, arith, append_assoc, length-take, if◌then◌else◌}
+use Rattle.std.proofs.Common.{◌≡◌, ◌≢◌, inl, inr, ℕ, suc, ◌+◌, ◌-◌, ◌%◌, ◌<◌, ◌==◌, ◌++◌, Bool, true, false, List, [], ◌∷◌, length, map, take, Option, Some, None, option_to_list, refl, sym, ap, ◌∙◌, subst, arith, length-take, if◌then◌else◌}
 use Rattle.std.proofs.lemmas.Bool.{eqb-true, cases_lt}
-use Rattle.std.proofs.lemmas.List.{append-nil, length-map}
-use Rattle.std.proofs.lemmas.List.Elements.{All-head, All-tail}
+use Rattle.std.proofs.lemmas.List.{length-map}
 use Rattle.rio_packets.specs.Fields.{prio_of}
 use Rattle.rio_symbols.specs.Fields.{Fields}
 use Rattle.rio_symbols.specs.declared.stype0.TheConstants.{PACKET_ACCEPTED, PACKET_RETRY, PACKET_NOT_ACCEPTED, LINK_RESPONSE}
@@ -19,21 +18,20 @@ use Rattle.link_port.proofs.HearLaws.{report_prios}
 use Rattle.link_sound.specs.Meanings.{oldest_of}
 use Rattle.link_sound.proofs.Reported.{report_oldest}
 use Rattle.rio_chars.specs.declared.chars.Char.{Char}
-use Rattle.link_model.specs.Places.{Place, run, place_after}
 use Rattle.link_model.specs.Said.{said}
-use Rattle.link_port.specs.Steps.{is_acted}
-use Rattle.link_sound.specs.Sound.{IsSound}
 use Rattle.link_sound.proofs.Promises.{not_failed}
-use Rattle.link_machine.specs.Queues.{Queues, queues_between}
-use Rattle.link_machine.proofs.Flowing.{IsFlowing, AreFlowing, comes_flowing}
-use Rattle.link_machine.proofs.Arriving.{HasAckAt, run_has}
-use Rattle.link_machine.proofs.Walking.{Stays}
-use Rattle.link_wires.specs.Deliveries.{Flow, Delivered, Through, Unsent, begun, moves_of, done, met, comes, goes_on, come, ended, delivered}
-use Rattle.link_wires.specs.Kept.{behind}
+use Rattle.link_machine.specs.Queues.{Queues}
+use Rattle.link_machine.proofs.Flowing.{IsFlowing}
+use Rattle.link_wires.specs.Deliveries.{Flow, Delivered, begun, moves_of, done}
 use Rattle.link_wires.specs.Kept.IsSubsequence.{EndsWithin, TakesWithin}
 use Rattle.link_wires.specs.declared.moves.Move.{Move}
 use Rattle.link_wires.specs.declared.moves.Move.TheVariants.{Held, Freed}
+use Rattle.fabric_script.specs.declared.ports.PortRef.{PortRef}
+use Rattle.fabric_trace.specs.Known.{Seen, port_seen}
+use Rattle.fabric_trace.specs.Fold.{taken_from}
 use Rattle.fabric_trace.specs.Frees.{Acknowledges, IsSaid}
+use Rattle.fabric_trace.specs.Links.{IsLink}
+use Rattle.fabric_trace.proofs.Links.EachEvent.{OfDelivery, IsStepwise, taken_keeps}
 use Rattle.fabric_trace.proofs.Holds.Coming.{none_within, within-append, within_more}
 use Rattle.fabric_trace.proofs.Frees.HeardRows.{Tells, heard_rows}
 
@@ -87,10 +85,12 @@ frees_none n port e none same is =
       acknowledges = λ i few. absurd (omega (arith, few, zero_freed));
     }
 
-event_frees : (n : ℕ) (port : PortState) (e : Event) → IsPort port
-    → IsOutput (acts port e).port.output → (acts port e).port.output ≢ out.Output.Failed
-    → oldest_of port.output ≡ n % 32 → EventFrees n port e
-event_frees n port (Ctl symbol) is bounded working oldest =
+-- a symbol frees as many packets as the table says
+pub symbol_freed : (n : ℕ) (port : PortState) (symbol : Fields) → IsPort port
+    → IsOutput (acts port (Ctl symbol)).port.output
+    → (acts port (Ctl symbol)).port.output ≢ out.Output.Failed → oldest_of port.output ≡ n % 32
+    → length (acts port (Ctl symbol)).freed ≡ (symbol_heard port symbol).freed
+symbol_freed n port symbol is bounded working oldest =
     let row =
     heard_rows n (stype0 symbol.s0) (hears_report symbol port.output) symbol.p0
     (report_oldest symbol port.output ∙ oldest) bounded working in
@@ -106,6 +106,16 @@ event_frees n port (Ctl symbol) is bounded working oldest =
     let same = ap length (report_prios symbol port.output) in
     let freed : length (packets_of (take k prios) port.queued) ≡ k =
     omega (arith, count, taken, most, same) in
+    freed
+
+event_frees : (n : ℕ) (port : PortState) (e : Event) → IsPort port
+    → IsOutput (acts port e).port.output → (acts port e).port.output ≢ out.Output.Failed
+    → oldest_of port.output ≡ n % 32 → EventFrees n port e
+event_frees n port (Ctl symbol) is bounded working oldest =
+    let row =
+    heard_rows n (stype0 symbol.s0) (hears_report symbol port.output) symbol.p0
+    (report_oldest symbol port.output ∙ oldest) bounded working in
+    let freed = symbol_freed n port symbol is bounded working oldest in
     record {
       oldest = row.oldest ∙ ap (λ m. (n + m) % 32) (sym freed);
       acknowledges = λ i few.
@@ -142,32 +152,40 @@ freed_of (Some packet) freed = freed_all freed
 
 -- after these events: each packet freed, numbered from n on, is acknowledged by one of them, and
 -- the next is the oldest
-pub record HasFreed (n : ℕ) (said : List Event) (flow : Flow) : Type 0 where
+pub record HasFreed (n : ℕ) (events : List Event) (flow : Flow) : Type 0 where
   pub oldest : oldest_of flow.port.output ≡ (n + freed_count flow.told.moves) % 32
-  pub all : (i : ℕ) → i < freed_count flow.told.moves → IsSaid (n + i) said
+  pub all : (i : ℕ) → i < freed_count flow.told.moves → IsSaid (n + i) events
+
+abbrev pub AreSaid : ℕ → List Event → List Move → Type 0
+AreSaid n events moves = (i : ℕ) → i < freed_count moves → IsSaid (n + i) events
 
 abbrev pub HaveFreed : ℕ → List Event → Delivered → Type 0
-HaveFreed n said (Through flow) = HasFreed n said flow
-HaveFreed n said (Unsent told e) = (i : ℕ) → i < freed_count told.moves → IsSaid (n + i) said
+HaveFreed n events d = OfDelivery (HasFreed n) (AreSaid n) events d
 
 said_more : {j : ℕ} {said : List Event} (more : List Event) → IsSaid j said
     → IsSaid j (said ++ more)
 said_more more s =
     record { event = s.event; among = within_more more s.among; acknowledges = s.acknowledges }
 
-done_frees : (n : ℕ) (said : List Event) (e : Event) (acted kept : List Event) (flow : Flow)
+-- how many were freed, with those of one more event
+pub done_count : (flow : Flow) (e : Event)
+    → freed_count (flow.told.moves ++ moves_of (acts flow.port e))
+    ≡ freed_count flow.told.moves + length (acts flow.port e).freed
+done_count flow e =
+    freed-append flow.told.moves (moves_of (acts flow.port e))
+    ∙ ap (λ k. freed_count flow.told.moves + k)
+    (freed_of (acts flow.port e).held (acts flow.port e).freed)
+
+pub done_frees : (n : ℕ) (events : List Event) (e : Event) (acted kept : List Event) (flow : Flow)
     (b : PortState) (kept_a : List Event) (begin : Queues)
     → IsFlowing b kept_a begin flow → IsFlowing b kept_a begin (done e acted kept flow)
-    → HasFreed n said flow → HasFreed n (said ++ e ∷ []) (done e acted kept flow)
-done_frees n said e acted kept flow b kept_a begin before next h =
+    → HasFreed n events flow → HasFreed n (events ++ e ∷ []) (done e acted kept flow)
+done_frees n events e acted kept flow b kept_a begin before next h =
     let m = freed_count flow.told.moves in
     let frees =
     event_frees (n + m) flow.port e before.port next.port.outstanding
     (not_failed (acts flow.port e).port b _ _ next.sound) h.oldest in
-    let count : freed_count (flow.told.moves ++ moves_of (acts flow.port e))
-    ≡ m + length (acts flow.port e).freed =
-    freed-append flow.told.moves (moves_of (acts flow.port e))
-    ∙ ap (λ k. m + k) (freed_of (acts flow.port e).held (acts flow.port e).freed) in
+    let count = done_count flow e in
     let sum : (n + m) + length (acts flow.port e).freed
     ≡ n + freed_count (flow.told.moves ++ moves_of (acts flow.port e)) = omega (arith, count) in
     record {
@@ -180,91 +198,34 @@ done_frees n said e acted kept flow b kept_a begin before next h =
             let number : (n + m) + (i - m) ≡ n + i = omega (arith, new) in
             record {
               event = e;
-              among = within-append (none_within said) (TakesWithin e EndsWithin);
+              among = within-append (none_within events) (TakesWithin e EndsWithin);
               acknowledges =
                   subst (λ k. Acknowledges k e) number (frees.acknowledges (i - m) small);
             }
       ];
     }
 
-met_frees : (n : ℕ) (said : List Event) (at : ℕ) (e : Event) (kept : Option (List Event))
-    (flow : Flow) (b : PortState) (kept_a : List Event) (begin : Queues)
-    → IsFlowing b kept_a begin flow → AreFlowing b kept_a begin (met at e kept flow)
-    → HasFreed n said flow → HaveFreed n (said ++ e ∷ []) (met at e kept flow)
-met_frees n said at e None flow b kept_a begin before next h =
-    λ i few. said_more (e ∷ []) (h.all i few)
-met_frees n said at e (Some kept) flow b kept_a begin before next h =
-    done_frees n said e (e ∷ []) kept flow b kept_a begin before next h
+frees_stepwise : (n : ℕ) (b : PortState) (kept_a : List Event) (begin : Queues)
+    → IsStepwise b kept_a begin (HasFreed n) (AreSaid n)
+frees_stepwise n b kept_a begin = record {
+  one = λ events e acted kept flow before next h. done_frees n events e acted kept flow b kept_a
+      begin before next h;
+  unsent = λ events flow h. h.all;
+  more = λ events rest moves h i few. said_more rest (h i few);
+  ends = λ events flow place count h. record { oldest = h.oldest; all = h.all };
+}
 
-comes_frees : (n : ℕ) (said : List Event) (flow : Flow) (placed : ℕ × Event) (b : PortState)
-    (kept_a : List Event) (begin : Queues)
-    → IsFlowing b kept_a begin flow → AreFlowing b kept_a begin (comes flow placed)
-    → HasFreed n said flow → HaveFreed n (said ++ placed.1 ∷ []) (comes flow placed)
-comes_frees n said flow placed b kept_a begin before next h =
-    (elim (is_acted flow.port placed.1) as (λ t. AreFlowing b kept_a begin
-    (if t then met placed.0 placed.1 (behind placed.1 flow.kept) flow else Through
-    (done placed.1 [] flow.kept flow))
-    → HaveFreed n (said ++ placed.1 ∷ [])
-    (if t then met placed.0 placed.1 (behind placed.1 flow.kept) flow else Through
-    (done placed.1 [] flow.kept flow))) [
-      | true ↦ λ (f : AreFlowing b kept_a begin
-          (met placed.0 placed.1 (behind placed.1 flow.kept) flow)). met_frees n said placed.0
-          placed.1 (behind placed.1 flow.kept) flow b kept_a begin before f h
-      | false ↦
-          λ (f : IsFlowing b kept_a begin (done placed.1 [] flow.kept flow)). done_frees n said
-          placed.1 [] flow.kept flow b kept_a begin before f h
-    ]) next
-
-abbrev events_of : List (ℕ × Event) → List Event
-events_of events = map (λ (event : ℕ × Event). event.1) events
-
-on_frees : (n : ℕ) (said rest : List Event) (more : Flow → Delivered) (d : Delivered)
-    (b : PortState) (kept_a : List Event) (begin : Queues)
-    → ((f : Flow) → IsFlowing b kept_a begin f → HasFreed n said f
-    → HaveFreed n (said ++ rest) (more f)) → AreFlowing b kept_a begin d → HaveFreed n said d
-    → HaveFreed n (said ++ rest) (goes_on more d)
-on_frees n said rest more (Through f) b kept_a begin next flowing h = next f flowing h
-on_frees n said rest more (Unsent told e) b kept_a begin next flowing h =
-    λ i few. said_more rest (h i few)
-
-come_frees : (n : ℕ) (events : List (ℕ × Event)) (said : List Event) (flow : Flow)
-    (b : PortState) (kept_a : List Event) (begin : Queues) → IsPort b → All HasAckAt events
-    → IsFlowing b kept_a begin flow → HasFreed n said flow
-    → HaveFreed n (said ++ events_of events) (come events flow)
-unfolding come
-come_frees n [] said flow b kept_a begin far has flowing h =
-    subst (λ (l : List Event). HasFreed n l flow) (sym (append-nil said)) h
-come_frees n (placed ∷ events) said flow b kept_a begin far has flowing h =
-    let own = All-head HasAckAt placed events has in
-    let more = All-tail HasAckAt placed events has in
-    let next = comes_flowing b kept_a begin flow placed far own flowing in
-    subst (λ (l : List Event). HaveFreed n l (goes_on (come events) (comes flow placed)))
-    (append_assoc said (placed.1 ∷ []) (events_of events))
-    (on_frees n (said ++ placed.1 ∷ []) (events_of events) (come events) (comes flow placed) b
-    kept_a begin
-    (λ f g k. come_frees n events (said ++ placed.1 ∷ []) f b kept_a begin far more g k) next
-    (comes_frees n said flow placed b kept_a begin flowing next h))
-
-ended_frees : (n : ℕ) (said : List Event) (place : Place) (count : ℕ) (d : Delivered)
-    → HaveFreed n said d → HaveFreed n said (ended place count d)
-ended_frees n said place count (Through flow) h = record { oldest = h.oldest; all = h.all }
-ended_frees n said place count (Unsent told e) h = h
+-- nothing is freed yet
+pub frees_begin : (n : ℕ) (port : PortState) (kept : List Event) → oldest_of port.output ≡ n % 32
+    → HasFreed n [] (begun port kept)
+frees_begin n port kept is = record {
+  oldest = is ∙ (let more : n ≡ n + 0 = omega arith in ap (λ k. k % 32) more);
+  all = λ i few. absurd (omega (arith, few));
+}
 
 -- a delivery to a port whose oldest packet is the n-th
-pub delivered_frees : (n : ℕ) (a b : PortState) (kept_a kept_b : List Event) (chars : List Char)
-    → IsPort a → IsPort b → IsSound a b kept_a kept_b → oldest_of a.output ≡ n % 32
-    → HaveFreed n (said a.place chars) (delivered a kept_b chars)
-delivered_frees n a b kept_a kept_b chars near far sound is =
-    ended_frees n (said a.place chars) (place_after a.place chars) _
-    (come (run a.place 0 chars) (begun a kept_b))
-    (come_frees n (run a.place 0 chars) [] (begun a kept_b) b kept_a (queues_between a b) far
-    (run_has a.place 0 chars)
-    (record {
-      port = near;
-      sound = subst (λ (l : List Event). IsSound a b l kept_b) (sym (append-nil kept_a)) sound;
-      walks = Stays;
-    })
-    (record {
-      oldest = is ∙ (let more : n ≡ n + 0 = omega arith in ap (λ k. k % 32) more);
-      all = λ i few. absurd (omega (arith, few));
-    }))
+pub delivered_frees : (s : Seen) (p q : PortRef) (chars : List Char) (n : ℕ) → IsLink s p q
+    → oldest_of (s.halves q).output ≡ n % 32
+    → HaveFreed n (said (s.halves q).place chars) (taken_from s p q chars)
+delivered_frees s p q chars n link is =
+    taken_keeps s p q chars (frees_stepwise n _ _ _) link (frees_begin n (port_seen s q) _ is)

@@ -1,5 +1,5 @@
 -- The packets that a delivery holds come with the ackIDs that the port expects.
-use Rattle.std.proofs.Common.{◌≡◌, ◌⊎◌, inl, inr, ℕ, suc, ◌+◌, ◌%◌, ◌==◌, ◌&&◌, ◌++◌, Bool, true, false, List, [], ◌∷◌, length, map, Option, Some, None, option_to_list, refl, sym, ap, ◌∙◌, subst, arith, append_assoc, length-append, if◌then◌else◌}
+use Rattle.std.proofs.Common.{◌≡◌, ◌⊎◌, inl, inr, ℕ, suc, ◌+◌, ◌%◌, ◌==◌, ◌&&◌, ◌++◌, Bool, true, false, List, [], ◌∷◌, length, map, Option, Some, None, option_to_list, refl, sym, ap, ◌∙◌, subst, arith, length-append, if◌then◌else◌}
 use Rattle.std.proofs.lemmas.Bool.Decides.{eqb_tells}
 use Rattle.std.proofs.lemmas.List.{append-nil}
 use Rattle.rio_chars.specs.declared.chars.Char.{Char}
@@ -11,19 +11,24 @@ use Rattle.link_model.specs.declared.event.Event.TheVariants.{Ctl, Pkt, Bad}
 use Rattle.link_model.specs.Input as in_half
 use Rattle.link_model.specs.Input.{Arrival, receives, packet_arrival, symbol_arrival}
 use Rattle.link_model.specs.Input.Arrival.{ExpectedWithRoom, ExpectedWithoutRoom, UnexpectedAck, Damaged, RestartFromRetry, LinkRequest, OtherStype1}
-use Rattle.link_model.specs.Places.{Place, run, place_after}
 use Rattle.link_model.specs.Said.{said}
 use Rattle.link_port.specs.Ports.{PortState}
 use Rattle.link_port.specs.States.{expected_of}
-use Rattle.link_port.specs.Steps.{acts, is_acted}
+use Rattle.link_port.specs.Steps.{acts}
 use Rattle.link_port.specs.Prelude.{buffer_status}
 use Rattle.link_sound.proofs.Receiving.{next_expected}
-use Rattle.link_wires.specs.Deliveries.{Flow, Delivered, Through, Unsent, begun, moves_of, done, met, comes, goes_on, come, ended, delivered}
-use Rattle.link_wires.specs.Kept.{behind, IsSubsequence}
+use Rattle.link_machine.specs.Queues.{Queues}
+use Rattle.link_wires.specs.Deliveries.{Flow, Delivered, moves_of, done}
+use Rattle.link_wires.specs.Kept.{IsSubsequence}
 use Rattle.link_wires.specs.Kept.IsSubsequence.{EndsWithin, TakesWithin, SkipsWithin}
 use Rattle.link_wires.specs.declared.moves.Move.{Move}
 use Rattle.link_wires.specs.declared.moves.Move.TheVariants.{Held, Freed}
+use Rattle.fabric_script.specs.declared.ports.PortRef.{PortRef}
+use Rattle.fabric_trace.specs.Known.{Seen}
+use Rattle.fabric_trace.specs.Fold.{taken_from}
 use Rattle.fabric_trace.specs.Holds.{numbered_packets}
+use Rattle.fabric_trace.specs.Links.{IsLink}
+use Rattle.fabric_trace.proofs.Links.EachEvent.{OfDelivery, IsStepwise, taken_keeps}
 
 -- ---- subsequences and numbers
 
@@ -160,13 +165,15 @@ event_held port (Bad cause) = inl (refl, damaged_same (number_of cause) port.inp
 
 -- after these events: the packets held, numbered from n on, are among them, and the next number is
 -- expected
-pub record HasCome (n : ℕ) (said : List Event) (flow : Flow) : Type 0 where
+pub record HasCome (n : ℕ) (events : List Event) (flow : Flow) : Type 0 where
   pub expected : expected_of flow.port.input ≡ (n + length (held_in flow.told.moves)) % 32
-  pub within : IsSubsequence (numbered_packets n (held_in flow.told.moves)) said
+  pub within : IsSubsequence (numbered_packets n (held_in flow.told.moves)) events
+
+abbrev pub AreWithin : ℕ → List Event → List Move → Type 0
+AreWithin n events moves = IsSubsequence (numbered_packets n (held_in moves)) events
 
 abbrev pub HaveCome : ℕ → List Event → Delivered → Type 0
-HaveCome n said (Through flow) = HasCome n said flow
-HaveCome n said (Unsent told e) = IsSubsequence (numbered_packets n (held_in told.moves)) said
+HaveCome n events d = OfDelivery (HasCome n) (AreWithin n) events d
 
 done_held : (e : Event) (acted kept : List Event) (flow : Flow)
     → held_in (done e acted kept flow).told.moves ≡ held_in flow.told.moves
@@ -176,11 +183,11 @@ done_held e acted kept flow =
     ∙ ap (λ (l : List (List ℕ)). held_in flow.told.moves ++ l)
     (held_of (acts flow.port e).held (acts flow.port e).freed)
 
-done_comes : (n : ℕ) (said : List Event) (e : Event) (acted kept : List Event) (flow : Flow)
-    → HasCome n said flow → HasCome n (said ++ e ∷ []) (done e acted kept flow)
-done_comes n said e acted kept flow h = by_held (event_held flow.port e)
+done_comes : (n : ℕ) (events : List Event) (e : Event) (acted kept : List Event) (flow : Flow)
+    → HasCome n events flow → HasCome n (events ++ e ∷ []) (done e acted kept flow)
+done_comes n events e acted kept flow h = by_held (event_held flow.port e)
   where
-    by_held : IsHeld flow.port e → HasCome n (said ++ e ∷ []) (done e acted kept flow)
+    by_held : IsHeld flow.port e → HasCome n (events ++ e ∷ []) (done e acted kept flow)
     by_held (inl (none, same)) =
         let held : held_in (done e acted kept flow).told.moves ≡ held_in flow.told.moves =
         done_held e acted kept flow
@@ -189,7 +196,7 @@ done_comes n said e acted kept flow h = by_held (event_held flow.port e)
         record {
           expected = same ∙ h.expected ∙ ap (λ (l : List (List ℕ)). (n + length l) % 32) (sym held);
           within = subst
-              (λ (l : List (List ℕ)). IsSubsequence (numbered_packets n l) (said ++ e ∷ []))
+              (λ (l : List (List ℕ)). IsSubsequence (numbered_packets n l) (events ++ e ∷ []))
               (sym held) (within_more (e ∷ []) h.within);
         }
     by_held (inr (packet, some, is, next)) =
@@ -207,64 +214,31 @@ done_comes n said e acted kept flow h = by_held (event_held flow.port e)
         record {
           expected = next ∙ number ∙ ap (λ (l : List (List ℕ)). (n + length l) % 32) (sym held);
           within = subst
-              (λ (l : List (List ℕ)). IsSubsequence (numbered_packets n l) (said ++ e ∷ []))
+              (λ (l : List (List ℕ)). IsSubsequence (numbered_packets n l) (events ++ e ∷ []))
               (sym held)
-              (subst (λ (l : List Event). IsSubsequence l (said ++ e ∷ []))
+              (subst (λ (l : List Event). IsSubsequence l (events ++ e ∷ []))
               (sym (numbered-append n (n + length ps) ps (packet ∷ []) refl))
               (within-append h.within (subst (λ (x : Event). IsSubsequence (x ∷ []) (e ∷ []))
               (sym last) (TakesWithin e EndsWithin))));
         }
 
-met_comes : (n : ℕ) (said : List Event) (at : ℕ) (e : Event) (kept : Option (List Event))
-    (flow : Flow) → HasCome n said flow → HaveCome n (said ++ e ∷ []) (met at e kept flow)
-met_comes n said at e None flow h = within_more (e ∷ []) h.within
-met_comes n said at e (Some kept) flow h = done_comes n said e (e ∷ []) kept flow h
-
-comes_comes : (n : ℕ) (said : List Event) (flow : Flow) (placed : ℕ × Event) → HasCome n said flow
-    → HaveCome n (said ++ placed.1 ∷ []) (comes flow placed)
-comes_comes n said flow placed h =
-    elim (is_acted flow.port placed.1) as (λ b. HaveCome n (said ++ placed.1 ∷ [])
-    (if b then met placed.0 placed.1 (behind placed.1 flow.kept) flow else Through
-    (done placed.1 [] flow.kept flow))) [
-      | true ↦ met_comes n said placed.0 placed.1 (behind placed.1 flow.kept) flow h
-      | false ↦ done_comes n said placed.1 [] flow.kept flow h
-    ]
-
-abbrev events_of : List (ℕ × Event) → List Event
-events_of events = map (λ (event : ℕ × Event). event.1) events
-
-on_comes : (n : ℕ) (said rest : List Event) (more : Flow → Delivered) (d : Delivered)
-    → ((f : Flow) → HasCome n said f → HaveCome n (said ++ rest) (more f)) → HaveCome n said d
-    → HaveCome n (said ++ rest) (goes_on more d)
-on_comes n said rest more (Through f) next h = next f h
-on_comes n said rest more (Unsent told e) next h = within_more rest h
-
-come_comes : (n : ℕ) (events : List (ℕ × Event)) (said : List Event) (flow : Flow)
-    → HasCome n said flow → HaveCome n (said ++ events_of events) (come events flow)
-unfolding come
-come_comes n [] said flow h = subst (λ (l : List Event). HasCome n l flow) (sym (append-nil said)) h
-come_comes n (placed ∷ events) said flow h =
-    subst (λ (l : List Event). HaveCome n l (goes_on (come events) (comes flow placed)))
-    (append_assoc said (placed.1 ∷ []) (events_of events))
-    (on_comes n (said ++ placed.1 ∷ []) (events_of events) (come events) (comes flow placed)
-    (λ f g. come_comes n events (said ++ placed.1 ∷ []) f g) (comes_comes n said flow placed h))
-
-ended_comes : (n : ℕ) (said : List Event) (place : Place) (count : ℕ) (d : Delivered)
-    → HaveCome n said d → HaveCome n said (ended place count d)
-ended_comes n said place count (Through flow) h =
-    record { expected = h.expected; within = h.within }
-ended_comes n said place count (Unsent told e) h = h
+comes_stepwise : (n : ℕ) (b : PortState) (kept_a : List Event) (begin : Queues)
+    → IsStepwise b kept_a begin (HasCome n) (AreWithin n)
+comes_stepwise n b kept_a begin = record {
+  one = λ events e acted kept flow before next h. done_comes n events e acted kept flow h;
+  unsent = λ events flow h. h.within;
+  more = λ events rest moves h. within_more rest h;
+  ends = λ events flow place count h. record { expected = h.expected; within = h.within };
+}
 
 -- a delivery to a port that expects the n-th packet
-pub delivered_comes : (n : ℕ) (port : PortState) (kept : List Event) (chars : List Char)
-    → expected_of port.input ≡ n % 32
-    → HaveCome n (said port.place chars) (delivered port kept chars)
-delivered_comes n port kept chars is =
+pub delivered_comes : (s : Seen) (p q : PortRef) (chars : List Char) (n : ℕ) → IsLink s p q
+    → expected_of (s.halves q).input ≡ n % 32
+    → HaveCome n (said (s.halves q).place chars) (taken_from s p q chars)
+delivered_comes s p q chars n link is =
     let none : n % 32 ≡ (n + length {A = List ℕ} []) % 32 =
     (let same : n ≡ n + 0 = omega arith in ap (λ k. k % 32) same) in
-    ended_comes n (said port.place chars) (place_after port.place chars) _
-    (come (run port.place 0 chars) (begun port kept))
-    (come_comes n (run port.place 0 chars) [] (begun port kept) (record {
+    taken_keeps s p q chars (comes_stepwise n _ _ _) link (record {
       expected = is ∙ none;
       within = EndsWithin;
-    }))
+    })

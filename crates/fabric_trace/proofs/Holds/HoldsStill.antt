@@ -1,22 +1,17 @@
 -- What a port got and held along lines, and lines in which it gets and holds nothing.
-use Rattle.std.proofs.Common.{◌≡◌, ℕ, ◌%◌, ◌++◌, true, false, List, [], ◌∷◌, length, Option, Some, None, refl, sym, ap, ◌∙◌, subst, append_assoc, if◌then◌else◌}
+use Rattle.std.proofs.Common.{◌≡◌, ℕ, ◌%◌, ◌++◌, List, [], ◌∷◌, length, None, refl, sym, ap, ◌∙◌, subst, append_assoc, if◌then◌else◌}
 use Rattle.std.proofs.lemmas.List.{append-nil}
 use Rattle.rio_chars.specs.declared.chars.Char.{Char}
 use Rattle.link_model.specs.Places.{place_start, place_after}
 use Rattle.link_port.specs.States.{expected_of}
-use Rattle.link_watch.specs.declared.note.Note.TheVariants as Notes
 use Rattle.link_wires.specs.Kept.{IsSubsequence}
-use Rattle.link_wires.specs.declared.edits.Edit.{Edit}
 use Rattle.fabric_script.specs.declared.ports.PortRef.{PortRef}
-use Rattle.fabric_model.specs.Network.{same_port}
-use Rattle.fabric_model.specs.Steps.{Linked, AtNode, ByDevice}
-use Rattle.fabric_model.proofs.Peers.{port_is}
+use Rattle.fabric_model.specs.Steps.{Hold, Free, Linked, AtNode, ByDevice}
 use Rattle.fabric_trace.specs.Lines.{Sent, Got, Fired, TraceLine, Begun, Stepped, Signed, Lacked, Ended, Undetected}
-use Rattle.fabric_trace.specs.Views.{Half}
-use Rattle.fabric_trace.specs.Known.{Seen, with_half, peer_of}
-use Rattle.fabric_trace.specs.Fold.{edit_of, edited_by, says, fired_from, seen}
+use Rattle.fabric_trace.specs.Known.{Seen}
+use Rattle.fabric_trace.specs.Fold.{says}
 use Rattle.fabric_trace.specs.Holds.{got_by, got, held_by_line, holds, numbered_packets, HoldsCame}
-use Rattle.fabric_trace.proofs.Holds.Still.{AreStill}
+use Rattle.fabric_trace.proofs.Parts.Quiet.{IsQuietLine, IsQuiet, StaysSo}
 
 pub got-append : (q : PortRef) (xs ys : List TraceLine) → got q (xs ++ ys) ≡ got q xs ++ got q ys
 got-append q [] ys = refl
@@ -40,125 +35,47 @@ pub record IsRead (before : List TraceLine) (s : Seen) (q : PortRef) : Type 0 wh
 
 -- ---- lines in which a port gets and holds nothing
 
--- what is read of a port stays
-record StaysRead (s t : Seen) (c : PortRef) : Type 0 where
-  pub place : (t.halves c).place ≡ (s.halves c).place
-  pub input : (t.halves c).input ≡ (s.halves c).input
-  pub unfaithful : t.unfaithful ≡ s.unfaithful
+quiet_line : (c : PortRef) (line : TraceLine) → IsQuietLine c line
+    → (got_by c line ≡ []) × (held_by_line c line ≡ [])
+quiet_line c (Begun line) quiet = (refl, refl)
+quiet_line c (Stepped (Linked (Hold q packet))) quiet =
+    (refl, ap (λ own. if own then packet ∷ [] else []) quiet)
+quiet_line c (Stepped (Linked (Free q packet))) quiet = (refl, refl)
+quiet_line c (Stepped (AtNode step)) quiet = (refl, refl)
+quiet_line c (Stepped (ByDevice step)) quiet = (refl, refl)
+quiet_line c (Signed (Sent p chars)) quiet = (refl, refl)
+quiet_line c (Signed (Got q chars)) quiet = (ap (λ own. if own then chars else []) quiet, refl)
+quiet_line c (Signed (Fired p)) quiet = (refl, refl)
+quiet_line c (Lacked lack) quiet = (refl, refl)
+quiet_line c Ended quiet = (refl, refl)
+quiet_line c (Undetected number q e) quiet = (refl, refl)
 
-stays_here : (s : Seen) (c : PortRef) → StaysRead s s c
-stays_here s c = record { place = refl; input = refl; unfaithful = refl }
+quiet_lines : (c : PortRef) (lines : List TraceLine) → IsQuiet c lines
+    → (got c lines ≡ []) × (holds c lines ≡ [])
+quiet_lines c [] quiet = (refl, refl)
+quiet_lines c (line ∷ lines) quiet =
+    let one = quiet_line c line quiet.0 in
+    let more = quiet_lines c lines quiet.1 in
+    (λ i. one.0 i ++ more.0 i, λ i. one.1 i ++ more.1 i)
 
-half_place : (halves : PortRef → Half) (p : PortRef) (half : Half) (c : PortRef)
-    → half.place ≡ (halves p).place → (with_half halves p half c).place ≡ (halves c).place
-half_place halves p half c same =
-    elim (same_port c p) as (λ x. same_port c p ≡ x
-    → (if x then half else halves c).place ≡ (halves c).place) [
-      | true ↦ λ (is : same_port c p ≡ true). same
-          ∙ ap (λ x. (halves x).place) (sym (port_is c p is))
-      | false ↦ λ (is : same_port c p ≡ false). refl
-    ] refl
-
-half_input : (halves : PortRef → Half) (p : PortRef) (half : Half) (c : PortRef)
-    → half.input ≡ (halves p).input → (with_half halves p half c).input ≡ (halves c).input
-half_input halves p half c same =
-    elim (same_port c p) as (λ x. same_port c p ≡ x
-    → (if x then half else halves c).input ≡ (halves c).input) [
-      | true ↦ λ (is : same_port c p ≡ true). same
-          ∙ ap (λ x. (halves x).input) (sym (port_is c p is))
-      | false ↦ λ (is : same_port c p ≡ false). refl
-    ] refl
-
-edited_stays : (s : Seen) (edit : Option (PortRef × Edit)) (c : PortRef)
-    → StaysRead s (edited_by s edit) c
-edited_stays s None c = stays_here s c
-edited_stays s (Some edit) c = record { place = refl; input = refl; unfaithful = refl }
-
-fired_stays : (s : Seen) (peer : Option PortRef) (p c : PortRef)
-    → StaysRead s (fired_from s peer p) c
-fired_stays s None p c = stays_here s c
-fired_stays s (Some q) p c =
-    record {
-      place = half_place s.halves p _ c refl;
-      input = half_input s.halves p _ c refl;
-      unfaithful = refl;
-    }
-
-one_read : (before : List TraceLine) (s t : Seen) (line : TraceLine) (c : PortRef)
-    → got_by c line ≡ [] → held_by_line c line ≡ [] → StaysRead s t c → IsRead before s c
-    → IsRead (before ++ line ∷ []) t c
-one_read before s t line c no_got no_held stays h =
-    let gets : got c (before ++ line ∷ []) ≡ got c before =
-    got-append c before (line ∷ []) ∙ ap (λ (l : List Char). got c before ++ (l ++ [])) no_got
+pub quiet_read : (c : PortRef) (before lines : List TraceLine) (s t : Seen) → IsQuiet c lines
+    → StaysSo s t c → IsRead before s c → IsRead (before ++ lines) t c
+quiet_read c before lines s t quiet stays h =
+    let nothing = quiet_lines c lines quiet in
+    let gets : got c (before ++ lines) ≡ got c before =
+    got-append c before lines ∙ ap (λ (l : List Char). got c before ++ l) nothing.0
     ∙ append-nil (got c before) in
-    let has : holds c (before ++ line ∷ []) ≡ holds c before =
-    holds-append c before (line ∷ [])
-    ∙ ap (λ (l : List (List ℕ)). holds c before ++ (l ++ [])) no_held
+    let has : holds c (before ++ lines) ≡ holds c before =
+    holds-append c before lines ∙ ap (λ (l : List (List ℕ)). holds c before ++ l) nothing.1
     ∙ append-nil (holds c before) in
     record {
       within = subst (λ (l : List (List ℕ)). IsSubsequence (numbered_packets 0 l)
-          (says (got c (before ++ line ∷ [])))) (sym has)
+          (says (got c (before ++ lines)))) (sym has)
           (subst (λ (l : List Char). IsSubsequence (numbered_packets 0 (holds c before)) (says l))
           (sym gets) h.within);
-      place = λ none. stays.place ∙ h.place (sym stays.unfaithful ∙ none)
+      place = λ none. stays.place ∙ h.place (stays.found none)
           ∙ ap (place_after place_start) (sym gets);
       expected =
-          λ none. ap expected_of stays.input ∙ h.expected (sym stays.unfaithful ∙ none)
+          λ none. ap expected_of stays.input ∙ h.expected (stays.found none)
           ∙ ap (λ (l : List (List ℕ)). length l % 32) (sym has);
     }
-
-still_more : (x : TraceLine) (xs before : List TraceLine) (t : Seen) (c : PortRef)
-    → IsRead ((before ++ x ∷ []) ++ xs) t c → IsRead (before ++ x ∷ xs) t c
-still_more x xs before t c h =
-    subst (λ (l : List TraceLine). IsRead l t c) (append_assoc before (x ∷ []) xs) h
-
-pub still_read : (lines before : List TraceLine) (s : Seen) (c : PortRef) → AreStill lines
-    → IsRead before s c → IsRead (before ++ lines) (seen s lines) c
-unfolding AreStill
-still_read [] before s c still h =
-    subst (λ (l : List TraceLine). IsRead l s c) (sym (append-nil before)) h
-still_read (Begun line ∷ lines) before s c still h =
-    still_more _ lines before _ c
-    (still_read lines (before ++ Begun line ∷ []) _ c still
-    (one_read before s _ (Begun line) c refl refl (edited_stays s (edit_of line) c) h))
-still_read (Stepped (Linked step) ∷ lines) before s c still h = absurd still
-still_read (Stepped (AtNode step) ∷ lines) before s c still h =
-    still_more _ lines before _ c
-    (still_read lines (before ++ Stepped (AtNode step) ∷ []) _ c still
-    (one_read before s _ (Stepped (AtNode step)) c refl refl (record {
-      place = refl;
-      input = refl;
-      unfaithful = refl;
-    }) h))
-still_read (Stepped (ByDevice step) ∷ lines) before s c still h =
-    still_more _ lines before _ c
-    (still_read lines (before ++ Stepped (ByDevice step) ∷ []) _ c still
-    (one_read before s _ (Stepped (ByDevice step)) c refl refl (record {
-      place = refl;
-      input = refl;
-      unfaithful = refl;
-    }) h))
-still_read (Signed (Sent p chars) ∷ lines) before s c still h =
-    still_more _ lines before _ c (still_read lines (before ++ Signed (Sent p chars) ∷ []) _ c still
-    (one_read before s _ (Signed (Sent p chars)) c refl refl (record {
-      place = half_place s.halves p _ c refl;
-      input = half_input s.halves p _ c refl;
-      unfaithful = refl;
-    }) h))
-still_read (Signed (Got q chars) ∷ lines) before s c still h = absurd still
-still_read (Signed (Fired p) ∷ lines) before s c still h =
-    still_more _ lines before _ c
-    (still_read lines (before ++ Signed (Fired p) ∷ []) _ c still
-    (one_read before s _ (Signed (Fired p)) c refl refl (fired_stays s (peer_of s p) p c) h))
-still_read (Lacked lack ∷ lines) before s c still h =
-    still_more _ lines before _ c
-    (still_read lines (before ++ Lacked lack ∷ []) s c still
-    (one_read before s s (Lacked lack) c refl refl (stays_here s c) h))
-still_read (Ended ∷ lines) before s c still h =
-    still_more _ lines before _ c
-    (still_read lines (before ++ Ended ∷ []) s c still
-    (one_read before s s Ended c refl refl (stays_here s c) h))
-still_read (Undetected number q e ∷ lines) before s c still h =
-    still_more _ lines before _ c
-    (still_read lines (before ++ Undetected number q e ∷ []) s c still
-    (one_read before s s (Undetected number q e) c refl refl (stays_here s c) h))

@@ -1,4 +1,4 @@
--- Lines in which no port gets anything, and those in which none holds or frees anything either.
+-- Lines in which no port gets anything.
 use Rattle.std.proofs.Common.{Bool, true, false, List, [], ◌∷◌, ◌++◌, map, if◌then◌else◌}
 use Rattle.rio_chars.specs.declared.chars.Char.{Char}
 use Rattle.link_watch.specs.declared.note.Note.TheVariants as Notes
@@ -8,11 +8,8 @@ use Rattle.link_wires.specs.declared.moves.Move.{Move}
 use Rattle.link_wires.specs.declared.moves.Move.TheVariants.{Held, Freed}
 use Rattle.link_machine.specs.Calls.{sent_notes, move_note}
 use Rattle.fabric_script.specs.declared.ports.PortRef.{PortRef}
-use Rattle.fabric_model.specs.Steps.{Linked}
-use Rattle.fabric_trace.specs.Lines.{Got, TraceLine, Stepped, Signed}
+use Rattle.fabric_trace.specs.Lines.{Got, TraceLine, Signed}
 use Rattle.fabric_trace.specs.Blocks.{lines_of}
-
--- ---- no port gets anything
 
 unfoldable pub GotNone : List TraceLine → Type 0
 GotNone [] = Unit {0}
@@ -37,23 +34,3 @@ pub fired_none : (a b : PortRef) (x : Bool)
 unfolding GotNone
 fired_none a b true = tt
 fired_none a b false = tt
-
--- ---- and there is no step at a link
-
-unfoldable pub AreStill : List TraceLine → Type 0
-AreStill [] = Unit {0}
-AreStill (Signed (Got q chars) ∷ lines) = ⊥
-AreStill (Stepped (Linked step) ∷ lines) = ⊥
-AreStill (line ∷ lines) = AreStill lines
-
-pub sent_still : (a b : PortRef) (side : Side) (chars : List Char)
-    → AreStill (lines_of a b (sent_notes side chars))
-unfolding AreStill
-sent_still a b side [] = tt
-sent_still a b side (c ∷ chars) = tt
-
-pub fired_still : (a b : PortRef) (x : Bool)
-    → AreStill (lines_of a b (if x then Notes.Fire A ∷ [] else []))
-unfolding AreStill
-fired_still a b true = tt
-fired_still a b false = tt

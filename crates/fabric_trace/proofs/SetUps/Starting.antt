@@ -45,16 +45,17 @@ use Rattle.link_model.specs.Places.{place_start}
 use Rattle.link_model.proofs.PlacesLaws.{place_after-none}
 use Rattle.fabric_trace.specs.Ends.{EndsAs}
 use Rattle.fabric_trace.specs.Frees.{nothing_got, FreesSaid}
-use Rattle.fabric_trace.proofs.Frees.FreesRead.{made_freed, start_freed}
+use Rattle.fabric_trace.proofs.Frees.FreesRead.{freed_carried, start_freed}
 use Rattle.fabric_trace.specs.Holds.{HoldsCame}
 use Rattle.fabric_trace.proofs.Holds.Coming.{none_within}
 use Rattle.fabric_trace.proofs.Traces.Ending.{runs_end}
 use Rattle.fabric_trace.proofs.Holds.HoldsStill.{IsRead}
-use Rattle.fabric_trace.proofs.Holds.HoldsRead.{made_read}
+use Rattle.fabric_trace.proofs.Holds.HoldsRead.{read_carried}
 use Rattle.fabric_trace.specs.Allowance.{FreesAllowed}
 use Rattle.fabric_trace.specs.Faithful.{ActsOnSent}
 use Rattle.fabric_trace.specs.Wires.{WireFold}
-use Rattle.fabric_trace.proofs.Allowance.Allowing.{made_raised, start_raised}
+use Rattle.fabric_trace.proofs.Allowance.Allowing.{counted_carried, start_raised}
+use Rattle.fabric_trace.proofs.Parts.Carrying.{carry_made}
 use Rattle.fabric_trace.proofs.Shown.Faith.{begins_kept, lines_keep, sent_exactly}
 use Rattle.fabric_trace.proofs.Shown.Wiring.{made_fold}
 use Rattle.fabric_model.proofs.Joining.{legal_parts}
@@ -340,7 +341,8 @@ begins_read net q =
 
 pub holds_came : (net : Network) (lines : List TraceLine) (q : PortRef) → IsSetUp net
     → Made (begins net) lines → HoldsCame q lines
-holds_came net lines q is all = (made_read [] q (good_start net is) all (begins_read net q)).within
+holds_came net lines q is all =
+    (carry_made (read_carried q) [] (good_start net is) all (begins_read net q)).within
 
 pub ends_as : (script : List Numbered) (lines : List TraceLine) → Runs script lines
     → EndsAs (start script) lines
@@ -349,13 +351,17 @@ ends_as script lines runs = runs_end script (start script) lines refl runs
 pub frees_said : (net : Network) (lines : List TraceLine) (p : PortRef) → IsSetUp net
     → Made (begins net) lines → FreesSaid p nothing_got 0 lines
 frees_said net lines p is all =
-    (made_freed [] p (good_start net is) all (start_freed (begins net) p refl refl)).said
+    (carry_made (freed_carried p) [] (good_start net is) all
+    (start_freed (begins net) p refl refl)).said
 
 pub frees_allowed : (net : Network) (lines : List TraceLine) (p : PortRef) → IsSetUp net
     → Made (begins net) lines → FreesAllowed p [] 0 lines
 frees_allowed net lines p is all =
-    (made_raised [] p (good_start net is) all (begins_read net p)
-    (start_freed (begins net) p refl refl) (start_raised p)).all
+    (carry_made (counted_carried p) [] (good_start net is) all (record {
+      read = begins_read net p;
+      freed = start_freed (begins net) p refl refl;
+      raised = start_raised p;
+    })).raised.all
 
 -- of every trace of a script
 pub runs_lawful : (script : List Numbered) (lines : List TraceLine) → MaySetUpAll bare script

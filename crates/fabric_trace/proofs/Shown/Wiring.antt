@@ -3,7 +3,6 @@ use Rattle.std.proofs.Common.{◌≡◌, ℕ, ◌++◌, Bool, true, false, List,
 use Rattle.std.proofs.lemmas.List.{take-append-drop}
 use Rattle.rio_chars.specs.declared.chars.Char.{Char}
 use Rattle.link_watch.specs.declared.note.Note.{Note}
-use Rattle.link_watch.specs.declared.note.Note.TheVariants as Notes
 use Rattle.link_watch.specs.declared.side.Side.TheVariants.{A, B}
 use Rattle.link_wires.specs.Deliveries.{told_of}
 use Rattle.link_wires.specs.Wires.{bursts, answers}
