@@ -22,7 +22,7 @@ use Rattle.switch_core.specs.declared.endpoint.Collected.{Collected}
 use Rattle.switch_core.specs.declared.endpoint.Collected.TheVariants as Collects
 use Rattle.switch_core.specs.EndpointSteps.{collected}
 use Rattle.maint_registers.specs.Devices.{Registers, is_switch}
-use Rattle.fabric_trace.specs.Rounds.{Follows, NamesNothing, Joined, ServesAll, ServeRests, ServeGoes, ServeNodes}
+use Rattle.fabric_trace.specs.Rounds.{Follows, NamesNothing, Joined, ServesAll, ServeNodes}
 use Rattle.fabric_trace.proofs.Parts.Folding.{seen-append}
 use Rattle.fabric_trace.proofs.Parts.Keeping.{IsGood, made_keeps, legal_links}
 use Rattle.fabric_trace.proofs.Parts.Making.{AreOthers, Reaches, pump_reaches, made-append, made_by}

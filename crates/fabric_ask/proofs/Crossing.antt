@@ -201,6 +201,62 @@ pub record HasRun (s : Seen) (lines : List TraceLine) (Is : Network → Type 0) 
   pub links : (seen s lines).network.links ≡ s.network.links
   pub is : Is (seen s lines).network
 
+-- what is said there follows from what was
+weaker : {s : Seen} {lines : List TraceLine} (Is Other : Network → Type 0)
+    → ((n : Network) → Is n → Other n) → HasRun s lines Is → HasRun s lines Other
+weaker {s} {lines} Is Other turns run = record {
+  made = run.made;
+  good = run.good;
+  links = run.links;
+  is = turns (seen s lines).network run.is;
+}
+
+-- Links of which one carries first, where nothing is found: what it does, and the others behind.
+pub record FirstCarried (all : List (PortRef × PortRef)) (link : PortRef × PortRef)
+    (more : List (PortRef × PortRef)) (noise left : List Edit) (s : Seen) (lines : List TraceLine)
+    : Type 0 where
+  pub mid : List Edit
+  pub parts : Split (IsCarry noise mid s link.0 link.1) (CarryAll more mid left) s lines
+  pub peers : ArePeers s.network.links link.0 link.1
+  pub own : HasCarried s link.0 link.1 parts.first
+  pub kept : IsKept s parts.first
+  pub links : (seen s parts.first).network.links ≡ all
+  pub still : (seen (seen s parts.first) parts.rest).unfaithful ≡ None
+
+pub first_carried : (all : List (PortRef × PortRef)) (link : PortRef × PortRef)
+    (more : List (PortRef × PortRef)) (noise left : List Edit) (s : Seen) (lines : List TraceLine)
+    → IsGood s → s.unfaithful ≡ None → s.network.links ≡ all → AreFound all (link ∷ more)
+    → CarryAll (link ∷ more) noise left s lines → (seen s lines).unfaithful ≡ None
+    → FirstCarried all link more noise left s lines
+first_carried all link more noise left s lines good none same found carry still =
+    let parts = split (IsCarry noise carry.0 s link.0 link.1) (CarryAll more carry.0 left) s lines
+    carry.1 still in
+    let peers = link_peers s.network.links link.0 link good.proper
+    (ap (λ l. link_in l link.0) same ∙ found.0) in
+    let own = has_carried noise carry.0 s link.0 link.1 parts.first good none peers parts.own in
+    record {
+      mid = carry.0;
+      parts = parts;
+      peers = peers;
+      own = own;
+      kept = made_keeps good own.local.made;
+      links = own.local.others.links ∙ same;
+      still = sym (ap (λ (x : Seen). x.unfaithful) parts.after) ∙ still;
+    }
+
+-- what the others run to is there behind the first
+run_on : {all : List (PortRef × PortRef)} {link : PortRef × PortRef}
+    {more : List (PortRef × PortRef)} {noise left : List Edit} {s : Seen} {lines : List TraceLine}
+    (first : FirstCarried all link more noise left s lines) (Is : Network → Type 0)
+    → HasRun (seen s first.parts.first) first.parts.rest Is → HasRun s lines Is
+run_on first Is rest = record {
+  made = made_by first.parts.whole (made-append first.own.local.made rest.made);
+  good = subst IsGood (sym first.parts.after) rest.good;
+  links = ap (λ (x : Seen). x.network.links) first.parts.after ∙ rest.links
+      ∙ first.own.local.others.links;
+  is = subst (λ (x : Seen). Is x.network) (sym first.parts.after) rest.is;
+}
+
 module _ (all : List (PortRef × PortRef)) where
   -- where it was received before, it stays there
   pub held_stays : (links : List (PortRef × PortRef)) (noise left : List Edit) (s : Seen)
@@ -212,27 +268,16 @@ module _ (all : List (PortRef × PortRef)) where
       subst (λ l. HasRun s l (λ net. net ≡ s.network)) (sym carry.0)
       (record { made = Done refl; good = good; links = refl; is = refl })
   held_stays (link ∷ links) noise left s lines q item good none same found only carry still =
-      let mid = carry.0 in
-      let parts = split (IsCarry noise mid s link.0 link.1) (CarryAll links mid left) s lines
-      carry.1 still in
-      let peers = link_peers s.network.links link.0 link good.proper
-      (ap (λ l. link_in l link.0) same ∙ found.0) in
-      let own = has_carried noise mid s link.0 link.1 parts.first good none peers parts.own in
-      let kept = made_keeps good own.local.made in
-      let t = seen s parts.first in
+      let first = first_carried all link links noise left s lines good none same found carry still
+      in
+      let t = seen s first.parts.first in
       let here : t.network ≡ s.network = none_carried link.0 link.1 s.network t.network
-      (steps_of parts.first) only.waiting only.lent own.local.at kept.legal in
-      let rest = held_stays links mid left t parts.rest q item kept.good parts.still
-      (own.local.others.links ∙ same) found.1
-      (subst (λ n. IsOnly n (Held q) item) (sym here) only) parts.more
-      (sym (ap (λ (x : Seen). x.unfaithful) parts.after) ∙ still) in
-      record {
-        made = made_by parts.whole (made-append own.local.made rest.made);
-        good = subst IsGood (sym parts.after) rest.good;
-        links = ap (λ (x : Seen). x.network.links) parts.after ∙ rest.links
-            ∙ own.local.others.links;
-        is = ap (λ (x : Seen). x.network) parts.after ∙ rest.is ∙ here;
-      }
+      (steps_of first.parts.first) only.waiting only.lent first.own.local.at first.kept.legal in
+      weaker (λ net. net ≡ t.network) (λ net. net ≡ s.network) (λ n is. is ∙ here)
+      (run_on first (λ net. net ≡ t.network)
+      (held_stays links first.mid left t first.parts.rest q item first.kept.good first.parts.still
+      first.links found.1 (subst (λ n. IsOnly n (Held q) item) (sym here) only) first.parts.more
+      first.still))
 
   -- one that waits goes over its link
   pub waits_run : (links : List (PortRef × PortRef)) (noise left : List Edit) (s : Seen)
@@ -246,73 +291,41 @@ module _ (all : List (PortRef × PortRef)) where
   waits_run (link ∷ links) noise left s lines p item good none same found only few carry still =
       by_link (λ mid t more good none same only own still. waits_run links mid left t more p item
       good none same found.1 only few own still)
-      (crossed s (seen s parts.first) link.0 link.1 p item peers only few
-      (kept.good.links parts.still link.0 link.1
-      (subst (λ l. peer_in l link.0 ≡ Some link.1) (sym own.local.others.links) peers.there))
-      (own.rests parts.still) (at_same link.0 link.1 s.network (seen s parts.first).network
-      (steps_of parts.first) own.local.at kept.legal)
-      (carries link.0 link.1 s.network (seen s parts.first).network (steps_of parts.first) p item
-      only own.local.at kept.legal))
+      (crossed s t link.0 link.1 p item first.peers only few
+      (first.kept.good.links first.parts.still link.0 link.1
+      (subst (λ l. peer_in l link.0 ≡ Some link.1) (sym first.own.local.others.links)
+      first.peers.there))
+      (first.own.rests first.parts.still) (at_same link.0 link.1 s.network t.network
+      (steps_of first.parts.first) first.own.local.at first.kept.legal)
+      (carries link.0 link.1 s.network t.network (steps_of first.parts.first) p item only
+      first.own.local.at first.kept.legal))
     where
-      parts : Split (IsCarry noise carry.0 s link.0 link.1) (CarryAll links carry.0 left) s lines
-      parts = split (IsCarry noise carry.0 s link.0 link.1) (CarryAll links carry.0 left) s lines
-          carry.1 still
+      first : FirstCarried all link links noise left s lines
+      first = first_carried all link links noise left s lines good none same found carry still
 
-      peers : ArePeers s.network.links link.0 link.1
-      peers = link_peers s.network.links link.0 link good.proper (ap (λ l. link_in l link.0) same
-          ∙ found.0)
+      t : Seen
+      t = seen s first.parts.first
 
-      own : HasCarried s link.0 link.1 parts.first
-      own = has_carried noise carry.0 s link.0 link.1 parts.first good none peers parts.own
-
-      kept : IsKept s parts.first
-      kept = made_keeps good own.local.made
-
-      behind : (seen (seen s parts.first) parts.rest).unfaithful ≡ None
-      behind = sym (ap (λ (x : Seen). x.unfaithful) parts.after) ∙ still
-
-      finish : (Is : Network → Type 0) → HasRun (seen s parts.first) parts.rest Is
-          → HasRun s lines Is
-      finish Is rest = record {
-        made = made_by parts.whole (made-append own.local.made rest.made);
-        good = subst IsGood (sym parts.after) rest.good;
-        links = ap (λ (x : Seen). x.network.links) parts.after ∙ rest.links
-            ∙ own.local.others.links;
-        is = subst (λ (x : Seen). Is x.network) (sym parts.after) rest.is;
-      }
-
-      weaker : (Is Other : Network → Type 0) → ((n : Network) → Is n → Other n) → HasRun s lines Is
-          → HasRun s lines Other
-      weaker Is Other turns run = record {
-        made = run.made;
-        good = run.good;
-        links = run.links;
-        is =
-            turns (seen s lines).network run.is;
-      }
-
-      by_link : ((mid : List Edit) (t : Seen) (more : List TraceLine) → IsGood t
-          → t.unfaithful ≡ None → t.network.links ≡ all → IsOnly t.network (Waits p) item
-          → CarryAll links mid left t more → (seen t more).unfaithful ≡ None
-          → HasRun t more (Ran links t.network p item))
-          → Crossed link.0 link.1 s.network p item (seen s parts.first).network
+      by_link : ((mid : List Edit) (u : Seen) (more : List TraceLine) → IsGood u
+          → u.unfaithful ≡ None → u.network.links ≡ all → IsOnly u.network (Waits p) item
+          → CarryAll links mid left u more → (seen u more).unfaithful ≡ None
+          → HasRun u more (Ran links u.network p item))
+          → Crossed link.0 link.1 s.network p item t.network
           → HasRun s lines (Ran (link ∷ links) s.network p item)
       by_link again (Over q peer whole alike) =
-          weaker (λ n. n ≡ (seen s parts.first).network) (Ran (link ∷ links) s.network p item)
+          weaker (λ n. n ≡ t.network) (Ran (link ∷ links) s.network p item)
           (λ n is. Reached q peer (subst (λ x. IsOnly x (Held q) item) (sym is) whole)
           (subst (IsSame s.network) (sym is) alike))
-          (finish (λ n. n ≡ (seen s parts.first).network)
-          (held_stays links carry.0 left (seen s parts.first) parts.rest q item kept.good
-          parts.still (own.local.others.links ∙ same) found.1 whole parts.more behind))
+          (run_on first (λ n. n ≡ t.network)
+          (held_stays links first.mid left t first.parts.rest q item first.kept.good
+          first.parts.still first.links found.1 whole first.parts.more first.still))
       by_link again (Away away here) =
-          weaker (Ran links (seen s parts.first).network p item)
-          (Ran (link ∷ links) s.network p item) turns
-          (finish (Ran links (seen s parts.first).network p item)
-          (again carry.0 (seen s parts.first) parts.rest kept.good parts.still
-          (own.local.others.links ∙ same)
-          (subst (λ n. IsOnly n (Waits p) item) (sym here) only) parts.more behind))
+          weaker (Ran links t.network p item) (Ran (link ∷ links) s.network p item) turns
+          (run_on first (Ran links t.network p item)
+          (again first.mid t first.parts.rest first.kept.good first.parts.still first.links
+          (subst (λ n. IsOnly n (Waits p) item) (sym here) only) first.parts.more first.still))
         where
-          turns : (n : Network) → Ran links (seen s parts.first).network p item n
+          turns : (n : Network) → Ran links t.network p item n
               → Ran (link ∷ links) s.network p item n
           turns n (Reached q peer whole alike) =
               Reached q (subst (λ (x : Network). peer_in x.links q ≡ Some p) here peer) whole
@@ -329,24 +342,12 @@ module _ (all : List (PortRef × PortRef)) where
       subst (λ l. HasRun s l (λ net. net ≡ s.network)) (sym carry.0)
       (record { made = Done refl; good = good; links = refl; is = refl })
   clear_stays (link ∷ links) noise left s lines good none same found clear carry still =
-      let mid = carry.0 in
-      let parts = split (IsCarry noise mid s link.0 link.1) (CarryAll links mid left) s lines
-      carry.1 still in
-      let peers = link_peers s.network.links link.0 link good.proper
-      (ap (λ l. link_in l link.0) same ∙ found.0) in
-      let own = has_carried noise mid s link.0 link.1 parts.first good none peers parts.own in
-      let kept = made_keeps good own.local.made in
-      let t = seen s parts.first in
+      let first = first_carried all link links noise left s lines good none same found carry still
+      in
+      let t = seen s first.parts.first in
       let here : t.network ≡ s.network = none_carried link.0 link.1 s.network t.network
-      (steps_of parts.first) clear.waiting clear.lent own.local.at kept.legal in
-      let rest = clear_stays links mid left t parts.rest kept.good parts.still
-      (own.local.others.links ∙ same) found.1
-      (subst IsClear (sym here) clear) parts.more (sym (ap (λ (x : Seen). x.unfaithful) parts.after)
-      ∙ still) in
-      record {
-        made = made_by parts.whole (made-append own.local.made rest.made);
-        good = subst IsGood (sym parts.after) rest.good;
-        links = ap (λ (x : Seen). x.network.links) parts.after ∙ rest.links
-            ∙ own.local.others.links;
-        is = ap (λ (x : Seen). x.network) parts.after ∙ rest.is ∙ here;
-      }
+      (steps_of first.parts.first) clear.waiting clear.lent first.own.local.at first.kept.legal in
+      weaker (λ net. net ≡ t.network) (λ net. net ≡ s.network) (λ n is. is ∙ here)
+      (run_on first (λ net. net ≡ t.network)
+      (clear_stays links first.mid left t first.parts.rest first.kept.good first.parts.still
+      first.links found.1 (subst IsClear (sym here) clear) first.parts.more first.still))

@@ -6,23 +6,21 @@ use Rattle.link_machine.specs.Rest.{IsQuiet}
 use Rattle.link_wires.specs.declared.edits.Edit.{Edit}
 use Rattle.maint_registers.specs.Devices.{Registers, is_switch}
 use Rattle.fabric_script.specs.declared.ports.PortRef.{PortRef}
-use Rattle.fabric_model.specs.Network.{same_port, peer_in, link_in}
+use Rattle.fabric_model.specs.Network.{same_port, peer_in}
 use Rattle.fabric_model.specs.Steps.{Step, ByDevice}
 use Rattle.fabric_model.specs.Laws.Proper.{AreProper}
-use Rattle.fabric_model.proofs.Peers.{apart_back, link_peers}
+use Rattle.fabric_model.proofs.Peers.{apart_back}
 use Rattle.fabric_trace.specs.Fold.{seen_line, seen}
 use Rattle.fabric_trace.specs.Known.{Found, Wire, Seen, link_at}
 use Rattle.fabric_trace.specs.Views.{Half}
 use Rattle.fabric_trace.specs.Lines.{Full, TraceLine, Begun, Stepped, Signed, Lacked, Ended, Undetected}
 use Rattle.fabric_trace.specs.Rounds.{Follows, NamesNothing, Joined, ServesAll, ServeRests, ServeGoes, ServeNodes}
-use Rattle.fabric_trace.proofs.Parts.Keeping.{IsGood, made_keeps}
+use Rattle.fabric_trace.proofs.Parts.Keeping.{IsGood}
 use Rattle.fabric_trace.proofs.Rounds.Blocks.{AreFound, all_found, by_test}
 use Rattle.fabric_ask.specs.Only.{is_end}
-use Rattle.fabric_ask.specs.Noise.{IsCarry}
 use Rattle.fabric_ask.specs.Asks.{CarryAll, CollectsAll, CollectNodes, Handles, AskRound, CollectRests, CollectStops, CollectGoes}
 use Rattle.fabric_ask.specs.Quiet.{AreQuiet}
-use Rattle.fabric_ask.proofs.Carrying.{has_carried}
-use Rattle.fabric_ask.proofs.Crossing.{split, AreAway}
+use Rattle.fabric_ask.proofs.Crossing.{split, AreAway, first_carried}
 
 -- what is known of a port's wire and half is the same
 pub record IsSamePort (s t : Seen) (c : PortRef) : Type 0 where
@@ -198,19 +196,13 @@ module _ (all : List (PortRef × PortRef)) where
   away_stays [] noise left s lines c good none same found away carry still =
       subst (λ l. IsSamePort s (seen s l) c) (sym carry.0) (record { wire = refl; half = refl })
   away_stays (link ∷ links) noise left s lines c good none same found away carry still =
-      let mid = carry.0 in
-      let parts = split (IsCarry noise mid s link.0 link.1) (CarryAll links mid left) s lines
-      carry.1 still in
-      let peers = link_peers s.network.links link.0 link good.proper
-      (ap (λ l. link_in l link.0) same ∙ found.0) in
-      let own = has_carried noise mid s link.0 link.1 parts.first good none peers parts.own in
-      let kept = made_keeps good own.local.made in
+      let first = first_carried all link links noise left s lines good none same found carry still
+      in
       let apart = apart_from link.0 link.1 c away.0 in
-      let here = own.local.others.untouched c apart.0 apart.1 in
-      let rest = away_stays links mid left (seen s parts.first) parts.rest c kept.good parts.still
-      (own.local.others.links ∙ same) found.1 away.1 parts.more
-      (sym (ap (λ (x : Seen). x.unfaithful) parts.after) ∙ still) in
-      subst (λ x. IsSamePort s x c) (sym parts.after)
+      let here = first.own.local.others.untouched c apart.0 apart.1 in
+      let rest = away_stays links first.mid left (seen s first.parts.first) first.parts.rest c
+      first.kept.good first.parts.still first.links found.1 away.1 first.parts.more first.still in
+      subst (λ x. IsSamePort s x c) (sym first.parts.after)
       (record { wire = rest.wire ∙ here.wire; half = rest.half ∙ here.half })
 
   -- all links that have carried are quiet
@@ -221,24 +213,19 @@ module _ (all : List (PortRef × PortRef)) where
       → AreQuiet links (seen s lines)
   carried_quiet [] noise left s lines good none same found proper carry still = tt
   carried_quiet (link ∷ links) noise left s lines good none same found proper carry still =
-      let mid = carry.0 in
-      let parts = split (IsCarry noise mid s link.0 link.1) (CarryAll links mid left) s lines
-      carry.1 still in
-      let peers = link_peers s.network.links link.0 link good.proper
-      (ap (λ l. link_in l link.0) same ∙ found.0) in
-      let own = has_carried noise mid s link.0 link.1 parts.first good none peers parts.own in
-      let kept = made_keeps good own.local.made in
+      let first = first_carried all link links noise left s lines good none same found carry still
+      in
+      let parts = first.parts in
+      let good = first.kept.good in
       let t = seen s parts.first in
-      let behind = sym (ap (λ (x : Seen). x.unfaithful) parts.after) ∙ still in
-      let links_same = own.local.others.links ∙ same in
-      let first = away_stays links mid left t parts.rest link.0 kept.good parts.still links_same
-      found.1 (away_none links link.0 proper.1) parts.more behind in
-      let second = away_stays links mid left t parts.rest link.1 kept.good parts.still links_same
-      found.1 (away_none links link.1 proper.2) parts.more behind in
+      let near = away_stays links first.mid left t parts.rest link.0 good parts.still first.links
+      found.1 (away_none links link.0 proper.1) parts.more first.still in
+      let far = away_stays links first.mid left t parts.rest link.1 good parts.still first.links
+      found.1 (away_none links link.1 proper.2) parts.more first.still in
       subst (AreQuiet (link ∷ links)) (sym parts.after) (
-        quiet_same t (seen t parts.rest) link.0 link.1 first second (own.rests parts.still).quiet,
-        carried_quiet links mid left t parts.rest kept.good parts.still links_same found.1
-            proper.3 parts.more behind,
+        quiet_same t (seen t parts.rest) link.0 link.1 near far (first.own.rests parts.still).quiet,
+        carried_quiet links first.mid left t parts.rest good parts.still first.links found.1
+            proper.3 parts.more first.still,
       )
 
 -- After a round every link is quiet.
