@@ -299,10 +299,20 @@ next_may names lines i line passes within at =
     (subst (AllPorts bare) split (all_ports nothing names bare lines refl passes))
 
 -- and makes the next network
-pub next_net : (lines : List Numbered) (i : ℕ) (line : Numbered) → i < length lines
+next_net : (lines : List Numbered) (i : ℕ) (line : Numbered) → i < length lines
     → line ≡ get_or lines i line
     → set_up_all bare (take (i + 1) lines) ≡ set_up (set_up_all bare (take i lines)) line.line
 next_net lines i line within at =
     ap (set_up_all bare) (take_more lines i line within
     ∙ ap (λ x. take i lines ++ x ∷ []) (sym at))
     ∙ set_up_all-append bare (take i lines) (line ∷ [])
+
+-- so what a line makes of what the network is, is so of the next
+pub on_next : (Was Is : Network → Type 0) (names : List (List ℕ)) (lines : List Numbered) (i : ℕ)
+    (line : Numbered) → ScriptPasses names lines → i < length lines → line ≡ get_or lines i line
+    → Was (set_up_all bare (take i lines))
+    → ((net : Network) → Was net → MayStandBehind net line.line → Is (set_up net line.line))
+    → Is (set_up_all bare (take (i + 1) lines))
+on_next Was Is names lines i line passes within at was makes =
+    subst Is (sym (next_net lines i line within at))
+    (makes (set_up_all bare (take i lines)) was (next_may names lines i line passes within at))

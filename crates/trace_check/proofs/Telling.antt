@@ -1,5 +1,5 @@
 -- What is told of an input is what is so, and one thing alone.
-use Rattle.std.proofs.Common.{◌≡◌, ℕ, ◌+◌, ◌⊎◌, inl, inr, Result, Ok, Err, IfOk, IsOk, IsErrOf, List, length, refl, sym, ap, ◌∙◌}
+use Rattle.std.proofs.Common.{◌≡◌, ℕ, ◌+◌, ◌⊎◌, inl, inr, Result, Ok, Err, IfOk, IsOk, IsErrOf, List, length, option_map, Option, Some, Bor, refl, sym, ap, ◌∙◌}
 use Rattle.fabric_script.specs.declared.scripts.Refusal.{Refusal}
 use Rattle.fabric_script.specs.declared.scripts.ScriptEnd.{ScriptEnd}
 use Rattle.fabric_script.specs.declared.scripts.ScriptEnd.TheVariants as S
@@ -8,7 +8,12 @@ use Rattle.trace_check.specs.declared.checking.CheckEnd.{CheckEnd}
 use Rattle.trace_check.specs.declared.checking.CheckEnd.TheVariants.{NoMemory, Refused, Unlawful as UnlawfulAt}
 use Rattle.trace_check.specs.declared.checking.CheckEnd.TheVariants as C
 use Rattle.trace_check.specs.declared.checking.Unlawful.{Unlawful}
-use Rattle.script_input.specs.Inputs.{IsRefusedInput, set_up_texts, texts_of}
+use Rattle.fabric_script.specs.declared.lines.Numbered.{Numbered}
+use Rattle.fabric_script.specs.Known.{Known, nothing_in, of_set_up}
+use Rattle.fabric_script.specs.Scripts.{pieces_of, SpellsFrom}
+use Rattle.fabric_script.specs.SetUps.{for_event}
+use Rattle.script_input.specs.Inputs.{IsInput, IsRefusedInput, set_up_bytes, set_up_texts, texts_behind, texts_of}
+use Rattle.script_input.proofs.InputLaws.{accepted_by}
 use Rattle.trace_check.specs.Lawful.{IsLawful, IsUnlawful}
 use Rattle.trace_check.specs.Outcomes.{check_end_of, HasLawful, HasUnlawful}
 use Rattle.script_input.proofs.InputOnce.{accepted_orderly, for_other, not_input, refused_alone}
@@ -25,6 +30,20 @@ refusal_of S.NoMemory refusal is = absurd cc
 pub never_unlawful : (end : ScriptEnd) (hit : Unlawful) → check_end_of end ≡ C.Unlawful hit → ⊥
 never_unlawful (S.Refused r) hit is = absurd cc
 never_unlawful S.NoMemory hit is = absurd cc
+
+-- ---- what is read of bytes
+
+-- set-up lines that were read, and what stands behind the line between
+pub is_input : (bytes script : List ℕ) (lines : List Numbered) (known : Known)
+    (behind : Option (Bor (List ℕ))) (trace : Bor (List ℕ)) → script ≡ set_up_bytes bytes
+    → (end : Known) × SpellsFrom 1 (nothing_in of_set_up) (pieces_of script) lines end
+    × (known ≡ for_event end)
+    → option_map (λ b. texts_of b.now) behind ≡ texts_behind (texts_of bytes)
+    → behind ≡ Some trace → IsInput bytes lines known (texts_of trace.now)
+is_input bytes script lines known behind trace set_up spelled split there = record {
+  accepted = accepted_by bytes script lines known set_up spelled;
+  behind = sym split ∙ ap (λ o. option_map (λ b. texts_of b.now) o) there;
+}
 
 module _ (bytes : List ℕ) where
   -- ---- one thing is so

@@ -3,10 +3,10 @@ use Rattle.fabric_script.specs.declared.scripts.Refusal.{Refusal}
 use Rattle.fabric_script.specs.Known.{of_set_up}
 use Rattle.fabric_script.specs.Scripts.{RefusedIn}
 use Rattle.trace_check.specs.declared.checking.CheckEnd.TheVariants.{Refused}
-use Rattle.script_input.specs.Inputs.{Hit, IsInput, IsRefusedInput, NotParted, texts_of}
+use Rattle.script_input.specs.Inputs.{Hit, IsRefusedInput, NotParted, texts_of}
 use Rattle.script_input.proofs.InputLaws.{accepted_by, all_set_up}
 use Rattle.trace_check.proofs.NetworkLaws.{if_ok_map}
-use Rattle.trace_check.proofs.Telling.{never_unlawful, only_lawful, only_refused, only_unlawful, refusal_of}
+use Rattle.trace_check.proofs.Telling.{is_input, never_unlawful, only_lawful, only_refused, only_unlawful, refusal_of}
 use Rattle.trace_check.proofs.checking.check_trace.Goals as goal
 
 -- ---- a trace is there
@@ -16,12 +16,10 @@ returns-in-Some-clause-lawful c =
     let split = c.split_input-lines.ensures in
     let set_up = c.in_ok-set_up.set_up in
     let texts = texts_of c.in-Some.trace.now in
-    let input : IsInput c.args.bytes.now set_up.lines set_up.known texts = record {
-      accepted = accepted_by c.args.bytes.now c.split_input-lines.result.0.now set_up.lines
-          set_up.known split.set_up c.in_ok-set_up.ensures.spelled;
-      behind = sym split.behind
-          ∙ ap (λ o. option_map (λ trace. texts_of trace.now) o) c.in-Some.is;
-    } in
+    let input =
+    is_input c.args.bytes.now c.split_input-lines.result.0.now set_up.lines set_up.known
+    c.split_input-lines.result.1 c.in-Some.trace split.set_up c.in_ok-set_up.ensures.spelled
+    split.behind c.in-Some.is in
     if_ok_map c.check_lines.result c.check_lines.ensures.lawful (λ steps lawful. record {
       set_up = set_up.lines;
       known = set_up.known;
@@ -35,12 +33,10 @@ returns-in-Some-clause-unlawful c = λ unlawful is.
     let split = c.split_input-lines.ensures in
     let set_up = c.in_ok-set_up.set_up in
     let texts = texts_of c.in-Some.trace.now in
-    let input : IsInput c.args.bytes.now set_up.lines set_up.known texts = record {
-      accepted = accepted_by c.args.bytes.now c.split_input-lines.result.0.now set_up.lines
-          set_up.known split.set_up c.in_ok-set_up.ensures.spelled;
-      behind = sym split.behind
-          ∙ ap (λ o. option_map (λ trace. texts_of trace.now) o) c.in-Some.is;
-    } in
+    let input =
+    is_input c.args.bytes.now c.split_input-lines.result.0.now set_up.lines set_up.known
+    c.split_input-lines.result.1 c.in-Some.trace split.set_up c.in_ok-set_up.ensures.spelled
+    split.behind c.in-Some.is in
     let stops = c.check_lines.ensures.unlawful unlawful is in record {
       set_up = set_up.lines;
       known = set_up.known;

@@ -1,11 +1,11 @@
-use Rattle.std.proofs.Common.{◌+◌, ℕ, Err, List, option_map, sym, ap, ◌∙◌, subst}
+use Rattle.std.proofs.Common.{◌+◌, ℕ, Err, List, sym, ap, ◌∙◌, subst}
 use Rattle.fabric_script.specs.Known.{of_set_up}
 use Rattle.fabric_script.specs.Scripts.{RefusedIn}
 use Rattle.fabric_trace.specs.Runs.{bare, set_up_all}
-use Rattle.script_input.specs.Inputs.{Hit, IsInput, texts_of}
+use Rattle.script_input.specs.Inputs.{Hit, texts_of}
 use Rattle.trace_check.specs.Lawful.{IsUnlawful}
 use Rattle.trace_check.proofs.ExpectLaws.{if_some_map}
-use Rattle.script_input.proofs.InputLaws.{accepted_by}
+use Rattle.trace_check.proofs.Telling.{is_input}
 use Rattle.trace_check.proofs.NetworkLaws.{if_ok_map}
 use Rattle.script_input.proofs.InputOnce.{for_other, not_input}
 use Rattle.trace_check.proofs.expecting.expect.Goals as goal
@@ -15,12 +15,10 @@ returns-in-Ok-clause-told c =
     let split = c.split_input-lines.ensures in
     let set_up = c.in-Ok.set_up in
     let texts = texts_of c.in-Some.trace.now in
-    let input : IsInput c.args.bytes.now set_up.lines set_up.known texts = record {
-      accepted = accepted_by c.args.bytes.now c.split_input-lines.result.0.now set_up.lines
-          set_up.known split.set_up c.in-Ok.ensures.spelled;
-      behind = sym split.behind
-          ∙ ap (λ o. option_map (λ trace. texts_of trace.now) o) c.in-Some.is;
-    } in
+    let input =
+    is_input c.args.bytes.now c.split_input-lines.result.0.now set_up.lines set_up.known
+    c.split_input-lines.result.1 c.in-Some.trace split.set_up c.in-Ok.ensures.spelled
+    split.behind c.in-Some.is in
     if_ok_map c.expect_in.result c.expect_in.ensures.told (λ expected told.
     if_some_map expected told (λ e so. record {
       set_up = set_up.lines;
@@ -37,12 +35,10 @@ returns-in-Ok-clause-some c =
     let split = c.split_input-lines.ensures in
     let set_up = c.in-Ok.set_up in
     let texts = texts_of c.in-Some.trace.now in
-    let input : IsInput c.args.bytes.now set_up.lines set_up.known texts = record {
-      accepted = accepted_by c.args.bytes.now c.split_input-lines.result.0.now set_up.lines
-          set_up.known split.set_up c.in-Ok.ensures.spelled;
-      behind = sym split.behind
-          ∙ ap (λ o. option_map (λ trace. texts_of trace.now) o) c.in-Some.is;
-    } in
+    let input =
+    is_input c.args.bytes.now c.split_input-lines.result.0.now set_up.lines set_up.known
+    c.split_input-lines.result.1 c.in-Some.trace split.set_up c.in-Ok.ensures.spelled
+    split.behind c.in-Some.is in
     if_ok_map c.expect_in.result c.expect_in.ensures.some (λ expected some reason hit explained.
     some hit.place reason (hit.at ∙ ap (λ n. n + 2 + hit.place) (sym split.lines))
     (for_other c.args.bytes.now (λ l k t. IsUnlawful k (set_up_all bare l) t hit.place reason)

@@ -1,11 +1,11 @@
-use Rattle.std.proofs.Common.{◌≡◌, ◌<◌, length, get_or, take, List, sym, subst, rules, arith}
+use Rattle.std.proofs.Common.{◌≡◌, take, List, subst, rules, arith}
 use Rattle.std.proofs.lemmas.List.{take_all}
 use Rattle.fabric_script.specs.declared.lines.Numbered.{Numbered}
 use Rattle.fabric_trace.specs.Runs.{bare, set_up_all}
 use Rattle.trace_check.specs.Networks.{IsNetwork}
 use Rattle.trace_check.specs.Starting.{IsBuilt, net_of}
 use Rattle.trace_check.proofs.BuildLaws.{built_bare}
-use Rattle.trace_check.proofs.StartLaws.{next_may, next_net, nodes_named}
+use Rattle.trace_check.proofs.StartLaws.{next_may, on_next, nodes_named}
 use Rattle.trace_check.proofs.network.Network.new.Goals as goal
 
 pub loop-numbered-init : goal.loop-numbered-init
@@ -19,28 +19,20 @@ loop-numbered-init c =
     }) (search rules) (search rules) (search rules) (search rules) (search rules)
 
 pub add-requires : goal.add-requires
-add-requires c =
-    let lines = c.args.set_up.now.lines in
-    let i = c.loop-numbered.numbered-index in
-    let line = c.numbered-item.result in
-    let within : i < length lines = search (rules, arith) in
-    let here : line ≡ get_or lines i line = search rules in
-    record {
-      net = set_up_all bare (take i lines);
-      built = c.loop-numbered.invariant;
-      may = next_may c.args.set_up.now.known.names lines i line c.requires within here;
-    }
+add-requires c = record {
+  net = set_up_all bare (take c.loop-numbered.numbered-index c.args.set_up.now.lines);
+  built = c.loop-numbered.invariant;
+  may =
+      next_may c.args.set_up.now.known.names c.args.set_up.now.lines c.loop-numbered.numbered-index
+      c.numbered-item.result c.requires (search (rules, arith)) (search rules);
+}
 
 pub loop-numbered-preserved : goal.loop-numbered-preserved
 loop-numbered-preserved c =
-    let lines = c.args.set_up.now.lines in
-    let i = c.loop-numbered.numbered-index in
-    let line = c.numbered-item.result in
-    let within : i < length lines = search (rules, arith) in
-    let here : line ≡ get_or lines i line = search rules in
-    subst (λ net. IsBuilt net c.add.new.self) (sym (next_net lines i line within here))
-    (c.in_ok-add.ensures (set_up_all bare (take i lines)) c.loop-numbered.invariant
-    (next_may c.args.set_up.now.known.names lines i line c.requires within here))
+    on_next (λ net. IsBuilt net c.loop-numbered.network) (λ net. IsBuilt net c.add.new.self)
+    c.args.set_up.now.known.names c.args.set_up.now.lines c.loop-numbered.numbered-index
+    c.numbered-item.result c.requires (search (rules, arith)) (search rules)
+    c.loop-numbered.invariant c.in_ok-add.ensures
 
 pub returns : goal.returns
 returns c =
