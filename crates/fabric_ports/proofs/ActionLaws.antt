@@ -1,10 +1,11 @@
 -- What a fabric shows after an event at a link, by what the call between two ports says.
-use Rattle.std.proofs.Common.{◌≡◌, ℕ, true, Option, List, [], length, Result, Ok, Err, IfOk, slice_get, slice_set, slice_index_or, Some, refl, sym, ap, ◌∙◌, subst, append-nil}
+use Rattle.std.proofs.Common.{◌≡◌, ℕ, Option, List, length, Result, Ok, Err, IfOk, slice_get, slice_set, slice_index_or, Some, refl, sym, ap, ◌∙◌, subst}
 use Rattle.std.proofs.lemmas.List.{with_items_is, length-set}
 use Rattle.std.specs.Vec.{with_item, with_items}
 use Rattle.rio_chars.specs.Written.{Writes}
 use Rattle.rio_chars.specs.declared.outbox.Outbox.{Outbox}
-use Rattle.fabric_script.specs.declared.lines.Line.{Line}
+use Rattle.fabric_ports.specs.Operations.{line_for}
+use Rattle.fabric_ports.specs.declared.operations.Action.{Action}
 use Rattle.link_port.specs.Ports.{PortState}
 use Rattle.link_watch.specs.Stops.{Stopped}
 use Rattle.link_watch.specs.declared.note.Note.{Note}
@@ -18,15 +19,13 @@ use Rattle.fabric_trace.specs.Lines.{TraceLine}
 use Rattle.fabric_trace.specs.Text.{trace_text}
 use Rattle.trace_lines.specs.Watching.{WritesNotes}
 use Rattle.trace_lines.specs.declared.watching.LinkLines.{LinkLines}
-use Rattle.fabric_ports.specs.Acting.{line_for, part_of, answer_of, lack_lines, event_end, Acts, AtTwo}
-use Rattle.fabric_ports.specs.Blocked.{Blocked, BlockEnds}
+use Rattle.fabric_ports.specs.Acting.{part_of, answer_of, lack_lines, event_end, Acts, AtTwo}
 use Rattle.fabric_ports.specs.Ends.{IsPlaceOf}
 use Rattle.fabric_ports.specs.Places.{place_of}
+use Rattle.fabric_ports.specs.Ran.{Kind, Ran, Blocks}
 use Rattle.fabric_ports.specs.Standing.{Stands}
 use Rattle.fabric_ports.specs.declared.actions.Acted.{Acted}
-use Rattle.fabric_ports.specs.declared.actions.Action.{Action}
 use Rattle.fabric_ports.specs.declared.answers.EventEnd.{EventEnd}
-use Rattle.fabric_ports.specs.declared.answers.EventEnd.TheVariants as EventEnds
 use Rattle.fabric_ports.specs.declared.ends.LinkPlace.{LinkPlace}
 use Rattle.fabric_ports.specs.declared.fabric.Cable.{Cable}
 use Rattle.fabric_ports.specs.declared.fabric.Fabric.{Fabric}
@@ -127,17 +126,26 @@ module _ {K : Type 0} (written : K → Option (List ℕ)) (faults : K → ℕ) (
     (two : AtTwo place.a place.b ports next
     (Says written faults place action cable before result wires after))
     (is_a : before.a ≡ cable.a) (is_b : before.b ≡ cable.b) where
+  says : (r : Result Acted LinkEnd) → result ≡ r
+      → Says written faults place action cable before r wires after two.first two.second
+      two.next_first two.next_second
+  says r is =
+      subst (λ r. Says written faults place action cable before r wires after two.first two.second
+      two.next_first two.next_second) is two.holds
+
+  is_known : {from : Seen} {lines : List TraceLine} → Stands from lines fabric
+      → IsKnown from lines fabric port place cable two.first two.second
+  is_known stands = met_known two.first two.second m two.at_first two.at_second stands
+
   pub act_done : (answer : Acted) → result ≡ Ok answer → (outbox : Outbox K)
       → Writes written faults after.outbox.now outbox
       (trace_text before.names.now (lack_lines answer))
       → (from : Seen) (lines : List TraceLine) → Stands from lines fabric
-      → Blocked (line_for port action) before.names.now written faults before.outbox.now outbox from
-      lines (fabric_with fabric place.cable cable wires next)
+      → Ran (Blocks (line_for port action)) before.names.now written faults before.outbox.now outbox
+      from lines (Ok (fabric_with fabric place.cable cable wires next))
   act_done answer is outbox lacks from lines stands =
-      let does = subst
-      (λ r. Says written faults place action cable before r wires after two.first two.second
-      two.next_first two.next_second) is two.holds in
-      let k = met_known two.first two.second m two.at_first two.at_second stands in
+      let does = says (Ok answer) is in
+      let k = is_known stands in
       let changed = changed_with fabric place cable wires ports next two.next_first two.next_second
       m.ports_are k.first k.second two.becomes in
       link_blocked before.names.now action wires two.next_first two.next_second before after outbox
@@ -145,72 +153,38 @@ module _ {K : Type 0} (written : K → Option (List ℕ)) (faults : K → ℕ) (
 
   pub act_ended : (end : LinkEnd) → result ≡ Err end → (from : Seen) (lines : List TraceLine)
       → Stands from lines fabric
-      → BlockEnds (line_for port action) before.names.now written faults before.outbox.now
-      after.outbox.now from lines (event_end cable.a cable.b end)
+      → Ran (Blocks (line_for port action)) before.names.now written faults before.outbox.now
+      after.outbox.now from lines (Err (event_end cable.a cable.b end))
   act_ended (Undetected side e) is from lines stands =
-      let does = subst
-      (λ r. Says written faults place action cable before r wires after two.first two.second
-      two.next_first two.next_second) is two.holds in
-      let k = met_known two.first two.second m two.at_first two.at_second stands in
-      link_exposed before.names.now action side e before after k does.0 refl is_a is_b
+      link_exposed before.names.now action side e before after (is_known stands)
+      (says (Err (Undetected side e)) is).0 refl is_a is_b
   act_ended Failed is from lines stands =
-      let does = subst
-      (λ r. Says written faults place action cable before r wires after two.first two.second
-      two.next_first two.next_second) is two.holds in
-      let k = met_known two.first two.second m two.at_first two.at_second stands in
-      link_cut before.names.now action before after k does.0 refl is_a is_b
+      link_cut before.names.now action before after (is_known stands) (says (Err Failed) is).0 refl
+      is_a is_b
   act_ended NoMemory is from lines stands =
-      let does = subst
-      (λ r. Says written faults place action cable before r wires after two.first two.second
-      two.next_first two.next_second) is two.holds in
-      let k = met_known two.first two.second m two.at_first two.at_second stands in
-      link_cut before.names.now action before after k does.0 refl is_a is_b
+      link_cut before.names.now action before after (is_known stands) (says (Err NoMemory) is).0
+      refl is_a is_b
 
   -- the watch has the same outbox
   pub same_outbox : (end : LinkEnd) → result ≡ Err end
       → after.outbox.ghost_name ≡ before.outbox.ghost_name
-  same_outbox (Undetected side e) is =
-      (subst (λ r. Says written faults place action cable before r wires after two.first two.second
-      two.next_first two.next_second) is two.holds).0.grown.outbox
-  same_outbox Failed is =
-      cut_same written faults
-      (subst (λ r. Says written faults place action cable before r wires after two.first
-      two.second two.next_first two.next_second) is two.holds).0.stopped
-  same_outbox NoMemory is =
-      cut_same written faults
-      (subst (λ r. Says written faults place action cable before r wires after two.first
-      two.second two.next_first two.next_second) is two.holds).0.stopped
+  same_outbox (Undetected side e) is = (says (Err (Undetected side e)) is).0.grown.outbox
+  same_outbox Failed is = cut_same written faults (says (Err Failed) is).0.stopped
+  same_outbox NoMemory is = cut_same written faults (says (Err NoMemory) is).0.stopped
 
 -- ---- the outbox behind the call
 
-pub ended_by : {K : Type 0} (written : K → Option (List ℕ)) (faults : K → ℕ) (line : Line)
+pub ended_by : {K : Type 0} (written : K → Option (List ℕ)) (faults : K → ℕ) (Is : Kind)
     (names : List (List ℕ)) (old new next : Outbox K) (from : Seen) (lines : List TraceLine)
-    (end why : EventEnd)
-    → next ≡ new → why ≡ end → BlockEnds line names written faults old new from lines end
-    → BlockEnds line names written faults old next from lines why
-ended_by written faults line names old new next from lines end why same is blocked =
-    subst (λ o. BlockEnds line names written faults old o from lines why) (sym same)
-    (subst (λ w. BlockEnds line names written faults old new from lines w) (sym is) blocked)
+    (end why : EventEnd) → next ≡ new → why ≡ end
+    → Ran Is names written faults old new from lines (Err end)
+    → Ran Is names written faults old next from lines (Err why)
+ended_by written faults Is names old new next from lines end why same is ran =
+    subst (λ o. Ran Is names written faults old o from lines (Err why)) (sym same)
+    (subst (λ w. Ran Is names written faults old new from lines (Err w)) (sym is) ran)
 
 pub written_by : {K : Type 0} {written : K → Option (List ℕ)} {faults : K → ℕ} {old new : Outbox K}
     {text : List ℕ} (next : Outbox K) → next ≡ new → Writes written faults old new text
     → Writes written faults old next text
 written_by {K} {written} {faults} {old} {new} {text} next same writes =
     subst (λ o. Writes written faults old o text) (sym same) writes
-
--- it was told whole, but a write failed
-pub failed_behind : {K : Type 0} {written : K → Option (List ℕ)} {faults : K → ℕ} {line : Line}
-    {names : List (List ℕ)} {old new : Outbox K} {from : Seen} {lines : List TraceLine}
-    {fabric : Fabric} → Blocked line names written faults old new from lines fabric
-    → new.failed ≡ true → BlockEnds line names written faults old new from lines EventEnds.Failed
-failed_behind all failed = (
-  record {
-    block = all.block;
-    front = all.block;
-    rest = [];
-    prints = all.prints;
-    is = all.is;
-    whole = sym (append-nil all.block);
-  },
-  failed,
-)

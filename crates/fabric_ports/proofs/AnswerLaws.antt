@@ -36,7 +36,7 @@ use Rattle.fabric_ask.proofs.Laying.{laid_heard}
 use Rattle.fabric_ask.proofs.Uncollected.{nothing_answers, answers-append}
 use Rattle.fabric_ports.specs.Asking.{CanAsk, Returns, Replied, AskEnds, Unwritten}
 use Rattle.fabric_ports.specs.Fetching.{NoneLeaves, AskLeaves, response_or_end, response_in, ask_answer}
-use Rattle.fabric_ports.specs.Ran.{Ran, RanShort, RanEnds}
+use Rattle.fabric_ports.specs.Ran.{WritesFront, Ran}
 use Rattle.fabric_ports.specs.declared.answers.EventEnd.{EventEnd}
 use Rattle.fabric_ports.specs.declared.answers.EventEnd.TheVariants as Ends
 use Rattle.fabric_ports.specs.declared.asking.AskEnd.{AskEnd}
@@ -66,17 +66,17 @@ abbrev pub IsTold : List (List ℕ) → {K : Type 0} → (K → Option (List ℕ
     → Outbox K → ℕ → Request → List Edit → Seen → List TraceLine → Fabric
     → Result (Option (List ℕ)) EventEnd → Type 0
 IsTold names written faults a b host request noise from lines new (Ok left) =
-    Ran (AskLeaves host request noise left) names written faults a b from lines new
+    Ran (AskLeaves host request noise left) names written faults a b from lines (Ok new)
 IsTold names written faults a b host request noise from lines new (Err end) =
-    RanEnds (IsAsk host request noise) names written faults a b from lines end
+    Ran (IsAsk host request noise) names written faults a b from lines (Err end)
 
 module _ (names : List (List ℕ)) {K : Type 0} (written : K → Option (List ℕ)) (faults : K → ℕ)
     (a b : Outbox K) (host : ℕ) (request : Request) (noise : List Edit) (old new : Fabric) where
   pub is_told : (told : Result (Option (List ℕ)) EventEnd)
       → IfOk told (λ left. (from : Seen) (lines : List TraceLine) → CanAsk host from lines old
-      → Ran (AskLeaves host request noise left) names written faults a b from lines new)
+      → Ran (AskLeaves host request noise left) names written faults a b from lines (Ok new))
       → IfErr told (λ end. (from : Seen) (lines : List TraceLine) → CanAsk host from lines old
-      → RanEnds (IsAsk host request noise) names written faults a b from lines end)
+      → Ran (IsAsk host request noise) names written faults a b from lines (Err end))
       → (from : Seen) (lines : List TraceLine) → CanAsk host from lines old
       → IsTold names written faults a b host request noise from lines new told
   is_told (Ok left) done ended from lines can = done from lines can
@@ -87,11 +87,13 @@ module _ (names : List (List ℕ)) {K : Type 0} (written : K → Option (List �
       (lines : List TraceLine)
       → IsTold names written faults a b host request noise from lines new told
       → (text : List ℕ) × Writes written faults a b text
-  told_text (Ok left) from lines ran = (trace_text names ran.block, ran.prints)
+  told_text (Ok left) from lines ran = (trace_text names ran.block, ran.ends.0)
   told_text (Err (Ends.Undetected port event)) from lines ran =
-      (trace_text names ran.block, ran.prints)
-  told_text (Err Ends.Failed) from lines ran = (trace_text names ran.0.front, ran.0.prints)
-  told_text (Err Ends.NoMemory) from lines ran = (trace_text names ran.front, ran.prints)
+      (trace_text names ran.block, ran.ends.0)
+  told_text (Err Ends.Failed) from lines ran =
+      (trace_text names ran.ends.0.front, ran.ends.0.prints)
+  told_text (Err Ends.NoMemory) from lines ran =
+      (trace_text names ran.ends.front, ran.ends.prints)
 
 module _ (names : List (List ℕ)) (before after : Option (List ℕ)) (host : ℕ) (request : Request)
     (noise : List Edit) (from : Seen) (lines : List TraceLine) (old new : Fabric) where
@@ -111,7 +113,7 @@ module _ (names : List (List ℕ)) (before after : Option (List ℕ)) (host : �
     reads packet form = read request packet sendable form
 
     module _ (left : Option (List ℕ))
-        (ran : Ran (AskLeaves host request noise left) names written faults a b from lines new)
+        (ran : Ran (AskLeaves host request noise left) names written faults a b from lines (Ok new))
         (told : Appends before after (trace_text names ran.block)) where
       abbrev block : List TraceLine
       block = ran.block
@@ -123,7 +125,7 @@ module _ (names : List (List ℕ)) (before after : Option (List ℕ)) (host : �
       low = low_hop request ran.is.0.3.packet sendable ran.is.0.3.form
 
       still : (seen (seen from lines) ran.block).unfaithful ≡ None
-      still = still_behind lines ran.block ran.stands
+      still = still_behind lines ran.block ran.ends.1
 
       there : (at : PortRef) → Returns (seen from lines).network host request at
           → IsReplied host (seen from lines) ran.block at request
@@ -139,7 +141,7 @@ module _ (names : List (List ℕ)) (before after : Option (List ℕ)) (host : �
         block = ran.block;
         told = told;
         is = ask;
-        sent = ran.stands.sent;
+        sent = ran.ends.1.sent;
         lost = λ at trip.
             let replied = there at trip in
             never_last host replied.front replied.packet
@@ -199,7 +201,7 @@ module _ (names : List (List ℕ)) (before after : Option (List ℕ)) (host : �
           told = told;
           is = ask;
           again = record {
-            stands = ran.stands;
+            stands = ran.ends.1;
             clear = subst (λ (x : Seen). IsClear x.network) (sym joined) replied.clear;
             laid = laid;
           };
@@ -223,7 +225,7 @@ module _ (names : List (List ℕ)) (before after : Option (List ℕ)) (host : �
 
     -- the lines were told whole
     told_whole : (left : Option (List ℕ))
-        → (ran : Ran (AskLeaves host request noise left) names written faults a b from lines new)
+        → (ran : Ran (AskLeaves host request noise left) names written faults a b from lines (Ok new))
         → Appends before after (trace_text names ran.block)
         → IsAnswered (response_or_end (response_in left))
     told_whole None ran told = nothing_came None ran told ran.is.1
@@ -243,14 +245,15 @@ module _ (names : List (List ℕ)) (before after : Option (List ℕ)) (host : �
     }
 
     -- the first lines were told, and a front of their text was written
-    told_short : (ran : RanShort (IsAsk host request noise) names written faults a b from lines)
-        → AppendsFront before after (trace_text names ran.front)
+    told_short : (block : List TraceLine) → IsAsk host request noise (seen from lines) block
+        → (short : WritesFront names written faults a b block)
+        → AppendsFront before after (trace_text names short.front)
         → Unwritten names before after host request noise from lines
-    told_short ran front = record {
-      block = ran.block;
+    told_short block is short front = record {
+      block = block;
       told = subst (λ (l : List TraceLine). AppendsFront before after (trace_text names l))
-          (sym ran.whole) (front_more ran.front ran.rest front);
-      is = ran.is;
+          (sym short.whole) (front_more short.front short.rest front);
+      is = is;
     }
 
     -- all that was told was written
@@ -259,36 +262,36 @@ module _ (names : List (List ℕ)) (before after : Option (List ℕ)) (host : �
         → ((text : List ℕ) → Writes written faults a b text → Appends before after text)
         → IsAnswered (ask_answer told)
     told_answers (Ok left) ran whole =
-        told_whole left ran (whole (trace_text names ran.block) ran.prints)
+        told_whole left ran (whole (trace_text names ran.block) ran.ends.0)
     told_answers (Err (Ends.Undetected port event)) ran whole =
         let found = sym (ap (λ (t : Seen). t.unfaithful) (seen-append from lines ran.block))
-        ∙ ran.found in
+        ∙ ran.ends.1 in
         let apart = ask_found host request noise (seen from lines) ran.block
         (good_behind can.stands.ready can.stands.made) can.stands.sent ran.is
         (record { port = port; event = event }) found in
         record {
           block = ran.block;
-          told = whole (trace_text names ran.block) ran.prints;
+          told = whole (trace_text names ran.block) ran.ends.0;
           is = ran.is;
           made = made-append can.stands.made apart.made;
-          found = ran.found;
+          found = ran.ends.1;
           own = nothing_answers host ran.block apart.nothing;
         }
     told_answers (Err Ends.Failed) ran whole =
-        let text = trace_text names ran.0.front in
-        told_short ran.0 (record {
+        let text = trace_text names ran.ends.0.front in
+        told_short ran.block ran.is ran.ends.0 (record {
           front = text;
           rest = [];
           whole = sym (append-nil text);
-          told = whole text ran.0.prints;
+          told = whole text ran.ends.0.prints;
         })
     told_answers (Err Ends.NoMemory) ran whole = record {
       block = ran.block;
-      front = ran.front;
-      rest = ran.rest;
-      told = whole (trace_text names ran.front) ran.prints;
+      front = ran.ends.front;
+      rest = ran.ends.rest;
+      told = whole (trace_text names ran.ends.front) ran.ends.prints;
       is = ran.is;
-      whole = ran.whole;
+      whole = ran.ends.whole;
     }
 
     -- a write failed
@@ -298,15 +301,17 @@ module _ (names : List (List ℕ)) (before after : Option (List ℕ)) (host : �
         → Unwritten names before after host request noise from lines
     told_fails (Ok left) ran front = record {
       block = ran.block;
-      told = front (trace_text names ran.block) ran.prints;
+      told = front (trace_text names ran.block) ran.ends.0;
       is = ran.is.0;
     }
     told_fails (Err (Ends.Undetected port event)) ran front = record {
       block = ran.block;
-      told = front (trace_text names ran.block) ran.prints;
+      told = front (trace_text names ran.block) ran.ends.0;
       is = ran.is;
     }
     told_fails (Err Ends.Failed) ran front =
-        told_short ran.0 (front (trace_text names ran.0.front) ran.0.prints)
+        told_short ran.block ran.is ran.ends.0
+        (front (trace_text names ran.ends.0.front) ran.ends.0.prints)
     told_fails (Err Ends.NoMemory) ran front =
-        told_short ran (front (trace_text names ran.front) ran.prints)
+        told_short ran.block ran.is ran.ends
+        (front (trace_text names ran.ends.front) ran.ends.prints)

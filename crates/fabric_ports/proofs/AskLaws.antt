@@ -1,5 +1,5 @@
 -- What an ask tells, and how it ends.
-use Rattle.std.proofs.Common.{◌≡◌, ℕ, Bool, true, false, List, [], ◌∷◌, ◌++◌, length, Option, Some, None, Result, Ok, Err, IfOk, IfErr, refl, sym, ap, ◌∙◌, subst, arith, append-nil, append_assoc, inl, inr, ◌⊎◌, if◌then◌else◌}
+use Rattle.std.proofs.Common.{◌≡◌, ℕ, Bool, true, false, List, [], ◌∷◌, ◌++◌, length, Option, Some, None, Ok, refl, sym, ap, ◌∙◌, subst, arith, append-nil, append_assoc, inl, inr, ◌⊎◌, if◌then◌else◌}
 use Rattle.rio_chars.specs.declared.outbox.Outbox.{Outbox}
 use Rattle.rio_packets.specs.Fields.{prio_of}
 use Rattle.rio_packets.specs.LinkForm.{LinkForm, Passes}
@@ -34,12 +34,11 @@ use Rattle.fabric_ports.specs.Asking.{CanAsk, NeverBefore}
 use Rattle.fabric_ports.specs.Events.{Did, answer_taken}
 use Rattle.fabric_ports.specs.Fetching.{RoundsLeave, AskLeaves}
 use Rattle.fabric_ports.specs.Places.{IsEndpointAt}
-use Rattle.fabric_ports.specs.Ran.{Ran, RanEnds}
-use Rattle.fabric_ports.specs.declared.answers.EventEnd.{EventEnd}
+use Rattle.fabric_ports.specs.Ran.{Ran}
 use Rattle.fabric_ports.specs.declared.answers.Happened.{Happened}
 use Rattle.fabric_ports.specs.declared.fabric.Fabric.{Fabric}
 use Rattle.fabric_ports.proofs.LeaveLaws.{leaves_behind, nothing_leaves as none_of, did_stands}
-use Rattle.fabric_ports.proofs.RanLaws.{ran_joined, ends_second}
+use Rattle.fabric_ports.proofs.RanLaws.{ran_joined}
 
 -- ---- the request is taken
 
@@ -95,19 +94,8 @@ pub host_at : {host : ℕ} {from : Seen} {lines : List TraceLine} {fabric : Fabr
     → CanAsk host from lines fabric → IsEndpointAt fabric.devices.items host
 host_at {host} can = can.stands.shows.endpoints host (host_is can)
 
--- what is said of an answer, by its kind
-pub ok_as : {T E : Type 0} (P Q : T → Type 0) (result : Result T E) → ((x : T) → P x → Q x)
-    → IfOk result P → IfOk result Q
-ok_as P Q (Ok x) turns is = turns x is
-ok_as P Q (Err e) turns is = tt
-
-pub err_as : {T E : Type 0} (P Q : E → Type 0) (result : Result T E) → ((e : E) → P e → Q e)
-    → IfErr result P → IfErr result Q
-err_as P Q (Ok x) turns is = tt
-err_as P Q (Err e) turns is = turns e is
-
 module _ {K : Type 0} (written : K → Option (List ℕ)) (faults : K → ℕ) (names : List (List ℕ))
-    (host : ℕ) (request : Request) (noise : List Edit) where
+    (host : ℕ) (request : Request) where
   -- the request is taken, and nothing else
   pub asked : (a b : Outbox K) (from : Seen) (lines : List TraceLine) (old new : Fabric)
       (packet : List ℕ) (happened : Happened) → CanAsk host from lines old
@@ -115,34 +103,33 @@ module _ {K : Type 0} (written : K → Option (List ℕ)) (faults : K → ℕ) (
       → Did (λ block. (block ≡ take_lines (seen from lines) host packet)
       × (happened ≡ answer_taken block))
       names written faults a b (seen from lines) new
-      → Ran (λ s block. Asks s host request block) names written faults a b from lines new
+      → Ran (λ s block. Asks s host request block) names written faults a b from lines (Ok new)
   asked a b from lines old new packet happened can form did =
       let s = seen from lines in
       let own = taking host s packet did.block (host_is can)
       (Passes-from_form (request_body request) packet form) did.is.0 in
       record {
         block = did.block;
-        prints = did.prints;
         is = record {
           packet = packet;
           endpoint = host_is can;
           form = form;
           lines = did.is.0;
         };
-        stands = did_stands can.stands did own.apart.made;
+        ends = (did.prints, did_stands can.stands did own.apart.made);
       }
 
   -- and then the rounds are made
-  pub asked_whole : (a b c : Outbox K) (from : Seen) (lines : List TraceLine)
+  pub asked_whole : (noise : List Edit) (a b c : Outbox K) (from : Seen) (lines : List TraceLine)
       (mid new : Fabric) (left : Option (List ℕ))
-      → (first : Ran (λ s block. Asks s host request block) names written faults a b from lines mid)
+      → (first : Ran (λ s block. Asks s host request block) names written faults a b from lines (Ok mid))
       → Ran (RoundsLeave host most_rounds noise left) names written faults b c from
-      (lines ++ first.block) new
-      → Ran (AskLeaves host request noise left) names written faults a c from lines new
-  asked_whole a b c from lines mid new left first second =
+      (lines ++ first.block) (Ok new)
+      → Ran (AskLeaves host request noise left) names written faults a c from lines (Ok new)
+  asked_whole noise a b c from lines mid new left first second =
       ran_joined written faults names (λ s block. Asks s host request block)
       (RoundsLeave host most_rounds noise left) (AskLeaves host request noise left) a b c from lines
-      mid new
+      mid (Ok new)
       (λ x y own still more. (
         (
           x,
@@ -158,16 +145,6 @@ module _ {K : Type 0} (written : K → Option (List ℕ)) (faults : K → ℕ) (
             (none_of host x (asking host (seen from lines) request x own).apart.nothing) more.1,
       ))
       first second
-
-  pub asked_ends : (a b c : Outbox K) (from : Seen) (lines : List TraceLine) (mid : Fabric)
-      (end : EventEnd)
-      → (first : Ran (λ s block. Asks s host request block) names written faults a b from lines mid)
-      → RanEnds (AskRounds host most_rounds noise) names written faults b c from
-      (lines ++ first.block) end
-      → RanEnds (IsAsk host request noise) names written faults a c from lines end
-  asked_ends a b c from lines mid end first ends =
-      ends_second written faults names (λ s block. Asks s host request block)
-      (AskRounds host most_rounds noise) a b c from lines mid end first ends
 
 -- ---- what is known of the lines of an ask
 

@@ -17,18 +17,19 @@ use Rattle.fabric_script.specs.declared.ports.PortRef.{PortRef}
 use Rattle.fabric_model.specs.Network.{peer_in, link_in}
 use Rattle.fabric_model.proofs.Peers.{ArePeers}
 use Rattle.fabric_trace.specs.Lines as traced
-use Rattle.fabric_trace.specs.Lines.{TraceLine, Begun, Lacked}
+use Rattle.fabric_trace.specs.Lines.{TraceLine, Lacked}
 use Rattle.fabric_trace.specs.Known.{Seen, peer_of, port_seen, link_at}
-use Rattle.fabric_trace.specs.Fold.{seen}
+use Rattle.fabric_trace.specs.Fold.{edit_of, edited_by, seen}
 use Rattle.fabric_trace.specs.Blocks.{port_at_side, lines_of, pumps, delivers, time_out_lines, IsSettle, WithPeer, WithLink, IsBlock}
 use Rattle.fabric_trace.proofs.Parts.Folding.{seen-append}
 use Rattle.fabric_trace.proofs.Parts.Making.{sent_round, delivery_round}
 use Rattle.fabric_trace.proofs.Rounds.Running.{fired_round, silent_round}
-use Rattle.fabric_ports.specs.Acting.{line_for, part_of, answer_of, lack_lines}
+use Rattle.fabric_ports.specs.Operations.{line_for}
+use Rattle.fabric_ports.specs.Acting.{part_of, answer_of, lack_lines}
 use Rattle.fabric_ports.specs.declared.actions.Acted.{Acted}
 use Rattle.fabric_ports.specs.declared.actions.Acted.TheVariants.{Done, Short, Early}
-use Rattle.fabric_ports.specs.declared.actions.Action.{Action}
-use Rattle.fabric_ports.specs.declared.actions.Action.TheVariants.{Pump, Deliver, TimeOut, Settle}
+use Rattle.fabric_ports.specs.declared.operations.Action.{Action}
+use Rattle.fabric_ports.specs.declared.operations.Action.TheVariants.{Pump, Deliver, TimeOut, Settle}
 
 -- the block: the lines of what is noted, and of what is not there
 abbrev pub block_of : PortRef → PortRef → LinkState → List Act → Acted → List TraceLine
@@ -41,12 +42,12 @@ lack_seen s lines Short = seen-append s lines (Lacked traced.Short ∷ [])
 lack_seen s lines Early = seen-append s lines (Lacked traced.Early ∷ [])
 
 -- no action of a link edits a wire
-pub begun_same : (s : Seen) (port : PortRef) (action : Action) (block : List TraceLine)
-    → seen s (Begun (line_for port action) ∷ block) ≡ seen s block
-begun_same s port (Pump turns) block = refl
-begun_same s port (Deliver count) block = refl
-begun_same s port TimeOut block = refl
-begun_same s port Settle block = refl
+pub begun_same : (s : Seen) (port : PortRef) (action : Action)
+    → edited_by s (edit_of (line_for port action)) ≡ s
+begun_same s port (Pump turns) = refl
+begun_same s port (Deliver count) = refl
+begun_same s port TimeOut = refl
+begun_same s port Settle = refl
 
 one_noted : (l : LinkState) (act : Act) → acts_notes (At l) (act ∷ []) ≡ act_notes act l
 unfolding acts_notes

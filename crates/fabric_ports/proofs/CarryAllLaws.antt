@@ -1,5 +1,5 @@
 -- Links that carry what they can, one after another.
-use Rattle.std.proofs.Common.{◌≡◌, ◌+◌, ℕ, List, [], ◌∷◌, ◌++◌, take, drop, Option, Some, None, refl, sym, ap, ◌∙◌, subst}
+use Rattle.std.proofs.Common.{◌≡◌, ◌+◌, ℕ, List, [], ◌∷◌, ◌++◌, take, drop, Option, Some, None, refl, sym, ap, ◌∙◌, subst, Ok, Err}
 use Rattle.rio_chars.specs.declared.outbox.Outbox.{Outbox}
 use Rattle.link_wires.specs.declared.edits.Edit.{Edit}
 use Rattle.fabric_script.specs.declared.ports.PortRef.{PortRef}
@@ -18,16 +18,16 @@ use Rattle.fabric_ask.specs.Asks.{CarryAll}
 use Rattle.fabric_ask.proofs.Beginning.{carry_all_exist}
 use Rattle.fabric_ask.proofs.Carrying.{has_carried}
 use Rattle.fabric_ports.specs.Carrying.{AreLinked, WithLeft, LinkCarries, LinksCarry}
-use Rattle.fabric_ports.specs.Ran.{Ran, RanEnds}
+use Rattle.fabric_ports.specs.Ran.{Ran}
 use Rattle.fabric_ports.specs.Standing.{Stands}
 use Rattle.fabric_ports.specs.declared.answers.EventEnd.{EventEnd}
 use Rattle.fabric_ports.specs.declared.fabric.Fabric.{Fabric}
 use Rattle.fabric_ports.proofs.Cables.{seen_links}
 use Rattle.fabric_ports.proofs.EndLaws.{links_stand}
-use Rattle.fabric_ports.proofs.RanLaws.{Both, Nothing, both_as, both_nothing, nothing_both, both_assoc, GoesOn, IsMade, ran_nothing, ran_both, ran_as, ends_as, ends_first, ends_second}
+use Rattle.fabric_ports.proofs.RanLaws.{Both, Nothing, both_as, both_nothing, nothing_both, both_assoc, GoesOn, IsMade, ran_nothing, ran_both, ran_as, ends_first}
 use Rattle.fabric_ports.proofs.SettlingLaws.{good_behind, found_drop, IsNext}
 use Rattle.fabric_ports.proofs.CarryLaws.{open_behind, left_first}
-use Rattle.fabric_ports.proofs.CarriedLaws.{ends_left}
+use Rattle.fabric_ports.proofs.CarriedLaws.{ran_left}
 
 carry_append : (xs ys : List (PortRef × PortRef)) (noise middle left : List Edit) (s : Seen)
     (lines : List TraceLine) → s.unfaithful ≡ None
@@ -123,9 +123,9 @@ next_linked {from} {lines} {fabric} {k} {link} stands next = record {
 module _ {K : Type 0} (written : K → Option (List ℕ)) (faults : K → ℕ) (names : List (List ℕ)) where
   pub carry_begins : (a : Outbox K) (from : Seen) (lines : List TraceLine) (fabric : Fabric)
       (noise : List Edit) → Stands from lines fabric
-      → Ran (CarryAll [] noise noise) names written faults a a from lines fabric
+      → Ran (CarryAll [] noise noise) names written faults a a from lines (Ok fabric)
   carry_begins a from lines fabric noise stands =
-      ran_as written faults names Nothing (CarryAll [] noise noise) a a from lines fabric
+      ran_as written faults names Nothing (CarryAll [] noise noise) a a from lines (Ok fabric)
       (λ block none. (none, refl)) (ran_nothing written faults names a from lines fabric stands)
 
   -- one link more has carried what it can
@@ -133,24 +133,24 @@ module _ {K : Type 0} (written : K → Option (List ℕ)) (faults : K → ℕ) (
       (old mid new : Fabric) (k : ℕ) (link : PortRef × PortRef) (noise middle left : List Edit)
       → Stands from lines old → IsNext from k link
       → (first : Ran (CarryAll (take k from.network.links) noise middle) names written faults a b
-      from lines mid)
-      → Ran (LinkCarries link middle left) names written faults b c from (lines ++ first.block) new
+      from lines (Ok mid))
+      → Ran (LinkCarries link middle left) names written faults b c from (lines ++ first.block) (Ok new)
       → Ran (CarryAll (take (k + 1) from.network.links) noise left) names written faults a c from
-      lines new
+      lines (Ok new)
   carried_more a b c from lines old mid new k link noise middle left stands next first own =
       let links = from.network.links in
       ran_as written faults names
       (Both (CarryAll (take k links) noise middle) (CarryAll (link ∷ []) middle left))
-      (CarryAll (take (k + 1) links) noise left) a c from lines new
+      (CarryAll (take (k + 1) links) noise left) a c from lines (Ok new)
       (λ block both. subst (λ (l : List (PortRef × PortRef)). CarryAll l noise left
       (seen from lines) block) (sym next.more)
       (carry_append (take k links) (link ∷ []) noise middle left (seen from lines) block
       stands.sent both))
       (ran_both written faults names (CarryAll (take k links) noise middle)
-      (CarryAll (link ∷ []) middle left) a b c from lines mid new first
+      (CarryAll (link ∷ []) middle left) a b c from lines mid (Ok new) first
       (ran_as written faults names (LinkCarries link middle left)
       (CarryAll (link ∷ []) middle left) b c
-      from (lines ++ first.block) new
+      from (lines ++ first.block) (Ok new)
       (λ block carries. carry_one link middle left (seen from (lines ++ first.block)) block carries)
       own))
 
@@ -159,15 +159,15 @@ module _ {K : Type 0} (written : K → Option (List ℕ)) (faults : K → ℕ) (
       (old mid : Fabric) (k : ℕ) (link : PortRef × PortRef) (noise middle : List Edit)
       (end : EventEnd) → Stands from lines old → IsNext from k link
       → (first : Ran (CarryAll (take k from.network.links) noise middle) names written faults a b
-      from lines mid)
-      → RanEnds (WithLeft (LinkCarries link middle)) names written faults b c from
-      (lines ++ first.block) end
-      → RanEnds (WithLeft (LinksCarry noise)) names written faults a c from lines end
+      from lines (Ok mid))
+      → Ran (WithLeft (LinkCarries link middle)) names written faults b c from
+      (lines ++ first.block) (Err end)
+      → Ran (WithLeft (LinksCarry noise)) names written faults a c from lines (Err end)
   carried_short a b c from lines old mid k link noise middle end stands next first ended =
       let links = from.network.links in
       let rest = drop (k + 1) links in
-      let own = ends_left written faults names (LinkCarries link middle) b c from
-      (lines ++ first.block) end ended in
+      let own = ran_left written faults names (LinkCarries link middle) b c from
+      (lines ++ first.block) (Err end) ended in
       let on : GoesOn from (WithLeft (CarryAll rest own.0)) =
       λ more made sent. (let exist = carry_all_exist rest links own.0 (seen from more)
       (good_behind stands.ready made) sent (seen_links from more)
@@ -175,11 +175,11 @@ module _ {K : Type 0} (written : K → Option (List ℕ)) (faults : K → ℕ) (
       (exist.exists.lines, (exist.left, exist.exists.is))) in
       let inner = ends_first written faults names (LinkCarries link middle own.0)
       (WithLeft (CarryAll rest own.0)) b c from (lines ++ first.block) mid end
-      (carries_made link middle own.0 stands.ready next.found) on first.stands own.1 in
-      ends_as written faults names
+      (carries_made link middle own.0 stands.ready next.found) on first.ends.1 own.1 in
+      ran_as written faults names
       (Both (CarryAll (take k links) noise middle)
       (Both (LinkCarries link middle own.0) (WithLeft (CarryAll rest own.0))))
-      (WithLeft (LinksCarry noise)) a c from lines end
+      (WithLeft (LinksCarry noise)) a c from lines (Err end)
       (λ block both. (let all = both_left own.0 (seen from lines) block both in (
         all.0,
         subst (λ (l : List (PortRef × PortRef)). CarryAll l noise all.0 (seen from lines)
@@ -187,9 +187,9 @@ module _ {K : Type 0} (written : K → Option (List ℕ)) (faults : K → ℕ) (
             (carry_append (take k links) (link ∷ rest) noise middle all.0 (seen from lines) block
             stands.sent all.1),
       )))
-      (ends_second written faults names (CarryAll (take k links) noise middle)
+      (ran_both written faults names (CarryAll (take k links) noise middle)
       (Both (LinkCarries link middle own.0) (WithLeft (CarryAll rest own.0))) a b c from lines mid
-      end
+      (Err end)
       first inner)
     where
       both_left : (next : List Edit) (s : Seen) (block : List TraceLine)
@@ -211,10 +211,10 @@ module _ {K : Type 0} (written : K → Option (List ℕ)) (faults : K → ℕ) (
   -- all links have carried what they can
   pub carried_all : (a b : Outbox K) (from : Seen) (lines : List TraceLine) (new : Fabric)
       (links : List (PortRef × PortRef)) (noise left : List Edit) → links ≡ from.network.links
-      → Ran (CarryAll links noise left) names written faults a b from lines new
-      → Ran (LinksCarry noise left) names written faults a b from lines new
+      → Ran (CarryAll links noise left) names written faults a b from lines (Ok new)
+      → Ran (LinksCarry noise left) names written faults a b from lines (Ok new)
   carried_all a b from lines new links noise left same ran =
       ran_as written faults names (CarryAll links noise left) (LinksCarry noise left) a b from lines
-      new
+      (Ok new)
       (λ block own. subst (λ (l : List (PortRef × PortRef)). CarryAll l noise left
       (seen from lines) block) (same ∙ sym (seen_links from lines)) own) ran

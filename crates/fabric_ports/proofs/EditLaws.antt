@@ -5,7 +5,6 @@ use Rattle.std.proofs.lemmas.Option.{get_or_from_slice_get}
 use Rattle.std.specs.Vec.{with_item}
 use Rattle.rio_chars.specs.Written.{Writes}
 use Rattle.rio_chars.specs.declared.outbox.Outbox.{Outbox}
-use Rattle.rio_chars.proofs.WrittenLaws.{Writes-nil}
 use Rattle.link_port.specs.Ports.{PortState}
 use Rattle.link_watch.specs.declared.side.Side.{Side}
 use Rattle.link_watch.specs.declared.side.Side.TheVariants.{A, B}
@@ -14,8 +13,9 @@ use Rattle.link_wires.specs.declared.edits.Edit.{Edit}
 use Rattle.link_wires.specs.declared.edits.Edited.{Edited}
 use Rattle.link_machine.specs.Calls.{edited_from}
 use Rattle.link_machine.specs.States.{Wires, LinkState, link, wire_at}
-use Rattle.fabric_script.specs.declared.lines.Line.{Line}
-use Rattle.fabric_script.specs.declared.lines.Line.TheVariants.{Endpoint, Switch, Link, Buffers, Route, Default, Lock, Large, Send, Read, Write, Pump, Deliver, Alter, Insert, Erase, Timeout, Settle, Move, Collect, Run, Send16, Read16, Write16, Credits}
+use Rattle.fabric_ports.specs.Operations.{line_editing}
+use Rattle.fabric_ports.specs.declared.operations.WireEdit.{WireEdit}
+use Rattle.fabric_ports.specs.declared.operations.WireEdit.TheVariants as Asked
 use Rattle.fabric_script.specs.declared.ports.PortRef.{PortRef}
 use Rattle.fabric_model.specs.Network.{same_port}
 use Rattle.fabric_model.proofs.Peers.{apart_back}
@@ -23,15 +23,16 @@ use Rattle.fabric_trace.specs.Blocks.{port_at_side, edits, IsBlock}
 use Rattle.fabric_trace.specs.Fold.{edit_of, changed, edited_by, seen}
 use Rattle.fabric_trace.specs.Known.{Wire, Seen, wire_state, port_seen, link_at}
 use Rattle.fabric_trace.specs.Lines as traced
-use Rattle.fabric_trace.specs.Lines.{TraceLine, Begun, Lacked}
+use Rattle.fabric_trace.specs.Lines.{TraceLine, Lacked}
 use Rattle.fabric_trace.specs.Text.{trace_text}
 use Rattle.fabric_trace.proofs.Parts.Folding.{wire_own, wire_other}
 use Rattle.fabric_trace.proofs.Parts.Making.{AreOthers}
 use Rattle.fabric_trace.proofs.Network.Walks.{elsewhere_here}
-use Rattle.fabric_ports.specs.Acting.{lack_lines, edit_acted}
-use Rattle.fabric_ports.specs.Blocked.{Blocked, BlockedShort}
+use Rattle.fabric_ports.specs.Acting.{lack_lines, edit_acted, edit_asked}
 use Rattle.fabric_ports.specs.Ends.{IsPlaceOf}
+use Rattle.fabric_ports.specs.Events.{Did}
 use Rattle.fabric_ports.specs.Places.{place_of}
+use Rattle.fabric_ports.specs.Ran.{Blocks}
 use Rattle.fabric_ports.specs.Showing.{ShowsFabric}
 use Rattle.fabric_ports.specs.Standing.{Stands}
 use Rattle.fabric_ports.specs.declared.actions.Acted.{Acted}
@@ -42,37 +43,21 @@ use Rattle.fabric_ports.specs.declared.fabric.Fabric.{Fabric}
 use Rattle.fabric_ports.proofs.Cables.{IsChanged, changed_shows, with_wires}
 use Rattle.fabric_ports.proofs.EndLaws.{cable_shown, cable_is}
 use Rattle.fabric_ports.proofs.LinkLaws.{IsKnown, known}
-use Rattle.fabric_ports.proofs.StandLaws.{stands_on}
 
 -- ---- the block
 
-pub edit_block : (s : Seen) (line : Line) (port : PortRef) (edit : Edit) (block : List TraceLine)
-    → edit_of line ≡ Some (port, edit) → block ≡ edits s (Some (port, edit)) → IsBlock s line block
-edit_block s (Alter p place ch) port edit block is same = same ∙ ap (edits s) (sym is)
-edit_block s (Erase p place n) port edit block is same = same ∙ ap (edits s) (sym is)
-edit_block s (Insert p place ch) port edit block is same = same ∙ ap (edits s) (sym is)
-edit_block s (Endpoint name id) port edit block is same = absurd cc
-edit_block s (Switch name ports) port edit block is same = absurd cc
-edit_block s (Link a b) port edit block is same = absurd cc
-edit_block s (Buffers p n) port edit block is same = absurd cc
-edit_block s (Credits p) port edit block is same = absurd cc
-edit_block s (Route node id p) port edit block is same = absurd cc
-edit_block s (Default node p) port edit block is same = absurd cc
-edit_block s (Lock node id) port edit block is same = absurd cc
-edit_block s (Large node id) port edit block is same = absurd cc
-edit_block s (Send node prio ftype dest hex) port edit block is same = absurd cc
-edit_block s (Read node prio dest hop tid offset) port edit block is same = absurd cc
-edit_block s (Write node prio dest hop tid offset value) port edit block is same = absurd cc
-edit_block s (Send16 node prio ftype dest hex) port edit block is same = absurd cc
-edit_block s (Read16 node prio dest hop tid offset) port edit block is same = absurd cc
-edit_block s (Write16 node prio dest hop tid offset value) port edit block is same = absurd cc
-edit_block s (Pump p n) port edit block is same = absurd cc
-edit_block s (Deliver p n) port edit block is same = absurd cc
-edit_block s (Timeout p) port edit block is same = absurd cc
-edit_block s (Settle p) port edit block is same = absurd cc
-edit_block s (Move node) port edit block is same = absurd cc
-edit_block s (Collect node) port edit block is same = absurd cc
-edit_block s (Run n) port edit block is same = absurd cc
+pub edit_block : (s : Seen) (port : PortRef) (edit : WireEdit) (block : List TraceLine)
+    → block ≡ edits s (Some (port, edit_asked edit)) → IsBlock s (line_editing port edit) block
+edit_block s port (Asked.Alter place ch) block is = is
+edit_block s port (Asked.Insert place ch) block is = is
+edit_block s port (Asked.Erase place count) block is = is
+
+-- the line asks for this edit
+pub edit_of_line : (port : PortRef) (edit : WireEdit)
+    → edit_of (line_editing port edit) ≡ Some (port, edit_asked edit)
+edit_of_line port (Asked.Alter place ch) = refl
+edit_of_line port (Asked.Insert place ch) = refl
+edit_of_line port (Asked.Erase place count) = refl
 
 lacks_is : (x : Bool)
     → lack_lines (edit_acted (edit_answered x)) ≡ (if x then [] else Lacked traced.Short ∷ [])
@@ -234,56 +219,40 @@ module _ (fabric : Fabric) (port : PortRef) (place : LinkPlace) (p : IsPlaceOf f
       (changed_shows fabric new_fabric s t place.cable d wires x y stands.shows k.at changes
       k.good.proper others refl there)
 
--- the block is written, and the fabric stands for the lines with it
-pub edit_done : {K : Type 0} (written : K → Option (List ℕ)) (faults : K → ℕ) (fabric : Fabric)
+-- the block is written, and the fabric shows what is known after it
+pub edit_did : {K : Type 0} (written : K → Option (List ℕ)) (faults : K → ℕ) (fabric : Fabric)
     (port : PortRef) (place : LinkPlace) (p : IsPlaceOf fabric port place) (cable : Cable)
-    → cable ≡ slice_index_or fabric.cables.items place.cable cable → (edit : Edit) (wires : Wires)
+    → cable ≡ slice_index_or fabric.cables.items place.cable cable → (asked : WireEdit)
+    (edit : Edit) → edit ≡ edit_asked asked → (wires : Wires)
     → ((x y : PortState) → link wires x y ≡ edited_from place.side edit (link cable.link x y))
     → (answer : Edited) → answer ≡ edit_answered (fits edit (wire_at place.side cable.link).chars)
     → (old new : Outbox K)
     → ((names : List (List ℕ))
     → Writes written faults old new (trace_text names (lack_lines (edit_acted answer))))
-    → (names : List (List ℕ)) (line : Line) → edit_of line ≡ Some (port, edit)
-    → (from : Seen) (lines : List TraceLine) → Stands from lines fabric
-    → Blocked line names written faults old new from lines
+    → (names : List (List ℕ)) (from : Seen) (lines : List TraceLine) → Stands from lines fabric
+    → Did (Blocks (line_editing port asked) (seen from lines)) names written faults old new
+    (edited_by (seen from lines) (Some (port, edit_asked asked)))
     (fabric_edited fabric place.cable cable wires)
-edit_done written faults fabric port place p cable met edit wires becomes answer answers old new
-    writes names line is from lines stands =
+edit_did written faults fabric port place p cable met asked edit same wires becomes answer answers
+    old new writes names from lines stands =
     let s = seen from lines in
     let new_fabric = fabric_edited fabric place.cable cable wires in
-    let t = edited_by s (Some (port, edit)) in
+    let t = edited_by s (Some (port, edit_asked asked)) in
     let block = lack_lines (edit_acted answer) in
-    let block_is : block ≡ edits s (Some (port, edit)) =
+    let block_is : block ≡ edits s (Some (port, edit_asked asked)) =
     ap (λ z. lack_lines (edit_acted z)) answers
     ∙ lacks_is (fits edit (wire_at place.side cable.link).chars)
     ∙ ap (λ z. if fits edit z then [] else Lacked traced.Short ∷ [])
-    (edit_chars fabric port place p cable met from lines stands) in
-    let begun : seen s (Begun line ∷ block) ≡ t = ap (λ e. seen (edited_by s e) block) is
-    ∙ lack_same t (edit_acted answer) in
-    let shows = edit_shows fabric port place p cable met edit wires becomes from lines stands in
-    let is_block = edit_block s line port edit block is block_is in
+    (edit_chars fabric port place p cable met from lines stands)
+    ∙ ap (λ e. edits s (Some (port, e))) same in
+    let still = lack_same t (edit_acted answer) in
+    let shows : ShowsFabric new_fabric t = subst (λ e. ShowsFabric new_fabric
+    (edited_by s (Some (port, e)))) same
+    (edit_shows fabric port place p cable met edit wires becomes from lines stands) in
     record {
       block = block;
       prints = writes names;
-      is = is_block;
-      stands = stands_on from lines fabric new_fabric line block stands is_block
-          (ap (λ (z : Seen). z.unfaithful) begun ∙ stands.sent)
-          (subst (ShowsFabric new_fabric) (sym begun) shows);
-    }
-
--- nothing of it is written
-pub edit_cut : {K : Type 0} (written : K → Option (List ℕ)) (faults : K → ℕ) (port : PortRef)
-    (edit : Edit) (outbox : Outbox K) (names : List (List ℕ)) (line : Line) (from : Seen)
-    (lines : List TraceLine)
-    → edit_of line ≡ Some (port, edit)
-    → BlockedShort line names written faults outbox outbox from lines
-edit_cut written faults port edit outbox names line from lines is =
-    let s = seen from lines in
-    record {
-      block = edits s (Some (port, edit));
-      front = [];
-      rest = edits s (Some (port, edit));
-      prints = Writes-nil written faults outbox;
-      is = edit_block s line port edit (edits s (Some (port, edit))) is refl;
-      whole = refl;
+      is = edit_block s port asked block block_is;
+      sent = ap (λ (z : Seen). z.unfaithful) still ∙ stands.sent;
+      shows = subst (ShowsFabric new_fabric) (sym still) shows;
     }

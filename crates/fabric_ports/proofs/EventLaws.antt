@@ -1,5 +1,5 @@
 -- What an event at a node needs, and what it did.
-use Rattle.std.proofs.Common.{◌≡◌, ℕ, Bool, true, false, List, [], ◌∷◌, ◌++◌, get_or, slice_get, Option, Some, None, IsSome, MatchOption, option_map, unwrap_or, refl, sym, ap, ◌∙◌, subst}
+use Rattle.std.proofs.Common.{◌≡◌, ℕ, Bool, true, false, List, [], ◌∷◌, ◌++◌, get_or, slice_get, Option, Some, None, IsSome, Result, Ok, Err, option_map, unwrap_or, refl, sym, ap, ◌∙◌, subst}
 use mathlib.Core.Path.{fun_ext}
 use Rattle.std.proofs.lemmas.Option.{slice_get_within, slice_get-get_or}
 use Rattle.rio_chars.specs.Written.{Writes}
@@ -13,32 +13,39 @@ use Rattle.fabric_script.specs.declared.given_packets.Contents.{Contents}
 use Rattle.fabric_script.specs.declared.given_packets.Contents.TheVariants as Of
 use Rattle.fabric_script.specs.declared.given_packets.GivenPacket.{GivenPacket}
 use Rattle.fabric_script.specs.declared.given_packets.RequestHead.{RequestHead}
-use Rattle.fabric_script.specs.GivenPackets.{taker, given_line, line_giving}
+use Rattle.fabric_script.specs.GivenPackets.{given_line, line_giving}
+use Rattle.fabric_ports.specs.Operations.{line_for, line_editing}
+use Rattle.fabric_ports.specs.declared.operations.Action.{Action}
+use Rattle.fabric_ports.specs.declared.operations.Action.TheVariants.{Pump, Deliver, TimeOut, Settle}
+use Rattle.fabric_ports.specs.declared.operations.WireEdit.{WireEdit}
+use Rattle.fabric_ports.specs.declared.operations.WireEdit.TheVariants as Edit
 use Rattle.fabric_script.specs.declared.lines.Line.{Line}
-use Rattle.fabric_script.specs.declared.lines.Line.TheVariants.{Pump, Deliver, Alter, Insert, Erase, Timeout, Settle, Move, Collect, Run}
-use Rattle.fabric_script.specs.Lines.{is_event}
 use Rattle.fabric_model.specs.Network.{Network, IsEndpoint, IsSwitch, sender_id, id_of, peer_in}
-use Rattle.fabric_trace.specs.Blocks.{take_lines, SendsBody, IsBlock}
-use Rattle.fabric_trace.specs.Events.{HasLink, IsThere}
+use Rattle.fabric_trace.specs.Blocks.{take_lines, SendsBody, edits, IsBlock}
+use Rattle.fabric_trace.specs.Events.{IsInRange, HasLink, IsThere}
 use Rattle.fabric_trace.specs.Fold.{edit_of, edited_by, seen}
 use Rattle.fabric_trace.specs.Known.{Seen}
 use Rattle.fabric_trace.specs.Lines.{TraceLine, Begun}
 use Rattle.fabric_trace.specs.Text.{trace_line_text, trace_text}
+use Rattle.fabric_trace.proofs.Parts.Folding.{seen-append}
 use Rattle.fabric_script.specs.declared.ports.PortRef.{PortRef}
 use Rattle.fabric_ports.specs.declared.answers.EventEnd.{EventEnd}
-use Rattle.fabric_ports.specs.declared.answers.EventEnd.TheVariants.{Undetected, Failed, NoMemory}
+use Rattle.fabric_ports.specs.declared.answers.EventEnd.TheVariants.{NoMemory}
 use Rattle.fabric_ports.specs.declared.answers.Happened.{Happened}
 use Rattle.fabric_ports.specs.declared.answers.Happened.TheVariants.{Other}
-use Rattle.fabric_ports.specs.Blocked.{Blocked, BlockedShort, BlockEnds}
+use Rattle.fabric_ports.specs.Acting.{AsksForSome, edit_asked}
 use Rattle.fabric_ports.specs.Ends.{PortIsLinked}
 use Rattle.fabric_ports.specs.declared.fabric.Fabric.{Fabric}
 use Rattle.fabric_trace.proofs.Traces.Unique.{block_one}
-use Rattle.fabric_ports.specs.Events.{body_in, request_by, answer_taken, happened, Did, Evented, CutShort, EventEnds, IsAtLink}
+use Rattle.fabric_ports.specs.Events.{body_in, request_by, answer_taken, happened, Did, IsOwnBlock, IsAnsweredBlock, Evented}
 use Rattle.fabric_ports.specs.Places.{IsEndpointAt, IsSwitchAt}
+use Rattle.fabric_ports.specs.Ran.{Kind, Blocks, Ran}
 use Rattle.fabric_ports.specs.Showing.{ShowsFabric}
 use Rattle.fabric_ports.specs.Standing.{Stands}
 use Rattle.fabric_ports.proofs.Cables.{seen_links}
-use Rattle.fabric_ports.proofs.StandLaws.{stands_on}
+use Rattle.fabric_ports.proofs.EditLaws.{edit_block}
+use Rattle.fabric_ports.proofs.RanLaws.{line_written, ran_behind}
+use Rattle.fabric_ports.proofs.StandLaws.{stands_begun, stands_on}
 
 -- ---- before
 
@@ -111,32 +118,60 @@ module _ (node prio : ℕ) where
 
 -- ---- afterwards
 
--- an event that edits no wire, by the lines of its block
+-- an event, by what was done behind the line with which it begins
 pub evented : (line : Line) (names : List (List ℕ)) {K : Type 0} (written : K → Option (List ℕ))
     (faults : K → ℕ) (b b2 b3 : Outbox K)
-    (from : Seen) (lines : List TraceLine) (old new : Fabric) (told : Happened)
+    (from : Seen) (lines : List TraceLine) (begins : Seen) (old new : Fabric) (told : Happened)
     (Is : List TraceLine → Type 0)
-    → edited_by (seen from lines) (edit_of line) ≡ seen from lines
+    → edited_by (seen from lines) (edit_of line) ≡ begins
     → Stands from lines old
     → Writes written faults b b2 (trace_line_text names (Begun line) ++ 10 ∷ [])
-    → Did Is names written faults b2 b3 (seen from lines) new
+    → Did Is names written faults b2 b3 begins new
     → ((block : List TraceLine) → Is block → IsBlock (seen from lines) line block
     × (told ≡ happened line block))
-    → Evented line names written faults b b3 from lines new told
-evented line names written faults b b2 b3 from lines old new told Is same stands begun did is =
-    let s = seen from lines in
+    → Evented line (IsAnsweredBlock line told) names written faults b b3 from lines (Ok new)
+evented line names written faults b b2 b3 from lines begins old new told Is same stands begun did
+    is =
     let all = is did.block did.is in
     record {
       block = did.block;
-      prints = Writes-then (trace_line_text names (Begun line) ++ 10 ∷ [])
-          (trace_text names did.block) begun did.prints;
-      is = all.0;
-      only = λ other own. block_one line s other did.block own all.0;
-      stands = stands_on from lines old new line did.block stands all.0
-          (subst (λ (t : Seen). (seen t did.block).unfaithful ≡ None) (sym same) did.sent)
-          (subst (λ (t : Seen). ShowsFabric new (seen t did.block)) (sym same) did.shows);
-      answered = all.1;
+      is = (
+        all.0,
+        (λ other own. block_one line (seen from lines) other did.block own all.0),
+        all.1,
+      );
+      ends = (
+        Writes-then (trace_line_text names (Begun line) ++ 10 ∷ []) (trace_text names did.block)
+            begun did.prints,
+        stands_on from lines old new line did.block stands all.0
+            (subst (λ (t : Seen). (seen t did.block).unfaithful ≡ None) (sym same) did.sent)
+            (subst (λ (t : Seen). ShowsFabric new (seen t did.block)) (sym same) did.shows),
+      );
     }
+
+-- an event that edits no wire, by what ran behind the line with which it begins
+pub ran_evented : (line asked : Line) (Q : Kind) (names : List (List ℕ)) {K : Type 0}
+    (written : K → Option (List ℕ)) (faults : K → ℕ) (b b2 b3 : Outbox K)
+    (from : Seen) (lines : List TraceLine) (old : Fabric) (end : Result Fabric EventEnd)
+    → line ≡ asked → edited_by (seen from lines) (edit_of asked) ≡ seen from lines
+    → ((block : List TraceLine) → IsOwnBlock line (seen from lines) block → Q (seen from lines) block)
+    → Stands from lines old
+    → Writes written faults b b2 (trace_line_text names (Begun line) ++ 10 ∷ [])
+    → ((more : List TraceLine) → Stands from more old
+    → Ran (Blocks asked) names written faults b2 b3 from more end)
+    → Evented line Q names written faults b b3 from lines end
+ran_evented line asked Q names written faults b b2 b3 from lines old end is same turns stands begun
+    runs =
+    let s = seen from lines in
+    let still : edited_by s (edit_of line) ≡ s = ap (λ (l : Line). edited_by s (edit_of l)) is
+    ∙ same in
+    let joined : seen from (lines ++ Begun line ∷ []) ≡ s =
+    seen-append from lines (Begun line ∷ []) ∙ still in
+    ran_behind written faults names (Blocks asked) Q (Begun line) b b2 b3 from lines end
+    (λ block blocks. (let own = subst (λ (l : Line). IsBlock s l block) (sym is)
+    (subst (λ (t : Seen). IsBlock t asked block) joined blocks) in
+    turns block (own, λ other also. block_one line s other block also own))) begun
+    (runs (lines ++ Begun line ∷ []) (stands_begun from lines old line still stands))
 
 -- the line has a packet taken at this node
 pub record IsTaken (line : Line) (node : ℕ) : Type 0 where
@@ -210,59 +245,6 @@ sent_block s line node ids packet told takes_it endpoint same form block is = (
 
 -- ---- at a link
 
--- the line with which an event begins, and what was written behind it
-pub linked_evented : (line : Line) (names : List (List ℕ)) {K : Type 0}
-    (written : K → Option (List ℕ)) (faults : K → ℕ) (b b2 b3 : Outbox K)
-    (from : Seen) (lines : List TraceLine) (new : Fabric)
-    → ((block : List TraceLine) → Other ≡ happened line block)
-    → Writes written faults b b2 (trace_line_text names (Begun line) ++ 10 ∷ [])
-    → Blocked line names written faults b2 b3 from lines new
-    → Evented line names written faults b b3 from lines new Other
-linked_evented line names written faults b b2 b3 from lines new other begun all = record {
-  block = all.block;
-  prints = Writes-then (trace_line_text names (Begun line) ++ 10 ∷ []) (trace_text names all.block)
-      begun all.prints;
-  is = all.is;
-  only = λ other own. block_one line (seen from lines) other all.block own all.is;
-  stands = all.stands;
-  answered = other all.block;
-}
-
-cut_on : (line : Line) (names : List (List ℕ)) {K : Type 0} (written : K → Option (List ℕ))
-    (faults : K → ℕ) (b b2 b3 : Outbox K) (from : Seen) (lines : List TraceLine)
-    → Writes written faults b b2 (trace_line_text names (Begun line) ++ 10 ∷ [])
-    → BlockedShort line names written faults b2 b3 from lines
-    → CutShort line names written faults b b3 from lines
-cut_on line names written faults b b2 b3 from lines begun all = record {
-  block = all.block;
-  front = Begun line ∷ all.front;
-  rest = all.rest;
-  prints = Writes-then (trace_line_text names (Begun line) ++ 10 ∷ []) (trace_text names all.front)
-      begun all.prints;
-  is = all.is;
-  only = λ other own. block_one line (seen from lines) other all.block own all.is;
-  whole = ap (λ (l : List TraceLine). Begun line ∷ l) all.whole;
-}
-
-pub ends_on : (line : Line) (names : List (List ℕ)) {K : Type 0} (written : K → Option (List ℕ))
-    (faults : K → ℕ) (b b2 b3 : Outbox K)
-    (from : Seen) (lines : List TraceLine) (end : EventEnd)
-    → Writes written faults b b2 (trace_line_text names (Begun line) ++ 10 ∷ [])
-    → BlockEnds line names written faults b2 b3 from lines end
-    → EventEnds line names written faults b b3 from lines end
-ends_on line names written faults b b2 b3 from lines (Undetected port event) begun all = record {
-  block = all.block;
-  prints = Writes-then (trace_line_text names (Begun line) ++ 10 ∷ []) (trace_text names all.block)
-      begun all.prints;
-  is = all.is;
-  only = λ other own. block_one line (seen from lines) other all.block own all.is;
-  found = all.found;
-}
-ends_on line names written faults b b2 b3 from lines Failed begun all =
-    (cut_on line names written faults b b2 b3 from lines begun all.0, all.1)
-ends_on line names written faults b b2 b3 from lines NoMemory begun all =
-    cut_on line names written faults b b2 b3 from lines begun all
-
 -- a port that has a link now had one when the fabric was made
 pub is_linked : (fabric : Fabric) (from : Seen) (lines : List TraceLine) (port : PortRef)
     → Stands from lines fabric → HasLink (seen from lines).network port
@@ -275,35 +257,63 @@ is_linked fabric from lines port stands has = record {
       (seen_links from lines) has;
 }
 
-pub none_taken : (line : Line) (given : Option GivenPacket)
-    → ((x : GivenPacket) → given ≡ Some x → ⊥)
-    → MatchOption given (taker line ≡ None) (λ x. line ≡ line_giving x) → taker line ≡ None
-none_taken line None other is = is
-none_taken line (Some x) other is = absurd (other x refl)
+-- what it asks of a link is asked at a port that has one, and what it has delivered is something
+pub asks_link : (net : Network) (port : PortRef) (action : Action)
+    → IsThere net (line_for port action) → HasLink net port
+asks_link net port (Pump turns) is = is
+asks_link net port (Deliver count) is = is
+asks_link net port TimeOut is = is
+asks_link net port Settle is = is
 
--- an event of no other kind is one at a link
-pub at_link_is : (line : Line) → is_event line ≡ true → taker line ≡ None
-    → ((node : ℕ) → line ≡ Move node → ⊥) → ((node : ℕ) → line ≡ Collect node → ⊥)
-    → ((n : ℕ) → line ≡ Run n → ⊥) → IsAtLink line
-at_link_is (Pump port n) event takes move collect run = tt
-at_link_is (Deliver port n) event takes move collect run = tt
-at_link_is (Alter port place ch) event takes move collect run = tt
-at_link_is (Erase port place n) event takes move collect run = tt
-at_link_is (Insert port place ch) event takes move collect run = tt
-at_link_is (Timeout port) event takes move collect run = tt
-at_link_is (Settle port) event takes move collect run = tt
-at_link_is (Move node) event takes move collect run = absurd (move node refl)
-at_link_is (Collect node) event takes move collect run = absurd (collect node refl)
-at_link_is (Run n) event takes move collect run = absurd (run n refl)
-at_link_is _ event takes move collect run = absurd cc
+pub asks_some : (port : PortRef) (action : Action) → IsInRange (line_for port action)
+    → AsksForSome action
+asks_some port (Pump turns) range = tt
+asks_some port (Deliver count) range = range.0
+asks_some port TimeOut range = tt
+asks_some port Settle range = tt
 
-pub other_happened : (line : Line) → IsAtLink line → (block : List TraceLine)
-    → Other ≡ happened line block
-other_happened (Pump port n) is block = refl
-other_happened (Deliver port n) is block = refl
-other_happened (Alter port place ch) is block = refl
-other_happened (Erase port place n) is block = refl
-other_happened (Insert port place ch) is block = refl
-other_happened (Timeout port) is block = refl
-other_happened (Settle port) is block = refl
-other_happened _ is block = absurd is
+pub edits_link : (net : Network) (port : PortRef) (edit : WireEdit)
+    → IsThere net (line_editing port edit) → HasLink net port
+edits_link net port (Edit.Alter place ch) is = is
+edits_link net port (Edit.Insert place ch) is = is
+edits_link net port (Edit.Erase place count) is = is
+
+-- they answer nothing
+pub action_answers : (port : PortRef) (action : Action) (block : List TraceLine)
+    → Other ≡ happened (line_for port action) block
+action_answers port (Pump turns) block = refl
+action_answers port (Deliver count) block = refl
+action_answers port TimeOut block = refl
+action_answers port Settle block = refl
+
+pub edit_answers : (port : PortRef) (edit : WireEdit) (block : List TraceLine)
+    → Other ≡ happened (line_editing port edit) block
+edit_answers port (Edit.Alter place ch) block = refl
+edit_answers port (Edit.Insert place ch) block = refl
+edit_answers port (Edit.Erase place count) block = refl
+
+-- no line of an edit was written but that with which it begins
+pub edit_unmade : (line : Line) (port : PortRef) (edit : WireEdit) (names : List (List ℕ))
+    {K : Type 0} (written : K → Option (List ℕ)) (faults : K → ℕ) (b b2 b3 : Outbox K) (from : Seen)
+    (lines : List TraceLine) (end : EventEnd) → line ≡ line_editing port edit
+    → Writes written faults b b2 (trace_line_text names (Begun line) ++ 10 ∷ [])
+    → (end ≡ NoMemory) × (b3 ≡ b2)
+    → Evented line (IsOwnBlock line) names written faults b b3 from lines (Err end)
+edit_unmade line port edit names written faults b b2 b3 from lines end is begun unmade =
+    let s = seen from lines in
+    let block = edits s (Some (port, edit_asked edit)) in
+    let own = subst (λ (l : Line). IsBlock s l block) (sym is) (edit_block s port edit block refl)
+    in
+    subst (λ e. Evented line (IsOwnBlock line) names written faults b b3 from lines (Err e))
+    (sym unmade.0)
+    (subst (λ o. Evented line (IsOwnBlock line) names written faults b o from lines (Err NoMemory))
+    (sym unmade.1) (record {
+      block = block;
+      is = (own, λ other also. block_one line s other block also own);
+      ends = record {
+        front = Begun line ∷ [];
+        rest = block;
+        prints = line_written written faults names b b2 (Begun line) begun;
+        whole = refl;
+      };
+    }))

@@ -1,5 +1,5 @@
 -- Rounds of an ask, one after another, until the host holds a packet.
-use Rattle.std.proofs.Common.{◌≡◌, ℕ, zero, suc, ◌+◌, ◌<◌, Bool, true, false, List, [], ◌++◌, Option, Some, None, MatchBool, refl, sym, ap, ◌∙◌, subst, arith, append-nil, append_assoc}
+use Rattle.std.proofs.Common.{◌≡◌, ℕ, zero, suc, ◌+◌, ◌<◌, Bool, true, false, List, [], ◌++◌, Option, Some, None, MatchBool, refl, sym, ap, ◌∙◌, subst, arith, append-nil, append_assoc, Ok, Err}
 use Rattle.rio_chars.proofs.WrittenLaws.{Writes-nil}
 use Rattle.rio_chars.specs.declared.outbox.Outbox.{Outbox}
 use Rattle.link_wires.specs.declared.edits.Edit.{Edit}
@@ -21,14 +21,15 @@ use Rattle.fabric_ask.proofs.Uncollected.{round_apart, unheld_apart}
 use Rattle.fabric_ports.specs.Carrying.{WithLeft}
 use Rattle.fabric_ports.specs.Events.{Did, answer_collected}
 use Rattle.fabric_ports.specs.Fetching.{left_of, RoundsLeave}
-use Rattle.fabric_ports.specs.Ran.{Kind, Ran, RanShort, RanEnds}
+use Rattle.fabric_ports.specs.Ran.{Kind, Ran}
 use Rattle.fabric_ports.specs.Standing.{Stands}
 use Rattle.fabric_ports.specs.declared.answers.EventEnd.{EventEnd}
 use Rattle.fabric_ports.specs.declared.answers.EventEnd.TheVariants.{Undetected, Failed, NoMemory}
 use Rattle.fabric_ports.specs.declared.answers.Happened.{Happened}
 use Rattle.fabric_ports.specs.declared.fabric.Fabric.{Fabric}
 use Rattle.fabric_ports.proofs.LeaveLaws.{leaves_behind, nothing_leaves, left_leaves, did_stands, still_behind}
-use Rattle.fabric_ports.proofs.RanLaws.{Both, both_as, both_nothing, nothing_both, both_assoc, lines_written, ran_both, ran_as, ends_as, ends_second}
+use Rattle.fabric_ports.proofs.RanLaws.{Both, both_as, both_nothing, nothing_both, both_assoc, lines_written, front_on, ran_both, ran_as}
+use Rattle.fabric_ports.proofs.RoundLaws.{rounds_left}
 use Rattle.fabric_ports.proofs.SettlingLaws.{good_behind}
 
 -- ---- rounds, one after another
@@ -132,14 +133,6 @@ rounds_held host m noise left s first rest still round collect = (
   ),
 )
 
-rounds_left : (k n : ℕ) → k < n → (m : ℕ) × (k + suc m ≡ n)
-rounds_left k zero less = absurd (omega (arith, less))
-rounds_left zero (suc n) less = (n, omega arith)
-rounds_left (suc k) (suc n) less =
-    let rest = rounds_left k n (omega (arith, less)) in
-    let same = rest.1 in
-    (rest.0, omega (arith, same))
-
 -- ---- what follows a round
 
 -- lines behind a round: none if something was found
@@ -157,54 +150,54 @@ module _ {K : Type 0} (written : K → Option (List ℕ)) (faults : K → ℕ) (
   -- before the first round
   pub unheld_none : (out : Outbox K) (from : Seen) (lines : List TraceLine) (fabric : Fabric)
       (noise : List Edit) → Stands from lines fabric
-      → Ran (Unheld host 0 noise noise) names written faults out out from lines fabric
+      → Ran (Unheld host 0 noise noise) names written faults out out from lines (Ok fabric)
   unheld_none out from lines fabric noise stands = record {
     block = [];
-    prints = Writes-nil written faults out;
     is = (refl, refl);
-    stands = subst (λ (l : List TraceLine). Stands from l fabric) (sym (append-nil lines)) stands;
+    ends = (
+      Writes-nil written faults out,
+      subst (λ (l : List TraceLine). Stands from l fabric) (sym (append-nil lines)) stands,
+    );
   }
 
   -- one round more after which the host holds none
   pub unheld_more : (a b c : Outbox K) (from : Seen) (lines : List TraceLine)
       (old mid new : Fabric) (k : ℕ) (noise left last : List Edit) → Stands from lines old
-      → (first : Ran (Unheld host k noise left) names written faults a b from lines mid)
+      → (first : Ran (Unheld host k noise left) names written faults a b from lines (Ok mid))
       → (round : Ran (AskRound host left last) names written faults b c from
-      (lines ++ first.block) new)
+      (lines ++ first.block) (Ok new))
       → holds_some host (seen from ((lines ++ first.block) ++ round.block)) ≡ false
-      → Ran (Unheld host (k + 1) noise last) names written faults a c from lines new
+      → Ran (Unheld host (k + 1) noise last) names written faults a c from lines (Ok new)
   unheld_more a b c from lines old mid new k noise left last stands first round none =
       let t = seen from (lines ++ first.block) in
       let held = sym (ap (holds_some host) (seen-append from (lines ++ first.block) round.block))
       ∙ none in
       let one : Ran (Unheld host 1 left last) names written faults b c from (lines ++ first.block)
-      new = record {
+      (Ok new) = record {
         block = round.block;
-        prints = round.prints;
         is = unheld_one host left last t round.block
-            (still_behind (lines ++ first.block) round.block round.stands) (round.is, held);
-        stands = round.stands;
+            (still_behind (lines ++ first.block) round.block round.ends.1) (round.is, held);
+        ends = round.ends;
       } in
       ran_as written faults names (Both (Unheld host k noise left) (Unheld host 1 left last))
-      (Unheld host (k + 1) noise last) a c from lines new
+      (Unheld host (k + 1) noise last) a c from lines (Ok new)
       (λ block both. unheld_behind host k 1 noise left last (seen from lines) block stands.sent
       both)
       (ran_both written faults names (Unheld host k noise left) (Unheld host 1 left last) a b c from
-      lines mid new first one)
+      lines mid (Ok new) first one)
 
   -- no round is left
   pub fetched_none : (a b : Outbox K) (from : Seen) (lines : List TraceLine) (old new : Fabric)
       (k n : ℕ) (noise left : List Edit) → k ≡ n → Stands from lines old
       → IsEndpoint (seen from lines).network host
-      → Ran (Unheld host k noise left) names written faults a b from lines new
-      → Ran (RoundsLeave host n noise None) names written faults a b from lines new
+      → Ran (Unheld host k noise left) names written faults a b from lines (Ok new)
+      → Ran (RoundsLeave host n noise None) names written faults a b from lines (Ok new)
   fetched_none a b from lines old new k n noise left same stands is ran =
       let s = seen from lines in
       let many : k + 0 ≡ n = omega (arith, same) in
       let good = good_behind stands.ready stands.made in
       record {
         block = ran.block;
-        prints = ran.prints;
         is = (
           subst (λ j. AskRounds host j noise s ran.block) many
               (rounds_behind host k 0 noise left s ran.block stands.sent
@@ -212,21 +205,21 @@ module _ {K : Type 0} (written : K → Option (List ℕ)) (faults : K → ℕ) (
           nothing_leaves host ran.block
               (unheld_apart host k noise left s ran.block good stands.sent is ran.is).nothing,
         );
-        stands = ran.stands;
+        ends = ran.ends;
       }
 
   -- the host held a packet after a round, and has collected it
   pub fetched : (a b c d : Outbox K) (from : Seen) (lines : List TraceLine)
       (old mid next new : Fabric) (k n : ℕ) (noise left last : List Edit) (happened : Happened)
       → k < n → Stands from lines old → IsEndpoint (seen from lines).network host
-      → (first : Ran (Unheld host k noise left) names written faults a b from lines mid)
+      → (first : Ran (Unheld host k noise left) names written faults a b from lines (Ok mid))
       → (round : Ran (AskRound host left last) names written faults b c from
-      (lines ++ first.block) next)
+      (lines ++ first.block) (Ok next))
       → holds_some host (seen from ((lines ++ first.block) ++ round.block)) ≡ true
       → Did (λ block. IsCollect (seen from ((lines ++ first.block) ++ round.block)).network host
       block × (happened ≡ answer_collected block)) names written faults c d
       (seen from ((lines ++ first.block) ++ round.block)) new
-      → Ran (RoundsLeave host n noise (left_of happened)) names written faults a d from lines new
+      → Ran (RoundsLeave host n noise (left_of happened)) names written faults a d from lines (Ok new)
   fetched a b c d from lines old mid next new k n noise left last happened less stands is first
       round some did =
       let s = seen from lines in
@@ -237,13 +230,13 @@ module _ {K : Type 0} (written : K → Option (List ℕ)) (faults : K → ℕ) (
       let u_is : seen from there ≡ seen t round.block = seen-append from here round.block in
       let count = rounds_left k n less in
       let good = good_behind stands.ready stands.made in
-      let t_good = good_behind first.stands.ready first.stands.made in
-      let u_good = good_behind round.stands.ready round.stands.made in
+      let t_good = good_behind first.ends.1.ready first.ends.1.made in
+      let u_good = good_behind round.ends.1.ready round.ends.1.made in
       let endpoint = subst (λ (x : Seen). IsEndpoint x.network host) (sym t_is)
       (stays_endpoint s host first.block is) in
       let rest = round.block ++ did.block in
       let rounds = rounds_held host count.0 left last t round.block did.block
-      (still_behind here round.block round.stands)
+      (still_behind here round.block round.ends.1)
       (round.is, sym (ap (holds_some host) u_is) ∙ some)
       (subst (λ (x : Seen). IsCollect x.network host did.block) u_is did.is.0) in
       let all : AskRounds host (k + suc count.0) noise s (first.block ++ rest) =
@@ -254,16 +247,13 @@ module _ {K : Type 0} (written : K → Option (List ℕ)) (faults : K → ℕ) (
         first.is,
         subst (λ (f : Option Found). Follows f (AskRounds host (suc count.0) left
             (seen s first.block)) NamesNothing rest)
-            (sym (still_behind lines first.block first.stands))
+            (sym (still_behind lines first.block first.ends.1))
             (subst (λ (x : Seen). AskRounds host (suc count.0) left x rest) t_is rounds),
       ) in
-      let stays = did_stands round.stands did
-      (collect_lines_made (seen from there) host did.block u_good round.stands.sent did.is.0) in
+      let stays = did_stands round.ends.1 did
+      (collect_lines_made (seen from there) host did.block u_good round.ends.1.sent did.is.0) in
       record {
         block = first.block ++ rest;
-        prints = lines_written written faults names a b d first.block rest first.prints
-            (lines_written written faults names b c d round.block did.block round.prints
-            did.prints);
         is = (
           subst (λ j. AskRounds host j noise s (first.block ++ rest)) count.1 all,
           leaves_behind host (left_of happened) first.block rest
@@ -271,83 +261,89 @@ module _ {K : Type 0} (written : K → Option (List ℕ)) (faults : K → ℕ) (
               stands.sent is first.is).nothing)
               (leaves_behind host (left_of happened) round.block did.block
               (nothing_leaves host round.block (round_apart host left last t round.block t_good
-              first.stands.sent endpoint round.is).nothing)
+              first.ends.1.sent endpoint round.is).nothing)
               (left_leaves (seen from there).network host did.block happened did.is.0 did.is.1)),
         );
-        stands = subst (λ (l : List TraceLine). Stands from l new)
-            (append_assoc here round.block did.block
-            ∙ append_assoc lines first.block rest) stays;
+        ends = (
+          lines_written written faults names a b d first.block rest first.ends.0
+              (lines_written written faults names b c d round.block did.block round.ends.0
+              did.prints),
+          subst (λ (l : List TraceLine). Stands from l new)
+              (append_assoc here round.block did.block
+              ∙ append_assoc lines first.block rest) stays,
+        );
       }
 
-  rounds_short : (b c : Outbox K) (from : Seen) (lines : List TraceLine) (mid : Fabric) (m : ℕ)
+  rounds_on : (from : Seen) (lines block : List TraceLine) (mid : Fabric) (m : ℕ)
       (noise : List Edit) → Stands from lines mid → IsEndpoint (seen from lines).network host
-      → RanShort (WithLeft (AskRound host noise)) names written faults b c from lines
-      → RanShort (AskRounds host (suc m) noise) names written faults b c from lines
-  rounds_short b c from lines mid m noise stands is ends =
+      → WithLeft (AskRound host noise) (seen from lines) block
+      → (more : List TraceLine) × AskRounds host (suc m) noise (seen from lines) (block ++ more)
+  rounds_on from lines block mid m noise stands is round =
       let s = seen from lines in
-      let t = seen s ends.block in
+      let t = seen s block in
       let ready = ready_on stands.ready stands.made in
-      let made = (round_apart host noise ends.is.0 s ends.block (good_of ready) stands.sent is
-      ends.is.1).made in
-      let more = after_round host m ends.is.0 t t.unfaithful (ready_on ready made)
-      (stays_endpoint s host ends.block is) refl in
-      record {
-        block = ends.block ++ more.0;
-        front = ends.front;
-        rest = ends.rest ++ more.0;
-        prints = ends.prints;
-        is = (ends.is.0, (ends.block, more.0, refl, ends.is.1, more.1));
-        whole = ap (λ (l : List TraceLine). l ++ more.0) ends.whole
-            ∙ append_assoc ends.front ends.rest more.0;
-      }
+      let made = (round_apart host noise round.0 s block (good_of ready) stands.sent is
+      round.1).made in
+      let more = after_round host m round.0 t t.unfaithful (ready_on ready made)
+      (stays_endpoint s host block is) refl in
+      (more.0, (round.0, (block, more.0, refl, round.1, more.1)))
 
   round_ends : (b c : Outbox K) (from : Seen) (lines : List TraceLine) (mid : Fabric) (m : ℕ)
       (noise : List Edit) (end : EventEnd) → Stands from lines mid
       → IsEndpoint (seen from lines).network host
-      → RanEnds (WithLeft (AskRound host noise)) names written faults b c from lines end
-      → RanEnds (AskRounds host (suc m) noise) names written faults b c from lines end
-  round_ends b c from lines mid m noise (Undetected port event) stands is ends =
+      → Ran (WithLeft (AskRound host noise)) names written faults b c from lines (Err end)
+      → Ran (AskRounds host (suc m) noise) names written faults b c from lines (Err end)
+  round_ends b c from lines mid m noise (Undetected port event) stands is ran =
       let s = seen from lines in
-      let found = sym (ap (λ (t : Seen). t.unfaithful) (seen-append from lines ends.block))
-      ∙ ends.found in
+      let found = sym (ap (λ (t : Seen). t.unfaithful) (seen-append from lines ran.block))
+      ∙ ran.ends.1 in
       record {
-        block = ends.block;
-        prints = ends.prints;
+        block = ran.block;
         is = (
-          ends.is.0,
+          ran.is.0,
           (
-            ends.block,
+            ran.block,
             [],
-            sym (append-nil ends.block),
-            ends.is.1,
+            sym (append-nil ran.block),
+            ran.is.1,
             subst (λ (f : Option Found). Follows f
-                (Continues host m ends.is.0 (seen s ends.block)) NamesNothing []) (sym found) refl,
+                (Continues host m ran.is.0 (seen s ran.block)) NamesNothing []) (sym found) refl,
           ),
         );
-        found = ends.found;
+        ends = ran.ends;
       }
-  round_ends b c from lines mid m noise Failed stands is ends =
-      (rounds_short b c from lines mid m noise stands is ends.0, ends.1)
-  round_ends b c from lines mid m noise NoMemory stands is ends =
-      rounds_short b c from lines mid m noise stands is ends
+  round_ends b c from lines mid m noise Failed stands is ran =
+      let rounds = rounds_on from lines ran.block mid m noise stands is ran.is in
+      record {
+        block = ran.block ++ rounds.0;
+        is = rounds.1;
+        ends = (front_on written faults names b c ran.block rounds.0 ran.ends.0, ran.ends.1);
+      }
+  round_ends b c from lines mid m noise NoMemory stands is ran =
+      let rounds = rounds_on from lines ran.block mid m noise stands is ran.is in
+      record {
+        block = ran.block ++ rounds.0;
+        is = rounds.1;
+        ends = front_on written faults names b c ran.block rounds.0 ran.ends;
+      }
 
   -- a round did not come to its end
   pub fetch_ends : (a b c : Outbox K) (from : Seen) (lines : List TraceLine) (old mid : Fabric)
       (k n : ℕ) (noise left : List Edit) (end : EventEnd) → k < n → Stands from lines old
       → IsEndpoint (seen from lines).network host
-      → (first : Ran (Unheld host k noise left) names written faults a b from lines mid)
-      → RanEnds (WithLeft (AskRound host left)) names written faults b c from
-      (lines ++ first.block) end
-      → RanEnds (AskRounds host n noise) names written faults a c from lines end
+      → (first : Ran (Unheld host k noise left) names written faults a b from lines (Ok mid))
+      → Ran (WithLeft (AskRound host left)) names written faults b c from
+      (lines ++ first.block) (Err end)
+      → Ran (AskRounds host n noise) names written faults a c from lines (Err end)
   fetch_ends a b c from lines old mid k n noise left end less stands is first ends =
       let count = rounds_left k n less in
       let endpoint = subst (λ (x : Seen). IsEndpoint x.network host)
       (sym (seen-append from lines first.block))
       (stays_endpoint (seen from lines) host first.block is) in
-      ends_as written faults names (Both (Unheld host k noise left)
-      (AskRounds host (suc count.0) left)) (AskRounds host n noise) a c from lines end
+      ran_as written faults names (Both (Unheld host k noise left)
+      (AskRounds host (suc count.0) left)) (AskRounds host n noise) a c from lines (Err end)
       (λ block both. subst (λ j. AskRounds host j noise (seen from lines) block) count.1
       (rounds_behind host k (suc count.0) noise left (seen from lines) block stands.sent both))
-      (ends_second written faults names (Unheld host k noise left)
-      (AskRounds host (suc count.0) left) a b c from lines mid end first
-      (round_ends b c from (lines ++ first.block) mid count.0 left end first.stands endpoint ends))
+      (ran_both written faults names (Unheld host k noise left)
+      (AskRounds host (suc count.0) left) a b c from lines mid (Err end) first
+      (round_ends b c from (lines ++ first.block) mid count.0 left end first.ends.1 endpoint ends))

@@ -1,12 +1,12 @@
 -- What an ask answers when its lines are written.
-use Rattle.std.proofs.Common.{◌≡◌, ℕ, false, List, [], Option, Some, None, Result, Ok, Err, IfOk, IfErr, IsErrAnd, IsErrOf, refl, sym, ◌∙◌, subst, append-nil}
+use Rattle.std.proofs.Common.{◌≡◌, ◌<◌, ℕ, false, List, [], Option, Some, None, Result, Ok, Err, IfOk, IfErr, IsErrAnd, IsErrOf, refl, sym, ◌∙◌, subst, append-nil}
 use Rattle.std.proofs.KnownBytes.{Appends-nil}
 use Rattle.std.proofs.lemmas.Bool.{true≢false}
 use Rattle.rio_chars.specs.Written.{Writes}
 use Rattle.rio_chars.specs.declared.outbox.Outbox.{Outbox}
 use Rattle.rio_chars.proofs.WrittenLaws.{Writes-then, Writes-whole, Writes-front}
 use Rattle.rio_packets.specs.LinkForm.{LinkForm}
-use Rattle.maint_packets.specs.Requests.{request_body}
+use Rattle.maint_packets.specs.Requests.{IsGoodOp, request_body}
 use Rattle.maint_packets.specs.declared.request.Request.{Request}
 use Rattle.maint_packets.specs.declared.response.Response.{Response}
 use Rattle.link_wires.specs.declared.edits.Edit.{Edit}
@@ -14,27 +14,38 @@ use Rattle.fabric_trace.specs.Fold.{seen}
 use Rattle.fabric_trace.specs.Known.{Seen}
 use Rattle.fabric_trace.specs.Lines.{TraceLine}
 use Rattle.fabric_trace.proofs.Traces.Existing.{ready_on}
+use Rattle.fabric_ask.specs.Asks.{IsAsk}
 use Rattle.fabric_ask.proofs.Beginning.{ask_exists}
 use Rattle.fabric_ports.specs.Asking.{CanAsk, Replied, AskEnds, Unwritten}
-use Rattle.fabric_ports.specs.Fetching.{response_or_end, response_in, ask_answer}
+use Rattle.fabric_ports.specs.Fetching.{AskLeaves, response_or_end, response_in, ask_answer}
+use Rattle.fabric_ports.specs.Ran.{Ran}
 use Rattle.fabric_ports.specs.declared.answers.EventEnd.{EventEnd}
 use Rattle.fabric_ports.specs.declared.answers.EventEnd.TheVariants as Ends
 use Rattle.fabric_ports.specs.declared.asking.AskEnd.{AskEnd}
 use Rattle.fabric_ports.specs.declared.fabric.Fabric.{Fabric}
-use Rattle.fabric_ports.proofs.AnswerLaws.{IsSendable, IsTold, told_text, IsAnswered, told_answers, told_fails}
+use Rattle.fabric_ports.proofs.AnswerLaws.{IsSendable, IsTold, is_told, told_text, IsAnswered, told_answers, told_fails}
 
 -- ---- through an outbox that is flushed
 
 module _ (names : List (List ℕ)) {K : Type 0} (written : K → Option (List ℕ)) (faults : K → ℕ)
     (a b c : Outbox K) (host : ℕ) (request : Request) (noise : List Edit) (old new : Fabric)
     (told : Result (Option (List ℕ)) EventEnd)
-    (tells : (from : Seen) (lines : List TraceLine) → CanAsk host from lines old
-    → IsTold names written faults a b host request noise from lines new told)
-    (sendable : IsSendable request) (fine : a.failed ≡ false) (empty : a.buffer.now ≡ [])
-    (flushed : Writes written faults b c []) where
+    (done : IfOk told (λ left. (from : Seen) (lines : List TraceLine) → CanAsk host from lines old
+    → Ran (AskLeaves host request noise left) names written faults a b from lines (Ok new)))
+    (ended : IfErr told (λ end. (from : Seen) (lines : List TraceLine) → CanAsk host from lines old
+    → Ran (IsAsk host request noise) names written faults a b from lines (Err end)))
+    (op : IsGoodOp request.op) (prio : request.prio < 4) (fine : a.failed ≡ false)
+    (empty : a.buffer.now ≡ []) (flushed : Writes written faults b c []) where
+  tells : (from : Seen) (lines : List TraceLine) → CanAsk host from lines old
+      → IsTold names written faults a b host request noise from lines new told
+  tells = is_told names written faults a b host request noise old new told done ended
+
+  sendable : IsSendable request
+  sendable = record { op = op; prio = prio }
+
   flushed_text : (text : List ℕ) → Writes written faults a b text → Writes written faults a c text
-  flushed_text text tells =
-      subst (Writes written faults a c) (append-nil text) (Writes-then text [] tells flushed)
+  flushed_text text own =
+      subst (Writes written faults a c) (append-nil text) (Writes-then text [] own flushed)
 
   -- a text was told and flushed
   pub some_text : (from : Seen) (lines : List TraceLine) → CanAsk host from lines old
@@ -73,7 +84,7 @@ module _ (names : List (List ℕ)) {K : Type 0} (written : K → Option (List �
           → IsErrOf (ask_answer t) AskEnd.WriteFault → ⊥
       by_told (Ok left) ran same = by_response (response_in left) same
       by_told (Err (Ends.Undetected port event)) ran same = absurd cc
-      by_told (Err Ends.Failed) ran same = true≢false (sym (flushed.stays ran.1).0 ∙ went)
+      by_told (Err Ends.Failed) ran same = true≢false (sym (flushed.stays ran.ends.1).0 ∙ went)
       by_told (Err Ends.NoMemory) ran same = absurd cc
 
   pub front_told : (from : Seen) (lines : List TraceLine) → CanAsk host from lines old

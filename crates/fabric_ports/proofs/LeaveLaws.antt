@@ -13,17 +13,15 @@ use Rattle.fabric_trace.specs.Known.{Seen}
 use Rattle.fabric_trace.specs.Lines.{TraceLine, Begun, Stepped, Signed, Lacked, Ended, Undetected as Unsent}
 use Rattle.fabric_trace.specs.Parts.{Made}
 use Rattle.fabric_trace.specs.Served.{face_in, collect_lines, IsCollect}
-use Rattle.fabric_trace.proofs.Network.Boards.{seen_board}
 use Rattle.fabric_trace.proofs.Parts.Folding.{seen-append}
-use Rattle.fabric_trace.proofs.Parts.Making.{made-append}
 use Rattle.fabric_ask.specs.Own.{IsElsewhere, CollectsNothing}
 use Rattle.fabric_ports.specs.Events.{Did, answer_collected}
 use Rattle.fabric_ports.specs.Fetching.{left_of, NoLeave, NoneLeaves, Leaves}
 use Rattle.fabric_ports.specs.Places.{IsEndpointAt}
-use Rattle.fabric_ports.specs.Showing.{ShowsFabric}
 use Rattle.fabric_ports.specs.Standing.{Stands}
 use Rattle.fabric_ports.specs.declared.answers.Happened.{Happened}
 use Rattle.fabric_ports.specs.declared.fabric.Fabric.{Fabric}
+use Rattle.fabric_ports.proofs.StandLaws.{stands_with}
 
 -- ---- what leaves
 
@@ -89,13 +87,7 @@ pub did_stands : {Is : List TraceLine → Type 0} {names : List (List ℕ)} {K :
     → (did : Did Is names written faults a b (seen from lines) new)
     → Made (seen from lines) did.block → Stands from (lines ++ did.block) new
 did_stands {Is} {names} {K} {written} {faults} {a} {b} {from} {lines} {old} {new} stands did made =
-    let joined = seen-append from lines did.block in
-    record {
-      ready = stands.ready;
-      made = made-append stands.made made;
-      sent = ap (λ (t : Seen). t.unfaithful) joined ∙ did.sent;
-      shows = subst (ShowsFabric new) (sym joined) did.shows;
-    }
+    stands_with did.block stands made did.sent did.shows
 
 -- nothing was found in lines for which a fabric stands
 pub still_behind : {from : Seen} {new : Fabric} (lines block : List TraceLine)
@@ -111,13 +103,6 @@ pub end_known : {from : Seen} {lines : List TraceLine} {fabric : Fabric} (n : �
 end_known {from} {lines} {fabric} n stands at =
     ap (λ (l : List Registers). option_map is_switch (slice_get l n)) stands.shows.registers
     ∙ ap (option_map is_switch) at.stands ∙ ap Some at.kind
-
-pub end_stays : {from : Seen} {lines more : List TraceLine} {old new : Fabric} (n : ℕ)
-    → Stands from lines old → Stands from more new → IsEndpointAt old.devices.items n
-    → IsEndpointAt new.devices.items n
-end_stays {from} {lines} {more} {old} {new} n before after at =
-    after.shows.endpoints n ((seen_board more from).kinds n ∙ sym ((seen_board lines from).kinds n)
-    ∙ end_known n before at)
 
 -- it has a name, as each device has
 pub end_named : (fabric : Fabric) (names : List (List ℕ)) (n : ℕ)

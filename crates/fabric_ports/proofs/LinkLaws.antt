@@ -1,9 +1,8 @@
 -- What an event at a link writes, and for which lines the fabric stands then.
-use Rattle.std.proofs.Common.{◌≡◌, ℕ, List, [], ◌∷◌, ◌++◌, Option, Some, None, slice_get, sym, ap, ◌∙◌, subst, append_assoc}
-use Rattle.std.proofs.lemmas.Grind.{flat_map-append}
+use Rattle.std.proofs.Common.{◌≡◌, ℕ, List, [], ◌∷◌, ◌++◌, Option, Some, None, Ok, Err, slice_get, sym, ap, ◌∙◌, subst}
 use Rattle.rio_chars.specs.Written.{Writes}
 use Rattle.rio_chars.specs.declared.outbox.Outbox.{Outbox}
-use Rattle.rio_chars.proofs.WrittenLaws.{Writes-nil, Writes-then}
+use Rattle.rio_chars.proofs.WrittenLaws.{Writes-nil}
 use Rattle.link_model.specs.declared.event.Event.{Event}
 use Rattle.link_port.specs.Ports.{PortState}
 use Rattle.link_watch.specs.Stops.{CutAtFirst}
@@ -18,32 +17,36 @@ use Rattle.fabric_model.specs.Network.{link_in}
 use Rattle.fabric_model.proofs.Peers.{ArePeers, link_peers}
 use Rattle.fabric_trace.specs.Fold.{seen}
 use Rattle.fabric_trace.specs.Known.{Seen, port_seen, link_at}
-use Rattle.fabric_trace.specs.Lines.{TraceLine, Begun}
+use Rattle.fabric_trace.specs.Lines.{TraceLine}
+use Rattle.fabric_trace.specs.Parts.{Made}
 use Rattle.fabric_trace.specs.Blocks.{port_at_side, lines_of, IsBlock}
 use Rattle.fabric_trace.specs.Text.{trace_text}
 use Rattle.fabric_trace.proofs.Parts.Folding.{seen-append, lines-append}
 use Rattle.fabric_trace.proofs.Traces.Existing.{good_of}
 use Rattle.fabric_trace.proofs.Parts.Keeping.{IsGood, made_keeps}
 use Rattle.fabric_trace.proofs.Parts.Making.{Reaches}
-use Rattle.fabric_trace.proofs.Rounds.Running.{acts_reach}
+use Rattle.fabric_trace.proofs.Rounds.Running.{acts_reach, block_made}
 use Rattle.trace_lines.specs.Watching.{WritesNotes}
 use Rattle.trace_lines.specs.declared.watching.LinkLines.{LinkLines}
-use Rattle.fabric_ports.specs.Acting.{line_for, part_of, answer_of, lack_lines}
-use Rattle.fabric_ports.specs.Blocked.{Blocked, BlockedAt, BlockedShort}
+use Rattle.fabric_ports.specs.Operations.{line_for}
+use Rattle.fabric_ports.specs.Acting.{part_of, answer_of, lack_lines}
 use Rattle.fabric_ports.specs.Ends.{IsPlaceOf}
 use Rattle.fabric_ports.specs.Places.{place_of}
+use Rattle.fabric_ports.specs.Ran.{Ran, Blocks}
 use Rattle.fabric_ports.specs.Showing.{ShowsFabric}
 use Rattle.fabric_ports.specs.Standing.{Stands}
 use Rattle.fabric_ports.specs.declared.actions.Acted.{Acted}
 use Rattle.fabric_ports.specs.declared.actions.Acted.TheVariants.{Done}
-use Rattle.fabric_ports.specs.declared.actions.Action.{Action}
+use Rattle.fabric_ports.specs.declared.operations.Action.{Action}
+use Rattle.fabric_ports.specs.declared.answers.EventEnd.TheVariants.{Undetected, NoMemory}
 use Rattle.fabric_ports.specs.declared.ends.LinkPlace.{LinkPlace}
 use Rattle.fabric_ports.specs.declared.fabric.Cable.{Cable}
 use Rattle.fabric_ports.specs.declared.fabric.Fabric.{Fabric}
 use Rattle.fabric_ports.proofs.BlockLaws.{block_of, lack_seen, begun_same, block_is, found_done}
 use Rattle.fabric_ports.proofs.Cables.{IsChanged, changed_shows, notes_registers}
 use Rattle.fabric_ports.proofs.EndLaws.{cable_shown}
-use Rattle.fabric_ports.proofs.StandLaws.{stands_on}
+use Rattle.fabric_ports.proofs.RanLaws.{lines_written, front_on}
+use Rattle.fabric_ports.proofs.StandLaws.{stands_with}
 
 -- ---- the link, before
 
@@ -133,13 +136,13 @@ known_reaches {from} {lines} {d = d} {x} {y} all k =
     (acts_reach all s d.a d.b k.good k.stands.sent k.peers)
 
 -- the fabric stands for the lines with the block
-pub known_stands : {from : Seen} {lines : List TraceLine} {fabric new : Fabric} {port : PortRef}
+known_stands : {from : Seen} {lines : List TraceLine} {fabric new : Fabric} {port : PortRef}
     {place : LinkPlace} {d : Cable} {x y : PortState} (action : Action) (all : List Act)
     (wires : Wires) (x2 y2 : PortState) → IsKnown from lines fabric port place d x y
     → part_of place.side action (At (link d.link x y)) all
     → goes (At (link d.link x y)) all ≡ At (link wires x2 y2)
     → IsChanged fabric new place.cable d wires x2 y2
-    → Stands from (lines ++ Begun (line_for port action) ∷ block_of d.a d.b (link d.link x y) all
+    → Stands from (lines ++ block_of d.a d.b (link d.link x y) all
     (answer_of place.side action (link d.link x y))) new
 known_stands {from} {lines} {fabric} {new} {port} {place} {d} {x} {y} action all wires x2 y2 k part
     reached changed =
@@ -148,53 +151,50 @@ known_stands {from} {lines} {fabric} {new} {port} {place} {d} {x} {y} action all
     let answer = answer_of place.side action l in
     let noted = lines_of d.a d.b (acts_notes (At l) all) in
     let block = block_of d.a d.b l all answer in
-    let same : seen s (Begun (line_for port action) ∷ block) ≡ seen s noted =
-    begun_same s port action block ∙ lack_seen s noted answer in
+    let same : seen s block ≡ seen s noted = lack_seen s noted answer in
     let reaches = known_reaches all k in
     let t = seen s noted in
     let there = reaches.there (link wires x2 y2) reached in
     let shows = changed_shows fabric new s t place.cable d wires x2 y2 k.stands.shows k.at changed
     k.good.proper reaches.others (notes_registers s d.a d.b (acts_notes (At l) all)) there.1 in
-    stands_on from lines fabric new (line_for port action) block k.stands
-    (known_block action all k part)
+    let made = subst (λ (z : Seen). Made z block) (begun_same s port action)
+    (block_made (line_for port action) s block k.good k.stands.sent
+    (known_block action all k part)) in
+    stands_with block k.stands made
     (ap (λ (z : Seen). z.unfaithful) same ∙ there.0)
     (subst (ShowsFabric new) (sym same) shows)
 
 -- the event that was not sent is known
 known_found : {from : Seen} {lines : List TraceLine} {fabric : Fabric} {port : PortRef}
-    {place : LinkPlace} {d : Cable} {x y : PortState} (action : Action) (all : List Act)
-    (side : Side) (e : Event) (answer : Acted) → IsKnown from lines fabric port place d x y
+    {place : LinkPlace} {d : Cable} {x y : PortState} (all : List Act) (side : Side) (e : Event)
+    (answer : Acted) → IsKnown from lines fabric port place d x y
     → goes (At (link d.link x y)) all ≡ FoundAt side e
-    → (seen from
-    (lines ++ Begun (line_for port action) ∷ block_of d.a d.b (link d.link x y) all
-    answer)).unfaithful ≡ Some (record { port = port_at_side d.a d.b side; event = e })
-known_found {from} {lines} {port = port} {d = d} {x} {y} action all side e answer k reached =
+    → (seen from (lines ++ block_of d.a d.b (link d.link x y) all answer)).unfaithful
+    ≡ Some (record { port = port_at_side d.a d.b side; event = e })
+known_found {from} {lines} {d = d} {x} {y} all side e answer k reached =
     let s = seen from lines in
     let l = link d.link x y in
     let noted = lines_of d.a d.b (acts_notes (At l) all) in
-    let block = block_of d.a d.b l all answer in
     ap (λ (z : Seen). z.unfaithful)
-    (seen-append from lines (Begun (line_for port action) ∷ block)
-    ∙ begun_same s port action block ∙ lack_seen s noted answer)
+    (seen-append from lines (block_of d.a d.b l all answer) ∙ lack_seen s noted answer)
     ∙ (known_reaches all k).found side e reached
 
 -- ---- what is written
 
-text_on : (names : List (List ℕ)) (xs ys : List TraceLine)
-    → trace_text names (xs ++ ys) ≡ trace_text names xs ++ trace_text names ys
-text_on names xs ys = flat_map-append _ xs ys
-
--- the lines of notes, and behind them what is not there
-pub block_written : {K : Type 0} {written : K → Option (List ℕ)} {faults : K → ℕ}
-    (names : List (List ℕ)) (a b : PortRef) (l : LinkState) (all : List Act) (answer : Acted)
-    (old mid new : Outbox K)
-    → Writes written faults old mid (trace_text names (lines_of a b (acts_notes (At l) all)))
-    → Writes written faults mid new (trace_text names (lack_lines answer))
-    → Writes written faults old new (trace_text names (block_of a b l all answer))
-block_written {written = written} {faults} names a b l all answer old mid new first second =
-    subst (Writes written faults old new)
-    (sym (text_on names (lines_of a b (acts_notes (At l) all)) (lack_lines answer)))
-    (Writes-then _ _ first second)
+-- the lines of notes, with the names and the ends of the link that the watch has
+told_as : {K : Type 0} {written : K → Option (List ℕ)} {faults : K → ℕ} (names : List (List ℕ))
+    (a b : PortRef) (notes : List Note) (watch : LinkLines K) (old new : Outbox K)
+    → watch.names.now ≡ names → watch.a ≡ a → watch.b ≡ b
+    → Writes written faults old new
+    (trace_text watch.names.now (lines_of watch.a watch.b notes))
+    → Writes written faults old new (trace_text names (lines_of a b notes))
+told_as {K} {written} {faults} names a b notes watch old new named is_a is_b told =
+    subst (λ (n : List (List ℕ)). Writes written faults old new (trace_text n (lines_of a b notes)))
+    named
+    (subst (λ (p : PortRef). Writes written faults old new
+    (trace_text watch.names.now (lines_of p b notes))) is_a
+    (subst (λ (p : PortRef). Writes written faults old new
+    (trace_text watch.names.now (lines_of watch.a p notes))) is_b told))
 
 -- the whole block was written
 pub link_blocked : {K : Type 0} {written : K → Option (List ℕ)} {faults : K → ℕ} {from : Seen}
@@ -209,27 +209,24 @@ pub link_blocked : {K : Type 0} {written : K → Option (List ℕ)} {faults : K 
     → before.a ≡ d.a → before.b ≡ d.b
     → Writes written faults after.outbox.now outbox (trace_text names (lack_lines answer))
     → IsChanged fabric new place.cable d wires x2 y2
-    → Blocked (line_for port action) names written faults before.outbox.now outbox from lines new
+    → Ran (Blocks (line_for port action)) names written faults before.outbox.now outbox from lines
+    (Ok new)
 link_blocked {K} {written} {faults} {from} {lines} {fabric} {new} {port} {place} {d} {x} {y} names
     action wires x2 y2 before after outbox answer k comes answered named is_a is_b lacks changed =
     let l = link d.link x y in
     let notes = acts_notes (At l) comes.acts in
-    let told : Writes written faults before.outbox.now after.outbox.now
-    (trace_text names (lines_of d.a d.b notes)) =
-    subst (λ (n : List (List ℕ)). Writes written faults before.outbox.now after.outbox.now
-    (trace_text n (lines_of d.a d.b notes))) named
-    (subst (λ (p : PortRef). Writes written faults before.outbox.now after.outbox.now
-    (trace_text before.names.now (lines_of p d.b notes))) is_a
-    (subst (λ (p : PortRef). Writes written faults before.outbox.now after.outbox.now
-    (trace_text before.names.now (lines_of before.a p notes))) is_b comes.grown.lines)) in
+    let told = told_as names d.a d.b notes before before.outbox.now after.outbox.now named is_a is_b
+    comes.grown.lines in
     record {
       block = block_of d.a d.b l comes.acts (answer_of place.side action l);
-      prints = block_written names d.a d.b l comes.acts (answer_of place.side action l)
-          before.outbox.now after.outbox.now outbox told
-          (subst (λ (z : Acted). Writes written faults after.outbox.now outbox
-          (trace_text names (lack_lines z))) answered lacks);
       is = known_block action comes.acts k comes.part;
-      stands = known_stands action comes.acts wires x2 y2 k comes.part comes.reached changed;
+      ends = (
+        lines_written written faults names before.outbox.now after.outbox.now outbox
+            (lines_of d.a d.b notes) (lack_lines (answer_of place.side action l)) told
+            (subst (λ (z : Acted). Writes written faults after.outbox.now outbox
+            (trace_text names (lack_lines z))) answered lacks),
+        known_stands action comes.acts wires x2 y2 k comes.part comes.reached changed,
+      );
     }
 
 -- it was written up to an event that was not sent
@@ -241,28 +238,24 @@ pub link_exposed : {K : Type 0} {written : K → Option (List ℕ)} {faults : K 
     → Comes (WritesNotes written faults) (part_of place.side action) (link d.link x y) before
     (FoundAt side e) after
     → before.names.now ≡ names → before.a ≡ d.a → before.b ≡ d.b
-    → BlockedAt (line_for port action) names written faults before.outbox.now after.outbox.now from
-    lines (port_at_side d.a d.b side) e
+    → Ran (Blocks (line_for port action)) names written faults before.outbox.now after.outbox.now
+    from lines (Err (Undetected (port_at_side d.a d.b side) e))
 link_exposed {K} {written} {faults} {from} {lines} {fabric} {port} {place} {d} {x} {y} names action
     side e before after k comes named is_a is_b =
     let l = link d.link x y in
     let notes = acts_notes (At l) comes.acts in
-    let told : Writes written faults before.outbox.now after.outbox.now
-    (trace_text names (lines_of d.a d.b notes)) =
-    subst (λ (n : List (List ℕ)). Writes written faults before.outbox.now after.outbox.now
-    (trace_text n (lines_of d.a d.b notes))) named
-    (subst (λ (p : PortRef). Writes written faults before.outbox.now after.outbox.now
-    (trace_text before.names.now (lines_of p d.b notes))) is_a
-    (subst (λ (p : PortRef). Writes written faults before.outbox.now after.outbox.now
-    (trace_text before.names.now (lines_of before.a p notes))) is_b comes.grown.lines)) in
+    let told = told_as names d.a d.b notes before before.outbox.now after.outbox.now named is_a is_b
+    comes.grown.lines in
     let full = found_done place.side action l comes.acts side e comes.part comes.reached in
     record {
       block = block_of d.a d.b l comes.acts Done;
-      prints = block_written names d.a d.b l comes.acts Done before.outbox.now after.outbox.now
-          after.outbox.now told (Writes-nil written faults after.outbox.now);
       is = subst (λ (z : Acted). IsBlock (seen from lines) (line_for port action)
           (block_of d.a d.b l comes.acts z)) full (known_block action comes.acts k comes.part);
-      found = known_found action comes.acts side e Done k comes.reached;
+      ends = (
+        lines_written written faults names before.outbox.now after.outbox.now after.outbox.now
+            (lines_of d.a d.b notes) [] told (Writes-nil written faults after.outbox.now),
+        known_found comes.acts side e Done k comes.reached,
+      );
     }
 
 pub nothing_cut : {W : Type 0} (mid new : W) (rest : List Note)
@@ -279,32 +272,28 @@ pub link_cut : {K : Type 0} {written : K → Option (List ℕ)} {faults : K → 
     → Stops (WritesNotes written faults) (λ watch note next. next ≡ watch)
     (part_of place.side action) (link d.link x y) before after
     → before.names.now ≡ names → before.a ≡ d.a → before.b ≡ d.b
-    → BlockedShort (line_for port action) names written faults before.outbox.now after.outbox.now
-    from lines
+    → Ran (Blocks (line_for port action)) names written faults before.outbox.now after.outbox.now
+    from lines (Err NoMemory)
 link_cut {K} {written} {faults} {from} {lines} {fabric} {port} {place} {d} {x} {y} names action
     before after k stops named is_a is_b =
     let l = link d.link x y in
     let s = stops.stopped in
     let answer = answer_of place.side action l in
-    let told : Writes written faults before.outbox.now s.mid.outbox.now
-    (trace_text names (lines_of d.a d.b s.front)) =
-    subst (λ (n : List (List ℕ)). Writes written faults before.outbox.now s.mid.outbox.now
-    (trace_text n (lines_of d.a d.b s.front))) named
-    (subst (λ (p : PortRef). Writes written faults before.outbox.now s.mid.outbox.now
-    (trace_text before.names.now (lines_of p d.b s.front))) is_a
-    (subst (λ (p : PortRef). Writes written faults before.outbox.now s.mid.outbox.now
-    (trace_text before.names.now (lines_of before.a p s.front))) is_b s.grown.lines)) in
+    let told = told_as names d.a d.b s.front before before.outbox.now s.mid.outbox.now named is_a
+    is_b s.grown.lines in
     record {
       block = block_of d.a d.b l stops.acts answer;
-      front = lines_of d.a d.b s.front;
-      rest = lines_of d.a d.b s.rest ++ lack_lines answer;
-      prints = subst
-          (λ (w : LinkLines K). Writes written faults before.outbox.now w.outbox.now
-          (trace_text names (lines_of d.a d.b s.front)))
-          (sym (nothing_cut s.mid after s.rest s.cut_at)) told;
       is = known_block action stops.acts k stops.part;
-      whole = ap (λ (notes : List Note). lines_of d.a d.b notes ++ lack_lines answer) s.whole
-          ∙ ap (λ (z : List TraceLine). z ++ lack_lines answer)
-          (lines-append d.a d.b s.front s.rest)
-          ∙ append_assoc (lines_of d.a d.b s.front) (lines_of d.a d.b s.rest) (lack_lines answer);
+      ends = front_on written faults names before.outbox.now after.outbox.now
+          (lines_of d.a d.b (acts_notes (At l) stops.acts)) (lack_lines answer)
+          (record {
+            front = lines_of d.a d.b s.front;
+            rest = lines_of d.a d.b s.rest;
+            prints = subst
+                (λ (w : LinkLines K). Writes written faults before.outbox.now w.outbox.now
+                (trace_text names (lines_of d.a d.b s.front)))
+                (sym (nothing_cut s.mid after s.rest s.cut_at)) told;
+            whole = ap (λ (notes : List Note). lines_of d.a d.b notes) s.whole
+                ∙ lines-append d.a d.b s.front s.rest;
+          });
     }

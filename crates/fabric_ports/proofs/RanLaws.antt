@@ -1,5 +1,5 @@
 -- What is done one behind the other, by the lines of each and for which a fabric stands then.
-use Rattle.std.proofs.Common.{◌≡◌, ℕ, List, [], ◌∷◌, ◌++◌, Option, Some, None, Result, Ok, Err, IfErr, IsErrAnd, refl, sym, ap, ◌∙◌, subst, append-nil, append_assoc}
+use Rattle.std.proofs.Common.{◌≡◌, ℕ, true, List, [], ◌∷◌, ◌++◌, Option, Some, None, Result, Ok, Err, OnOk, IfOk, IfErr, IsErrAnd, refl, sym, ap, ◌∙◌, subst, append-nil, append_assoc}
 use Rattle.std.proofs.lemmas.Grind.{flat_map-append}
 use Rattle.rio_chars.specs.Written.{Writes}
 use Rattle.rio_chars.specs.declared.outbox.Outbox.{Outbox}
@@ -11,7 +11,7 @@ use Rattle.fabric_trace.specs.Parts.{Made}
 use Rattle.fabric_trace.specs.Rounds.{Follows, NamesNothing, Joined}
 use Rattle.fabric_trace.specs.Text.{trace_line_text, trace_text}
 use Rattle.fabric_trace.proofs.Parts.Folding.{seen-append}
-use Rattle.fabric_ports.specs.Ran.{Kind, Ran, RanShort, RanEnds}
+use Rattle.fabric_ports.specs.Ran.{Kind, WritesFront, WritesTo, RanBehind, Ran}
 use Rattle.fabric_ports.specs.Standing.{Stands}
 use Rattle.fabric_ports.specs.declared.answers.EventEnd.{EventEnd}
 use Rattle.fabric_ports.specs.declared.answers.EventEnd.TheVariants.{Undetected, Failed, NoMemory}
@@ -35,6 +35,16 @@ follows_none found More rest is more =
 follows_nothing : (found : Option Found) → Follows found (λ rest. rest ≡ []) NamesNothing []
 follows_nothing None = refl
 follows_nothing (Some found) = refl
+
+pub joined_both : (P Q : Kind) (s : Seen) (first second : List TraceLine) → P s first
+    → (seen s first).unfaithful ≡ None → Q (seen s first) second → Both P Q s (first ++ second)
+joined_both P Q s first second own still more = (
+  first,
+  second,
+  refl,
+  own,
+  follows_none (seen s first).unfaithful (Q (seen s first)) second still more,
+)
 
 -- what is behind may be replaced while nothing was found
 follows_as : (found : Option Found) (More Other : List TraceLine → Type 0)
@@ -128,8 +138,23 @@ more_exists Q from lines block None on made is =
     (more.0, subst (λ (s : Seen). Q s more.0) joined more.1)
 more_exists Q from lines block (Some found) on made is = ([], refl)
 
--- ---- a call ended as the one in it
+-- ---- what an answer says
 
+pub on_ok : {T X Y : Type 0} (r : Result T EventEnd) → (X → Y) → OnOk r X → OnOk r Y
+on_ok (Ok x) turns own = turns own
+on_ok (Err end) turns own = own
+
+pub if_ok : {T : Type 0} {P Q : T → Type 0} (r : Result T EventEnd) → ((x : T) → P x → Q x)
+    → IfOk r P → IfOk r Q
+if_ok (Ok x) turns own = turns x own
+if_ok (Err end) turns own = own
+
+pub if_err : {T : Type 0} {P Q : EventEnd → Type 0} (r : Result T EventEnd)
+    → ((end : EventEnd) → P end → Q end) → IfErr r P → IfErr r Q
+if_err (Ok x) turns own = own
+if_err (Err end) turns own = turns end own
+
+-- a call ended as the one in it
 pub handed_on : {T : Type 0} (r : Result T EventEnd) (end : EventEnd) (P : EventEnd → Type 0)
     → IsErrAnd r (λ y. y ≡ end) → P end → IfErr r P
 handed_on {T} (Ok x) end P gives holds = absurd gives
@@ -148,123 +173,156 @@ module _ {K : Type 0} (written : K → Option (List ℕ)) (faults : K → ℕ) (
       more))
       (Writes-then _ _ first second)
 
+  pub line_written : (a b : Outbox K) (line : TraceLine)
+      → Writes written faults a b (trace_line_text names line ++ 10 ∷ [])
+      → Writes written faults a b (trace_text names (line ∷ []))
+  line_written a b line told =
+      subst (Writes written faults a b) (sym (append-nil (trace_line_text names line ++ 10 ∷ [])))
+      told
+
+  -- a front of lines is one of those with more behind
+  pub front_on : (a b : Outbox K) (lines more : List TraceLine)
+      → WritesFront names written faults a b lines
+      → WritesFront names written faults a b (lines ++ more)
+  front_on a b lines more own = record {
+    front = own.front;
+    rest = own.rest ++ more;
+    prints = own.prints;
+    whole = ap (λ (l : List TraceLine). l ++ more) own.whole
+        ∙ append_assoc own.front own.rest more;
+  }
+
+  -- and whole lines are a front of themselves
+  pub front_whole : (a b : Outbox K) (lines : List TraceLine)
+      → Writes written faults a b (trace_text names lines)
+      → WritesFront names written faults a b lines
+  front_whole a b lines told =
+      record { front = lines; rest = []; prints = told; whole = sym (append-nil lines) }
+
+  front_behind : (a b c : Outbox K) (first lines : List TraceLine)
+      → Writes written faults a b (trace_text names first)
+      → WritesFront names written faults b c lines
+      → WritesFront names written faults a c (first ++ lines)
+  front_behind a b c first lines told own = record {
+    front = first ++ own.front;
+    rest = own.rest;
+    prints = lines_written a b c first own.front told own.prints;
+    whole = ap (λ (l : List TraceLine). first ++ l) own.whole
+        ∙ sym (append_assoc first own.front own.rest);
+  }
+
+  -- how a call ended, by the lines that were told before it with its own
+  writes_behind : (a b c : Outbox K) (from : Seen) (lines first told : List TraceLine)
+      (end : Result Fabric EventEnd) → Writes written faults a b (trace_text names first)
+      → WritesTo names written faults b c from (lines ++ first) told end
+      → WritesTo names written faults a c from lines (first ++ told) end
+  writes_behind a b c from lines first told (Ok fabric) before own = (
+    lines_written a b c first told before own.0,
+    subst (λ (l : List TraceLine). Stands from l fabric) (append_assoc lines first told) own.1,
+  )
+  writes_behind a b c from lines first told (Err (Undetected port event)) before own = (
+    lines_written a b c first told before own.0,
+    ap (λ (l : List TraceLine). (seen from l).unfaithful) (sym (append_assoc lines first told))
+        ∙ own.1,
+  )
+  writes_behind a b c from lines first told (Err Failed) before own =
+      (front_behind a b c first told before own.0, own.1)
+  writes_behind a b c from lines first told (Err NoMemory) before own =
+      front_behind a b c first told before own
+
   pub ran_nothing : (out : Outbox K) (from : Seen) (lines : List TraceLine) (fabric : Fabric)
-      → Stands from lines fabric → Ran Nothing names written faults out out from lines fabric
+      → Stands from lines fabric → Ran Nothing names written faults out out from lines (Ok fabric)
   ran_nothing out from lines fabric stands = record {
     block = [];
-    prints = Writes-nil written faults out;
     is = refl;
-    stands = subst (λ (l : List TraceLine). Stands from l fabric) (sym (append-nil lines)) stands;
+    ends = (
+      Writes-nil written faults out,
+      subst (λ (l : List TraceLine). Stands from l fabric) (sym (append-nil lines)) stands,
+    );
   }
 
   -- one behind the other
   pub ran_joined : (P Q R : Kind) (a b c : Outbox K) (from : Seen) (lines : List TraceLine)
-      (mid new : Fabric)
+      (mid : Fabric) (end : Result Fabric EventEnd)
       → ((first second : List TraceLine) → P (seen from lines) first
       → (seen (seen from lines) first).unfaithful ≡ None
       → Q (seen (seen from lines) first) second
       → R (seen from lines) (first ++ second))
-      → (first : Ran P names written faults a b from lines mid)
-      → Ran Q names written faults b c from (lines ++ first.block) new
-      → Ran R names written faults a c from lines new
-  ran_joined P Q R a b c from lines mid new join first second =
+      → (first : Ran P names written faults a b from lines (Ok mid))
+      → Ran Q names written faults b c from (lines ++ first.block) end
+      → Ran R names written faults a c from lines end
+  ran_joined P Q R a b c from lines mid end join first second =
       let joined = seen-append from lines first.block in
       record {
         block = first.block ++ second.block;
-        prints = lines_written a b c first.block second.block first.prints second.prints;
         is = join first.block second.block first.is
-            (sym (ap (λ (t : Seen). t.unfaithful) joined) ∙ first.stands.sent)
+            (sym (ap (λ (t : Seen). t.unfaithful) joined) ∙ first.ends.1.sent)
             (subst (λ (t : Seen). Q t second.block) joined second.is);
-        stands = subst (λ (l : List TraceLine). Stands from l new)
-            (append_assoc lines first.block second.block) second.stands;
+        ends = writes_behind a b c from lines first.block second.block end first.ends.0 second.ends;
       }
 
   pub ran_both : (P Q : Kind) (a b c : Outbox K) (from : Seen) (lines : List TraceLine)
-      (mid new : Fabric) → (first : Ran P names written faults a b from lines mid)
-      → Ran Q names written faults b c from (lines ++ first.block) new
-      → Ran (Both P Q) names written faults a c from lines new
-  ran_both P Q a b c from lines mid new first second =
-      ran_joined P Q (Both P Q) a b c from lines mid new (λ x y own still more. (
-        x,
-        y,
-        refl,
-        own,
-        follows_none (seen (seen from lines) x).unfaithful
-            (Q (seen (seen from lines) x)) y still more,
-      )) first second
+      (mid : Fabric) (end : Result Fabric EventEnd)
+      → (first : Ran P names written faults a b from lines (Ok mid))
+      → Ran Q names written faults b c from (lines ++ first.block) end
+      → Ran (Both P Q) names written faults a c from lines end
+  ran_both P Q a b c from lines mid end first second =
+      ran_joined P Q (Both P Q) a b c from lines mid end (joined_both P Q (seen from lines)) first
+      second
 
   -- what is known before the lines may say that they are of another kind
-  pub ran_as : (P Q : Kind) (a b : Outbox K) (from : Seen) (lines : List TraceLine) (new : Fabric)
+  pub ran_as : (P Q : Kind) (a b : Outbox K) (from : Seen) (lines : List TraceLine)
+      (end : Result Fabric EventEnd)
       → ((block : List TraceLine) → P (seen from lines) block
       → Q (seen from lines) block)
-      → Ran P names written faults a b from lines new → Ran Q names written faults a b from lines
-      new
-  ran_as P Q a b from lines new turns ran = record {
+      → Ran P names written faults a b from lines end
+      → Ran Q names written faults a b from lines end
+  ran_as P Q a b from lines end turns ran =
+      record { block = ran.block; is = turns ran.block ran.is; ends = ran.ends }
+
+  -- it was told whole, but a write failed
+  pub failed_behind : (Is : Kind) (a b : Outbox K) (from : Seen) (lines : List TraceLine)
+      (fabric : Fabric) → b.failed ≡ true → Ran Is names written faults a b from lines (Ok fabric)
+      → Ran Is names written faults a b from lines (Err Failed)
+  failed_behind Is a b from lines fabric failed ran = record {
     block = ran.block;
-    prints = ran.prints;
-    is = turns ran.block ran.is;
-    stands = ran.stands;
+    is = ran.is;
+    ends = (front_whole a b ran.block ran.ends.0, failed);
   }
 
-  short_as : (P Q : Kind) (a b : Outbox K) (from : Seen) (lines : List TraceLine)
-      → ((block : List TraceLine) → P (seen from lines) block
+  -- a line was told before the call
+  pub ran_behind : (P Q : Kind) (line : TraceLine) (a b c : Outbox K) (from : Seen)
+      (lines : List TraceLine) (end : Result Fabric EventEnd)
+      → ((block : List TraceLine) → P (seen from (lines ++ line ∷ [])) block
       → Q (seen from lines) block)
-      → RanShort P names written faults a b from lines
-      → RanShort Q names written faults a b from lines
-  short_as P Q a b from lines turns ran = record {
+      → Writes written faults a b (trace_line_text names line ++ 10 ∷ [])
+      → Ran P names written faults b c from (lines ++ line ∷ []) end
+      → RanBehind (line ∷ []) Q names written faults a c from lines end
+  ran_behind P Q line a b c from lines end turns told ran = record {
     block = ran.block;
-    front = ran.front;
-    rest = ran.rest;
-    prints = ran.prints;
     is = turns ran.block ran.is;
-    whole = ran.whole;
+    ends = writes_behind a b c from lines (line ∷ []) ran.block end (line_written a b line told)
+        ran.ends;
   }
 
-  pub ends_as : (P Q : Kind) (a b : Outbox K) (from : Seen) (lines : List TraceLine)
-      (end : EventEnd)
-      → ((block : List TraceLine) → P (seen from lines) block
-      → Q (seen from lines) block)
-      → RanEnds P names written faults a b from lines end
-      → RanEnds Q names written faults a b from lines end
-  ends_as P Q a b from lines (Undetected port event) turns ran = record {
-    block = ran.block;
-    prints = ran.prints;
-    is = turns ran.block ran.is;
-    found = ran.found;
-  }
-  ends_as P Q a b from lines Failed turns ran =
-      (short_as P Q a b from lines turns ran.0, ran.1)
-  ends_as P Q a b from lines NoMemory turns ran = short_as P Q a b from lines turns ran
-
-  -- it ended in the first, and so nothing stands behind, or what would
-  short_first : (P Q : Kind) (a b : Outbox K) (from : Seen) (lines : List TraceLine)
-      (old : Fabric) → IsMade from P → GoesOn from Q → Stands from lines old
-      → RanShort P names written faults a b from lines
-      → RanShort (Both P Q) names written faults a b from lines
-  short_first P Q a b from lines old made on stands ran =
-      let more = more_exists Q from lines ran.block
-      (seen (seen from lines) ran.block).unfaithful on
-      (made lines ran.block stands.made stands.sent ran.is) refl in
-      record {
-        block = ran.block ++ more.0;
-        front = ran.front;
-        rest = ran.rest ++ more.0;
-        prints = ran.prints;
-        is = (ran.block, more.0, refl, ran.is, more.1);
-        whole = ap (λ (l : List TraceLine). l ++ more.0) ran.whole
-            ∙ append_assoc ran.front ran.rest more.0;
-      }
+  -- It ended in the first: nothing stands behind an event that was not sent, and else what would.
+  both_on : (P Q : Kind) (from : Seen) (lines block : List TraceLine) (old : Fabric)
+      → IsMade from P → GoesOn from Q → Stands from lines old → P (seen from lines) block
+      → (more : List TraceLine) × Both P Q (seen from lines) (block ++ more)
+  both_on P Q from lines block old made on stands is =
+      let more = more_exists Q from lines block (seen (seen from lines) block).unfaithful on
+      (made lines block stands.made stands.sent is) refl in
+      (more.0, (block, more.0, refl, is, more.1))
 
   pub ends_first : (P Q : Kind) (a b : Outbox K) (from : Seen) (lines : List TraceLine)
       (old : Fabric) (end : EventEnd) → IsMade from P → GoesOn from Q → Stands from lines old
-      → RanEnds P names written faults a b from lines end
-      → RanEnds (Both P Q) names written faults a b from lines end
+      → Ran P names written faults a b from lines (Err end)
+      → Ran (Both P Q) names written faults a b from lines (Err end)
   ends_first P Q a b from lines old (Undetected port event) made on stands ran =
       let joined = seen-append from lines ran.block in
-      let found = sym (ap (λ (t : Seen). t.unfaithful) joined) ∙ ran.found in
+      let found = sym (ap (λ (t : Seen). t.unfaithful) joined) ∙ ran.ends.1 in
       record {
         block = ran.block;
-        prints = ran.prints;
         is = (
           ran.block,
           [],
@@ -273,62 +331,19 @@ module _ {K : Type 0} (written : K → Option (List ℕ)) (faults : K → ℕ) (
           subst (λ (f : Option Found). Follows f (Q (seen (seen from lines) ran.block))
               NamesNothing []) (sym found) refl,
         );
-        found = ran.found;
+        ends = ran.ends;
       }
   ends_first P Q a b from lines old Failed made on stands ran =
-      (short_first P Q a b from lines old made on stands ran.0, ran.1)
+      let both = both_on P Q from lines ran.block old made on stands ran.is in
+      record {
+        block = ran.block ++ both.0;
+        is = both.1;
+        ends = (front_on a b ran.block both.0 ran.ends.0, ran.ends.1);
+      }
   ends_first P Q a b from lines old NoMemory made on stands ran =
-      short_first P Q a b from lines old made on stands ran
-
-  -- it ended in the second
-  short_second : (P Q : Kind) (a b c : Outbox K) (from : Seen) (lines : List TraceLine)
-      (mid : Fabric) → (first : Ran P names written faults a b from lines mid)
-      → RanShort Q names written faults b c from (lines ++ first.block)
-      → RanShort (Both P Q) names written faults a c from lines
-  short_second P Q a b c from lines mid first second =
-      let s = seen from lines in
-      let joined = seen-append from lines first.block in
+      let both = both_on P Q from lines ran.block old made on stands ran.is in
       record {
-        block = first.block ++ second.block;
-        front = first.block ++ second.front;
-        rest = second.rest;
-        prints = lines_written a b c first.block second.front first.prints second.prints;
-        is = (
-          first.block,
-          second.block,
-          refl,
-          first.is,
-          follows_none (seen s first.block).unfaithful _ second.block
-              (sym (ap (λ (t : Seen). t.unfaithful) joined) ∙ first.stands.sent)
-              (subst (λ (t : Seen). Q t second.block) joined second.is),
-        );
-        whole = ap (λ (l : List TraceLine). first.block ++ l) second.whole
-            ∙ sym (append_assoc first.block second.front second.rest);
+        block = ran.block ++ both.0;
+        is = both.1;
+        ends = front_on a b ran.block both.0 ran.ends;
       }
-
-  pub ends_second : (P Q : Kind) (a b c : Outbox K) (from : Seen) (lines : List TraceLine)
-      (mid : Fabric) (end : EventEnd) → (first : Ran P names written faults a b from lines mid)
-      → RanEnds Q names written faults b c from (lines ++ first.block) end
-      → RanEnds (Both P Q) names written faults a c from lines end
-  ends_second P Q a b c from lines mid (Undetected port event) first second =
-      let s = seen from lines in
-      let joined = seen-append from lines first.block in
-      record {
-        block = first.block ++ second.block;
-        prints = lines_written a b c first.block second.block first.prints second.prints;
-        is = (
-          first.block,
-          second.block,
-          refl,
-          first.is,
-          follows_none (seen s first.block).unfaithful _ second.block
-              (sym (ap (λ (t : Seen). t.unfaithful) joined) ∙ first.stands.sent)
-              (subst (λ (t : Seen). Q t second.block) joined second.is),
-        );
-        found = ap (λ (l : List TraceLine). (seen from l).unfaithful)
-            (sym (append_assoc lines first.block second.block)) ∙ second.found;
-      }
-  ends_second P Q a b c from lines mid Failed first second =
-      (short_second P Q a b c from lines mid first second.0, second.1)
-  ends_second P Q a b c from lines mid NoMemory first second =
-      short_second P Q a b c from lines mid first second

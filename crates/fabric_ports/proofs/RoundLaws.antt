@@ -1,33 +1,27 @@
 -- Switches that are served one after another, and rounds.
 use Rattle.fabric_trace.specs.Known.{Seen}
-use Rattle.std.proofs.Common.{◌≡◌, ℕ, zero, suc, ◌+◌, ◌<◌, Bool, true, false, List, [], ◌∷◌, ◌++◌, length, take, get_or, slice_get, Option, Some, None, MatchBool, option_map, refl, sym, ap, ◌∙◌, subst, arith}
+use Rattle.std.proofs.Common.{◌≡◌, ℕ, zero, suc, ◌+◌, ◌<◌, Bool, true, false, List, [], ◌∷◌, ◌++◌, length, take, get_or, slice_get, Option, Some, None, MatchBool, option_map, refl, sym, ap, ◌∙◌, subst, arith, Ok, Err}
 use Rattle.std.proofs.lemmas.Option.{slice_get-get_or}
 use Rattle.rio_chars.specs.declared.outbox.Outbox.{Outbox}
 use Rattle.maint_registers.specs.Devices.{Registers, is_switch}
-use Rattle.fabric_script.specs.declared.lines.Line.TheVariants.{Run}
 use Rattle.fabric_script.specs.declared.ports.PortRef.{PortRef}
 use Rattle.fabric_model.proofs.Peers.{ArePeers}
 use Rattle.fabric_trace.specs.Blocks.{IsSettle}
 use Rattle.fabric_trace.specs.Fold.{seen}
-use Rattle.fabric_trace.specs.Lines.{TraceLine, Begun}
+use Rattle.fabric_trace.specs.Lines.{TraceLine}
 use Rattle.fabric_trace.specs.Parts.{Made}
 use Rattle.fabric_trace.specs.Ready.{IsReady}
 use Rattle.fabric_trace.specs.Rounds.{ServeNodes, Round, Rounds}
 use Rattle.fabric_trace.proofs.Traces.Existing.{serve_all_exist, rounds_exist, ready_on}
-use Rattle.fabric_trace.proofs.Parts.Folding.{seen-append}
 use Rattle.fabric_trace.proofs.Parts.Keeping.{IsGood}
 use Rattle.fabric_trace.proofs.Parts.Making.{made-append}
 use Rattle.fabric_trace.proofs.Rounds.Blocks.{all_found, settle_all_come, round_come}
 use Rattle.fabric_trace.proofs.Rounds.Running.{link_made, move_made}
-use Rattle.fabric_ports.specs.Blocked.{Blocked, BlockedShort, BlockEnds}
-use Rattle.fabric_ports.specs.Ran.{Kind, Ran, RanShort, RanEnds, LinksSettle, SwitchesServe, Serves}
-use Rattle.fabric_ports.specs.Showing.{ShowsFabric}
+use Rattle.fabric_ports.specs.Ran.{Kind, Ran, LinksSettle, SwitchesServe, Serves}
 use Rattle.fabric_ports.specs.Standing.{Stands}
 use Rattle.fabric_ports.specs.declared.answers.EventEnd.{EventEnd}
-use Rattle.fabric_ports.specs.declared.answers.EventEnd.TheVariants.{Undetected, Failed, NoMemory}
 use Rattle.fabric_ports.specs.declared.fabric.Fabric.{Fabric}
-use Rattle.fabric_ports.proofs.StandLaws.{stands_on}
-use Rattle.fabric_ports.proofs.RanLaws.{Both, Nothing, both_as, both_nothing, nothing_both, both_assoc, GoesOn, IsMade, ran_nothing, ran_both, ran_as, ends_as, ends_first, ends_second}
+use Rattle.fabric_ports.proofs.RanLaws.{Both, Nothing, both_as, both_nothing, nothing_both, both_assoc, GoesOn, IsMade, joined_both, ran_nothing, ran_joined, ran_both, ran_as, ends_first}
 use Rattle.fabric_ports.proofs.SettlingLaws.{good_behind, kinds_stay}
 
 -- ---- switches, one after another
@@ -106,59 +100,49 @@ next_node {from} {lines} {more} {old} {new} k device kind before after at within
     let own = node_of old.devices.items k first.0 first.1 in
     record { device = first.0; is = first.2; more = own.0; many = own.1 }
 
-module _ {K : Type 0} (written : K → Option (List ℕ)) (faults : K → ℕ) (names : List (List ℕ)) where
-  served_on : (a b c : Outbox K) (from : Seen) (lines : List TraceLine) (old mid new : Fabric)
-      (k : ℕ) (kind : Bool) (devices : List Registers) → Stands from lines old
+-- nodes, one after another, whatever each does
+module _ {K : Type 0} (written : K → Option (List ℕ)) (faults : K → ℕ) (names : List (List ℕ))
+    (Nodes : ℕ → List Registers → Kind)
+    (appends : (xs ys : List Registers) (node last : ℕ) (s : Seen) (lines : List TraceLine)
+    → node + length xs ≡ last → s.unfaithful ≡ None
+    → Both (Nodes node xs) (Nodes last ys) s lines → Nodes node (xs ++ ys) s lines)
+    (from : Seen) (lines : List TraceLine) (old mid : Fabric) (devices : List Registers)
+    (stands : Stands from lines old) where
+  pub nodes_on : (P : Kind) (a b c : Outbox K) (new : Fabric) (k : ℕ) (kind : Bool)
       → (node : IsNode devices k kind)
-      → (first : Ran (ServeNodes 0 (take k devices)) names written faults a b from lines mid)
-      → Ran (ServeNodes k (node.device ∷ [])) names written faults b c from (lines ++ first.block)
-      new
-      → Ran (ServeNodes 0 (take (k + 1) devices)) names written faults a c from lines new
-  served_on a b c from lines old mid new k kind devices stands node first one =
+      → ((s : Seen) (block : List TraceLine) → P s block → Nodes k (node.device ∷ []) s block)
+      → (first : Ran (Nodes 0 (take k devices)) names written faults a b from lines (Ok mid))
+      → Ran P names written faults b c from (lines ++ first.block) (Ok new)
+      → Ran (Nodes 0 (take (k + 1) devices)) names written faults a c from lines (Ok new)
+  nodes_on P a b c new k kind node does first own =
       let at : 0 + length (take k devices) ≡ k = let many = node.many in omega (arith, many) in
-      ran_as written faults names
-      (Both (ServeNodes 0 (take k devices)) (ServeNodes k (node.device ∷ [])))
-      (ServeNodes 0 (take (k + 1) devices)) a c from lines new
-      (λ block both. subst (λ (l : List Registers). ServeNodes 0 l (seen from lines) block)
+      ran_joined written faults names (Nodes 0 (take k devices)) P (Nodes 0 (take (k + 1) devices))
+      a b c from lines mid (Ok new)
+      (λ x y before still one. subst (λ (l : List Registers). Nodes 0 l (seen from lines) (x ++ y))
       (sym node.more)
-      (nodes_append (take k devices) (node.device ∷ []) 0 k (seen from lines) block at
-      stands.sent both))
-      (ran_both written faults names (ServeNodes 0 (take k devices))
-      (ServeNodes k (node.device ∷ [])) a b c from lines mid new first one)
+      (appends (take k devices) (node.device ∷ []) 0 k (seen from lines) (x ++ y) at stands.sent
+      (joined_both (Nodes 0 (take k devices)) (Nodes k (node.device ∷ [])) (seen from lines) x y
+      before still (does (seen (seen from lines) x) y one))))
+      first own
 
-  pub served_more : (a b c : Outbox K) (from : Seen) (lines : List TraceLine)
-      (old mid new : Fabric) (k : ℕ) (devices : List Registers) → Stands from lines old
-      → IsNode devices k true
-      → (first : Ran (ServeNodes 0 (take k devices)) names written faults a b from lines mid)
-      → Ran (Serves k) names written faults b c from (lines ++ first.block) new
-      → Ran (ServeNodes 0 (take (k + 1) devices)) names written faults a c from lines new
-  served_more a b c from lines old mid new k devices stands node first own =
-      served_on a b c from lines old mid new k true devices stands node first
-      (ran_as written faults names (Serves k) (ServeNodes k (node.device ∷ [])) b c from
-      (lines ++ first.block) new
-      (λ block serves. node_serves node.device k (seen from (lines ++ first.block)) block
-      node.is serves) own)
+  pub nodes_none : (a b : Outbox K) (k : ℕ) (kind : Bool) → (node : IsNode devices k kind)
+      → ((s : Seen) (block : List TraceLine) → Nothing s block
+      → Nodes k (node.device ∷ []) s block)
+      → Ran (Nodes 0 (take k devices)) names written faults a b from lines (Ok mid)
+      → Ran (Nodes 0 (take (k + 1) devices)) names written faults a b from lines (Ok mid)
+  nodes_none a b k kind node rests first =
+      nodes_on Nothing a b b mid k kind node rests first
+      (ran_nothing written faults names b from (lines ++ first.block) mid first.ends.1)
 
-  pub served_none : (a b : Outbox K) (from : Seen) (lines : List TraceLine) (old mid : Fabric)
-      (k : ℕ) (devices : List Registers) → Stands from lines old → IsNode devices k false
-      → Ran (ServeNodes 0 (take k devices)) names written faults a b from lines mid
-      → Ran (ServeNodes 0 (take (k + 1) devices)) names written faults a b from lines mid
-  served_none a b from lines old mid k devices stands node first =
-      served_on a b b from lines old mid mid k false devices stands node first
-      (ran_as written faults names Nothing (ServeNodes k (node.device ∷ [])) b b from
-      (lines ++ first.block) mid
-      (λ block none. node_rests node.device k (seen from (lines ++ first.block)) block
-      node.is none)
-      (ran_nothing written faults names b from (lines ++ first.block) mid first.stands))
-
-  -- all switches are served
-  pub served_all : (a b : Outbox K) (from : Seen) (lines : List TraceLine) (old new : Fabric)
-      (devices : List Registers) → Stands from lines old → devices ≡ old.devices.items
-      → Ran (ServeNodes 0 devices) names written faults a b from lines new
-      → Ran SwitchesServe names written faults a b from lines new
-  served_all a b from lines old new devices stands same ran =
-      ran_as written faults names (ServeNodes 0 devices) SwitchesServe a b from lines new
-      (λ block own. subst (λ (l : List Registers). ServeNodes 0 l (seen from lines) block)
+  -- all nodes of the fabric
+  pub nodes_all : (a b : Outbox K) → devices ≡ old.devices.items
+      → Ran (Nodes 0 devices) names written faults a b from lines (Ok mid)
+      → Ran (λ s block. Nodes 0 s.network.registers s block) names written faults a b from lines
+      (Ok mid)
+  nodes_all a b same ran =
+      ran_as written faults names (Nodes 0 devices)
+      (λ s block. Nodes 0 s.network.registers s block) a b from lines (Ok mid)
+      (λ block own. subst (λ (l : List Registers). Nodes 0 l (seen from lines) block)
       (same ∙ sym stands.shows.registers) own) ran
 
 -- ---- rounds, one after another
@@ -204,115 +188,68 @@ switches_go_on from ready lines made sent =
     let own = serve_all_exist (seen from lines) (ready_on ready made) in
     (own.lines, own.is)
 
+-- the rounds behind the first ones and the next
+pub rounds_left : (k n : ℕ) → k < n → (m : ℕ) × (k + suc m ≡ n)
+rounds_left k zero less = absurd (omega (arith, less))
+rounds_left zero (suc n) less = (n, omega arith)
+rounds_left (suc k) (suc n) less =
+    let rest = rounds_left k n (omega (arith, less)) in
+    let same = rest.1 in
+    (rest.0, omega (arith, same))
+
 module _ {K : Type 0} (written : K → Option (List ℕ)) (faults : K → ℕ) (names : List (List ℕ)) where
   -- one round more
   pub ran_more : (a b c d : Outbox K) (from : Seen) (lines : List TraceLine)
       (old mid linked new : Fabric) (k : ℕ) → Stands from lines old
-      → Ran (Rounds IsSettle k) names written faults a b from lines mid
+      → Ran (Rounds IsSettle k) names written faults a b from lines (Ok mid)
       → ((more : List TraceLine) → Stands from more mid
-      → Ran LinksSettle names written faults b c from more linked)
+      → Ran LinksSettle names written faults b c from more (Ok linked))
       → ((more : List TraceLine) → Stands from more linked
-      → Ran SwitchesServe names written faults c d from more new)
-      → Ran (Rounds IsSettle (k + 1)) names written faults a d from lines new
+      → Ran SwitchesServe names written faults c d from more (Ok new))
+      → Ran (Rounds IsSettle (k + 1)) names written faults a d from lines (Ok new)
   ran_more a b c d from lines old mid linked new k stands first links switches =
-      let settled = links (lines ++ first.block) first.stands in
+      let settled = links (lines ++ first.block) first.ends.1 in
       let round = ran_both written faults names LinksSettle SwitchesServe b c d from
-      (lines ++ first.block) linked new settled
-      (switches ((lines ++ first.block) ++ settled.block) settled.stands) in
+      (lines ++ first.block) linked (Ok new) settled
+      (switches ((lines ++ first.block) ++ settled.block) settled.ends.1) in
       let one = ran_as written faults names (Round IsSettle) (Rounds IsSettle 1) b d from
-      (lines ++ first.block) new
+      (lines ++ first.block) (Ok new)
       (λ block own. both_nothing (Round IsSettle) (seen from (lines ++ first.block)) block
       own) round in
       ran_as written faults names (Both (Rounds IsSettle k) (Rounds IsSettle 1))
-      (Rounds IsSettle (k + 1)) a d from lines new
+      (Rounds IsSettle (k + 1)) a d from lines (Ok new)
       (λ block both. rounds_append k 1 (seen from lines) block stands.sent both)
       (ran_both written faults names (Rounds IsSettle k) (Rounds IsSettle 1) a b d from lines mid
-      new
+      (Ok new)
       first one)
 
   -- the links of a round did not all settle
   pub ran_short : (a b c : Outbox K) (from : Seen) (lines : List TraceLine) (old mid : Fabric)
       (k n : ℕ) (end : EventEnd) → k < n → Stands from lines old
-      → Ran (Rounds IsSettle k) names written faults a b from lines mid
+      → Ran (Rounds IsSettle k) names written faults a b from lines (Ok mid)
       → ((more : List TraceLine) → Stands from more mid
-      → RanEnds LinksSettle names written faults b c from more end)
-      → RanEnds (Rounds IsSettle n) names written faults a c from lines end
+      → Ran LinksSettle names written faults b c from more (Err end))
+      → Ran (Rounds IsSettle n) names written faults a c from lines (Err end)
   ran_short a b c from lines old mid k n end less stands first links =
       let left : (m : ℕ) × (k + suc m ≡ n) = rounds_left k n less in
       let own = ends_first written faults names LinksSettle SwitchesServe b c from
       (lines ++ first.block) mid end (links_made from stands.ready)
-      (switches_go_on from stands.ready) first.stands (links (lines ++ first.block) first.stands) in
+      (switches_go_on from stands.ready) first.ends.1 (links (lines ++ first.block) first.ends.1) in
       let more = ends_first written faults names (Round IsSettle) (Rounds IsSettle left.0) b c from
       (lines ++ first.block) mid end (round_made from stands.ready)
       (λ l made sent.
       (let own = rounds_exist left.0 (seen from l) (ready_on stands.ready made) sent in
-      (own.lines, own.is))) first.stands own in
-      ends_as written faults names (Both (Rounds IsSettle k) (Rounds IsSettle (suc left.0)))
-      (Rounds IsSettle n) a c from lines end
+      (own.lines, own.is))) first.ends.1 own in
+      ran_as written faults names (Both (Rounds IsSettle k) (Rounds IsSettle (suc left.0)))
+      (Rounds IsSettle n) a c from lines (Err end)
       (λ block both. subst (λ m. Rounds IsSettle m (seen from lines) block) left.1
       (rounds_append k (suc left.0) (seen from lines) block stands.sent both))
-      (ends_second written faults names (Rounds IsSettle k) (Rounds IsSettle (suc left.0)) a b c
+      (ran_both written faults names (Rounds IsSettle k) (Rounds IsSettle (suc left.0)) a b c
       from
-      lines mid end first more)
-    where
-      rounds_left : (k n : ℕ) → k < n → (m : ℕ) × (k + suc m ≡ n)
-      rounds_left k zero less = absurd (omega (arith, less))
-      rounds_left zero (suc n) less = (n, omega arith)
-      rounds_left (suc k) (suc n) less =
-          let rest = rounds_left k n (omega (arith, less)) in
-          let same = rest.1 in
-          (rest.0, omega (arith, same))
+      lines mid (Err end) first more)
 
   pub ran_all : (a b : Outbox K) (from : Seen) (lines : List TraceLine) (new : Fabric) (k n : ℕ)
-      → k ≡ n → Ran (Rounds IsSettle k) names written faults a b from lines new
-      → Ran (Rounds IsSettle n) names written faults a b from lines new
+      → k ≡ n → Ran (Rounds IsSettle k) names written faults a b from lines (Ok new)
+      → Ran (Rounds IsSettle n) names written faults a b from lines (Ok new)
   ran_all a b from lines new k n same ran =
-      subst (λ m. Ran (Rounds IsSettle m) names written faults a b from lines new) same ran
-
--- ---- a run is an event
-
-module _ {K : Type 0} (written : K → Option (List ℕ)) (faults : K → ℕ) (names : List (List ℕ))
-    (a b : Outbox K) (n : ℕ) (old new : Fabric) where
-  pub run_blocked : (from : Seen) (lines : List TraceLine) → Stands from lines old
-      → Ran (Rounds IsSettle n) names written faults a b from lines new
-      → Blocked (Run n) names written faults a b from lines new
-  run_blocked from lines stands ran =
-      let joined = seen-append from lines ran.block in
-      record {
-        block = ran.block;
-        prints = ran.prints;
-        is = ran.is;
-        stands = stands_on from lines old new (Run n) ran.block stands ran.is
-            (sym (ap (λ (t : Seen). t.unfaithful) joined) ∙ ran.stands.sent)
-            (subst (ShowsFabric new) joined ran.stands.shows);
-      }
-
-  run_short : (from : Seen) (lines : List TraceLine)
-      → RanShort (Rounds IsSettle n) names written faults a b from lines
-      → BlockedShort (Run n) names written faults a b from lines
-  run_short from lines ends = record {
-    block = ends.block;
-    front = ends.front;
-    rest = ends.rest;
-    prints = ends.prints;
-    is = ends.is;
-    whole = ends.whole;
-  }
-
-  pub run_ends : (from : Seen) (lines : List TraceLine) (end : EventEnd)
-      → RanEnds (Rounds IsSettle n) names written faults a b from lines end
-      → BlockEnds (Run n) names written faults a b from lines end
-  run_ends from lines (Undetected port event) ends =
-      let s = seen from lines in
-      let begun : seen from (lines ++ Begun (Run n) ∷ ends.block)
-      ≡ seen from (lines ++ ends.block) =
-      seen-append from lines (Begun (Run n) ∷ ends.block)
-      ∙ sym (seen-append from lines ends.block) in
-      record {
-        block = ends.block;
-        prints = ends.prints;
-        is = ends.is;
-        found = ap (λ (t : Seen). t.unfaithful) begun ∙ ends.found;
-      }
-  run_ends from lines Failed ends = (run_short from lines ends.0, ends.1)
-  run_ends from lines NoMemory ends = run_short from lines ends
+      subst (λ m. Ran (Rounds IsSettle m) names written faults a b from lines (Ok new)) same ran

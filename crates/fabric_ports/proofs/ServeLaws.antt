@@ -1,5 +1,5 @@
 -- A switch that makes one step after another.
-use Rattle.std.proofs.Common.{◌≡◌, ◌≢◌, ℕ, zero, suc, ◌+◌, ◌<◌, ◌≤◌, Bool, true, false, List, [], ◌∷◌, ◌++◌, length, Option, Some, None, option_map, slice_get, refl, sym, ap, ◌∙◌, subst, arith, append_assoc, length-append}
+use Rattle.std.proofs.Common.{◌≡◌, ◌≢◌, ℕ, zero, suc, ◌+◌, ◌<◌, ◌≤◌, Bool, true, false, List, [], ◌∷◌, ◌++◌, length, Option, Some, None, option_map, slice_get, refl, sym, ap, ◌∙◌, subst, arith, append_assoc, length-append, Ok}
 use Rattle.std.proofs.lemmas.List.{length-map}
 use Rattle.rio_chars.specs.declared.outbox.Outbox.{Outbox}
 use Rattle.link_port.specs.Ports.{PortState}
@@ -20,7 +20,6 @@ use Rattle.fabric_trace.specs.Served.{faces_in, step_lines, IsMove}
 use Rattle.fabric_trace.specs.Views.{lists_in}
 use Rattle.fabric_trace.proofs.Parts.Folding.{seen-append}
 use Rattle.fabric_trace.proofs.Parts.Keeping.{IsGood}
-use Rattle.fabric_trace.proofs.Parts.Making.{made-append}
 use Rattle.fabric_trace.proofs.Rounds.RoundsEnd.{move_empties}
 use Rattle.fabric_trace.proofs.Rounds.Running.{move_made}
 use Rattle.fabric_ports.specs.Events.{Did, IsSwitchStep}
@@ -32,6 +31,7 @@ use Rattle.fabric_ports.specs.declared.fabric.Fabric.{Fabric}
 use Rattle.fabric_ports.proofs.FaceLaws.{port}
 use Rattle.fabric_ports.proofs.RanLaws.{Nothing as NoLines, ran_nothing, ran_as, ran_joined}
 use Rattle.fabric_ports.proofs.SettlingLaws.{good_behind}
+use Rattle.fabric_ports.proofs.StandLaws.{stands_with}
 
 -- ---- how many packets the ports of a node hold
 
@@ -176,61 +176,54 @@ module _ {K : Type 0} (written : K → Option (List ℕ)) (faults : K → ℕ) (
       → ((block : List TraceLine) → Is block → Q (seen from lines) block
       × Made (seen from lines) block)
       → Did Is names written faults b c (seen from lines) new
-      → Ran Q names written faults b c from lines new
+      → Ran Q names written faults b c from lines (Ok new)
   did_ran Is Q b c from lines mid new stands gives did =
       let own = gives did.block did.is in
-      let joined = seen-append from lines did.block in
       record {
         block = did.block;
-        prints = did.prints;
         is = own.0;
-        stands = record {
-          ready = stands.ready;
-          made = made-append stands.made own.1;
-          sent = ap (λ (t : Seen). t.unfaithful) joined ∙ did.sent;
-          shows = subst (ShowsFabric new) (sym joined) did.shows;
-        };
+        ends = (did.prints, stands_with did.block stands own.1 did.sent did.shows);
       }
 
   pub serves_begin : (a : Outbox K) (from : Seen) (lines : List TraceLine) (fabric : Fabric)
       (node : ℕ) → Stands from lines fabric
-      → Ran (ServesFirst node) names written faults a a from lines fabric
+      → Ran (ServesFirst node) names written faults a a from lines (Ok fabric)
   serves_begin a from lines fabric node stands =
-      ran_as written faults names NoLines (ServesFirst node) a a from lines fabric
+      ran_as written faults names NoLines (ServesFirst node) a a from lines (Ok fabric)
       (λ block none. first_begins node (seen from lines) block none)
       (ran_nothing written faults names a from lines fabric stands)
 
   pub serves_more : (a b c : Outbox K) (from : Seen) (lines : List TraceLine) (mid new : Fabric)
       (node : ℕ) (result : Bool) → result ≡ true
-      → (first : Ran (ServesFirst node) names written faults a b from lines mid)
+      → (first : Ran (ServesFirst node) names written faults a b from lines (Ok mid))
       → Did (IsSwitchStep (seen from (lines ++ first.block)).network node result) names written
       faults b c (seen from (lines ++ first.block)) new
-      → Ran (ServesFirst node) names written faults a c from lines new
+      → Ran (ServesFirst node) names written faults a c from lines (Ok new)
   serves_more a b c from lines mid new node result told first did =
       let s = seen from (lines ++ first.block) in
-      let good = good_behind first.stands.ready first.stands.made in
+      let good = good_behind first.ends.1.ready first.ends.1.made in
       ran_joined written faults names (ServesFirst node) (One node) (ServesFirst node) a b c from
-      lines mid new
+      lines mid (Ok new)
       (λ x y own still one. first_more node (seen from lines) x y own one) first
       (did_ran (IsSwitchStep s.network node result) (One node) b c from (lines ++ first.block) mid
       new
-      first.stands
+      first.ends.1
       (λ block is. (let own = subst (λ r. IsSwitchStep s.network node r block) told is in
       (own, move_made s node block good own.0))) did)
 
   pub serves_end : (a b c : Outbox K) (from : Seen) (lines : List TraceLine) (mid new : Fabric)
       (node : ℕ) (result : Bool) → result ≡ false
-      → (first : Ran (ServesFirst node) names written faults a b from lines mid)
+      → (first : Ran (ServesFirst node) names written faults a b from lines (Ok mid))
       → Did (IsSwitchStep (seen from (lines ++ first.block)).network node result) names written
       faults b c (seen from (lines ++ first.block)) new
-      → Ran (Serves node) names written faults a c from lines new
+      → Ran (Serves node) names written faults a c from lines (Ok new)
   serves_end a b c from lines mid new node result told first did =
       let s = seen from (lines ++ first.block) in
       ran_joined written faults names (ServesFirst node) (Last node) (Serves node) a b c from lines
-      mid new
+      mid (Ok new)
       (λ x y own still last. all_served node (seen from lines) x y own last) first
       (did_ran (IsSwitchStep s.network node result) (Last node) b c from (lines ++ first.block) mid
       new
-      first.stands
+      first.ends.1
       (λ block is. (let own = subst (λ r. IsSwitchStep s.network node r block) told is in
       (own, Done own.1))) did)

@@ -1,7 +1,7 @@
 -- What stays of a fabric, and links that settle one after another.
 use Rattle.fabric_trace.specs.Known.{Seen, link_at}
 use Rattle.link_law.specs.Resting.{has_no_work}
-use Rattle.std.proofs.Common.{◌≡◌, ℕ, zero, suc, ◌+◌, ◌<◌, true, List, [], ◌∷◌, ◌++◌, length, map, take, drop, get_or, slice_get, Option, Some, None, IsSome, option_map, refl, sym, ap, ◌∙◌, subst, arith}
+use Rattle.std.proofs.Common.{◌≡◌, ℕ, zero, suc, ◌+◌, ◌<◌, true, List, [], ◌∷◌, ◌++◌, length, map, take, drop, get_or, slice_get, Option, Some, None, IsSome, option_map, refl, sym, ap, ◌∙◌, subst, arith, rules, vec_len, Ok, Err, Result}
 use Rattle.std.proofs.lemmas.List.{length-map, take-append-drop, take_more, drop_more}
 use Rattle.std.proofs.lemmas.Option.{slice_get-map, slice_get-get_or}
 use Rattle.rio_chars.specs.declared.outbox.Outbox.{Outbox}
@@ -12,32 +12,29 @@ use Rattle.fabric_model.specs.Network.{link_in}
 use Rattle.fabric_model.proofs.Peers.{link_peers}
 use Rattle.fabric_trace.specs.Blocks.{IsSettle, WithLink}
 use Rattle.fabric_trace.specs.Fold.{seen}
-use Rattle.fabric_trace.specs.Lines.{TraceLine, Begun}
+use Rattle.fabric_trace.specs.Lines.{TraceLine}
 use Rattle.fabric_trace.specs.Parts.{Made}
 use Rattle.fabric_trace.specs.Ready.{IsReady}
 use Rattle.fabric_trace.specs.Rounds.{SettleAll}
 use Rattle.fabric_trace.proofs.Network.Boards.{seen_board}
 use Rattle.fabric_trace.proofs.Traces.Existing.{good_of, settles_from}
-use Rattle.fabric_trace.proofs.Parts.Folding.{seen-append}
 use Rattle.fabric_trace.proofs.Parts.Keeping.{IsGood, made_keeps}
 use Rattle.fabric_trace.proofs.Parts.Making.{made-append}
 use Rattle.fabric_trace.proofs.Rounds.Blocks.{AreFound, all_found}
 use Rattle.fabric_trace.proofs.Rounds.Running.{link_made}
-use Rattle.fabric_ports.specs.Blocked.{Blocked, BlockedShort, BlockEnds}
 use Rattle.fabric_ports.specs.Ends.{PortIsLinked}
 use Rattle.fabric_ports.specs.Places.{IsSwitchAt}
-use Rattle.fabric_ports.specs.Ran.{Kind, Ran, RanShort, RanEnds, LinksSettle}
-use Rattle.fabric_ports.specs.Showing.{ends_of, ShowsFabric}
+use Rattle.fabric_ports.specs.Ran.{Kind, Blocks, Ran, LinksSettle}
+use Rattle.fabric_ports.specs.Showing.{ends_of}
 use Rattle.fabric_ports.specs.Standing.{Stands}
 use Rattle.fabric_ports.specs.declared.answers.EventEnd.{EventEnd}
-use Rattle.fabric_ports.specs.declared.answers.EventEnd.TheVariants.{Undetected, Failed, NoMemory}
 use Rattle.fabric_ports.specs.declared.fabric.Cable.{Cable}
 use Rattle.fabric_ports.specs.declared.fabric.Fabric.{Fabric}
 use Rattle.fabric_ports.proofs.Cables.{seen_links}
 use Rattle.fabric_ports.proofs.EndLaws.{links_stand}
 use Rattle.fabric_ports.proofs.EventLaws.{switch_of}
 use Rattle.fabric_ports.proofs.IdleLinks.{idle_block}
-use Rattle.fabric_ports.proofs.RanLaws.{Both, Nothing, ran_nothing, both_as, both_nothing, nothing_both, both_assoc, GoesOn, IsMade, ran_both, ran_as, ends_as, ends_first, ends_second}
+use Rattle.fabric_ports.proofs.RanLaws.{Both, Nothing, ran_nothing, both_as, both_nothing, nothing_both, both_assoc, GoesOn, IsMade, ran_both, ran_as, ends_first}
 
 -- ---- what stays of a fabric
 
@@ -61,6 +58,23 @@ cables_stay {from} {lines} {more} {old} {new} before after =
     sym (length-map new.cables.items ends_of)
     ∙ ap (λ (l : List (PortRef × PortRef)). length l) (links_stand after ∙ sym (links_stand before))
     ∙ length-map old.cables.items ends_of
+
+-- what stands at a place before the end did so before, and does now
+pub devices_within : {from : Seen} {lines more : List TraceLine} {old new : Fabric} (k : ℕ)
+    → Stands from lines old → Stands from more new → k < vec_len old.devices
+    → k < length new.devices.items
+devices_within {from} {lines} {more} {old} {new} k before after less =
+    let same = devices_stay before after in
+    let counted : vec_len old.devices ≡ length old.devices.items = search rules in
+    omega (arith, same, less, counted)
+
+pub cables_within : {from : Seen} {lines more : List TraceLine} {old new : Fabric} (k : ℕ)
+    → Stands from lines old → Stands from more new → k < vec_len old.cables
+    → k < length new.cables.items
+cables_within {from} {lines} {more} {old} {new} k before after less =
+    let same = cables_stay before after in
+    let counted : vec_len old.cables ≡ length old.cables.items = search rules in
+    omega (arith, same, less, counted)
 
 -- the same nodes are switches
 pub kinds_stay : {from : Seen} {lines more : List TraceLine} {old new : Fabric}
@@ -195,14 +209,6 @@ settle_is from lines block link found own =
     (ap (λ (l : List (PortRef × PortRef)). link_in l link.0) (seen_links from lines)
     ∙ found) own
 
--- what is known behind lines and an event that settles is known without its first line
-unbegun : (from : Seen) (lines block : List TraceLine) (port : PortRef)
-    → seen from (lines ++ Begun (Settle port) ∷ block)
-    ≡ seen from (lines ++ block)
-unbegun from lines block port =
-    seen-append from lines (Begun (Settle port) ∷ block)
-    ∙ sym (seen-append from lines block)
-
 pub settles_made : (from : Seen) (link : PortRef × PortRef) → IsReady from
     → link_in from.network.links link.0 ≡ Some link → IsMade from (Settles link)
 settles_made from link ready found lines block made sent own =
@@ -214,114 +220,73 @@ settles_made from link ready found lines block made sent own =
     made-append made (link_made s link.0 link.1 block good sent peers own)
 
 module _ {K : Type 0} (written : K → Option (List ℕ)) (faults : K → ℕ) (names : List (List ℕ)) where
-  pub settle_ran : (a b : Outbox K) (from : Seen) (lines : List TraceLine) (old new : Fabric)
-      (link : PortRef × PortRef) → Stands from lines old → link_in from.network.links link.0
-      ≡ Some link
-      → Blocked (Settle link.0) names written faults a b from lines new
-      → Ran (Settles link) names written faults a b from lines new
-  settle_ran a b from lines old new link stands found blocked =
-      let own = settle_is from lines blocked.block link found blocked.is in
-      let same = unbegun from lines blocked.block link.0 in
-      record {
-        block = blocked.block;
-        prints = blocked.prints;
-        is = own;
-        stands = record {
-          ready = stands.ready;
-          made = settles_made from link stands.ready found lines blocked.block stands.made
-              stands.sent own;
-          sent = sym (ap (λ (t : Seen). t.unfaithful) same) ∙ blocked.stands.sent;
-          shows = subst (ShowsFabric new) same blocked.stands.shows;
-        };
-      }
-
-  settle_short : (a b : Outbox K) (from : Seen) (lines : List TraceLine)
-      (link : PortRef × PortRef) → link_in from.network.links link.0 ≡ Some link
-      → BlockedShort (Settle link.0) names written faults a b from lines
-      → RanShort (Settles link) names written faults a b from lines
-  settle_short a b from lines link found ends = record {
-    block = ends.block;
-    front = ends.front;
-    rest = ends.rest;
-    prints = ends.prints;
-    is = settle_is from lines ends.block link found ends.is;
-    whole = ends.whole;
-  }
-
-  pub settle_ends : (a b : Outbox K) (from : Seen) (lines : List TraceLine)
-      (link : PortRef × PortRef) (end : EventEnd) → link_in from.network.links link.0 ≡ Some link
-      → BlockEnds (Settle link.0) names written faults a b from lines end
-      → RanEnds (Settles link) names written faults a b from lines end
-  settle_ends a b from lines link (Undetected port event) found ends = record {
-    block = ends.block;
-    prints = ends.prints;
-    is = settle_is from lines ends.block link found ends.is;
-    found = sym (ap (λ (t : Seen). t.unfaithful) (unbegun from lines ends.block link.0))
-        ∙ ends.found;
-  }
-  settle_ends a b from lines link Failed found ends =
-      (settle_short a b from lines link found ends.0, ends.1)
-  settle_ends a b from lines link NoMemory found ends =
-      settle_short a b from lines link found ends
+  pub settle_ran : (a b : Outbox K) (from : Seen) (lines : List TraceLine)
+      (link : PortRef × PortRef) (end : Result Fabric EventEnd)
+      → link_in from.network.links link.0 ≡ Some link
+      → Ran (Blocks (Settle link.0)) names written faults a b from lines end
+      → Ran (Settles link) names written faults a b from lines end
+  settle_ran a b from lines link end found ran =
+      ran_as written faults names (Blocks (Settle link.0)) (Settles link) a b from lines end
+      (λ block own. settle_is from lines block link found own) ran
 
   -- one link more has settled
   settled_next : (a b c : Outbox K) (from : Seen) (lines : List TraceLine)
       (old mid new : Fabric) (k : ℕ) (link : PortRef × PortRef) → Stands from lines old
       → IsNext from k link
       → (first : Ran (SettleAll IsSettle (take k from.network.links)) names written faults a b from
-      lines mid)
-      → Ran (Settles link) names written faults b c from (lines ++ first.block) new
+      lines (Ok mid))
+      → Ran (Settles link) names written faults b c from (lines ++ first.block) (Ok new)
       → Ran (SettleAll IsSettle (take (k + 1) from.network.links)) names written faults a c from
-      lines new
+      lines (Ok new)
   settled_next a b c from lines old mid new k link stands next first ran =
       let one = ran_as written faults names (Settles link) (SettleAll IsSettle (link ∷ [])) b c from
-      (lines ++ first.block) new
+      (lines ++ first.block) (Ok new)
       (λ block own. settle_one link (seen from (lines ++ first.block)) block own) ran in
       ran_as written faults names
       (Both (SettleAll IsSettle (take k from.network.links)) (SettleAll IsSettle (link ∷ [])))
-      (SettleAll IsSettle (take (k + 1) from.network.links)) a c from lines new
+      (SettleAll IsSettle (take (k + 1) from.network.links)) a c from lines (Ok new)
       (λ block both. subst (λ (l : List (PortRef × PortRef)). SettleAll IsSettle l
       (seen from lines) block) (sym next.more)
       (settle_append (take k from.network.links) (link ∷ []) (seen from lines) block stands.sent
       both))
       (ran_both written faults names (SettleAll IsSettle (take k from.network.links))
-      (SettleAll IsSettle (link ∷ [])) a b c from lines mid new first one)
+      (SettleAll IsSettle (link ∷ [])) a b c from lines mid (Ok new) first one)
 
   pub settled_more : (a b c : Outbox K) (from : Seen) (lines : List TraceLine)
       (old mid new : Fabric) (k : ℕ) (link : PortRef × PortRef) → Stands from lines old
       → IsNext from k link
       → (first : Ran (SettleAll IsSettle (take k from.network.links)) names written faults a b from
-      lines mid)
-      → Blocked (Settle link.0) names written faults b c from (lines ++ first.block) new
+      lines (Ok mid))
+      → Ran (Blocks (Settle link.0)) names written faults b c from (lines ++ first.block) (Ok new)
       → Ran (SettleAll IsSettle (take (k + 1) from.network.links)) names written faults a c from
-      lines new
-  settled_more a b c from lines old mid new k link stands next first blocked =
+      lines (Ok new)
+  settled_more a b c from lines old mid new k link stands next first blocks =
       settled_next a b c from lines old mid new k link stands next first
-      (settle_ran b c from (lines ++ first.block) mid new link first.stands next.found blocked)
+      (settle_ran b c from (lines ++ first.block) link (Ok new) next.found blocks)
 
   -- one that has nothing to do settles by nothing
   pub settled_idle : (a b : Outbox K) (from : Seen) (lines : List TraceLine) (old mid : Fabric)
       (k : ℕ) (link : PortRef × PortRef) → Stands from lines old → IsNext from k link
       → (first : Ran (SettleAll IsSettle (take k from.network.links)) names written faults a b from
-      lines mid)
+      lines (Ok mid))
       → has_no_work (link_at (seen from (lines ++ first.block)) link.0 link.1) ≡ true
       → Ran (SettleAll IsSettle (take (k + 1) from.network.links)) names written faults a b from
-      lines mid
+      lines (Ok mid)
   settled_idle a b from lines old mid k link stands next first idle =
       let s = seen from (lines ++ first.block) in
       settled_next a b b from lines old mid mid k link stands next first
-      (ran_as written faults names Nothing (Settles link) b b from (lines ++ first.block) mid
+      (ran_as written faults names Nothing (Settles link) b b from (lines ++ first.block) (Ok mid)
       (λ block none. subst (Settles link s) (sym none) (idle_block s link.0 link.1 idle))
-      (ran_nothing written faults names b from (lines ++ first.block) mid first.stands))
+      (ran_nothing written faults names b from (lines ++ first.block) mid first.ends.1))
 
   -- a link did not come to its end
   pub settled_short : (a b c : Outbox K) (from : Seen) (lines : List TraceLine)
       (old mid : Fabric) (k : ℕ) (link : PortRef × PortRef) (end : EventEnd)
       → Stands from lines old → IsNext from k link
       → (first : Ran (SettleAll IsSettle (take k from.network.links)) names written faults a b from
-      lines mid)
-      → BlockEnds (Settle link.0) names written faults b c from (lines ++ first.block) end
-      → RanEnds LinksSettle names written faults a c from lines end
+      lines (Ok mid))
+      → Ran (Blocks (Settle link.0)) names written faults b c from (lines ++ first.block) (Err end)
+      → Ran LinksSettle names written faults a c from lines (Err end)
   settled_short a b c from lines old mid k link end stands next first ends =
       let rest = drop (k + 1) from.network.links in
       let on : GoesOn from (SettleAll IsSettle rest) =
@@ -332,24 +297,24 @@ module _ {K : Type 0} (written : K → Option (List ℕ)) (faults : K → ℕ) (
       (own.lines, own.is)) in
       let own = ends_first written faults names (Settles link) (SettleAll IsSettle rest) b c from
       (lines ++ first.block) mid end (settles_made from link stands.ready next.found) on
-      first.stands
-      (settle_ends b c from (lines ++ first.block) link end next.found ends) in
-      ends_as written faults names
+      first.ends.1
+      (settle_ran b c from (lines ++ first.block) link (Err end) next.found ends) in
+      ran_as written faults names
       (Both (SettleAll IsSettle (take k from.network.links)) (SettleAll IsSettle (link ∷ rest)))
-      LinksSettle a c from lines end
+      LinksSettle a c from lines (Err end)
       (λ block both. subst (λ (l : List (PortRef × PortRef)). SettleAll IsSettle l
       (seen from lines) block) (next.whole ∙ sym (seen_links from lines))
       (settle_append (take k from.network.links) (link ∷ rest) (seen from lines) block stands.sent
       both))
-      (ends_second written faults names (SettleAll IsSettle (take k from.network.links))
-      (SettleAll IsSettle (link ∷ rest)) a b c from lines mid end first own)
+      (ran_both written faults names (SettleAll IsSettle (take k from.network.links))
+      (SettleAll IsSettle (link ∷ rest)) a b c from lines mid (Err end) first own)
 
   -- all links have settled
   pub settled_all : (a b : Outbox K) (from : Seen) (lines : List TraceLine) (new : Fabric)
       (links : List (PortRef × PortRef)) → links ≡ from.network.links
-      → Ran (SettleAll IsSettle links) names written faults a b from lines new
-      → Ran LinksSettle names written faults a b from lines new
+      → Ran (SettleAll IsSettle links) names written faults a b from lines (Ok new)
+      → Ran LinksSettle names written faults a b from lines (Ok new)
   settled_all a b from lines new links same ran =
-      ran_as written faults names (SettleAll IsSettle links) LinksSettle a b from lines new
+      ran_as written faults names (SettleAll IsSettle links) LinksSettle a b from lines (Ok new)
       (λ block own. subst (λ (l : List (PortRef × PortRef)). SettleAll IsSettle l
       (seen from lines) block) (same ∙ sym (seen_links from lines)) own) ran

@@ -1,10 +1,11 @@
--- For which lines a fabric stands after an event.
+-- For which lines a fabric stands behind more of them.
 use Rattle.std.proofs.Common.{◌≡◌, List, [], ◌∷◌, ◌++◌, None, subst, sym, refl, ap, ◌∙◌}
 use Rattle.fabric_script.specs.declared.lines.Line.{Line}
 use Rattle.fabric_trace.specs.Blocks.{IsBlock}
-use Rattle.fabric_trace.specs.Fold.{seen}
+use Rattle.fabric_trace.specs.Fold.{edit_of, edited_by, seen}
 use Rattle.fabric_trace.specs.Known.{Seen}
 use Rattle.fabric_trace.specs.Lines.{TraceLine, Begun}
+use Rattle.fabric_trace.specs.Parts.{Made}
 use Rattle.fabric_trace.specs.Parts.Part.{PartBegins}
 use Rattle.fabric_trace.proofs.Parts.Folding.{seen-append}
 use Rattle.fabric_trace.proofs.Traces.Existing.{good_of}
@@ -15,7 +16,30 @@ use Rattle.fabric_ports.specs.declared.fabric.Fabric.{Fabric}
 use Rattle.fabric_ports.specs.Showing.{ShowsFabric}
 use Rattle.fabric_ports.specs.Standing.{Stands}
 
--- what is known after the lines of an event, and the lines that it stands behind
+-- behind more lines, which are made of parts
+pub stands_with : {from : Seen} {lines : List TraceLine} {old new : Fabric}
+    (block : List TraceLine) → Stands from lines old → Made (seen from lines) block
+    → (seen (seen from lines) block).unfaithful ≡ None
+    → ShowsFabric new (seen (seen from lines) block) → Stands from (lines ++ block) new
+stands_with {from} {lines} {old} {new} block stands made sent shows =
+    let joined = seen-append from lines block in
+    record {
+      ready = stands.ready;
+      made = made-append stands.made made;
+      sent = ap (λ (t : Seen). t.unfaithful) joined ∙ sent;
+      shows = subst (ShowsFabric new) (sym joined) shows;
+    }
+
+-- behind the line with which an event begins that edits no wire
+pub stands_begun : (from : Seen) (lines : List TraceLine) (fabric : Fabric) (line : Line)
+    → edited_by (seen from lines) (edit_of line) ≡ seen from lines → Stands from lines fabric
+    → Stands from (lines ++ Begun line ∷ []) fabric
+stands_begun from lines fabric line same stands =
+    stands_with (Begun line ∷ []) stands (one_part (PartBegins line refl))
+    (ap (λ (t : Seen). t.unfaithful) same ∙ stands.sent)
+    (subst (ShowsFabric fabric) (sym same) stands.shows)
+
+-- behind the lines of an event
 pub stands_on : (from : Seen) (lines : List TraceLine) (old new : Fabric) (line : Line)
     (block : List TraceLine) → Stands from lines old
     → IsBlock (seen from lines) line block
@@ -25,14 +49,6 @@ pub stands_on : (from : Seen) (lines : List TraceLine) (old new : Fabric) (line 
 stands_on from lines old new line block stands is sent shows =
     let s = seen from lines in
     let good = (made_keeps (good_of stands.ready) stands.made).good in
-    let made = block_made line s block good stands.sent is in
-    let joined : seen from (lines ++ Begun line ∷ block) ≡ seen s (Begun line ∷ block) =
-    seen-append from lines (Begun line ∷ block) in
-    record {
-      ready = stands.ready;
-      made = made-append stands.made
-          (made-append {s = s} {xs = Begun line ∷ []} {ys = block} (one_part (PartBegins line refl))
-          made);
-      sent = ap (λ (t : Seen). t.unfaithful) joined ∙ sent;
-      shows = subst (ShowsFabric new) (sym joined) shows;
-    }
+    stands_with (Begun line ∷ block) stands
+    (made-append {s = s} {xs = Begun line ∷ []} {ys = block} (one_part (PartBegins line refl))
+    (block_made line s block good stands.sent is)) sent shows

@@ -1,5 +1,5 @@
 -- An edit of a wire whose line is written if it does something.
-use Rattle.std.proofs.Common.{◌≡◌, ◌&&◌, ◌<◌, ℕ, ◌+◌, not, Bool, true, false, List, [], ◌∷◌, ◌++◌, length, take, drop, Option, Some, None, refl, sym, ap, ◌∙◌, subst, append-nil, if◌then◌else◌, slice_index_or, arith}
+use Rattle.std.proofs.Common.{◌≡◌, ◌&&◌, ◌<◌, ℕ, ◌+◌, not, Bool, true, false, List, [], ◌∷◌, ◌++◌, length, take, drop, Option, Some, None, refl, sym, ap, ◌∙◌, subst, if◌then◌else◌, slice_index_or, arith, Ok, Err}
 use Rattle.std.proofs.lemmas.Bool.{eqb-true}
 use Rattle.std.proofs.lemmas.List.{take-append-drop}
 use Rattle.rio_chars.specs.Written.{Writes}
@@ -16,23 +16,25 @@ use Rattle.fabric_model.proofs.Peers.{port_is}
 use Rattle.fabric_trace.specs.Fold.{changed, edited_by, seen}
 use Rattle.fabric_trace.specs.Known.{Seen}
 use Rattle.fabric_trace.specs.Lines.{TraceLine, Begun}
+use Rattle.fabric_trace.specs.Parts.{Done}
 use Rattle.fabric_trace.specs.Parts.Part.{PartBegins}
 use Rattle.fabric_trace.specs.Text.{trace_text}
-use Rattle.fabric_trace.proofs.Parts.Folding.{seen-append}
-use Rattle.fabric_trace.proofs.Parts.Making.{one_part, made-append}
+use Rattle.fabric_trace.proofs.Parts.Making.{one_part}
 use Rattle.fabric_ask.specs.Noise.{Gives, edit_line, is_idle, edit_lines, stirred}
 use Rattle.fabric_ask.proofs.Carrying.{edit_is}
 use Rattle.fabric_ports.specs.Carrying.{WithLeft, Edits as EditsWire, Stirs}
 use Rattle.fabric_ports.specs.Ends.{IsPlaceOf}
-use Rattle.fabric_ports.specs.Ran.{Ran, RanEnds, RanShort}
+use Rattle.fabric_ports.specs.Ran.{Ran}
 use Rattle.fabric_ports.specs.Showing.{ShowsFabric}
 use Rattle.fabric_ports.specs.Standing.{Stands}
 use Rattle.fabric_ports.specs.declared.answers.EventEnd.{EventEnd}
+use Rattle.fabric_ports.specs.declared.answers.EventEnd.TheVariants.{NoMemory}
 use Rattle.fabric_ports.specs.declared.ends.LinkPlace.{LinkPlace}
 use Rattle.fabric_ports.specs.declared.fabric.Cable.{Cable}
 use Rattle.fabric_ports.specs.declared.fabric.Fabric.{Fabric}
 use Rattle.fabric_ports.proofs.EditLaws.{fabric_edited, edit_chars, edit_shows}
-use Rattle.fabric_ports.proofs.RanLaws.{Nothing, ran_nothing, ran_as, ends_as}
+use Rattle.fabric_ports.proofs.RanLaws.{Nothing, ran_nothing, ran_as}
+use Rattle.fabric_ports.proofs.StandLaws.{stands_with}
 use Rattle.rio_chars.proofs.WrittenLaws.{Writes-nil}
 
 -- ---- an edit that changes nothing
@@ -84,25 +86,15 @@ edit_stands : (p : PortRef) (edit : Edit) (from : Seen) (lines : List TraceLine)
     → Stands from lines old → ShowsFabric new (edited_by (seen from lines) (Some (p, edit)))
     → Stands from (lines ++ (if does then Begun (edit_line p edit) ∷ [] else [])) new
 edit_stands p edit from lines old new true is stands shows =
-    let s = seen from lines in
-    let line = Begun (edit_line p edit) in
-    let joined : seen from (lines ++ line ∷ []) ≡ edited_by s (Some (p, edit)) =
-    seen-append from lines (line ∷ []) ∙ ap (edited_by s) (edit_is p edit) in
-    record {
-      ready = stands.ready;
-      made = made-append stands.made (one_part (PartBegins (edit_line p edit) refl));
-      sent = ap (λ (t : Seen). t.unfaithful) joined ∙ stands.sent;
-      shows = subst (ShowsFabric new) (sym joined) shows;
-    }
+    let begun = ap (edited_by (seen from lines)) (edit_is p edit) in
+    stands_with (Begun (edit_line p edit) ∷ []) stands
+    (one_part (PartBegins (edit_line p edit) refl))
+    (ap (λ (t : Seen). t.unfaithful) begun ∙ stands.sent)
+    (subst (ShowsFabric new) (sym begun) shows)
 edit_stands p edit from lines old new false is stands shows =
-    let s = seen from lines in
-    let same = still_known s p edit (nothing_changes edit (s.wires p).chars is) in
-    subst (λ (l : List TraceLine). Stands from l new) (sym (append-nil lines)) (record {
-      ready = stands.ready;
-      made = stands.made;
-      sent = stands.sent;
-      shows = subst (ShowsFabric new) same shows;
-    })
+    let same = still_known (seen from lines) p edit
+    (nothing_changes edit ((seen from lines).wires p).chars is) in
+    stands_with [] stands (Done refl) stands.sent (subst (ShowsFabric new) same shows)
 
 -- the written lines are those of the edit, and the fabric stands for the lines with them
 pub edit_ran : {K : Type 0} (written : K → Option (List ℕ)) (faults : K → ℕ)
@@ -116,37 +108,40 @@ pub edit_ran : {K : Type 0} (written : K → Option (List ℕ)) (faults : K → 
     (trace_text names (edit_lines port edit (wire_at place.side cable.link).chars))
     → (from : Seen) (lines : List TraceLine) → Stands from lines fabric
     → Ran (EditsWire port edit) names written faults old new from lines
-    (fabric_edited fabric place.cable cable wires)
+    (Ok (fabric_edited fabric place.cable cable wires))
 edit_ran written faults names fabric port place p cable met edit wires becomes old new writes from
     lines stands =
     let s = seen from lines in
     let chars = edit_chars fabric port place p cable met from lines stands in
     record {
       block = edit_lines port edit (s.wires port).chars;
-      prints = subst
-          (λ l. Writes written faults old new (trace_text names (edit_lines port edit l))) chars
-          writes;
       is = refl;
-      stands = edit_stands port edit from lines fabric
-          (fabric_edited fabric place.cable cable wires)
-          (fits edit (s.wires port).chars && not (is_idle edit)) refl stands
-          (edit_shows fabric port place p cable met edit wires becomes from lines stands);
+      ends = (
+        subst (λ l. Writes written faults old new (trace_text names (edit_lines port edit l))) chars
+            writes,
+        edit_stands port edit from lines fabric
+            (fabric_edited fabric place.cable cable wires)
+            (fits edit (s.wires port).chars && not (is_idle edit)) refl stands
+            (edit_shows fabric port place p cable met edit wires becomes from lines stands),
+      );
     }
 
 -- nothing of it is written
 pub edit_short : {K : Type 0} (written : K → Option (List ℕ)) (faults : K → ℕ)
     (names : List (List ℕ)) (port : PortRef) (edit : Edit) (outbox : Outbox K) (from : Seen)
     (lines : List TraceLine)
-    → RanShort (EditsWire port edit) names written faults outbox outbox from lines
+    → Ran (EditsWire port edit) names written faults outbox outbox from lines (Err NoMemory)
 edit_short written faults names port edit outbox from lines =
     let block = edit_lines port edit ((seen from lines).wires port).chars in
     record {
       block = block;
-      front = [];
-      rest = block;
-      prints = Writes-nil written faults outbox;
       is = refl;
-      whole = refl;
+      ends = record {
+        front = [];
+        rest = block;
+        prints = Writes-nil written faults outbox;
+        whole = refl;
+      };
     }
 
 -- ---- the next edit
@@ -173,10 +168,10 @@ module _ {K : Type 0} (written : K → Option (List ℕ)) (faults : K → ℕ) (
   -- the wire has no characters
   pub stir_empty : (out : Outbox K) (from : Seen) (lines : List TraceLine) (fabric : Fabric)
       → left ≡ noise → length ((seen from lines).wires port).chars ≡ 0 → Stands from lines fabric
-      → Ran (Stirs port noise left) names written faults out out from lines fabric
+      → Ran (Stirs port noise left) names written faults out out from lines (Ok fabric)
   stir_empty out from lines fabric same none stands =
       let chars = ((seen from lines).wires port).chars in
-      ran_as written faults names Nothing (Stirs port noise left) out out from lines fabric
+      ran_as written faults names Nothing (Stirs port noise left) out out from lines (Ok fabric)
       (λ block nothing. (λ i. (nothing i, same i))
       ∙ none_stirred noise port chars (empty chars none))
       (ran_nothing written faults names out from lines fabric stands)
@@ -184,10 +179,10 @@ module _ {K : Type 0} (written : K → Option (List ℕ)) (faults : K → ℕ) (
   -- no edit is left
   pub stir_none : (out : Outbox K) (from : Seen) (lines : List TraceLine) (fabric : Fabric)
       → Gives noise None left → Stands from lines fabric
-      → Ran (Stirs port noise left) names written faults out out from lines fabric
+      → Ran (Stirs port noise left) names written faults out out from lines (Ok fabric)
   stir_none out from lines fabric gives stands =
       let chars = ((seen from lines).wires port).chars in
-      ran_as written faults names Nothing (Stirs port noise left) out out from lines fabric
+      ran_as written faults names Nothing (Stirs port noise left) out out from lines (Ok fabric)
       (λ block nothing. (λ i. (nothing i, gives.1 i))
       ∙ ap (λ (n : List Edit). stirred n port chars) (sym gives.0))
       (ran_nothing written faults names out from lines fabric stands)
@@ -196,21 +191,21 @@ module _ {K : Type 0} (written : K → Option (List ℕ)) (faults : K → ℕ) (
   pub stir_some : (a b : Outbox K) (from : Seen) (lines : List TraceLine) (new : Fabric)
       (edit : Edit) → Gives noise (Some edit) left
       → 0 < length ((seen from lines).wires port).chars
-      → Ran (EditsWire port edit) names written faults a b from lines new
-      → Ran (Stirs port noise left) names written faults a b from lines new
+      → Ran (EditsWire port edit) names written faults a b from lines (Ok new)
+      → Ran (Stirs port noise left) names written faults a b from lines (Ok new)
   stir_some a b from lines new edit gives some ran =
-      ran_as written faults names (EditsWire port edit) (Stirs port noise left) a b from lines new
+      ran_as written faults names (EditsWire port edit) (Stirs port noise left) a b from lines (Ok new)
       (λ block is. edit_stirred noise left edit port ((seen from lines).wires port).chars block some
       gives is) ran
 
   pub stir_ends : (a b : Outbox K) (from : Seen) (lines : List TraceLine) (edit : Edit)
       (end : EventEnd) → Gives noise (Some edit) left
       → 0 < length ((seen from lines).wires port).chars
-      → RanEnds (EditsWire port edit) names written faults a b from lines end
-      → RanEnds (WithLeft (Stirs port noise)) names written faults a b from lines end
+      → Ran (EditsWire port edit) names written faults a b from lines (Err end)
+      → Ran (WithLeft (Stirs port noise)) names written faults a b from lines (Err end)
   stir_ends a b from lines edit end gives some ran =
-      ends_as written faults names (EditsWire port edit) (WithLeft (Stirs port noise)) a b from
-      lines end
+      ran_as written faults names (EditsWire port edit) (WithLeft (Stirs port noise)) a b from
+      lines (Err end)
       (λ block is. (
         left,
         edit_stirred noise left edit port ((seen from lines).wires port).chars

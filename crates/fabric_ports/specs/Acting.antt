@@ -2,6 +2,7 @@
 use Rattle.std.specs.Prelude.{◌≡◌, ◌≤◌, ℕ, List, [], ◌∷◌, Result, Ok, Err, if◌then◌else◌, slice_get, slice_set, Some}
 use Rattle.link_watch.specs.declared.note.Note.{Note}
 use Rattle.link_watch.specs.declared.side.Side.{Side}
+use Rattle.link_wires.specs.declared.edits.Edit.{Edit}
 use Rattle.link_wires.specs.declared.edits.Edited.{Edited}
 use Rattle.link_wires.specs.declared.edits.Edited.TheVariants as Edits
 use Rattle.link_machine.specs.Calls.{has_chars, is_silent}
@@ -16,22 +17,15 @@ use Rattle.link_law.specs.declared.answers.LinkEnd.TheVariants.{Undetected, Fail
 use Rattle.fabric_trace.specs.Blocks.{port_at_side}
 use Rattle.fabric_trace.specs.Lines as traced
 use Rattle.fabric_trace.specs.Lines.{TraceLine, Lacked}
-use Rattle.fabric_script.specs.declared.lines.Line as lines
-use Rattle.fabric_script.specs.declared.lines.Line.{Line}
+use Rattle.fabric_ports.specs.declared.operations.WireEdit.{WireEdit}
+use Rattle.fabric_ports.specs.declared.operations.WireEdit.TheVariants as Asked
 use Rattle.fabric_script.specs.declared.ports.PortRef.{PortRef}
 use Rattle.fabric_ports.specs.declared.actions.Acted.{Acted}
 use Rattle.fabric_ports.specs.declared.actions.Acted.TheVariants.{Done, Short, Early}
-use Rattle.fabric_ports.specs.declared.actions.Action.{Action}
+use Rattle.fabric_ports.specs.declared.operations.Action.{Action}
 use Rattle.fabric_ports.specs.declared.answers.EventEnd.{EventEnd}
 use Rattle.fabric_ports.specs.declared.answers.EventEnd.TheVariants as EventEnds
-use Rattle.fabric_ports.specs.declared.actions.Action.TheVariants.{Pump, Deliver, TimeOut, Settle}
-
--- the line of a script that asks it of a port
-abbrev pub line_for : PortRef → Action → Line
-line_for port (Pump turns) = lines.TheVariants.Pump port turns
-line_for port (Deliver count) = lines.TheVariants.Deliver port count
-line_for port TimeOut = lines.TheVariants.Timeout port
-line_for port Settle = lines.TheVariants.Settle port
+use Rattle.fabric_ports.specs.declared.operations.Action.TheVariants.{Pump, Deliver, TimeOut, Settle}
 
 -- a delivery is of one character at least
 abbrev pub AsksForSome : Action → Type 0
@@ -59,6 +53,12 @@ abbrev pub lack_lines : Acted → List TraceLine
 lack_lines Done = []
 lack_lines Short = Lacked traced.Short ∷ []
 lack_lines Early = Lacked traced.Early ∷ []
+
+-- the edit of a wire that a line asks for
+abbrev pub edit_asked : WireEdit → Edit
+edit_asked (Asked.Alter place ch) = Edit.Alter place ch
+edit_asked (Asked.Insert place ch) = Edit.Insert place ch
+edit_asked (Asked.Erase place count) = Edit.Erase place count
 
 -- the answer of an edit, as that of an action
 abbrev pub edit_acted : Edited → Acted

@@ -1,5 +1,5 @@
 -- What an event of a script needs of a fabric, and what it did.
-use Rattle.std.specs.Prelude.{◌≡◌, ◌≢◌, ◌≤◌, ℕ, Bool, true, false, List, [], ◌∷◌, ◌++◌, length, Option, Some, None}
+use Rattle.std.specs.Prelude.{◌≡◌, ◌≢◌, ◌≤◌, ℕ, Bool, true, false, List, [], ◌∷◌, length, Option, None, Result}
 use Rattle.rio_chars.specs.Written.{Writes}
 use Rattle.rio_chars.specs.declared.outbox.Outbox.{Outbox}
 use Rattle.rio_packets.specs.Fields.{body_of}
@@ -7,9 +7,7 @@ use Rattle.maint_packets.specs.Requests.{request_body}
 use Rattle.maint_packets.specs.declared.request.Op.{Op}
 use Rattle.maint_packets.specs.declared.request.Op.TheVariants as Ops
 use Rattle.maint_packets.specs.declared.request.Request.{Request}
-use Rattle.link_model.specs.declared.event.Event.{Event}
 use Rattle.fabric_script.specs.Lines.{is_event}
-use Rattle.fabric_script.specs.declared.ports.PortRef.{PortRef}
 use Rattle.fabric_script.specs.declared.lines.Line.{Line}
 use Rattle.fabric_script.specs.declared.lines.Line.TheVariants.{Send, Read, Write, Pump, Deliver, Alter, Erase, Insert, Timeout, Settle, Collect, Send16, Read16, Write16}
 use Rattle.fabric_model.specs.Network.{Network}
@@ -22,10 +20,10 @@ use Rattle.fabric_trace.specs.Lines.{Full as NoRoom, NoStep, TraceLine, Begun, S
 use Rattle.fabric_trace.specs.Served.{IsMove}
 use Rattle.fabric_trace.specs.Text.{trace_text}
 use Rattle.fabric_ports.specs.declared.answers.EventEnd.{EventEnd}
-use Rattle.fabric_ports.specs.declared.answers.EventEnd.TheVariants.{Undetected, Failed, NoMemory}
 use Rattle.fabric_ports.specs.declared.answers.Happened.{Happened}
 use Rattle.fabric_ports.specs.declared.answers.Happened.TheVariants.{Took, Full, Left, Answered, Empty, Other}
 use Rattle.fabric_ports.specs.declared.fabric.Fabric.{Fabric}
+use Rattle.fabric_ports.specs.Ran.{Kind, RanBehind}
 use Rattle.fabric_ports.specs.Showing.{ShowsFabric}
 use Rattle.fabric_ports.specs.Standing.{Stands}
 
@@ -125,47 +123,17 @@ IsSwitchStep net node false block = IsMove net node (Lacked NoStep ∷ []) × (b
 abbrev pub IsOnlyBlock : Seen → Line → List TraceLine → Type 0
 IsOnlyBlock s line block = (other : List TraceLine) → IsBlock s line other → other ≡ block
 
--- An event was carried out behind these lines: its one block was written, and the fabric stands for
--- the lines with it.
-pub record Evented (line : Line) (names : List (List ℕ)) {K : Type 0}
-    (written : K → Option (List ℕ)) (faults : K → ℕ) (old new : Outbox K)
-    (from : Seen) (lines : List TraceLine) (fabric : Fabric) (answer : Happened) : Type 0 where
-  pub block : List TraceLine
-  pub prints : Writes written faults old new (trace_text names (Begun line ∷ block))
-  pub is : IsBlock (seen from lines) line block
-  pub only : IsOnlyBlock (seen from lines) line block
-  pub stands : Stands from (lines ++ Begun line ∷ block) fabric
-  pub answered : answer ≡ happened line block
+-- the block of an event, which has no other
+abbrev pub IsOwnBlock : Line → Kind
+IsOwnBlock line s block = IsBlock s line block × IsOnlyBlock s line block
 
--- The block was written up to an event that was acted on and not sent, which is this one.
-pub record Exposed (line : Line) (names : List (List ℕ)) {K : Type 0}
-    (written : K → Option (List ℕ)) (faults : K → ℕ) (old new : Outbox K)
-    (from : Seen) (lines : List TraceLine) (port : PortRef) (event : Event) : Type 0 where
-  pub block : List TraceLine
-  pub prints : Writes written faults old new (trace_text names (Begun line ∷ block))
-  pub is : IsBlock (seen from lines) line block
-  pub only : IsOnlyBlock (seen from lines) line block
-  pub found : (seen from (lines ++ Begun line ∷ block)).unfaithful
-      ≡ Some (record { port = port; event = event })
+-- that block, and what the event answers by it
+abbrev pub IsAnsweredBlock : Line → Happened → Kind
+IsAnsweredBlock line answer s block =
+    IsBlock s line block × IsOnlyBlock s line block × (answer ≡ happened line block)
 
--- Only a front of the block was written.
-pub record CutShort (line : Line) (names : List (List ℕ)) {K : Type 0}
-    (written : K → Option (List ℕ)) (faults : K → ℕ) (old new : Outbox K)
-    (from : Seen) (lines : List TraceLine) : Type 0 where
-  pub block : List TraceLine
-  pub front : List TraceLine
-  pub rest : List TraceLine
-  pub prints : Writes written faults old new (trace_text names front)
-  pub is : IsBlock (seen from lines) line block
-  pub only : IsOnlyBlock (seen from lines) line block
-  pub whole : Begun line ∷ block ≡ front ++ rest
-
--- by why the event ended: the outbox has failed if it ended for that
-abbrev pub EventEnds : Line → List (List ℕ) → {K : Type 0} → (K → Option (List ℕ)) → (K → ℕ)
-    → Outbox K → Outbox K → Seen → List TraceLine → EventEnd → Type 0
-EventEnds line names written faults old new from lines (Undetected port event) =
-    Exposed line names written faults old new from lines port event
-EventEnds line names written faults old new from lines Failed =
-    CutShort line names written faults old new from lines × (new.failed ≡ true)
-EventEnds line names written faults old new from lines NoMemory =
-    CutShort line names written faults old new from lines
+-- behind these lines an event told the line with which it begins, and lines of a kind behind it
+abbrev pub Evented : Line → Kind → List (List ℕ) → {K : Type 0} → (K → Option (List ℕ)) → (K → ℕ)
+    → Outbox K → Outbox K → Seen → List TraceLine → Result Fabric EventEnd → Type 0
+Evented line Is names written faults old new from lines end =
+    RanBehind (Begun line ∷ []) Is names written faults old new from lines end

@@ -1,10 +1,10 @@
 pub mod Places
+pub mod Operations
 pub mod Showing
 pub mod Standing
-pub mod Events
 pub mod Ran
+pub mod Events
 pub mod Ends
-pub mod Blocked
 pub mod Plans
 pub mod Switching
 pub mod Acting

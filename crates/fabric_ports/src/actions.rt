@@ -1,5 +1,5 @@
 //! What a script has a link do.
-ghost use Rattle.std.specs.Prelude.{◌≡◌, ◌≢◌, ◌≤◌, ◌<◌, ℕ, List, length, slice_get, Some, OnOk, IfOk, IfErr};
+ghost use Rattle.std.specs.Prelude.{◌≡◌, ◌≢◌, ◌≤◌, ◌<◌, ℕ, List, length, slice_get, Some, OnOk, IfOk, IfErr, Ok, Err};
 ghost use Rattle.rio_chars.specs.Written.{Writes};
 ghost use Rattle.fabric_model.specs.Network.{Network};
 ghost use Rattle.fabric_trace.specs.Blocks.{port_at_side};
@@ -9,14 +9,16 @@ ghost use Rattle.fabric_trace.specs.Text.{trace_text};
 ghost use Rattle.link_machine.specs.Sound.{IsSoundLink};
 ghost use Rattle.link_machine.specs.States.{link};
 ghost use Rattle.link_port.specs.Ports.{PortState};
-ghost use Rattle.fabric_ports.specs.Acting.{line_for, AsksForSome, part_of, answer_of, lack_lines, event_end, Acts, AtTwo};
-ghost use Rattle.fabric_ports.specs.Blocked.{Blocked, BlockEnds};
+ghost use Rattle.fabric_ports.specs.Operations.{line_for};
+ghost use Rattle.fabric_ports.specs.Acting.{AsksForSome, part_of, answer_of, lack_lines, event_end, Acts, AtTwo};
 ghost use Rattle.fabric_ports.specs.Ends.{PortIsLinked};
+ghost use Rattle.fabric_ports.specs.Ran.{Ran, Blocks};
 ghost use Rattle.fabric_ports.specs.Standing.{Stands};
 
 use crate::answers::EventEnd;
 use crate::ends::{LinkPlace, two};
 use crate::fabric::Fabric;
+use crate::operations::Action;
 use fabric_script::{Name, PortRef};
 use link_law::{Fired, Link, LinkEnd};
 use link_port::Port;
@@ -26,20 +28,7 @@ use rio_chars::{Outbox, Sink};
 use std::alloc::Global;
 use trace_lines::{LinkLines, write_early, write_short};
 
-/// What a script has a link do.
-#[derive(Clone, Copy)]
-pub(crate) enum Action {
-    /// A port takes so many turns to send.
-    Pump(u32),
-    /// The peer takes so many characters of what a port has sent.
-    Deliver(u32),
-    /// The time-out of a port fires.
-    TimeOut,
-    /// The link carries what waits, both ways.
-    Settle,
-}
-
-/// What came of it.
+/// What came of what a link was asked to do.
 #[derive(Clone, Copy)]
 pub(crate) enum Acted {
     Done,
@@ -63,11 +52,11 @@ impl Fabric {
         requires named { length self.old.devices.items ≤ length names.now }
         requires some { AsksForSome action }
         ensures done { OnOk result ((from : Seen) (lines : List TraceLine)
-            → Stands from lines self.old → Blocked (line_for port action) names.now
-            K.written K.faults outbox.old outbox.new from lines self.new) }
+            → Stands from lines self.old → Ran (Blocks (line_for port action)) names.now
+            K.written K.faults outbox.old outbox.new from lines (Ok self.new)) }
         ensures ended { IfErr result (λ end. (from : Seen) (lines : List TraceLine)
-            → Stands from lines self.old → BlockEnds (line_for port action) names.now
-            K.written K.faults outbox.old outbox.new from lines end) }
+            → Stands from lines self.old → Ran (Blocks (line_for port action)) names.now
+            K.written K.faults outbox.old outbox.new from lines (Err end)) }
     {
         let place = self.link_of(port);
         let cable = &mut self.cables[place.cable];

@@ -1,5 +1,5 @@
 //! A host asks a device over the fabric.
-ghost use Rattle.std.specs.Prelude.{◌≡◌, ◌≤◌, ◌<◌, ℕ, [], false, List, length, IfOk, IfErr, IsErrOf};
+ghost use Rattle.std.specs.Prelude.{◌≡◌, ◌≤◌, ◌<◌, ℕ, [], false, List, length, IfOk, IfErr, IsErrOf, Ok, Err};
 ghost use Rattle.rio_chars.specs.Faults.{Rose};
 ghost use Rattle.rio_packets.specs.LinkForm.{LinkForm};
 ghost use Rattle.maint_packets.specs.Requests.{IsGoodOp, request_body};
@@ -9,7 +9,7 @@ ghost use Rattle.fabric_trace.specs.Lines.{TraceLine};
 ghost use Rattle.fabric_ports.specs.Asking.{CanAsk, Replied, AskEnds};
 ghost use Rattle.fabric_ports.specs.Fetching.{left_of, RoundsLeave, AskLeaves, response_in, ask_answer};
 ghost use Rattle.fabric_ports.specs.Places.{IsEndpointAt};
-ghost use Rattle.fabric_ports.specs.Ran.{Ran, RanEnds};
+ghost use Rattle.fabric_ports.specs.Ran.{Ran};
 ghost use Rattle.fabric_ports.specs.Standing.{Stands};
 ghost use Rattle.fabric_ports.specs.declared.asking.AskEnd.TheVariants.{NoMemory};
 
@@ -164,11 +164,11 @@ impl Fabric {
         ensures done { IfOk result (λ left. (from : Seen) (lines : List TraceLine)
             → CanAsk host from lines self.old
             → Ran (AskLeaves host request.now (N.edits noise.old) left) names.now
-            K.written K.faults outbox.old outbox.new from lines self.new) }
+            K.written K.faults outbox.old outbox.new from lines (Ok self.new)) }
         ensures ended { IfErr result (λ end. (from : Seen) (lines : List TraceLine)
             → CanAsk host from lines self.old
-            → RanEnds (IsAsk host request.now (N.edits noise.old)) names.now
-            K.written K.faults outbox.old outbox.new from lines end) }
+            → Ran (IsAsk host request.now (N.edits noise.old)) names.now
+            K.written K.faults outbox.old outbox.new from lines (Err end)) }
     {
         self.send(names, host, write_request(request), outbox);
         self.fetch(alloc, names, MOST_ROUNDS, host, noise, outbox)
@@ -192,11 +192,11 @@ impl Fabric {
         ensures done { IfOk result (λ left. (from : Seen) (lines : List TraceLine)
             → Stands from lines self.old
             → Ran (RoundsLeave host rounds (N.edits noise.old) left) names.now
-            K.written K.faults outbox.old outbox.new from lines self.new) }
+            K.written K.faults outbox.old outbox.new from lines (Ok self.new)) }
         ensures ended { IfErr result (λ end. (from : Seen) (lines : List TraceLine)
             → Stands from lines self.old
-            → RanEnds (AskRounds host rounds (N.edits noise.old)) names.now
-            K.written K.faults outbox.old outbox.new from lines end) }
+            → Ran (AskRounds host rounds (N.edits noise.old)) names.now
+            K.written K.faults outbox.old outbox.new from lines (Err end)) }
     {
         for _ in 0..rounds {
             self.ask_round(alloc, names, host, noise, outbox)?;

@@ -1,5 +1,5 @@
 //! What the links do in a round of an ask.
-ghost use Rattle.std.specs.Prelude.{◌≡◌, ◌≤◌, ◌<◌, List, length, map, slice_get, Some, OnOk, IfErr};
+ghost use Rattle.std.specs.Prelude.{◌≡◌, ◌≤◌, ◌<◌, List, length, map, slice_get, Some, OnOk, IfErr, Ok, Err};
 ghost use Rattle.rio_chars.specs.Written.{Writes};
 ghost use Rattle.rio_chars.specs.declared.chars.Char.{Char};
 ghost use Rattle.link_wires.specs.Wires.{fits, edit_answered};
@@ -10,14 +10,14 @@ ghost use Rattle.fabric_trace.specs.Text.{trace_text};
 ghost use Rattle.fabric_ask.specs.Noise.{edit_line, edit_lines, is_idle};
 ghost use Rattle.fabric_ports.specs.Carrying.{AreLinked, WithLeft, BothTurn, Stirs, Edits, BothStir, LinkCarries, LinksCarry};
 ghost use Rattle.fabric_ports.specs.Ends.{PortIsLinked};
-ghost use Rattle.fabric_ports.specs.Ran.{Ran, RanEnds};
+ghost use Rattle.fabric_ports.specs.Ran.{Ran};
 ghost use Rattle.fabric_ports.specs.Showing.{ends_of};
 ghost use Rattle.fabric_ports.specs.Standing.{Stands};
 
-use crate::actions::Action;
 use crate::answers::EventEnd;
 use crate::fabric::Fabric;
 use crate::noise::Noise;
+use crate::operations::Action;
 use fabric_script::{Line, Name, PortRef};
 use link_wires::{Edit, Edited};
 use rio_chars::{Outbox, Sink};
@@ -38,11 +38,11 @@ impl Fabric {
         ensures done { OnOk result ((from : Seen) (lines : List TraceLine)
             → Stands from lines self.old
             → Ran (LinksCarry (N.edits noise.old) (N.edits noise.new)) names.now
-            K.written K.faults outbox.old outbox.new from lines self.new) }
+            K.written K.faults outbox.old outbox.new from lines (Ok self.new)) }
         ensures ended { IfErr result (λ end. (from : Seen) (lines : List TraceLine)
             → Stands from lines self.old
-            → RanEnds (WithLeft (LinksCarry (N.edits noise.old))) names.now
-            K.written K.faults outbox.old outbox.new from lines end) }
+            → Ran (WithLeft (LinksCarry (N.edits noise.old))) names.now
+            K.written K.faults outbox.old outbox.new from lines (Err end)) }
     {
         for place in 0..self.cables.len() {
             let cable = &self.cables[place];
@@ -68,11 +68,11 @@ impl Fabric {
         ensures done { OnOk result ((from : Seen) (lines : List TraceLine)
             → Stands from lines self.old
             → Ran (LinkCarries ends (N.edits noise.old) (N.edits noise.new)) names.now
-            K.written K.faults outbox.old outbox.new from lines self.new) }
+            K.written K.faults outbox.old outbox.new from lines (Ok self.new)) }
         ensures ended { IfErr result (λ end. (from : Seen) (lines : List TraceLine)
             → Stands from lines self.old
-            → RanEnds (WithLeft (LinkCarries ends (N.edits noise.old))) names.now
-            K.written K.faults outbox.old outbox.new from lines end) }
+            → Ran (WithLeft (LinkCarries ends (N.edits noise.old))) names.now
+            K.written K.faults outbox.old outbox.new from lines (Err end)) }
     {
         if self.is_idle(place) {
             return Ok(());
@@ -95,11 +95,11 @@ impl Fabric {
         ensures done { OnOk result ((from : Seen) (lines : List TraceLine)
             → Stands from lines self.old
             → Ran (LinkCarries ends (N.edits noise.old) (N.edits noise.new)) names.now
-            K.written K.faults outbox.old outbox.new from lines self.new) }
+            K.written K.faults outbox.old outbox.new from lines (Ok self.new)) }
         ensures ended { IfErr result (λ end. (from : Seen) (lines : List TraceLine)
             → Stands from lines self.old
-            → RanEnds (WithLeft (LinkCarries ends (N.edits noise.old))) names.now
-            K.written K.faults outbox.old outbox.new from lines end) }
+            → Ran (WithLeft (LinkCarries ends (N.edits noise.old))) names.now
+            K.written K.faults outbox.old outbox.new from lines (Err end)) }
     {
         self.turn_both(alloc, names, ends, outbox)?;
         self.stir_both(alloc, names, ends, noise, outbox)?;
@@ -118,10 +118,10 @@ impl Fabric {
         requires named { length self.old.devices.items ≤ length names.now }
         ensures done { OnOk result ((from : Seen) (lines : List TraceLine)
             → Stands from lines self.old → Ran (BothTurn ends) names.now
-            K.written K.faults outbox.old outbox.new from lines self.new) }
+            K.written K.faults outbox.old outbox.new from lines (Ok self.new)) }
         ensures ended { IfErr result (λ end. (from : Seen) (lines : List TraceLine)
-            → Stands from lines self.old → RanEnds (BothTurn ends) names.now
-            K.written K.faults outbox.old outbox.new from lines end) }
+            → Stands from lines self.old → Ran (BothTurn ends) names.now
+            K.written K.faults outbox.old outbox.new from lines (Err end)) }
     {
         self.act(alloc, names, ends.0, Action::Pump(1), outbox)?;
         self.act(alloc, names, ends.1, Action::Pump(1), outbox)
@@ -141,11 +141,11 @@ impl Fabric {
         ensures done { OnOk result ((from : Seen) (lines : List TraceLine)
             → Stands from lines self.old
             → Ran (BothStir ends (N.edits noise.old) (N.edits noise.new)) names.now
-            K.written K.faults outbox.old outbox.new from lines self.new) }
+            K.written K.faults outbox.old outbox.new from lines (Ok self.new)) }
         ensures ended { IfErr result (λ end. (from : Seen) (lines : List TraceLine)
             → Stands from lines self.old
-            → RanEnds (WithLeft (BothStir ends (N.edits noise.old))) names.now
-            K.written K.faults outbox.old outbox.new from lines end) }
+            → Ran (WithLeft (BothStir ends (N.edits noise.old))) names.now
+            K.written K.faults outbox.old outbox.new from lines (Err end)) }
     {
         self.stir(alloc, names, ends.0, noise, outbox)?;
         self.stir(alloc, names, ends.1, noise, outbox)
@@ -165,11 +165,11 @@ impl Fabric {
         ensures done { OnOk result ((from : Seen) (lines : List TraceLine)
             → Stands from lines self.old
             → Ran (Stirs port (N.edits noise.old) (N.edits noise.new)) names.now
-            K.written K.faults outbox.old outbox.new from lines self.new) }
+            K.written K.faults outbox.old outbox.new from lines (Ok self.new)) }
         ensures ended { IfErr result (λ end. (from : Seen) (lines : List TraceLine)
             → Stands from lines self.old
-            → RanEnds (WithLeft (Stirs port (N.edits noise.old))) names.now
-            K.written K.faults outbox.old outbox.new from lines end) }
+            → Ran (WithLeft (Stirs port (N.edits noise.old))) names.now
+            K.written K.faults outbox.old outbox.new from lines (Err end)) }
     {
         let length = self.length(port);
         if length == 0 {
@@ -205,10 +205,10 @@ impl Fabric {
         requires named { length self.old.devices.items ≤ length names.now }
         ensures done { OnOk result ((from : Seen) (lines : List TraceLine)
             → Stands from lines self.old → Ran (Edits port edit.now) names.now
-            K.written K.faults outbox.old outbox.new from lines self.new) }
+            K.written K.faults outbox.old outbox.new from lines (Ok self.new)) }
         ensures ended { IfErr result (λ end. (from : Seen) (lines : List TraceLine)
-            → Stands from lines self.old → RanEnds (Edits port edit.now) names.now
-            K.written K.faults outbox.old outbox.new from lines end) }
+            → Stands from lines self.old → Ran (Edits port edit.now) names.now
+            K.written K.faults outbox.old outbox.new from lines (Err end)) }
     {
         let place = self.link_of(port);
         let cable = &mut self.cables[place.cable];

@@ -1,50 +1,64 @@
 //! What a script changes on the wires.
 ghost use Rattle.std.specs.Prelude.{◌≡◌, ℕ, List, Some, OnOk, IfErr};
 ghost use Rattle.fabric_model.specs.Network.{Network};
-ghost use Rattle.fabric_script.specs.declared.lines.Line.{Line};
-ghost use Rattle.fabric_trace.specs.Fold.{edit_of};
+ghost use Rattle.fabric_ports.specs.Operations.{line_editing};
+ghost use Rattle.fabric_trace.specs.Fold.{edited_by, seen};
 ghost use Rattle.fabric_trace.specs.Known.{Seen};
 ghost use Rattle.fabric_trace.specs.Lines.{TraceLine};
-ghost use Rattle.fabric_ports.specs.Acting.{edit_acted};
-ghost use Rattle.fabric_ports.specs.Blocked.{Blocked, BlockEnds};
+ghost use Rattle.fabric_ports.specs.Acting.{edit_acted, edit_asked};
 ghost use Rattle.fabric_ports.specs.Ends.{PortIsLinked};
+ghost use Rattle.fabric_ports.specs.Events.{Did};
+ghost use Rattle.fabric_ports.specs.Ran.{Blocks};
 ghost use Rattle.fabric_ports.specs.Standing.{Stands};
+ghost use Rattle.fabric_ports.specs.declared.answers.EventEnd.TheVariants.{NoMemory};
 
 use crate::actions::{Acted, write_lack};
 use crate::answers::EventEnd;
 use crate::fabric::Fabric;
+use crate::operations::WireEdit;
 use fabric_script::PortRef;
 use link_wires::{Edit, Edited};
 use rio_chars::{Outbox, Sink};
 use std::alloc::Global;
 
 impl Fabric {
-    /// Changes the characters of a port's wire, if it has so many.
+    /// Changes the characters of a port's wire, if it has so many. Nothing is written where memory
+    /// is wanting.
     pub(crate) fn edit<K: Sink>(
         &mut self,
         alloc: Global,
         port: PortRef,
-        edit: &Edit,
+        edit: WireEdit,
         outbox: &mut Outbox<K>,
     ) -> Result<(), EventEnd>
         requires { PortIsLinked self.old port }
-        ensures done { (names : List (List ℕ)) (line : Line) → edit_of line ≡ Some (port, edit.now)
-            → OnOk result ((from : Seen) (lines : List TraceLine) → Stands from lines self.old
-            → Blocked line names K.written K.faults outbox.old outbox.new from lines self.new) }
-        ensures ended { (names : List (List ℕ)) (line : Line) → edit_of line ≡ Some (port, edit.now)
-            → IfErr result (λ end. (from : Seen) (lines : List TraceLine)
+        ensures done { OnOk result ((names : List (List ℕ)) (from : Seen) (lines : List TraceLine)
             → Stands from lines self.old
-            → BlockEnds line names K.written K.faults outbox.old outbox.new from lines end) }
+            → Did (Blocks (line_editing port edit) (seen from lines)) names
+            K.written K.faults outbox.old outbox.new
+            (edited_by (seen from lines) (Some (port, edit_asked edit))) self.new) }
+        ensures ended { IfErr result (λ end. (end ≡ NoMemory) × (outbox.new ≡ outbox.old)) }
     {
         let place = self.link_of(port);
         let cable = &mut self.cables[place.cable];
-        match cable.link.edit(alloc, place.side, edit) {
+        match cable.link.edit(alloc, place.side, &edit_asked(edit)) {
             Ok(edited) => {
                 write_lack(outbox, as_acted(edited));
                 Ok(())
             }
             Err(_) => Err(EventEnd::NoMemory),
         }
+    }
+}
+
+/// The edit of a wire that a line asks for.
+fn edit_asked(edit: WireEdit) -> Edit
+    ensures { result ≡ edit_asked edit }
+{
+    match edit {
+        WireEdit::Alter { place, ch } => Edit::Alter { place, ch },
+        WireEdit::Insert { place, ch } => Edit::Insert { place, ch },
+        WireEdit::Erase { place, count } => Edit::Erase { place, count },
     }
 }
 

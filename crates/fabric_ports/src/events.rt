@@ -1,5 +1,5 @@
 //! Events: what a line of a script does to a fabric.
-ghost use Rattle.std.specs.Prelude.{◌≡◌, ◌<◌, false, List, length, IfOk, IfErr};
+ghost use Rattle.std.specs.Prelude.{◌≡◌, ◌<◌, false, List, length, IfOk, IfErr, Ok, Err};
 ghost use Rattle.rio_packets.specs.LinkForm.{LinkForm};
 ghost use Rattle.rio_packets.specs.Fields.{body_of};
 ghost use Rattle.maint_packets.specs.Requests.{IsGoodOp, request_body};
@@ -8,11 +8,12 @@ ghost use Rattle.fabric_model.specs.Network.{Network, sender_id};
 ghost use Rattle.fabric_trace.specs.Events.{IsInRange, IsDataLength};
 ghost use Rattle.fabric_trace.specs.Known.{Seen};
 ghost use Rattle.fabric_trace.specs.Lines.{TraceLine};
-ghost use Rattle.fabric_ports.specs.Events.{MayFollow, Evented, EventEnds, request_by, body_in};
+ghost use Rattle.fabric_ports.specs.Events.{MayFollow, Evented, IsAnsweredBlock, IsOwnBlock, request_by, body_in};
 ghost use Rattle.fabric_ports.specs.Standing.{Stands};
 
 use crate::answers::{EventEnd, Happened};
 use crate::fabric::Fabric;
+use crate::operations::{Operation, operation_of};
 use fabric_script::{Contents, GivenPacket, Line, Name, RequestHead};
 use maint_packets::{Op, Request, write_request};
 use maint_registers::Registers;
@@ -41,30 +42,34 @@ impl Fabric {
     ) -> Result<Happened, EventEnd>
         requires may { MayFollow self.old names.now line.now }
         ensures done { IfOk result (λ answer. (from : Seen) (lines : List TraceLine)
-            → Stands from lines self.old → Evented line.now names.now
-            K.written K.faults outbox.old outbox.new from lines self.new answer) }
+            → Stands from lines self.old → Evented line.now (IsAnsweredBlock line.now answer)
+            names.now K.written K.faults outbox.old outbox.new from lines (Ok self.new)) }
         ensures ended { IfErr result (λ end. (from : Seen) (lines : List TraceLine)
-            → Stands from lines self.old → EventEnds line.now names.now
-            K.written K.faults outbox.old outbox.new from lines end) }
+            → Stands from lines self.old → Evented line.now (IsOwnBlock line.now) names.now
+            K.written K.faults outbox.old outbox.new from lines (Err end)) }
     {
         write_begun(outbox, names, line);
-        if let Some(given) = line.gives() {
-            let packet = packet_of(&given, &self.devices[usize::from(given.node)]);
-            return Ok(self.send(names, given.node, packet, outbox));
-        }
-        match line {
-            Line::Move { node } => {
-                self.step_or_none(names, *node, outbox);
+        match operation_of(line) {
+            Operation::SetUp => unreachable!(),
+            Operation::Give(given) => {
+                let packet = packet_of(&given, &self.devices[usize::from(given.node)]);
+                Ok(self.send(names, given.node, packet, outbox))
+            }
+            Operation::AtLink(port, action) => {
+                self.act(alloc, names, port, action, outbox)?;
                 Ok(Happened::Other)
             }
-            Line::Collect { node } => Ok(self.collect(names, *node, outbox)),
-            Line::Run { n } => {
-                self.run(alloc, names, *n, outbox)?;
+            Operation::Edit(port, edit) => {
+                self.edit(alloc, port, edit, outbox)?;
                 Ok(Happened::Other)
             }
-            // Any other event is one at a link.
-            _ => {
-                self.at_link(alloc, names, line, outbox)?;
+            Operation::Move(node) => {
+                self.step_or_none(names, node, outbox);
+                Ok(Happened::Other)
+            }
+            Operation::Collect(node) => Ok(self.collect(names, node, outbox)),
+            Operation::Run(n) => {
+                self.run(alloc, names, n, outbox)?;
                 Ok(Happened::Other)
             }
         }

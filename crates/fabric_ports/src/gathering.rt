@@ -1,5 +1,5 @@
 //! What is collected at the endpoints in a round of an ask, and the round.
-ghost use Rattle.std.specs.Prelude.{◌≡◌, ◌≤◌, ◌<◌, List, length, slice_get, is_some, OnOk, IfErr};
+ghost use Rattle.std.specs.Prelude.{◌≡◌, ◌≤◌, ◌<◌, List, length, slice_get, is_some, OnOk, IfErr, Ok, Err};
 ghost use Rattle.link_buffers.specs.Queues.{list_at};
 ghost use Rattle.link_port.specs.Faces.{AreLists};
 ghost use Rattle.fabric_trace.specs.Known.{Seen};
@@ -8,7 +8,7 @@ ghost use Rattle.fabric_ask.specs.Asks.{AskRound, holds_some};
 ghost use Rattle.fabric_ports.specs.Carrying.{WithLeft};
 ghost use Rattle.fabric_ports.specs.Gathering.{has_packets, Collects, OthersCollect};
 ghost use Rattle.fabric_ports.specs.Places.{IsEndpointAt};
-ghost use Rattle.fabric_ports.specs.Ran.{Ran, RanEnds};
+ghost use Rattle.fabric_ports.specs.Ran.{Ran};
 ghost use Rattle.fabric_ports.specs.Showing.{ShowsFabric};
 ghost use Rattle.fabric_ports.specs.Standing.{Stands};
 
@@ -37,11 +37,11 @@ impl Fabric {
         ensures done { OnOk result ((from : Seen) (lines : List TraceLine)
             → Stands from lines self.old
             → Ran (AskRound host (N.edits noise.old) (N.edits noise.new)) names.now
-            K.written K.faults outbox.old outbox.new from lines self.new) }
+            K.written K.faults outbox.old outbox.new from lines (Ok self.new)) }
         ensures ended { IfErr result (λ end. (from : Seen) (lines : List TraceLine)
             → Stands from lines self.old
-            → RanEnds (WithLeft (AskRound host (N.edits noise.old))) names.now
-            K.written K.faults outbox.old outbox.new from lines end) }
+            → Ran (WithLeft (AskRound host (N.edits noise.old))) names.now
+            K.written K.faults outbox.old outbox.new from lines (Err end)) }
     {
         self.carry_all(alloc, names, noise, outbox)?;
         self.serve_all(names, outbox);
@@ -56,7 +56,7 @@ impl Fabric {
         requires few { length names.now ≤ 256 }
         ensures { (from : Seen) (lines : List TraceLine) → Stands from lines self.old
             → Ran (OthersCollect host) names.now K.written K.faults outbox.old outbox.new from
-            lines self.new }
+            lines (Ok self.new) }
     {
         for node in 0..self.devices.len() {
             if !self.devices[node].is_switch() && node != usize::from(host) {
@@ -73,7 +73,7 @@ impl Fabric {
         requires endpoint { IsEndpointAt self.old.devices.items node }
         ensures { (from : Seen) (lines : List TraceLine) → Stands from lines self.old
             → Ran (Collects node) names.now K.written K.faults outbox.old outbox.new from lines
-            self.new }
+            (Ok self.new) }
     {
         while self.holds(node) {
             if let Happened::Full = self.collect(names, node, outbox) {

@@ -1,20 +1,19 @@
 //! Rounds: what `run` has a fabric do.
-ghost use Rattle.std.specs.Prelude.{◌≡◌, ◌≤◌, ◌<◌, List, length, OnOk, IfErr};
+ghost use Rattle.std.specs.Prelude.{◌≡◌, ◌≤◌, ◌<◌, List, length, OnOk, IfErr, Ok, Err};
 ghost use Rattle.fabric_script.specs.declared.lines.Line.TheVariants.{Settle};
 ghost use Rattle.fabric_model.specs.Network.{Network};
 ghost use Rattle.fabric_trace.specs.Blocks.{IsSettle};
 ghost use Rattle.fabric_trace.specs.Known.{Seen};
 ghost use Rattle.fabric_trace.specs.Lines.{TraceLine};
 ghost use Rattle.fabric_trace.specs.Rounds.{Rounds};
-ghost use Rattle.fabric_ports.specs.Blocked.{Blocked, BlockEnds};
 ghost use Rattle.fabric_ports.specs.Ends.{PortIsLinked};
 ghost use Rattle.fabric_ports.specs.Places.{IsSwitchAt};
-ghost use Rattle.fabric_ports.specs.Ran.{Ran, RanEnds, LinksSettle, SwitchesServe, Serves};
+ghost use Rattle.fabric_ports.specs.Ran.{Ran, Blocks, LinksSettle, SwitchesServe, Serves};
 ghost use Rattle.fabric_ports.specs.Standing.{Stands};
 
-use crate::actions::Action;
 use crate::answers::EventEnd;
 use crate::fabric::Fabric;
+use crate::operations::Action;
 use fabric_script::{Name, PortRef};
 use rio_chars::{Outbox, Sink};
 use std::alloc::Global;
@@ -35,10 +34,10 @@ impl Fabric {
         requires few { length names.now ≤ 256 }
         ensures done { OnOk result ((from : Seen) (lines : List TraceLine)
             → Stands from lines self.old → Ran (Rounds IsSettle rounds) names.now
-            K.written K.faults outbox.old outbox.new from lines self.new) }
+            K.written K.faults outbox.old outbox.new from lines (Ok self.new)) }
         ensures ended { IfErr result (λ end. (from : Seen) (lines : List TraceLine)
-            → Stands from lines self.old → RanEnds (Rounds IsSettle rounds) names.now
-            K.written K.faults outbox.old outbox.new from lines end) }
+            → Stands from lines self.old → Ran (Rounds IsSettle rounds) names.now
+            K.written K.faults outbox.old outbox.new from lines (Err end)) }
     {
         for _ in 0..rounds {
             self.settle_all(alloc, names, outbox)?;
@@ -58,10 +57,10 @@ impl Fabric {
         requires named { length self.old.devices.items ≤ length names.now }
         ensures done { OnOk result ((from : Seen) (lines : List TraceLine)
             → Stands from lines self.old → Ran LinksSettle names.now
-            K.written K.faults outbox.old outbox.new from lines self.new) }
+            K.written K.faults outbox.old outbox.new from lines (Ok self.new)) }
         ensures ended { IfErr result (λ end. (from : Seen) (lines : List TraceLine)
-            → Stands from lines self.old → RanEnds LinksSettle names.now
-            K.written K.faults outbox.old outbox.new from lines end) }
+            → Stands from lines self.old → Ran LinksSettle names.now
+            K.written K.faults outbox.old outbox.new from lines (Err end)) }
     {
         for place in 0..self.cables.len() {
             if self.is_idle(place) {
@@ -85,11 +84,11 @@ impl Fabric {
         requires linked { PortIsLinked self.old port }
         requires named { length self.old.devices.items ≤ length names.now }
         ensures done { OnOk result ((from : Seen) (lines : List TraceLine)
-            → Stands from lines self.old → Blocked (Settle port) names.now
-            K.written K.faults outbox.old outbox.new from lines self.new) }
+            → Stands from lines self.old → Ran (Blocks (Settle port)) names.now
+            K.written K.faults outbox.old outbox.new from lines (Ok self.new)) }
         ensures ended { IfErr result (λ end. (from : Seen) (lines : List TraceLine)
-            → Stands from lines self.old → BlockEnds (Settle port) names.now
-            K.written K.faults outbox.old outbox.new from lines end) }
+            → Stands from lines self.old → Ran (Blocks (Settle port)) names.now
+            K.written K.faults outbox.old outbox.new from lines (Err end)) }
     {
         self.act(alloc, names, port, Action::Settle, outbox)?;
         if outbox.failed() {
@@ -105,7 +104,7 @@ impl Fabric {
         requires few { length names.now ≤ 256 }
         ensures { (from : Seen) (lines : List TraceLine) → Stands from lines self.old
             → Ran SwitchesServe names.now K.written K.faults outbox.old outbox.new from lines
-            self.new }
+            (Ok self.new) }
     {
         for node in 0..self.devices.len() {
             if self.devices[node].is_switch() {
@@ -121,7 +120,7 @@ impl Fabric {
         requires switch { IsSwitchAt self.old.devices.items node }
         ensures { (from : Seen) (lines : List TraceLine) → Stands from lines self.old
             → Ran (Serves node) names.now K.written K.faults outbox.old outbox.new from lines
-            self.new }
+            (Ok self.new) }
     {
         while self.step(names, node, outbox) {}
     }

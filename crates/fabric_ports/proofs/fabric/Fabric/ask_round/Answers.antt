@@ -1,9 +1,9 @@
-use Rattle.std.proofs.Common.{◌++◌, List, arith}
+use Rattle.std.proofs.Common.{◌++◌, List, arith, Err}
 use Rattle.fabric_trace.specs.Known.{Seen}
 use Rattle.fabric_trace.specs.Lines.{TraceLine}
 use Rattle.fabric_ask.specs.Asks.{AskRound}
 use Rattle.fabric_ports.specs.Carrying.{WithLeft}
-use Rattle.fabric_ports.specs.Ran.{RanEnds}
+use Rattle.fabric_ports.specs.Ran.{Ran}
 use Rattle.fabric_ports.specs.Standing.{Stands}
 use Rattle.fabric_ports.proofs.GatherAllLaws.{round_ran, round_short}
 use Rattle.fabric_ports.proofs.RanLaws.{handed_on}
@@ -14,13 +14,13 @@ pub serve_all-requires-clause-stands : goal.serve_all-requires-clause-stands
 serve_all-requires-clause-stands g c =
     let known = c.requires.stands in
     let carried = c.in_ok-carry_all.ensures.done known.0 known.1 known.2 in
-    (known.0, known.1 ++ carried.block, carried.stands)
+    (known.0, known.1 ++ carried.block, carried.ends.1)
 
 pub serve_all-requires-clause-named : goal.serve_all-requires-clause-named
 serve_all-requires-clause-named g c =
     let known = c.requires.stands in
     let carried = c.in_ok-carry_all.ensures.done known.0 known.1 known.2 in
-    let same = devices_stay known.2 carried.stands in
+    let same = devices_stay known.2 carried.ends.1 in
     let named = c.requires.named in
     omega (arith, same, named)
 
@@ -28,15 +28,15 @@ pub collect_nodes-requires-clause-stands : goal.collect_nodes-requires-clause-st
 collect_nodes-requires-clause-stands g c =
     let known = c.requires.stands in
     let carried = c.in_ok-carry_all.ensures.done known.0 known.1 known.2 in
-    let served = c.serve_all.ensures known.0 (known.1 ++ carried.block) carried.stands in
-    (known.0, (known.1 ++ carried.block) ++ served.block, served.stands)
+    let served = c.serve_all.ensures known.0 (known.1 ++ carried.block) carried.ends.1 in
+    (known.0, (known.1 ++ carried.block) ++ served.block, served.ends.1)
 
 pub collect_nodes-requires-clause-named : goal.collect_nodes-requires-clause-named
 collect_nodes-requires-clause-named g c =
     let known = c.requires.stands in
     let carried = c.in_ok-carry_all.ensures.done known.0 known.1 known.2 in
-    let served = c.serve_all.ensures known.0 (known.1 ++ carried.block) carried.stands in
-    let same = devices_stay known.2 served.stands in
+    let served = c.serve_all.ensures known.0 (known.1 ++ carried.block) carried.ends.1 in
+    let same = devices_stay known.2 served.ends.1 in
     let named = c.requires.named in
     omega (arith, same, named)
 
@@ -44,9 +44,9 @@ pub returns-in_err-carry_all-clause-ended : goal.returns-in_err-carry_all-clause
 returns-in_err-carry_all-clause-ended g c =
     handed_on c.from_residual.result c.in_err-carry_all.field-0.0
     (λ end. (from : Seen) (lines : List TraceLine) → Stands from lines c.args.self.now
-    → RanEnds (WithLeft (AskRound c.args.host (g.N.Noise.edits c.args.noise.now)))
+    → Ran (WithLeft (AskRound c.args.host (g.N.Noise.edits c.args.noise.now)))
     c.args.names.now g.K.Sink.written g.K.Sink.faults c.args.outbox.now
-    c.carry_all.new.outbox from lines end)
+    c.carry_all.new.outbox from lines (Err end))
     c.from_residual.ensures.1
     (λ from lines stands.
     round_short g.K.Sink.written g.K.Sink.faults c.args.names.now c.args.outbox.now

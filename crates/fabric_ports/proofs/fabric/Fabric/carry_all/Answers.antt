@@ -1,14 +1,14 @@
-use Rattle.std.proofs.Common.{◌≡◌, ◌<◌, ◌++◌, List, length, take, rules, arith, vec_len, sym, ap, ◌∙◌}
+use Rattle.std.proofs.Common.{◌≡◌, ◌++◌, List, length, take, rules, arith, vec_len, sym, ap, ◌∙◌, Err}
 use Rattle.std.proofs.lemmas.List.{take_all, length-map}
 use Rattle.fabric_trace.specs.Known.{Seen}
 use Rattle.fabric_trace.specs.Lines.{TraceLine}
 use Rattle.fabric_ports.specs.Carrying.{WithLeft, LinksCarry}
-use Rattle.fabric_ports.specs.Ran.{RanEnds}
+use Rattle.fabric_ports.specs.Ran.{Ran}
 use Rattle.fabric_ports.specs.Showing.{ends_of}
 use Rattle.fabric_ports.specs.Standing.{Stands}
 use Rattle.fabric_ports.proofs.EndLaws.{links_stand}
 use Rattle.fabric_ports.proofs.RanLaws.{handed_on}
-use Rattle.fabric_ports.proofs.SettlingLaws.{devices_stay, cables_stay, ends_at, next_link}
+use Rattle.fabric_ports.proofs.SettlingLaws.{devices_stay, cables_within, ends_at, next_link}
 use Rattle.fabric_ports.proofs.CarryAllLaws.{next_linked, carry_begins, carried_more, carried_short, carried_all}
 use Rattle.fabric_ports.proofs.fabric.Fabric.carry_all.Goals as goal
 
@@ -20,32 +20,27 @@ loop-place-init g c = λ from lines stands.
 pub index-cable-requires : goal.index-cable-requires
 index-cable-requires g c =
     let known = c.requires.stands in
-    let same = cables_stay known.2 (c.loop-place.invariant known.0 known.1 known.2).stands in
     let end = c.len-place-end.ensures in
     let test = c.loop-place-test.true in
-    let counted : vec_len c.args.self.now.cables ≡ length c.args.self.now.cables.items =
-    search rules in
-    let here : c.loop-place.place < length c.loop-place.self.cables.items =
-    omega (arith, same, end, test, counted) in
+    let within = cables_within c.loop-place.place known.2
+    (c.loop-place.invariant known.0 known.1 known.2).ends.1 (omega (arith, end, test)) in
     search rules
 
 pub carry_at-requires-clause-linked : goal.carry_at-requires-clause-linked
 carry_at-requires-clause-linked g c =
     let known = c.requires.stands in
     let ran = c.loop-place.invariant known.0 known.1 known.2 in
-    let same = cables_stay known.2 ran.stands in
     let end = c.len-place-end.ensures in
     let test = c.loop-place-test.true in
-    let counted : vec_len c.args.self.now.cables ≡ length c.args.self.now.cables.items =
-    search rules in
-    next_linked ran.stands
-    (next_link c.loop-place.place c.index-cable.result.now ran.stands c.index-cable.ensures
-    (omega (arith, same, end, test, counted)))
+    let within = cables_within c.loop-place.place known.2 ran.ends.1 (omega (arith, end, test)) in
+    next_linked ran.ends.1
+    (next_link c.loop-place.place c.index-cable.result.now ran.ends.1 c.index-cable.ensures
+    within)
 
 pub carry_at-requires-clause-named : goal.carry_at-requires-clause-named
 carry_at-requires-clause-named g c =
     let known = c.requires.stands in
-    let same = devices_stay known.2 (c.loop-place.invariant known.0 known.1 known.2).stands in
+    let same = devices_stay known.2 (c.loop-place.invariant known.0 known.1 known.2).ends.1 in
     let named = c.requires.named in
     omega (arith, same, named)
 
@@ -53,40 +48,36 @@ pub returns-in_err-carry_at-clause-ended : goal.returns-in_err-carry_at-clause-e
 returns-in_err-carry_at-clause-ended g c =
     handed_on c.from_residual.result c.in_err-carry_at.field-0.0
     (λ end. (from : Seen) (lines : List TraceLine) → Stands from lines c.args.self.now
-    → RanEnds (WithLeft (LinksCarry (g.N.Noise.edits c.args.noise.now))) c.args.names.now
-    g.K.Sink.written g.K.Sink.faults c.args.outbox.now c.carry_at.new.outbox from lines end)
+    → Ran (WithLeft (LinksCarry (g.N.Noise.edits c.args.noise.now))) c.args.names.now
+    g.K.Sink.written g.K.Sink.faults c.args.outbox.now c.carry_at.new.outbox from lines (Err end))
     c.from_residual.ensures.1
     (λ from lines stands.
     (let ran = c.loop-place.invariant from lines stands in
-    let same = cables_stay stands ran.stands in
     let end = c.len-place-end.ensures in
     let test = c.loop-place-test.true in
-    let counted : vec_len c.args.self.now.cables ≡ length c.args.self.now.cables.items =
-    search rules in
+    let within = cables_within c.loop-place.place stands ran.ends.1 (omega (arith, end, test)) in
     carried_short g.K.Sink.written g.K.Sink.faults c.args.names.now c.args.outbox.now
     c.loop-place.outbox c.carry_at.new.outbox from lines c.args.self.now c.loop-place.self
     c.loop-place.place (ends_of c.index-cable.result.now) (g.N.Noise.edits c.args.noise.now)
     (g.N.Noise.edits c.loop-place.noise) c.in_err-carry_at.field-0.0 stands
-    (next_link c.loop-place.place c.index-cable.result.now ran.stands c.index-cable.ensures
-    (omega (arith, same, end, test, counted))) ran
-    (c.in_err-carry_at.ensures.ended from (lines ++ ran.block) ran.stands)))
+    (next_link c.loop-place.place c.index-cable.result.now ran.ends.1 c.index-cable.ensures
+    within) ran
+    (c.in_err-carry_at.ensures.ended from (lines ++ ran.block) ran.ends.1)))
 
 pub loop-place-preserved : goal.loop-place-preserved
 loop-place-preserved g c = λ from lines stands.
     let ran = c.loop-place.invariant from lines stands in
-    let same = cables_stay stands ran.stands in
     let end = c.len-place-end.ensures in
     let test = c.loop-place-test.true in
-    let counted : vec_len c.args.self.now.cables ≡ length c.args.self.now.cables.items =
-    search rules in
+    let within = cables_within c.loop-place.place stands ran.ends.1 (omega (arith, end, test)) in
     carried_more g.K.Sink.written g.K.Sink.faults c.args.names.now c.args.outbox.now
     c.loop-place.outbox c.carry_at.new.outbox from lines c.args.self.now c.loop-place.self
     c.carry_at.new.self c.loop-place.place (ends_of c.index-cable.result.now)
     (g.N.Noise.edits c.args.noise.now) (g.N.Noise.edits c.loop-place.noise)
     (g.N.Noise.edits c.carry_at.new.noise) stands
-    (next_link c.loop-place.place c.index-cable.result.now ran.stands c.index-cable.ensures
-    (omega (arith, same, end, test, counted))) ran
-    (c.in_ok-carry_at.ensures.done from (lines ++ ran.block) ran.stands)
+    (next_link c.loop-place.place c.index-cable.result.now ran.ends.1 c.index-cable.ensures
+    within) ran
+    (c.in_ok-carry_at.ensures.done from (lines ++ ran.block) ran.ends.1)
 
 pub returns-clause-done : goal.returns-clause-done
 returns-clause-done g c = λ from lines stands.
@@ -106,10 +97,9 @@ returns-clause-done g c = λ from lines stands.
 pub carry_at-requires-clause-at : goal.carry_at-requires-clause-at
 carry_at-requires-clause-at g c =
     let known = c.requires.stands in
-    let same = cables_stay known.2 (c.loop-place.invariant known.0 known.1 known.2).stands in
     let end = c.len-place-end.ensures in
     let test = c.loop-place-test.true in
-    let counted : vec_len c.args.self.now.cables ≡ length c.args.self.now.cables.items =
-    search rules in
+    let within = cables_within c.loop-place.place known.2
+    (c.loop-place.invariant known.0 known.1 known.2).ends.1 (omega (arith, end, test)) in
     ends_at c.loop-place.self.cables.items c.loop-place.place c.index-cable.result.now
-    (omega (arith, same, end, test, counted)) c.index-cable.ensures
+    within c.index-cable.ensures

@@ -1,4 +1,4 @@
-use Rattle.std.proofs.Common.{List, take}
+use Rattle.std.proofs.Common.{List, take, Ok}
 use Rattle.fabric_trace.specs.Known.{Seen}
 use Rattle.fabric_trace.specs.Lines.{TraceLine}
 use Rattle.fabric_ask.specs.Asks.{CarryAll}
@@ -10,4 +10,4 @@ abbrev pub invariant-loop-place : goal.invariant-loop-place
 invariant-loop-place g l = (from : Seen) (lines : List TraceLine) → Stands from lines l.fn.self
     → Ran (λ s block. CarryAll (take l.place from.network.links) (g.N.Noise.edits l.fn.noise)
     (g.N.Noise.edits l.noise) s block) l.names
-    g.K.Sink.written g.K.Sink.faults l.fn.outbox l.outbox from lines l.self
+    g.K.Sink.written g.K.Sink.faults l.fn.outbox l.outbox from lines (Ok l.self)

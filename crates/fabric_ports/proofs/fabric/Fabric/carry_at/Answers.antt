@@ -1,4 +1,4 @@
-use Rattle.std.proofs.Common.{sym, subst, ◌∙◌}
+use Rattle.std.proofs.Common.{sym, subst, ◌∙◌, Ok}
 use Rattle.fabric_trace.specs.Fold.{seen}
 use Rattle.fabric_ports.specs.Carrying.{LinkCarries}
 use Rattle.fabric_ports.proofs.IdleLinks.{idle_carries}
@@ -14,7 +14,7 @@ returns-then-is_idle-clause-done g c = λ from lines stands.
     ∙ c.if-is_idle.true in
     ran_as g.K.Sink.written g.K.Sink.faults c.args.names.now Nothing
     (LinkCarries c.args.ends edits edits) c.args.outbox.now c.args.outbox.now from lines
-    c.args.self.now
+    (Ok c.args.self.now)
     (λ block none. subst (LinkCarries c.args.ends edits edits (seen from lines)) (sym none)
     (idle_carries edits (seen from lines) a b is))
     (ran_nothing g.K.Sink.written g.K.Sink.faults c.args.names.now c.args.outbox.now from lines

@@ -14,43 +14,43 @@ pub holds-requires-clause-shown : goal.holds-requires-clause-shown
 holds-requires-clause-shown g c =
     let known = c.requires.stands in
     let ran = c.loop-self.invariant known.0 known.1 known.2 in
-    (seen known.0 (known.1 ++ ran.block), ran.stands.shows)
+    (seen known.0 (known.1 ++ ran.block), ran.ends.1.shows)
 
 pub holds-requires-clause-endpoint : goal.holds-requires-clause-endpoint
 holds-requires-clause-endpoint g c =
     let known = c.requires.stands in
     let ran = c.loop-self.invariant known.0 known.1 known.2 in
-    endpoint_on c.args.node known.2 ran.stands c.requires.endpoint
+    endpoint_on c.args.node known.2 ran.ends.1 c.requires.endpoint
 
 pub collect-requires-clause-shown : goal.collect-requires-clause-shown
 collect-requires-clause-shown g c =
     let known = c.requires.stands in
     let ran = c.loop-self.invariant known.0 known.1 known.2 in
-    (seen known.0 (known.1 ++ ran.block), ran.stands.shows)
+    (seen known.0 (known.1 ++ ran.block), ran.ends.1.shows)
 
 pub collect-requires-clause-endpoint : goal.collect-requires-clause-endpoint
 collect-requires-clause-endpoint g c =
     let known = c.requires.stands in
     let ran = c.loop-self.invariant known.0 known.1 known.2 in
-    endpoint_on c.args.node known.2 ran.stands c.requires.endpoint
+    endpoint_on c.args.node known.2 ran.ends.1 c.requires.endpoint
 
 pub returns : goal.returns
 returns g c = λ from lines stands.
     let ran = c.loop-self.invariant from lines stands in
     gather_rests g.K.Sink.written g.K.Sink.faults c.args.names.now c.args.outbox.now
     c.loop-self.outbox from lines c.loop-self.self c.args.node ran
-    (endpoint_on c.args.node stands ran.stands c.requires.endpoint)
-    (sym (c.holds.ensures (seen from (lines ++ ran.block)) ran.stands.shows)
+    (endpoint_on c.args.node stands ran.ends.1 c.requires.endpoint)
+    (sym (c.holds.ensures (seen from (lines ++ ran.block)) ran.ends.1.shows)
     ∙ c.loop-self-test.false)
 
 pub returns-in-Full : goal.returns-in-Full
 returns-in-Full g c = λ from lines stands.
     let ran = c.loop-self.invariant from lines stands in
-    let good = good_behind ran.stands.ready ran.stands.made in
+    let good = good_behind ran.ends.1.ready ran.ends.1.made in
     gather_stops g.K.Sink.written g.K.Sink.faults c.args.names.now c.args.outbox.now
     c.loop-self.outbox c.collect.new.outbox from lines c.loop-self.self c.collect.new.self
     c.args.node c.collect.result ran c.in-Full.is
-    (c.collect.ensures (seen from (lines ++ ran.block)) ran.stands.shows ran.stands.sent
+    (c.collect.ensures (seen from (lines ++ ran.block)) ran.ends.1.shows ran.ends.1.sent
     (good_by_priority good))
 
 pub loop-self-smaller : goal.loop-self-smaller
@@ -58,21 +58,21 @@ loop-self-smaller g c =
     let known = c.requires.stands in
     let ran = c.loop-self.invariant known.0 known.1 known.2 in
     let s = seen known.0 (known.1 ++ ran.block) in
-    let good = good_behind ran.stands.ready ran.stands.made in
-    let did = c.collect.ensures s ran.stands.shows ran.stands.sent (good_by_priority good) in
+    let good = good_behind ran.ends.1.ready ran.ends.1.made in
+    let did = c.collect.ensures s ran.ends.1.shows ran.ends.1.sent (good_by_priority good) in
     gathered_fewer s c.loop-self.self c.collect.new.self c.args.node did.block c.collect.result good
-    ran.stands.shows did.shows
-    (endpoint_on c.args.node known.2 ran.stands c.requires.endpoint)
-    (sym (c.holds.ensures s ran.stands.shows) ∙ c.loop-self-test.true) did.is.0 did.is.1
+    ran.ends.1.shows did.shows
+    (endpoint_on c.args.node known.2 ran.ends.1 c.requires.endpoint)
+    (sym (c.holds.ensures s ran.ends.1.shows) ∙ c.loop-self-test.true) did.is.0 did.is.1
     c.in_default.not-Full
 
 pub loop-self-preserved : goal.loop-self-preserved
 loop-self-preserved g c = λ from lines stands.
     let ran = c.loop-self.invariant from lines stands in
     let s = seen from (lines ++ ran.block) in
-    let good = good_behind ran.stands.ready ran.stands.made in
+    let good = good_behind ran.ends.1.ready ran.ends.1.made in
     gather_more g.K.Sink.written g.K.Sink.faults c.args.names.now c.args.outbox.now
     c.loop-self.outbox c.collect.new.outbox from lines c.loop-self.self c.collect.new.self
     c.args.node c.collect.result ran
-    (sym (c.holds.ensures s ran.stands.shows) ∙ c.loop-self-test.true) c.in_default.not-Full
-    (c.collect.ensures s ran.stands.shows ran.stands.sent (good_by_priority good))
+    (sym (c.holds.ensures s ran.ends.1.shows) ∙ c.loop-self-test.true) c.in_default.not-Full
+    (c.collect.ensures s ran.ends.1.shows ran.ends.1.sent (good_by_priority good))

@@ -1,4 +1,4 @@
-use Rattle.std.proofs.Common.{List}
+use Rattle.std.proofs.Common.{List, Ok}
 use Rattle.fabric_trace.specs.Known.{Seen}
 use Rattle.fabric_trace.specs.Lines.{TraceLine}
 use Rattle.fabric_ports.specs.Ran.{Ran}
@@ -9,7 +9,7 @@ use Rattle.fabric_ports.proofs.fabric.Fabric.collect_all.Given as goal
 abbrev pub invariant-loop-self : goal.invariant-loop-self
 invariant-loop-self g l = (from : Seen) (lines : List TraceLine) → Stands from lines l.fn.self
     → Ran (CollectsFirst l.node) l.names g.K.Sink.written g.K.Sink.faults l.fn.outbox l.outbox from
-    lines l.self
+    lines (Ok l.self)
 
 abbrev pub decreases-loop-self : goal.decreases-loop-self
 decreases-loop-self g l = held_at l.self l.node

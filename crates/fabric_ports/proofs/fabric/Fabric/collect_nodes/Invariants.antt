@@ -1,4 +1,4 @@
-use Rattle.std.proofs.Common.{List, take}
+use Rattle.std.proofs.Common.{List, take, Ok}
 use Rattle.fabric_trace.specs.Known.{Seen}
 use Rattle.fabric_trace.specs.Lines.{TraceLine}
 use Rattle.fabric_ask.specs.Asks.{CollectNodes}
@@ -9,4 +9,4 @@ use Rattle.fabric_ports.proofs.fabric.Fabric.collect_nodes.Given as goal
 abbrev pub invariant-loop-node : goal.invariant-loop-node
 invariant-loop-node g l = (from : Seen) (lines : List TraceLine) → Stands from lines l.fn.self
     → Ran (λ s block. CollectNodes l.host 0 (take l.node l.fn.self.devices.items) s block) l.names
-    g.K.Sink.written g.K.Sink.faults l.fn.outbox l.outbox from lines l.self
+    g.K.Sink.written g.K.Sink.faults l.fn.outbox l.outbox from lines (Ok l.self)

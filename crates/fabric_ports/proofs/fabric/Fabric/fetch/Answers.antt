@@ -1,13 +1,14 @@
-use Rattle.std.proofs.Common.{◌++◌, List, sym, subst, arith, ◌∙◌}
+use Rattle.std.proofs.Common.{◌++◌, List, sym, subst, arith, ◌∙◌, Ok, Err}
 use Rattle.fabric_ask.specs.Asks.{AskRounds}
 use Rattle.fabric_trace.specs.Fold.{seen}
 use Rattle.fabric_trace.specs.Known.{Seen}
 use Rattle.fabric_trace.specs.Lines.{TraceLine}
 use Rattle.fabric_trace.proofs.Traces.Existing.{ready_on}
 use Rattle.fabric_ports.specs.Fetching.{RoundsLeave}
-use Rattle.fabric_ports.specs.Ran.{Ran, RanEnds}
+use Rattle.fabric_ports.specs.Ran.{Ran}
 use Rattle.fabric_ports.specs.Standing.{Stands}
-use Rattle.fabric_ports.proofs.LeaveLaws.{end_known, end_stays, end_named}
+use Rattle.fabric_ports.proofs.GatherLaws.{endpoint_on}
+use Rattle.fabric_ports.proofs.LeaveLaws.{end_known, end_named}
 use Rattle.fabric_ports.proofs.FetchLaws.{unheld_none, unheld_more, fetched_none, fetched, fetch_ends}
 use Rattle.fabric_ports.proofs.RanLaws.{handed_on}
 use Rattle.fabric_ports.proofs.SettlingLaws.{devices_stay}
@@ -22,12 +23,12 @@ pub ask_round-requires-clause-stands : goal.ask_round-requires-clause-stands
 ask_round-requires-clause-stands g c =
     let known = c.requires.stands in
     let ran = c.loop.invariant known.0 known.1 known.2 in
-    (known.0, known.1 ++ ran.block, ran.stands)
+    (known.0, known.1 ++ ran.block, ran.ends.1)
 
 pub ask_round-requires-clause-named : goal.ask_round-requires-clause-named
 ask_round-requires-clause-named g c =
     let known = c.requires.stands in
-    let same = devices_stay known.2 (c.loop.invariant known.0 known.1 known.2).stands in
+    let same = devices_stay known.2 (c.loop.invariant known.0 known.1 known.2).ends.1 in
     let named = c.requires.named in
     omega (arith, same, named)
 
@@ -35,9 +36,9 @@ pub returns-in_err-ask_round-clause-ended : goal.returns-in_err-ask_round-clause
 returns-in_err-ask_round-clause-ended g c =
     handed_on c.from_residual.result c.in_err-ask_round.field-0.0
     (λ end. (from : Seen) (lines : List TraceLine) → Stands from lines c.args.self.now
-    → RanEnds (AskRounds c.args.host c.args.rounds (g.N.Noise.edits c.args.noise.now))
+    → Ran (AskRounds c.args.host c.args.rounds (g.N.Noise.edits c.args.noise.now))
     c.args.names.now g.K.Sink.written g.K.Sink.faults c.args.outbox.now c.ask_round.new.outbox from
-    lines end)
+    lines (Err end))
     c.from_residual.ensures.1
     (λ from lines stands.
     (let ran = c.loop.invariant from lines stands in
@@ -46,21 +47,21 @@ returns-in_err-ask_round-clause-ended g c =
     c.args.rounds (g.N.Noise.edits c.args.noise.now) (g.N.Noise.edits c.loop.noise)
     c.in_err-ask_round.field-0.0 c.loop-test.true stands
     (end_known c.args.host stands c.requires.endpoint) ran
-    (c.in_err-ask_round.ensures.ended from (lines ++ ran.block) ran.stands)))
+    (c.in_err-ask_round.ensures.ended from (lines ++ ran.block) ran.ends.1)))
 
 pub holds-requires-clause-shown : goal.holds-requires-clause-shown
 holds-requires-clause-shown g c =
     let known = c.requires.stands in
     let ran = c.loop.invariant known.0 known.1 known.2 in
-    let round = c.in_ok-ask_round.ensures.done known.0 (known.1 ++ ran.block) ran.stands in
-    (seen known.0 ((known.1 ++ ran.block) ++ round.block), round.stands.shows)
+    let round = c.in_ok-ask_round.ensures.done known.0 (known.1 ++ ran.block) ran.ends.1 in
+    (seen known.0 ((known.1 ++ ran.block) ++ round.block), round.ends.1.shows)
 
 pub holds-requires-clause-endpoint : goal.holds-requires-clause-endpoint
 holds-requires-clause-endpoint g c =
     let known = c.requires.stands in
     let ran = c.loop.invariant known.0 known.1 known.2 in
-    let round = c.in_ok-ask_round.ensures.done known.0 (known.1 ++ ran.block) ran.stands in
-    end_stays c.args.host known.2 round.stands c.requires.endpoint
+    let round = c.in_ok-ask_round.ensures.done known.0 (known.1 ++ ran.block) ran.ends.1 in
+    endpoint_on c.args.host known.2 round.ends.1 c.requires.endpoint
 
 pub collect-requires-clause-named : goal.collect-requires-clause-named
 collect-requires-clause-named g c =
@@ -70,25 +71,25 @@ pub collect-requires-clause-shown : goal.collect-requires-clause-shown
 collect-requires-clause-shown g c =
     let known = c.requires.stands in
     let ran = c.loop.invariant known.0 known.1 known.2 in
-    let round = c.in_ok-ask_round.ensures.done known.0 (known.1 ++ ran.block) ran.stands in
-    (seen known.0 ((known.1 ++ ran.block) ++ round.block), round.stands.shows)
+    let round = c.in_ok-ask_round.ensures.done known.0 (known.1 ++ ran.block) ran.ends.1 in
+    (seen known.0 ((known.1 ++ ran.block) ++ round.block), round.ends.1.shows)
 
 pub collect-requires-clause-endpoint : goal.collect-requires-clause-endpoint
 collect-requires-clause-endpoint g c =
     let known = c.requires.stands in
     let ran = c.loop.invariant known.0 known.1 known.2 in
-    let round = c.in_ok-ask_round.ensures.done known.0 (known.1 ++ ran.block) ran.stands in
-    end_stays c.args.host known.2 round.stands c.requires.endpoint
+    let round = c.in_ok-ask_round.ensures.done known.0 (known.1 ++ ran.block) ran.ends.1 in
+    endpoint_on c.args.host known.2 round.ends.1 c.requires.endpoint
 
 pub returns-then-holds-clause-done : goal.returns-then-holds-clause-done
 returns-then-holds-clause-done g c = λ from lines stands.
     let ran = c.loop.invariant from lines stands in
-    let round = c.in_ok-ask_round.ensures.done from (lines ++ ran.block) ran.stands in
+    let round = c.in_ok-ask_round.ensures.done from (lines ++ ran.block) ran.ends.1 in
     let t = seen from ((lines ++ ran.block) ++ round.block) in
-    let ready = ready_on round.stands.ready round.stands.made in
+    let ready = ready_on round.ends.1.ready round.ends.1.made in
     subst (λ left. Ran (RoundsLeave c.args.host c.args.rounds
     (g.N.Noise.edits c.args.noise.now) left) c.args.names.now g.K.Sink.written g.K.Sink.faults
-    c.args.outbox.now c.collect.new.outbox from lines c.collect.new.self)
+    c.args.outbox.now c.collect.new.outbox from lines (Ok c.collect.new.self))
     (sym c.left_of.ensures)
     (fetched g.K.Sink.written g.K.Sink.faults c.args.names.now c.args.host c.args.outbox.now
     c.loop.outbox c.ask_round.new.outbox c.collect.new.outbox from lines c.args.self.now c.loop.self
@@ -96,19 +97,19 @@ returns-then-holds-clause-done g c = λ from lines stands.
     (g.N.Noise.edits c.args.noise.now) (g.N.Noise.edits c.loop.noise)
     (g.N.Noise.edits c.ask_round.new.noise) c.collect.result c.loop-test.true stands
     (end_known c.args.host stands c.requires.endpoint) ran round
-    (sym (c.holds.ensures t round.stands.shows) ∙ c.if-holds.true)
-    (c.collect.ensures t round.stands.shows round.stands.sent ready.by_priority))
+    (sym (c.holds.ensures t round.ends.1.shows) ∙ c.if-holds.true)
+    (c.collect.ensures t round.ends.1.shows round.ends.1.sent ready.by_priority))
 
 pub loop-preserved : goal.loop-preserved
 loop-preserved g c = λ from lines stands.
     let ran = c.loop.invariant from lines stands in
-    let round = c.in_ok-ask_round.ensures.done from (lines ++ ran.block) ran.stands in
+    let round = c.in_ok-ask_round.ensures.done from (lines ++ ran.block) ran.ends.1 in
     let t = seen from ((lines ++ ran.block) ++ round.block) in
     unheld_more g.K.Sink.written g.K.Sink.faults c.args.names.now c.args.host c.args.outbox.now
     c.loop.outbox c.ask_round.new.outbox from lines c.args.self.now c.loop.self
     c.ask_round.new.self c.loop.counter (g.N.Noise.edits c.args.noise.now)
     (g.N.Noise.edits c.loop.noise) (g.N.Noise.edits c.ask_round.new.noise) stands ran round
-    (sym (c.holds.ensures t round.stands.shows) ∙ c.if-holds.false)
+    (sym (c.holds.ensures t round.ends.1.shows) ∙ c.if-holds.false)
 
 pub returns-clause-done : goal.returns-clause-done
 returns-clause-done g c = λ from lines stands.

@@ -1,4 +1,4 @@
-use Rattle.std.proofs.Common.{List}
+use Rattle.std.proofs.Common.{List, Ok}
 use Rattle.fabric_ask.specs.Asks.{Unheld}
 use Rattle.fabric_trace.specs.Known.{Seen}
 use Rattle.fabric_trace.specs.Lines.{TraceLine}
@@ -9,4 +9,4 @@ use Rattle.fabric_ports.proofs.fabric.Fabric.fetch.Given as goal
 abbrev pub invariant-loop : goal.invariant-loop
 invariant-loop g l = (from : Seen) (lines : List TraceLine) → Stands from lines l.fn.self
     → Ran (Unheld l.host l.counter (g.N.Noise.edits l.fn.noise) (g.N.Noise.edits l.noise)) l.names
-    g.K.Sink.written g.K.Sink.faults l.fn.outbox l.outbox from lines l.self
+    g.K.Sink.written g.K.Sink.faults l.fn.outbox l.outbox from lines (Ok l.self)

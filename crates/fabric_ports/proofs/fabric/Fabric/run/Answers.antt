@@ -1,9 +1,9 @@
-use Rattle.std.proofs.Common.{◌++◌, List, arith}
+use Rattle.std.proofs.Common.{◌++◌, List, arith, Err}
 use Rattle.fabric_trace.specs.Blocks.{IsSettle}
 use Rattle.fabric_trace.specs.Known.{Seen}
 use Rattle.fabric_trace.specs.Lines.{TraceLine}
 use Rattle.fabric_trace.specs.Rounds.{Rounds}
-use Rattle.fabric_ports.specs.Ran.{RanEnds}
+use Rattle.fabric_ports.specs.Ran.{Ran}
 use Rattle.fabric_ports.specs.Standing.{Stands}
 use Rattle.fabric_ports.proofs.RanLaws.{handed_on, ran_nothing}
 use Rattle.fabric_ports.proofs.RoundLaws.{ran_more, ran_short, ran_all}
@@ -19,12 +19,12 @@ pub settle_all-requires-clause-stands : goal.settle_all-requires-clause-stands
 settle_all-requires-clause-stands g c =
     let known = c.requires.stands in
     let ran = c.loop.invariant known.0 known.1 known.2 in
-    (known.0, known.1 ++ ran.block, ran.stands)
+    (known.0, known.1 ++ ran.block, ran.ends.1)
 
 pub settle_all-requires-clause-named : goal.settle_all-requires-clause-named
 settle_all-requires-clause-named g c =
     let known = c.requires.stands in
-    let same = devices_stay known.2 (c.loop.invariant known.0 known.1 known.2).stands in
+    let same = devices_stay known.2 (c.loop.invariant known.0 known.1 known.2).ends.1 in
     let named = c.requires.named in
     omega (arith, same, named)
 
@@ -32,8 +32,8 @@ pub returns-in_err-settle_all-clause-ended : goal.returns-in_err-settle_all-clau
 returns-in_err-settle_all-clause-ended g c =
     handed_on c.from_residual.result c.in_err-settle_all.field-0.0
     (λ end. (from : Seen) (lines : List TraceLine) → Stands from lines c.args.self.now
-    → RanEnds (Rounds IsSettle c.args.rounds) c.args.names.now g.K.Sink.written g.K.Sink.faults
-    c.args.outbox.now c.settle_all.new.outbox from lines end)
+    → Ran (Rounds IsSettle c.args.rounds) c.args.names.now g.K.Sink.written g.K.Sink.faults
+    c.args.outbox.now c.settle_all.new.outbox from lines (Err end))
     c.from_residual.ensures.1
     (λ from lines stands.
     ran_short g.K.Sink.written g.K.Sink.faults c.args.names.now c.args.outbox.now c.loop.outbox
@@ -45,15 +45,15 @@ pub serve_all-requires-clause-stands : goal.serve_all-requires-clause-stands
 serve_all-requires-clause-stands g c =
     let known = c.requires.stands in
     let ran = c.loop.invariant known.0 known.1 known.2 in
-    let settled = c.in_ok-settle_all.ensures.done known.0 (known.1 ++ ran.block) ran.stands in
-    (known.0, (known.1 ++ ran.block) ++ settled.block, settled.stands)
+    let settled = c.in_ok-settle_all.ensures.done known.0 (known.1 ++ ran.block) ran.ends.1 in
+    (known.0, (known.1 ++ ran.block) ++ settled.block, settled.ends.1)
 
 pub serve_all-requires-clause-named : goal.serve_all-requires-clause-named
 serve_all-requires-clause-named g c =
     let known = c.requires.stands in
     let ran = c.loop.invariant known.0 known.1 known.2 in
-    let settled = c.in_ok-settle_all.ensures.done known.0 (known.1 ++ ran.block) ran.stands in
-    let same = devices_stay known.2 settled.stands in
+    let settled = c.in_ok-settle_all.ensures.done known.0 (known.1 ++ ran.block) ran.ends.1 in
+    let same = devices_stay known.2 settled.ends.1 in
     let named = c.requires.named in
     omega (arith, same, named)
 

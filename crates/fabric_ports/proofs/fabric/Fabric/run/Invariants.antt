@@ -1,4 +1,4 @@
-use Rattle.std.proofs.Common.{List}
+use Rattle.std.proofs.Common.{List, Ok}
 use Rattle.fabric_trace.specs.Blocks.{IsSettle}
 use Rattle.fabric_trace.specs.Known.{Seen}
 use Rattle.fabric_trace.specs.Lines.{TraceLine}
@@ -10,4 +10,4 @@ use Rattle.fabric_ports.proofs.fabric.Fabric.run.Given as goal
 abbrev pub invariant-loop : goal.invariant-loop
 invariant-loop g l = (from : Seen) (lines : List TraceLine) → Stands from lines l.fn.self
     → Ran (Rounds IsSettle l.counter) l.names g.K.Sink.written g.K.Sink.faults l.fn.outbox
-    l.outbox from lines l.self
+    l.outbox from lines (Ok l.self)

@@ -14,7 +14,7 @@ loop-init g c = λ from lines stands.
 pub step-requires-clause-switch : goal.step-requires-clause-switch
 step-requires-clause-switch g c =
     let known = c.requires.stands in
-    switch_stays known.2 (c.loop.invariant known.0 known.1 known.2).stands c.args.node
+    switch_stays known.2 (c.loop.invariant known.0 known.1 known.2).ends.1 c.args.node
     c.requires.switch
 
 pub loop-smaller : goal.loop-smaller
@@ -22,28 +22,28 @@ loop-smaller g c =
     let known = c.requires.stands in
     let ran = c.loop.invariant known.0 known.1 known.2 in
     let s = seen known.0 (known.1 ++ ran.block) in
-    let good = good_behind ran.stands.ready ran.stands.made in
-    let did = c.step.ensures s ran.stands.shows ran.stands.sent (good_by_priority good) in
+    let good = good_behind ran.ends.1.ready ran.ends.1.made in
+    let did = c.step.ensures s ran.ends.1.shows ran.ends.1.sent (good_by_priority good) in
     let own = subst (λ r. IsSwitchStep s.network c.args.node r did.block) c.loop-test.true did.is in
-    held_fewer s c.loop.self c.step.new.self c.args.node did.block good ran.stands.shows did.shows
+    held_fewer s c.loop.self c.step.new.self c.args.node did.block good ran.ends.1.shows did.shows
     own.0 own.1
 
 pub loop-preserved : goal.loop-preserved
 loop-preserved g c = λ from lines stands.
     let ran = c.loop.invariant from lines stands in
-    let good = good_behind ran.stands.ready ran.stands.made in
+    let good = good_behind ran.ends.1.ready ran.ends.1.made in
     serves_more g.K.Sink.written g.K.Sink.faults c.args.names.now c.args.outbox.now c.loop.outbox
     c.step.new.outbox from lines c.loop.self c.step.new.self c.args.node c.step.result
     c.loop-test.true ran
-    (c.step.ensures (seen from (lines ++ ran.block)) ran.stands.shows ran.stands.sent
+    (c.step.ensures (seen from (lines ++ ran.block)) ran.ends.1.shows ran.ends.1.sent
     (good_by_priority good))
 
 pub returns : goal.returns
 returns g c = λ from lines stands.
     let ran = c.loop.invariant from lines stands in
-    let good = good_behind ran.stands.ready ran.stands.made in
+    let good = good_behind ran.ends.1.ready ran.ends.1.made in
     serves_end g.K.Sink.written g.K.Sink.faults c.args.names.now c.args.outbox.now c.loop.outbox
     c.step.new.outbox from lines c.loop.self c.step.new.self c.args.node c.step.result
     c.loop-test.false ran
-    (c.step.ensures (seen from (lines ++ ran.block)) ran.stands.shows ran.stands.sent
+    (c.step.ensures (seen from (lines ++ ran.block)) ran.ends.1.shows ran.ends.1.sent
     (good_by_priority good))

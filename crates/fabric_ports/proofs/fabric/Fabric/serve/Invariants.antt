@@ -1,4 +1,4 @@
-use Rattle.std.proofs.Common.{List}
+use Rattle.std.proofs.Common.{List, Ok}
 use Rattle.fabric_trace.specs.Known.{Seen}
 use Rattle.fabric_trace.specs.Lines.{TraceLine}
 use Rattle.fabric_ports.specs.Ran.{Ran}
@@ -9,7 +9,7 @@ use Rattle.fabric_ports.proofs.fabric.Fabric.serve.Given as goal
 abbrev pub invariant-loop : goal.invariant-loop
 invariant-loop g l = (from : Seen) (lines : List TraceLine) → Stands from lines l.fn.self
     → Ran (ServesFirst l.node) l.names g.K.Sink.written g.K.Sink.faults l.fn.outbox l.outbox from
-    lines l.self
+    lines (Ok l.self)
 
 abbrev pub decreases-loop : goal.decreases-loop
 decreases-loop g l = held_by l.self l.node

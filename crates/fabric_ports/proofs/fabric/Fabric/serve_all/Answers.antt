@@ -1,82 +1,62 @@
-use Rattle.std.proofs.Common.{◌≡◌, ◌<◌, ◌+◌, ◌++◌, length, take, rules, arith, vec_len, true, false, sym, ap, ◌∙◌, subst}
+use Rattle.std.proofs.Common.{◌≡◌, ◌++◌, length, take, rules, arith, vec_len, true, false, sym, ap, ◌∙◌}
 use Rattle.std.proofs.lemmas.List.{take_all}
 use Rattle.std.proofs.lemmas.Option.{slice_get-get_or}
 use Rattle.std.proofs.Common.{Some}
 use Rattle.fabric_trace.specs.Rounds.{ServeNodes}
-use Rattle.fabric_ports.specs.Ran.{Ran}
-use Rattle.fabric_ports.specs.declared.fabric.Fabric.{Fabric}
-use Rattle.fabric_ports.proofs.RoundLaws.{next_node, served_more, served_none, served_all}
-use Rattle.fabric_ports.proofs.SettlingLaws.{devices_stay}
+use Rattle.fabric_ports.specs.Ran.{Serves}
+use Rattle.fabric_ports.proofs.RoundLaws.{nodes_append, node_serves, node_rests, next_node, nodes_on, nodes_none, nodes_all}
+use Rattle.fabric_ports.proofs.SettlingLaws.{devices_within}
 use Rattle.fabric_ports.proofs.fabric.Fabric.serve_all.Goals as goal
 use Rattle.fabric_ports.proofs.fabric.Fabric.serve_all.Goals.{then-is_switch, else-is_switch}
 
 pub index-requires : goal.index-requires
 index-requires g c =
     let known = c.requires.stands in
-    let same = devices_stay known.2 (c.loop-node.invariant known.0 known.1 known.2).stands in
     let end = c.len-node-end.ensures in
     let test = c.loop-node-test.true in
-    let counted : vec_len c.args.self.now.devices ≡ length c.args.self.now.devices.items =
-    search rules in
-    let here : c.loop-node.node < length c.loop-node.self.devices.items =
-    omega (arith, same, end, test, counted) in
+    let within = devices_within c.loop-node.node known.2
+    (c.loop-node.invariant known.0 known.1 known.2).ends.1 (omega (arith, end, test)) in
     search rules
 
 pub serve-requires-clause-switch : goal.serve-requires-clause-switch
 serve-requires-clause-switch g c =
     let known = c.requires.stands in
-    let same = devices_stay known.2 (c.loop-node.invariant known.0 known.1 known.2).stands in
     let end = c.len-node-end.ensures in
     let test = c.loop-node-test.true in
-    let counted : vec_len c.args.self.now.devices ≡ length c.args.self.now.devices.items =
-    search rules in
+    let within = devices_within c.loop-node.node known.2
+    (c.loop-node.invariant known.0 known.1 known.2).ends.1 (omega (arith, end, test)) in
     record {
       device = c.index.result.now;
       stands = slice_get-get_or c.loop-node.self.devices.items c.loop-node.node c.index.result.now
-          (omega (arith, same, end, test, counted)) ∙ ap Some (sym c.index.ensures);
+          within ∙ ap Some (sym c.index.ensures);
       kind = sym c.is_switch.ensures ∙ c.if-is_switch.true;
     }
 
 pub loop-node-preserved : goal.loop-node-preserved
 loop-node-preserved g c = λ from lines stands.
     let ran = c.loop-node.invariant from lines stands in
-    let same = devices_stay stands ran.stands in
     let end = c.len-node-end.ensures in
     let test = c.loop-node-test.true in
-    let counted : vec_len c.args.self.now.devices ≡ length c.args.self.now.devices.items =
-    search rules in
-    let within : c.loop-node.node < length c.loop-node.self.devices.items =
-    omega (arith, same, end, test, counted) in
+    let within = devices_within c.loop-node.node stands ran.ends.1 (omega (arith, end, test)) in
     elim c.if-is_switch.branch [
       | then-is_switch w ↦
-          subst (λ (f : Fabric). Ran
-          (ServeNodes 0 (take (c.loop-node.node + 1) c.args.self.now.devices.items))
-          c.args.names.now g.K.Sink.written g.K.Sink.faults c.args.outbox.now
-          c.if-is_switch.outbox from lines f) (sym w.self-is)
-          (subst (λ o. Ran
-          (ServeNodes 0 (take (c.loop-node.node + 1) c.args.self.now.devices.items))
-          c.args.names.now g.K.Sink.written g.K.Sink.faults c.args.outbox.now o from lines
-          w.serve.new.self) (sym w.outbox-is)
-          (served_more g.K.Sink.written g.K.Sink.faults c.args.names.now c.args.outbox.now
-          c.loop-node.outbox w.serve.new.outbox from lines c.args.self.now c.loop-node.self
-          w.serve.new.self c.loop-node.node c.args.self.now.devices.items stands
-          (next_node c.loop-node.node c.index.result.now true stands ran.stands c.index.ensures
-          within (sym c.is_switch.ensures ∙ w.if-is_switch.true)) ran
-          (w.serve.ensures from (lines ++ ran.block) ran.stands)))
+          let node = next_node c.loop-node.node c.index.result.now true stands ran.ends.1
+          c.index.ensures within (sym c.is_switch.ensures ∙ w.if-is_switch.true) in
+          rw (w.self-is, w.outbox-is)
+          (nodes_on g.K.Sink.written g.K.Sink.faults c.args.names.now ServeNodes nodes_append from
+          lines c.args.self.now c.loop-node.self c.args.self.now.devices.items stands
+          (Serves c.loop-node.node) c.args.outbox.now c.loop-node.outbox w.serve.new.outbox
+          w.serve.new.self c.loop-node.node true node
+          (λ s block own. node_serves node.device c.loop-node.node s block node.is own) ran
+          (w.serve.ensures from (lines ++ ran.block) ran.ends.1))
       | else-is_switch w ↦
-          subst (λ (f : Fabric). Ran
-          (ServeNodes 0 (take (c.loop-node.node + 1) c.args.self.now.devices.items))
-          c.args.names.now g.K.Sink.written g.K.Sink.faults c.args.outbox.now
-          c.if-is_switch.outbox from lines f) (sym w.self-is)
-          (subst (λ o. Ran
-          (ServeNodes 0 (take (c.loop-node.node + 1) c.args.self.now.devices.items))
-          c.args.names.now g.K.Sink.written g.K.Sink.faults c.args.outbox.now o from lines
-          c.loop-node.self) (sym w.outbox-is)
-          (served_none g.K.Sink.written g.K.Sink.faults c.args.names.now c.args.outbox.now
-          c.loop-node.outbox from lines c.args.self.now c.loop-node.self c.loop-node.node
-          c.args.self.now.devices.items stands
-          (next_node c.loop-node.node c.index.result.now false stands ran.stands c.index.ensures
-          within (sym c.is_switch.ensures ∙ w.if-is_switch.false)) ran))
+          let node = next_node c.loop-node.node c.index.result.now false stands ran.ends.1
+          c.index.ensures within (sym c.is_switch.ensures ∙ w.if-is_switch.false) in
+          rw (w.self-is, w.outbox-is)
+          (nodes_none g.K.Sink.written g.K.Sink.faults c.args.names.now ServeNodes nodes_append from
+          lines c.args.self.now c.loop-node.self c.args.self.now.devices.items stands
+          c.args.outbox.now c.loop-node.outbox c.loop-node.node false node
+          (λ s block own. node_rests node.device c.loop-node.node s block node.is own) ran)
     ]
 
 pub returns : goal.returns
@@ -85,8 +65,8 @@ returns g c = λ from lines stands.
     let test = c.loop-node-test.false in
     let counted : vec_len c.args.self.now.devices ≡ length c.args.self.now.devices.items =
     search rules in
-    served_all g.K.Sink.written g.K.Sink.faults c.args.names.now c.args.outbox.now
-    c.loop-node.outbox from lines c.args.self.now c.loop-node.self
-    (take c.loop-node.node c.args.self.now.devices.items) stands
+    nodes_all g.K.Sink.written g.K.Sink.faults c.args.names.now ServeNodes nodes_append from lines
+    c.args.self.now c.loop-node.self (take c.loop-node.node c.args.self.now.devices.items) stands
+    c.args.outbox.now c.loop-node.outbox
     (take_all c.loop-node.node c.args.self.now.devices.items (omega (arith, end, test, counted)))
     (c.loop-node.invariant from lines stands)

@@ -1,4 +1,4 @@
-use Rattle.std.proofs.Common.{List, take}
+use Rattle.std.proofs.Common.{List, take, Ok}
 use Rattle.fabric_trace.specs.Blocks.{IsSettle}
 use Rattle.fabric_trace.specs.Known.{Seen}
 use Rattle.fabric_trace.specs.Lines.{TraceLine}
@@ -10,4 +10,4 @@ use Rattle.fabric_ports.proofs.fabric.Fabric.settle_all.Given as goal
 abbrev pub invariant-loop-place : goal.invariant-loop-place
 invariant-loop-place g l = (from : Seen) (lines : List TraceLine) → Stands from lines l.fn.self
     → Ran (λ s block. SettleAll IsSettle (take l.place from.network.links) s block) l.names
-    g.K.Sink.written g.K.Sink.faults l.fn.outbox l.outbox from lines l.self
+    g.K.Sink.written g.K.Sink.faults l.fn.outbox l.outbox from lines (Ok l.self)

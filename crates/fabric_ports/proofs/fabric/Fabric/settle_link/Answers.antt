@@ -1,22 +1,22 @@
-use Rattle.std.proofs.Common.{List, sym, ◌∙◌}
+use Rattle.std.proofs.Common.{List, Err, sym, ◌∙◌}
 use Rattle.fabric_script.specs.declared.lines.Line.TheVariants.{Settle}
 use Rattle.fabric_trace.specs.Known.{Seen}
 use Rattle.fabric_trace.specs.Lines.{TraceLine}
-use Rattle.fabric_ports.specs.Blocked.{BlockEnds}
+use Rattle.fabric_ports.specs.Ran.{Ran, Blocks}
 use Rattle.fabric_ports.specs.Standing.{Stands}
-use Rattle.fabric_ports.proofs.ActionLaws.{failed_behind}
-use Rattle.fabric_ports.proofs.RanLaws.{handed_on}
+use Rattle.fabric_ports.proofs.RanLaws.{handed_on, failed_behind}
 use Rattle.fabric_ports.proofs.fabric.Fabric.settle_link.Goals as goal
 
 pub returns-in_err-act-clause-ended : goal.returns-in_err-act-clause-ended
 returns-in_err-act-clause-ended g c =
     handed_on c.from_residual.result c.in_err-act.field-0.0
     (λ end. (from : Seen) (lines : List TraceLine) → Stands from lines c.args.self.now
-    → BlockEnds (Settle c.args.port) c.args.names.now g.K.Sink.written g.K.Sink.faults
-    c.args.outbox.now c.act.new.outbox from lines end)
+    → Ran (Blocks (Settle c.args.port)) c.args.names.now g.K.Sink.written g.K.Sink.faults
+    c.args.outbox.now c.act.new.outbox from lines (Err end))
     c.from_residual.ensures.1 c.in_err-act.ensures.ended
 
 pub returns-then-failed-clause-ended : goal.returns-then-failed-clause-ended
 returns-then-failed-clause-ended g c = λ from lines stands.
-    failed_behind (c.in_ok-act.ensures.done from lines stands)
-    (sym c.failed.ensures ∙ c.if-failed.true)
+    failed_behind g.K.Sink.written g.K.Sink.faults c.args.names.now (Blocks (Settle c.args.port))
+    c.args.outbox.now c.act.new.outbox from lines c.act.new.self
+    (sym c.failed.ensures ∙ c.if-failed.true) (c.in_ok-act.ensures.done from lines stands)

@@ -1,6 +1,6 @@
 use Rattle.std.proofs.Common.{◌≡◌, ◌<◌, length, refl, arith}
 use Rattle.fabric_trace.specs.Fold.{seen}
-use Rattle.fabric_ports.proofs.CarriedLaws.{on_ok, if_err}
+use Rattle.fabric_ports.proofs.RanLaws.{on_ok, if_err}
 use Rattle.fabric_ports.proofs.StirLaws.{stir_empty, stir_none, stir_some, stir_ends}
 use Rattle.fabric_ports.proofs.fabric.Fabric.stir.Goals as goal
 
