@@ -91,22 +91,41 @@ found-as topology later now host_id other devices switch is same found =
     subst (λ t. IsFound t now other devices switch) (sym is)
     (subst (λ n. IsFound topology now n devices switch) (sym same) found)
 
-module _ (topology : Topology) (host_id port : ℕ) (switch : Found)
-    (one : Topology) (one_id : ℕ) (is_one : one ≡ topology) (is_id : one_id ≡ host_id)
-    (now looked : AllRegisters) (devices devices_looked : List Device) (next next_looked : ℕ)
-    (found : IsFound topology now host_id devices switch)
-    (answer : Option Found)
-    (behind : (before : AllRegisters)
-    → IsUnderway one before now one_id devices next (onward switch.path port)
-    → IsUnderwayBehind one before looked one_id devices_looked next_looked switch.path port answer)
-    (is_found : IsFoundBehind one looked one_id devices devices_looked switch.path port answer)
+-- A port of a switch was looked behind. What that call says is said of its own arguments.
+pub record PortLooked (topology one : Topology) (host_id one_id port next next_looked : ℕ)
+    (switch : Found) (now looked : AllRegisters) (devices devices_looked : List Device)
+    (answer : Option Found) : Type 0 where
+  pub is_one : one ≡ topology
+  pub is_id : one_id ≡ host_id
+  pub found : IsFound topology now host_id devices switch
+  pub behind : (before : AllRegisters)
+      → IsUnderway one before now one_id devices next (onward switch.path port)
+      → IsUnderwayBehind one before looked one_id devices_looked next_looked switch.path port answer
+  pub is_found : IsFoundBehind one looked one_id devices devices_looked switch.path port answer
+
+-- The ports of a switch that was found there were tried.
+pub record ChildExplored (topology two : Topology) (host_id two_id next_looked next_after : ℕ)
+    (child : Found) (looked after : AllRegisters) (devices_looked devices_after : List Device)
+    : Type 0 where
+  pub is_two : two ≡ topology
+  pub is_two_id : two_id ≡ host_id
+  pub explored : (before : AllRegisters)
+      → IsUnderway two before looked two_id devices_looked next_looked (onward child.path 0)
+      → IsUnderway two before after two_id devices_after next_after
+      (onward child.path child.ports)
+  pub found_after : IsFound two after two_id devices_after child
+
+module _ {topology one : Topology} {host_id one_id port next next_looked : ℕ} {switch : Found}
+    {now looked : AllRegisters} {devices devices_looked : List Device} {answer : Option Found}
+    (look : PortLooked topology one host_id one_id port next next_looked switch now looked devices
+    devices_looked answer)
   where
     known : IsFoundBehind topology looked host_id devices devices_looked switch.path port answer
     known =
         subst (λ n. IsFoundBehind topology looked n devices devices_looked switch.path port answer)
-        is_id
+        look.is_id
         (subst (λ t. IsFoundBehind t looked one_id devices devices_looked switch.path port answer)
-        is_one is_found)
+        look.is_one look.is_found)
 
     behind_here : (before : AllRegisters)
         → IsUnderway topology before now host_id devices next (onward switch.path port)
@@ -115,18 +134,19 @@ module _ (topology : Topology) (host_id port : ℕ) (switch : Found)
         answer
     behind_here before underway =
         subst (λ n. IsUnderwayBehind topology before looked n devices_looked next_looked switch.path
-        port answer) is_id
+        port answer) look.is_id
         (subst (λ t. IsUnderwayBehind t before looked one_id devices_looked next_looked switch.path
-        port answer) is_one
-        (behind before (underway-as topology one before now host_id one_id next devices
-        (onward switch.path port) is_one is_id underway)))
+        port answer) look.is_one
+        (look.behind before (underway-as topology one before now host_id one_id next devices
+        (onward switch.path port) look.is_one look.is_id underway)))
 
     -- nothing new is behind the port
     pub found_past : answer ≡ None → IsFound topology looked host_id devices_looked switch
     found_past is =
         let facts = subst (λ a. IsFoundBehind topology looked host_id devices devices_looked
         switch.path port a) is known in
-        found_later topology now looked host_id devices devices_looked switch found facts.0 facts.1
+        found_later topology now looked host_id devices devices_looked switch look.found
+        facts.0 facts.1
 
     pub underway_past : answer ≡ None → (before : AllRegisters)
         → IsUnderway topology before now host_id devices next (onward switch.path port)
@@ -137,7 +157,7 @@ module _ (topology : Topology) (host_id port : ℕ) (switch : Found)
         switch.path port a) is (behind_here before underway)
 
     -- a switch is
-    module _ (child : Found) (is : answer ≡ Some child) where
+    module _ {child : Found} (is : answer ≡ Some child) where
       facts : IsFound topology looked host_id devices_looked child
           × (child.path ≡ onward switch.path port) × (length devices < length devices_looked)
       facts = subst (λ a. IsFoundBehind topology looked host_id devices devices_looked
@@ -165,17 +185,15 @@ module _ (topology : Topology) (host_id port : ℕ) (switch : Found)
           (child_underway before underway)
 
       -- and its ports were tried
-      module _ (two : Topology) (two_id : ℕ) (is_two : two ≡ topology)
-          (is_two_id : two_id ≡ host_id)
-          (after : AllRegisters) (devices_after : List Device) (next_after : ℕ)
-          (explored : (before : AllRegisters)
-          → IsUnderway two before looked two_id devices_looked next_looked (onward child.path 0)
-          → IsUnderway two before after two_id devices_after next_after
-          (onward child.path child.ports))
-          (found_after : IsFound two after two_id devices_after child) where
+      module _ {two : Topology} {two_id next_after : ℕ} {after : AllRegisters}
+          {devices_after : List Device}
+          (done : ChildExplored topology two host_id two_id next_looked next_after child
+          looked after
+          devices_looked devices_after) where
         child_after : IsFound topology after host_id devices_after child
-        child_after = found-as two topology after two_id host_id devices_after child (sym is_two)
-            (sym is_two_id) found_after
+        child_after = found-as two topology after two_id host_id devices_after child
+            (sym done.is_two)
+            (sym done.is_two_id) done.found_after
 
         explored_here : (before : AllRegisters)
             → IsUnderway topology before now host_id devices next (onward switch.path port)
@@ -183,9 +201,9 @@ module _ (topology : Topology) (host_id port : ℕ) (switch : Found)
             (onward child.path child.ports)
         explored_here before underway =
             underway-from topology two before after host_id two_id next_after devices_after
-            (onward child.path child.ports) is_two is_two_id
-            (explored before (underway-as topology two before looked host_id two_id next_looked
-            devices_looked (onward child.path 0) is_two is_two_id
+            (onward child.path child.ports) done.is_two done.is_two_id
+            (done.explored before (underway-as topology two before looked host_id two_id next_looked
+            devices_looked (onward child.path 0) done.is_two done.is_two_id
             (child_underway before underway)))
 
         pub underway_back : (before : AllRegisters)
@@ -193,23 +211,23 @@ module _ (topology : Topology) (host_id port : ℕ) (switch : Found)
             → IsUnderway topology before after host_id devices_after next_after
             (onward switch.path (port + 1))
         underway_back before underway =
-            let done = explored_here before underway in
+            let went = explored_here before underway in
             underway-closed topology before after host_id next_after devices_after switch.path
             child_after.at port child.ports
             (subst (λ l. IsUnderway topology before after host_id devices_after next_after
-            (onward l child.ports)) facts.1 done)
+            (onward l child.ports)) facts.1 went)
             (ap (λ l. entered topology l) (sym facts.1) ∙ child_after.leads)
             (followed-ports topology child_after.at.node child.ports
             (apart_from_host topology child_after.at.node child.ports
-            done.proper.host_is_endpoint child_after.switch) child_after.switch)
+            went.proper.host_is_endpoint child_after.switch) child_after.switch)
 
         pub found_back : (before : AllRegisters)
             → IsUnderway topology before now host_id devices next (onward switch.path port)
             → IsFound topology after host_id devices_after switch
         found_back before underway =
-            let done = explored_here before underway in
-            found_later topology now after host_id devices devices_after switch found
+            let went = explored_here before underway in
+            found_later topology now after host_id devices devices_after switch look.found
             (opened-front topology after host_id switch.path (port ∷ [])
             (subst (λ l. IsOpened topology after host_id l) facts.1 child_after.opened))
-            (done.walked.fronts switch.path port
+            (went.walked.fronts switch.path port
             (subst (λ l. Contains (paths_of devices_after) l) facts.1 child_after.listed))

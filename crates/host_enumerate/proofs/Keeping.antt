@@ -69,10 +69,13 @@ held-255 host_id port devices member before now is_id held = record {
 module _ (topology : Topology) (before now : AllRegisters) (host_id next : ℕ)
     (devices : List Device) (bound : List ℕ)
     (underway : IsUnderway topology before now host_id devices next bound) where
-  -- equal registers
-  pub underway-same : (after : AllRegisters) → AreSame now after
+  -- other registers now
+  underway_with : (after : AllRegisters) → ((member : Device) (node : ℕ) → Contains devices member
+      → node_at topology member.path ≡ Some node
+      → IsHeld host_id devices member (before node) (after node))
+      → ((node : ℕ) → IsUnmet topology devices node → after node ≡ before node)
       → IsUnderway topology before after host_id devices next bound
-  underway-same after same = record {
+  underway_with after held others = record {
     proper = underway.proper;
     id = underway.id;
     host_has_id = underway.host_has_id;
@@ -81,31 +84,29 @@ module _ (topology : Topology) (before now : AllRegisters) (host_id next : ℕ)
     described = underway.described;
     counted = underway.counted;
     short = underway.short;
-    held = λ member node listed is.
-        subst (λ d. IsHeld host_id devices member (before node) d) (sym (same node))
-        (underway.held member node listed is);
-    others = λ node unmet. same node ∙ underway.others node unmet;
+    held = held;
+    others = others;
   }
+
+  -- equal registers
+  pub underway-same : (after : AllRegisters) → AreSame now after
+      → IsUnderway topology before after host_id devices next bound
+  underway-same after same = underway_with after
+      (λ member node listed is.
+      subst (λ d. IsHeld host_id devices member (before node) d) (sym (same node))
+      (underway.held member node listed is))
+      (λ node unmet. same node ∙ underway.others node unmet)
 
   -- the entry of 255 of a device that was met
   pub underway-255 : (after : AllRegisters) (member : Device) (node port : ℕ)
       → Contains devices member → node_at topology member.path ≡ Some node
       → Becomes now after node (with_entry (now node) 255 port)
       → IsUnderway topology before after host_id devices next bound
-  underway-255 after member node port listed is becomes = record {
-    proper = underway.proper;
-    id = underway.id;
-    host_has_id = underway.host_has_id;
-    untagged = underway.untagged;
-    walked = underway.walked;
-    described = underway.described;
-    counted = underway.counted;
-    short = underway.short;
-    held = λ other place within at. held other place within at (cases_eq place node);
-    others = λ place unmet. elsewhere place
-        (λ same. unmet member listed (is ∙ ap (λ n. Some n) (sym same)))
-        ∙ underway.others place unmet;
-  }
+  underway-255 after member node port listed is becomes = underway_with after
+      (λ other place within at. held other place within at (cases_eq place node))
+      (λ place unmet. elsewhere place
+      (λ same. unmet member listed (is ∙ ap (λ n. Some n) (sym same)))
+      ∙ underway.others place unmet)
     where
       elsewhere : (place : ℕ) → place ≢ node → after place ≡ now place
       elsewhere place apart =

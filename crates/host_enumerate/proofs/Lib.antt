@@ -13,6 +13,7 @@ pub mod Keeping
 pub mod Asked
 pub mod Finishing
 pub mod Opening
+pub mod Carrying
 mod Entries
 pub mod Routing
 mod Giving

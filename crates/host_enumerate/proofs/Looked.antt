@@ -1,7 +1,5 @@
 -- What the call that tries a port of a switch knows.
-use Rattle.std.proofs.Common.{◌≡◌, ◌≢◌, ℕ, ◌+◌, ◌<◌, ◌≤◌, List, [], ◌∷◌, length, Contains, Option, Some, None, Result, Ok, Err, IfErr, arith, sym, ap, subst}
-use Rattle.std.specs.Result.{IsErrAnd}
-use Rattle.link_model.specs.declared.event.Event.{Event}
+use Rattle.std.proofs.Common.{◌≡◌, ◌≢◌, ℕ, ◌+◌, ◌<◌, ◌≤◌, List, [], ◌∷◌, length, Contains, Option, Some, None, arith, sym, ap, subst}
 use Rattle.fabric_script.specs.declared.ports.PortRef.{PortRef}
 use Rattle.fabric_script.specs.Ports.{port_at}
 use Rattle.fabric_map.specs.declared.map.Kind.{Kind}
@@ -13,35 +11,15 @@ use Rattle.fabric_map.specs.Routes.{AllRegisters}
 use Rattle.fabric_map.specs.Fitting.{Fits}
 use Rattle.fabric_map.specs.Ways.{IsOpened}
 use Rattle.fabric_map.specs.Numbered.{paths_of}
-use Rattle.host_enumerate.specs.declared.ends.EnumEnd.{EnumEnd}
-use Rattle.host_enumerate.specs.declared.ends.EnumEnd.TheVariants.{LockedBy, Undetected, WriteFault, NoMemory}
 use Rattle.host_enumerate.specs.declared.walk.Found.{Found}
 use Rattle.host_enumerate.specs.Asking.{IsAskable, AreSame, Becomes}
 use Rattle.host_enumerate.specs.Setting.{with_entry}
 use Rattle.host_enumerate.specs.Underway.{IsUnderway}
 use Rattle.host_enumerate.specs.TakingIn.{IsTried}
 use Rattle.host_enumerate.specs.Founds.{IsFound}
-use Rattle.host_enumerate.specs.Ends.{IsEnded}
+use Rattle.host_enumerate.proofs.Tried.{PathTried}
 use Rattle.host_enumerate.proofs.Routing.{opened-front}
 use Rattle.host_enumerate.proofs.Looking.{underway_then, behind_askable, met_passed, one_more, endpoint_passed, path_still, switch_found}
-
--- an end stays one if the call began earlier
-pub ended_longer : (first before after faults_first faults faults_after : ℕ)
-    (met : PortRef → Event → Type 0) (P Q : List ℕ → ℕ → Type 0) (end : EnumEnd)
-    → before ≡ first → faults ≡ faults_first
-    → ((path : List ℕ) (id : ℕ) → P path id → Q path id)
-    → IsEnded (before, after) (faults, faults_after) met P end
-    → IsEnded (first, after) (faults_first, faults_after) met Q end
-ended_longer first before after faults_first faults faults_after met P Q end same equal on ended =
-    subst (λ n. IsEnded (n, after) (faults_first, faults_after) met Q end) same
-    (subst (λ n. IsEnded (before, after) (n, faults_after) met Q end) equal (go end ended))
-  where
-    go : (end : EnumEnd) → IsEnded (before, after) (faults, faults_after) met P end
-        → IsEnded (before, after) (faults, faults_after) met Q end
-    go (LockedBy path id) ended = (on path id ended.0, ended.1, ended.2)
-    go (Undetected port event) ended = ended
-    go WriteFault ended = ended
-    go NoMemory ended = ended
 
 -- A switch that was found sends on through a port that has a link.
 pub record IsSetTo (topology later_topology : Topology) (now mid later : AllRegisters)
@@ -80,12 +58,10 @@ module _ {topology later_topology : Topology} {now mid later : AllRegisters} {ho
       set.link.0 set.same set.becomes set.link.1 set.below set.apart fits
       (subst (λ t. Fits t later) set.is_topology fits_later)))
 
-  module _ (after : AllRegisters) (devices_after : List Device) (next_after : ℕ)
-      (kind : Option Kind)
-      (tried : (before : AllRegisters)
-      → IsUnderway later_topology before later host_id devices next path
-      → IsTried later_topology before after host_id devices devices_after next next_after path kind)
-      (opened : IsOpened later_topology after host_id path) where
+  module _ {after : AllRegisters} {devices_after : List Device} {next_after : ℕ}
+      {kind : Option Kind}
+      (met : PathTried later_topology later after host_id next next_after devices devices_after path
+      kind) where
     tried_here : (before : AllRegisters)
         → IsUnderway topology before now host_id devices next (onward switch.path port)
         → IsTried topology before after host_id devices devices_after next next_after
@@ -94,12 +70,12 @@ module _ {topology later_topology : Topology} {now mid later : AllRegisters} {ho
         subst (λ l. IsTried topology before after host_id devices devices_after next next_after l
         kind) set.is_path
         (subst (λ t. IsTried t before after host_id devices devices_after next next_after path kind)
-        set.is_topology (tried before (underway_here before underway)))
+        set.is_topology (met.tried before (underway_here before underway)))
 
     opened_here : IsOpened topology after host_id (onward switch.path port)
     opened_here =
         subst (λ l. IsOpened topology after host_id l) set.is_path
-        (subst (λ t. IsOpened t after host_id path) set.is_topology opened)
+        (subst (λ t. IsOpened t after host_id path) set.is_topology met.opened)
 
     none_tried : kind ≡ None → (before : AllRegisters)
         → IsUnderway topology before now host_id devices next (onward switch.path port)
@@ -200,9 +176,3 @@ module _ {topology later_topology : Topology} {now mid later : AllRegisters} {ho
           set.is_path,
           some_more is_kind is,
         )
-
--- what a `?` hands on
-pub handed_on : {X : Type 0} (r : Result X EnumEnd) (end : EnumEnd) (P : EnumEnd → Type 0)
-    → IsErrAnd r (λ y. y ≡ end) → P end → IfErr r P
-handed_on (Ok x) end P gives holds = absurd gives
-handed_on (Err y) end P gives holds = subst P (sym gives) holds

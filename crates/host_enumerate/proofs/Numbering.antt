@@ -27,44 +27,57 @@ can_read topology registers path proper fits empty = (
   own_answers topology registers proper fits,
 )
 
-module _ (topology one : Topology) (before now : AllRegisters) (path : List ℕ) (value : ℕ)
-    (proper : IsTopology topology) (fits : Fits topology before) (empty : path ≡ [])
-    (is_one : one ≡ topology) (same : AreSame before now)
-    (told : (at : PortRef) → entered topology path ≡ Some at
-    → value_at (before at.node) 0x60 at.port ≡ Some value) where
+-- The host has read its own ID.
+pub record OwnIdRead (topology one : Topology) (before now : AllRegisters) (path : List ℕ)
+    (value : ℕ) : Type 0 where
+  pub proper : IsTopology topology
+  pub fits : Fits topology before
+  pub empty : path ≡ []
+  pub is_one : one ≡ topology
+  pub same : AreSame before now
+  pub told : (at : PortRef) → entered topology path ≡ Some at
+      → value_at (before at.node) 0x60 at.port ≡ Some value
+  pub below : (before topology.host).base_id < 255
+  pub untagged : AreUntagged topology before
+
+-- And then all devices were numbered.
+pub record AllNumbered (one two : Topology) (now after : AllRegisters) (value : ℕ)
+    (devices : List Device) : Type 0 where
+  pub is_two : two ≡ one
+  pub fits_after : Fits two after
+  pub numbered : (before : AllRegisters) → IsUnderway one before now (value / 65536) [] 0 []
+      → (next : ℕ) × IsUnderway one before after (value / 65536) devices next after_all_paths
+
+module _ {topology one : Topology} {before now : AllRegisters} {path : List ℕ} {value : ℕ}
+    (own : OwnIdRead topology one before now path value) where
   is_id : value / 65536 ≡ (before topology.host).base_id
-  is_id = own_id topology before value proper fits
-      (told (port_at topology.host 0) (ap (λ l. entered topology l) empty))
+  is_id = own_id topology before value own.proper own.fits
+      (own.told (port_at topology.host 0) (ap (λ l. entered topology l) own.empty))
 
   pub id_fits : value / 65536 < 256
-  id_fits = subst (λ n. n < 256) (sym is_id) (fits.ids topology.host proper.host)
+  id_fits = subst (λ n. n < 256) (sym is_id) (own.fits.ids topology.host own.proper.host)
 
-  module _ (below : (before topology.host).base_id < 255)
-      (untagged : AreUntagged topology before) where
-    pub underway_first : IsUnderway one before now (value / 65536) [] 0 []
-    underway_first =
-        subst (λ t. IsUnderway t before now (value / 65536) [] 0 []) (sym is_one)
-        (begun topology before now (value / 65536) proper (sym is_id)
-        (subst (λ n. n < 255) (sym is_id) below) untagged same)
+  pub underway_first : IsUnderway one before now (value / 65536) [] 0 []
+  underway_first =
+      subst (λ t. IsUnderway t before now (value / 65536) [] 0 []) (sym own.is_one)
+      (begun topology before now (value / 65536) own.proper (sym is_id)
+      (subst (λ n. n < 255) (sym is_id) own.below) own.untagged own.same)
 
-    module _ (two : Topology) (after : AllRegisters) (devices : List Device) (is_two : two ≡ one)
-        (fits_after : Fits two after)
-        (numbered : (before : AllRegisters) → IsUnderway one before now (value / 65536) [] 0 []
-        → (next : ℕ) × IsUnderway one before after (value / 65536) devices next
-        after_all_paths) where
-      done : (next : ℕ)
-          × IsUnderway topology before after (value / 65536) devices next after_all_paths
-      done =
-          subst (λ t. (next : ℕ)
-          × IsUnderway t before after (value / 65536) devices next after_all_paths) is_one
-          (numbered before underway_first)
+  module _ {two : Topology} {after : AllRegisters} {devices : List Device}
+      (all : AllNumbered one two now after value devices) where
+    done : (next : ℕ)
+        × IsUnderway topology before after (value / 65536) devices next after_all_paths
+    done =
+        subst (λ t. (next : ℕ)
+        × IsUnderway t before after (value / 65536) devices next after_all_paths) own.is_one
+        (all.numbered before underway_first)
 
-      fits_now : Fits topology after
-      fits_now = subst (λ t. Fits t after) (is_two ∙ is_one) fits_after
+    fits_now : Fits topology after
+    fits_now = subst (λ t. Fits t after) (all.is_two ∙ own.is_one) all.fits_after
 
-      pub is_numbered : IsNumbered topology devices (entries_of devices) before after
-      is_numbered = underway-numbered topology before after (value / 65536) done.0 devices done.1
-          fits_now
+    pub is_numbered : IsNumbered topology devices (entries_of devices) before after
+    is_numbered = underway-numbered topology before after (value / 65536) done.0 devices done.1
+        fits_now
 
-      pub is_free : IsLockFree topology before
-      is_free = underway-free topology before after (value / 65536) done.0 devices done.1 fits_now
+    pub is_free : IsLockFree topology before
+    is_free = underway-free topology before after (value / 65536) done.0 devices done.1 fits_now

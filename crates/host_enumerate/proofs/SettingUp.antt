@@ -18,15 +18,24 @@ use Rattle.host_enumerate.proofs.Opening.{became}
 use Rattle.host_enumerate.proofs.Entries.{Leaves, becomes-twice, askable-written}
 use Rattle.host_enumerate.proofs.Clearing.{same_but-itself, same_but-entry, is_switch-kind, destinations_of}
 
--- how many ports it has, and by which it was asked
+-- what a switch told: how many ports it has, and by which it was asked
+pub record IsInformed (device : Registers) (port information : ℕ) : Type 0 where
+  pub ports : information / 0x100 ≡ device.ports
+  pub entry : information % 0x100 ≡ port
+  pub few_ports : information / 0x100 < 256
+  pub few : port < 256
+
 pub informed : (topology : Topology) (registers : AllRegisters) (path : List ℕ) (at : PortRef)
     (information : ℕ) → IsTopology topology → Fits topology registers
     → entered topology path ≡ Some at → is_switch (registers at.node) ≡ true
     → value_at (registers at.node) 0x14 at.port ≡ Some information
-    → (information / 0x100 ≡ (registers at.node).ports) × (information % 0x100 ≡ at.port)
-    × (information / 0x100 < 256) × (at.port < 256)
-informed topology registers path at information proper fits enters is told =
-    (omega (arith, same, few), omega (arith, same, few), omega (arith, same, few, many), few)
+    → IsInformed (registers at.node) at.port information
+informed topology registers path at information proper fits enters is told = record {
+  ports = omega (arith, same, few);
+  entry = omega (arith, same, few);
+  few_ports = omega (arith, same, few, many);
+  few = few;
+}
   where
     same : information ≡ (registers at.node).ports * 0x100 + at.port
     same = same_Some information ((registers at.node).ports * 0x100 + at.port)
@@ -46,13 +55,13 @@ pub record IsStage (topology now : Topology) (old new : AllRegisters) (at : Port
   pub becomes : Becomes old new at.node held
   pub same : IsSameBut (old at.node) held
 
-pub stage_askable : (topology now : Topology) (old new : AllRegisters) (host_id : ℕ)
-    (path : List ℕ) (at : PortRef) (held : Registers) → IsAskable topology old host_id path at
+pub stage_askable : {topology now : Topology} {old new : AllRegisters} {host_id : ℕ}
+    {path : List ℕ} {at : PortRef} {held : Registers} → IsAskable topology old host_id path at
     → IsApart topology path at.node → is_switch (old at.node) ≡ true
     → IsStage topology now old new at held
     → IsAskable now new host_id path at × IsApart now path at.node
     × (is_switch (new at.node) ≡ true)
-stage_askable topology now old new host_id path at held askable apart is stage = (
+stage_askable {topology} {now} {old} {new} {host_id} {path} {at} {held} askable apart is stage = (
   subst (λ t. IsAskable t new host_id path at) (sym stage.stays)
       (askable-written topology old new host_id path at held askable stage.becomes apart
       (λ _. ap (λ (d : Registers). d.base_id) stage.same.rest)),
@@ -62,9 +71,9 @@ stage_askable topology now old new host_id path at held askable apart is stage =
 )
 
 -- a read changes nothing
-pub stage_read : (topology now : Topology) (old new : AllRegisters) (at : PortRef) → now ≡ topology
-    → AreSame old new → IsStage topology now old new at (old at.node)
-stage_read topology now old new at is_now same = record {
+pub stage_read : {topology now : Topology} {old new : AllRegisters} (at : PortRef)
+    → now ≡ topology → AreSame old new → IsStage topology now old new at (old at.node)
+stage_read {topology} {now} {old} {new} at is_now same = record {
   stays = is_now;
   becomes = λ other. same other ∙ sym (ap (λ r. r other) (with_device-itself old at.node));
   same = same_but-itself (old at.node);
@@ -84,13 +93,14 @@ default-writable topology registers path at value port is fits kind apart = reco
 }
 
 -- the default port is written
-pub stage_default : (topology first second : Topology) (old mid new : AllRegisters) (path : List ℕ)
-    (at : PortRef) (value port : ℕ) → value ≡ port → port < 256 → second ≡ first
+pub stage_default : {topology first second : Topology} {old mid : AllRegisters}
+    (new : AllRegisters) (path : List ℕ) {at : PortRef} {value port : ℕ} → value ≡ port
+    → port < 256 → second ≡ first
     → is_switch (old at.node) ≡ true → entered topology path ≡ Some at
     → IsStage topology first old mid at (old at.node) → Leaves first mid new path 0x78 value
     → IsStage topology second old new at (record (old at.node) { default_port = port })
-stage_default topology first second old mid new path at value port is fits is_second kind enters
-    stage leaves = record {
+stage_default {topology} {first} {second} {old} {mid} new path {at} {value} {port} is fits
+    is_second kind enters stage leaves = record {
       stays = is_second ∙ stage.stays;
       becomes = becomes-twice old mid new at.node (old at.node)
           (record (old at.node) { default_port = port }) stage.becomes
@@ -107,13 +117,13 @@ stage_default topology first second old mid new path at value port is fits is_se
     there = became old mid at.node (old at.node) stage.becomes
 
 -- the entries are cleared
-pub stage_cleared : (topology first second : Topology) (old mid new : AllRegisters) (host_id : ℕ)
-    (at : PortRef) (base held : Registers) → second ≡ first
+pub stage_cleared : {topology first second : Topology} {old mid new : AllRegisters} {host_id : ℕ}
+    {at : PortRef} {base held : Registers} → second ≡ first
     → IsStage topology first old mid at base → Becomes mid new at.node held
     → IsCleared host_id 63 (mid at.node) held
     → IsStage topology second old new at held × IsCleared host_id 63 base held
-stage_cleared topology first second old mid new host_id at base held is_second stage becomes
-    cleared = (
+stage_cleared {topology} {first} {second} {old} {mid} {new} {host_id} {at} {base} {held} is_second
+    stage becomes cleared = (
       record {
         stays = is_second ∙ stage.stays;
         becomes = becomes-twice old mid new at.node base held stage.becomes becomes;

@@ -1,5 +1,5 @@
 -- What is known of a path that is tried, for the call that tries it.
-use Rattle.std.proofs.Common.{◌≡◌, ◌≢◌, ℕ, ◌<◌, ◌≤◌, inl, List, [], ◌∷◌, ◌++◌, length, Some, None, refl, sym, ap, subst, ◌∙◌}
+use Rattle.std.proofs.Common.{◌≡◌, ◌≢◌, ℕ, ◌<◌, ◌≤◌, inl, List, [], ◌∷◌, ◌++◌, length, Option, Some, None, refl, sym, ap, subst, ◌∙◌}
 use Rattle.fabric_script.specs.declared.ports.PortRef.{PortRef}
 use Rattle.maint_registers.specs.Devices.{Registers}
 use Rattle.fabric_map.specs.declared.map.Kind.{Kind}
@@ -23,6 +23,13 @@ use Rattle.host_enumerate.proofs.Entries.{askable-written}
 use Rattle.host_enumerate.proofs.Meeting.{met-tagged, ends_at_lock}
 use Rattle.host_enumerate.proofs.Keeping.{underway-same}
 use Rattle.host_enumerate.proofs.Trying.{unmet_takable, apart_unmet, passes_once, few_met, next_few, tried}
+
+-- A path was tried that is next, if the host went on so far.
+pub record PathTried (topology : Topology) (now after : AllRegisters) (host_id next next_after : ℕ)
+    (devices devices_after : List Device) (path : List ℕ) (kind : Option Kind) : Type 0 where
+  pub tried : (before : AllRegisters) → IsUnderway topology before now host_id devices next path
+      → IsTried topology before after host_id devices devices_after next next_after path kind
+  pub opened : IsOpened topology after host_id path
 
 module _ (topology : Topology) (now : AllRegisters) (host_id next : ℕ) (devices : List Device)
     (path : List ℕ) (at : PortRef)
@@ -74,22 +81,23 @@ module _ (topology : Topology) (now : AllRegisters) (host_id next : ℕ) (device
       left_now = subst (λ t. IsTakenIn t host_id devices next next_after locked after path at kind)
           is_later (left at (ap (λ t. entered t path) is_later ∙ askable.leads))
 
-      pub taken_tried : (before : AllRegisters)
-          → IsUnderway topology before now host_id devices next path
-          → IsTried topology before after host_id devices devices_after next next_after path
-          (Some kind)
-      taken_tried before underway = (
-        longer,
-        subst (λ l. IsUnderway topology before after host_id l next_after (onward path 0))
-            (sym longer)
-            (tried topology before now host_id next devices path at underway is_next askable locked
-            left_now.0 after next_after kind fits taken.0 begins taken.1 left_now.1 left_now.2).0,
-      )
+      done : (before : AllRegisters) → IsUnderway topology before now host_id devices next path
+          → IsUnderway topology before after host_id (devices ++ met_as devices kind path ∷ [])
+          next_after (onward path 0) × IsOpened topology after host_id path
+      done before underway =
+          tried topology before now host_id next devices path at underway is_next askable locked
+          left_now.0 after next_after kind fits taken.0 begins taken.1 left_now.1 left_now.2
 
-      pub taken_opened : IsOpened topology after host_id path
-      taken_opened =
-          (tried topology some.0 now host_id next devices path at some.1 is_next askable locked
-          left_now.0 after next_after kind fits taken.0 begins taken.1 left_now.1 left_now.2).1
+      pub taken_tried : PathTried topology now after host_id next next_after devices devices_after
+          path (Some kind)
+      taken_tried = record {
+        tried = λ before underway. (
+          longer,
+          subst (λ l. IsUnderway topology before after host_id l next_after (onward path 0))
+              (sym longer) (done before underway).0,
+        );
+        opened = (done some.0 some.1).1;
+      }
 
   -- the device was met
   module _ (after : AllRegisters) (holder : Holder) (is : holder ≡ Met)

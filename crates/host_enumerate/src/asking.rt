@@ -5,7 +5,7 @@ ghost use Rattle.maint_registers.specs.Devices.{Registers};
 ghost use Rattle.maint_registers.specs.Access.{value_at, written_at};
 ghost use Rattle.fabric_map.specs.Topology.{entered};
 ghost use Rattle.host_enumerate.specs.Accesses.{answered, access_offset};
-ghost use Rattle.host_enumerate.specs.Causes.{IsCaused};
+ghost use Rattle.host_enumerate.specs.Carrying.{HasAnswered, StopsInOrder, IsCausedIn};
 ghost use Rattle.host_enumerate.specs.Asking.{IsAskable, IsOpenAfter, IsWritable, AreSame, Becomes};
 
 use crate::maint::{Access, Answer, Maint, MaintEnd};
@@ -33,15 +33,9 @@ fn ask<M: Maint>(
         → Becomes (M.registers maint.old) (M.registers maint.new) at.node
         (answered (M.registers maint.old at.node) at.port access).device) }
     ensures topology { M.topology maint.new ≡ M.topology maint.old }
-    ensures follows { OnOk result ((origin : _) → M.Follows origin maint.old
-        → M.Follows origin maint.new) }
-    ensures whole { OnOk result (M.IsWhole maint.new) }
-    ensures leaves { OnErr result ((origin : _) → M.Follows origin maint.old
-        → M.Leaves origin maint.new) }
-    ensures cause { IfErr result (IsCaused (M.undetected maint.old, M.undetected maint.new)
-        (M.faults maint.old, M.faults maint.new) (M.IsMet maint.new)) }
-    ensures undetected { OnOk result (M.undetected maint.new ≡ M.undetected maint.old) }
-    ensures faults { OnOk result (M.faults maint.new ≡ M.faults maint.old) }
+    ensures goes_on { OnOk result (HasAnswered M.Maint maint.old maint.new) }
+    ensures leaves { OnErr result (StopsInOrder M.Maint maint.old maint.new) }
+    ensures cause { IfErr result (IsCausedIn M.Maint maint.old maint.new) }
 {
     let ports = path.as_slice().len();
     if ports == 0 {
@@ -67,15 +61,9 @@ pub(crate) fn read<M: Maint>(
         → value_at (M.registers maint.old at.node) offset at.port ≡ Some value) }
     ensures registers { OnOk result (AreSame (M.registers maint.old) (M.registers maint.new)) }
     ensures topology { M.topology maint.new ≡ M.topology maint.old }
-    ensures follows { OnOk result ((origin : _) → M.Follows origin maint.old
-        → M.Follows origin maint.new) }
-    ensures whole { OnOk result (M.IsWhole maint.new) }
-    ensures leaves { OnErr result ((origin : _) → M.Follows origin maint.old
-        → M.Leaves origin maint.new) }
-    ensures cause { IfErr result (IsCaused (M.undetected maint.old, M.undetected maint.new)
-        (M.faults maint.old, M.faults maint.new) (M.IsMet maint.new)) }
-    ensures undetected { OnOk result (M.undetected maint.new ≡ M.undetected maint.old) }
-    ensures faults { OnOk result (M.faults maint.new ≡ M.faults maint.old) }
+    ensures goes_on { OnOk result (HasAnswered M.Maint maint.old maint.new) }
+    ensures leaves { OnErr result (StopsInOrder M.Maint maint.old maint.new) }
+    ensures cause { IfErr result (IsCausedIn M.Maint maint.old maint.new) }
 {
     let answer = ask(alloc, maint, path, Access::Read(offset))?;
     Ok(answer.value)
@@ -99,15 +87,9 @@ pub(crate) fn write<M: Maint>(
         → written_at (M.registers maint.old at.node) offset value ≡ Some held
         → Becomes (M.registers maint.old) (M.registers maint.new) at.node held) }
     ensures topology { M.topology maint.new ≡ M.topology maint.old }
-    ensures follows { OnOk result ((origin : _) → M.Follows origin maint.old
-        → M.Follows origin maint.new) }
-    ensures whole { OnOk result (M.IsWhole maint.new) }
-    ensures leaves { OnErr result ((origin : _) → M.Follows origin maint.old
-        → M.Leaves origin maint.new) }
-    ensures cause { IfErr result (IsCaused (M.undetected maint.old, M.undetected maint.new)
-        (M.faults maint.old, M.faults maint.new) (M.IsMet maint.new)) }
-    ensures undetected { OnOk result (M.undetected maint.new ≡ M.undetected maint.old) }
-    ensures faults { OnOk result (M.faults maint.new ≡ M.faults maint.old) }
+    ensures goes_on { OnOk result (HasAnswered M.Maint maint.old maint.new) }
+    ensures leaves { OnErr result (StopsInOrder M.Maint maint.old maint.new) }
+    ensures cause { IfErr result (IsCausedIn M.Maint maint.old maint.new) }
 {
     ask(alloc, maint, path, Access::Write(offset, value))?;
     Ok(())

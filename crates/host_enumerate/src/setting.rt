@@ -4,7 +4,7 @@ ghost use Rattle.fabric_script.specs.declared.ports.PortRef.{PortRef};
 ghost use Rattle.maint_registers.specs.Devices as registers;
 ghost use Rattle.maint_registers.specs.Devices.{Registers, is_switch};
 ghost use Rattle.fabric_map.specs.Topology.{entered};
-ghost use Rattle.host_enumerate.specs.Causes.{IsCaused};
+ghost use Rattle.host_enumerate.specs.Carrying.{HasAnswered, StopsInOrder, IsCausedIn};
 ghost use Rattle.host_enumerate.specs.Asking.{IsAskable, IsApart, PassesOnce, Becomes};
 ghost use Rattle.host_enumerate.specs.Setting.{with_entry, AreRouted, HasNewId, IsCleared, SwitchIsSetUp};
 
@@ -38,15 +38,9 @@ pub(crate) fn set_entry<M: Maint>(
         → Becomes (M.registers maint.old) (M.registers maint.new) at.node
         (with_entry (M.registers maint.old at.node) id port)) }
     ensures topology { M.topology maint.new ≡ M.topology maint.old }
-    ensures follows { OnOk result ((origin : _) → M.Follows origin maint.old
-        → M.Follows origin maint.new) }
-    ensures whole { OnOk result (M.IsWhole maint.new) }
-    ensures leaves { OnErr result ((origin : _) → M.Follows origin maint.old
-        → M.Leaves origin maint.new) }
-    ensures cause { IfErr result (IsCaused (M.undetected maint.old, M.undetected maint.new)
-        (M.faults maint.old, M.faults maint.new) (M.IsMet maint.new)) }
-    ensures undetected { OnOk result (M.undetected maint.new ≡ M.undetected maint.old) }
-    ensures faults { OnOk result (M.faults maint.new ≡ M.faults maint.old) }
+    ensures goes_on { OnOk result (HasAnswered M.Maint maint.old maint.new) }
+    ensures leaves { OnErr result (StopsInOrder M.Maint maint.old maint.new) }
+    ensures cause { IfErr result (IsCausedIn M.Maint maint.old maint.new) }
 {
     write(alloc, maint, path, ROUTE_SELECT, u32::from(id))?;
     write(alloc, maint, path, ROUTE_ENTRY, u32::from(port))
@@ -71,15 +65,9 @@ fn set_entries<M: Maint>(
         (AreRouted (M.topology maint.old) (M.registers maint.old) (M.registers maint.new) front.now
         rest.now id) }
     ensures topology { M.topology maint.new ≡ M.topology maint.old }
-    ensures follows { OnOk result ((origin : _) → M.Follows origin maint.old
-        → M.Follows origin maint.new) }
-    ensures whole { OnOk result (M.IsWhole maint.new) }
-    ensures leaves { OnErr result ((origin : _) → M.Follows origin maint.old
-        → M.Leaves origin maint.new) }
-    ensures cause { IfErr result (IsCaused (M.undetected maint.old, M.undetected maint.new)
-        (M.faults maint.old, M.faults maint.new) (M.IsMet maint.new)) }
-    ensures undetected { OnOk result (M.undetected maint.new ≡ M.undetected maint.old) }
-    ensures faults { OnOk result (M.faults maint.new ≡ M.faults maint.old) }
+    ensures goes_on { OnOk result (HasAnswered M.Maint maint.old maint.new) }
+    ensures leaves { OnErr result (StopsInOrder M.Maint maint.old maint.new) }
+    ensures cause { IfErr result (IsCausedIn M.Maint maint.old maint.new) }
 {
     let [port, rest @ ..] = rest else {
         return Ok(());
@@ -109,15 +97,9 @@ pub(crate) fn give_id<M: Maint>(
         → HasNewId (M.topology maint.old) (M.registers maint.old) (M.registers maint.new) path.now
         at.node id) }
     ensures topology { M.topology maint.new ≡ M.topology maint.old }
-    ensures follows { OnOk result ((origin : _) → M.Follows origin maint.old
-        → M.Follows origin maint.new) }
-    ensures whole { OnOk result (M.IsWhole maint.new) }
-    ensures leaves { OnErr result ((origin : _) → M.Follows origin maint.old
-        → M.Leaves origin maint.new) }
-    ensures cause { IfErr result (IsCaused (M.undetected maint.old, M.undetected maint.new)
-        (M.faults maint.old, M.faults maint.new) (M.IsMet maint.new)) }
-    ensures undetected { OnOk result (M.undetected maint.new ≡ M.undetected maint.old) }
-    ensures faults { OnOk result (M.faults maint.new ≡ M.faults maint.old) }
+    ensures goes_on { OnOk result (HasAnswered M.Maint maint.old maint.new) }
+    ensures leaves { OnErr result (StopsInOrder M.Maint maint.old maint.new) }
+    ensures cause { IfErr result (IsCausedIn M.Maint maint.old maint.new) }
 {
     write(alloc, maint, path, BASE_ID, u32::from(id) << 16)?;
     let [first, rest @ ..] = path.as_slice() else {
@@ -145,15 +127,9 @@ fn clear_entries<M: Maint>(
         × Becomes (M.registers maint.old) (M.registers maint.new) at.node held
         × IsCleared host_id 63 (M.registers maint.old at.node) held) }
     ensures topology { M.topology maint.new ≡ M.topology maint.old }
-    ensures follows { OnOk result ((origin : _) → M.Follows origin maint.old
-        → M.Follows origin maint.new) }
-    ensures whole { OnOk result (M.IsWhole maint.new) }
-    ensures leaves { OnErr result ((origin : _) → M.Follows origin maint.old
-        → M.Leaves origin maint.new) }
-    ensures cause { IfErr result (IsCaused (M.undetected maint.old, M.undetected maint.new)
-        (M.faults maint.old, M.faults maint.new) (M.IsMet maint.new)) }
-    ensures undetected { OnOk result (M.undetected maint.new ≡ M.undetected maint.old) }
-    ensures faults { OnOk result (M.faults maint.new ≡ M.faults maint.old) }
+    ensures goes_on { OnOk result (HasAnswered M.Maint maint.old maint.new) }
+    ensures leaves { OnErr result (StopsInOrder M.Maint maint.old maint.new) }
+    ensures cause { IfErr result (IsCausedIn M.Maint maint.old maint.new) }
 {
     for id in 0..GIVEN_IDS {
         if id == host_id {
@@ -186,15 +162,9 @@ pub(crate) fn send_home<M: Maint>(
         × Becomes (M.registers maint.old) (M.registers maint.new) at.node held
         × SwitchIsSetUp host_id at.port (M.registers maint.old at.node) held) }
     ensures topology { M.topology maint.new ≡ M.topology maint.old }
-    ensures follows { OnOk result ((origin : _) → M.Follows origin maint.old
-        → M.Follows origin maint.new) }
-    ensures whole { OnOk result (M.IsWhole maint.new) }
-    ensures leaves { OnErr result ((origin : _) → M.Follows origin maint.old
-        → M.Leaves origin maint.new) }
-    ensures cause { IfErr result (IsCaused (M.undetected maint.old, M.undetected maint.new)
-        (M.faults maint.old, M.faults maint.new) (M.IsMet maint.new)) }
-    ensures undetected { OnOk result (M.undetected maint.new ≡ M.undetected maint.old) }
-    ensures faults { OnOk result (M.faults maint.new ≡ M.faults maint.old) }
+    ensures goes_on { OnOk result (HasAnswered M.Maint maint.old maint.new) }
+    ensures leaves { OnErr result (StopsInOrder M.Maint maint.old maint.new) }
+    ensures cause { IfErr result (IsCausedIn M.Maint maint.old maint.new) }
 {
     let information = read(alloc, maint, path, PORT_INFORMATION)?;
     let ports = (information / 0x100) as u8;

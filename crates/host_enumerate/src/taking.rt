@@ -3,7 +3,7 @@ ghost use Rattle.std.specs.Prelude.{◌≡◌, ◌≢◌, ◌<◌, ◌≤◌, �
 ghost use Rattle.fabric_script.specs.declared.ports.PortRef.{PortRef};
 ghost use Rattle.maint_registers.specs.Devices.{is_switch};
 ghost use Rattle.fabric_map.specs.Topology.{entered};
-ghost use Rattle.host_enumerate.specs.Causes.{IsCaused};
+ghost use Rattle.host_enumerate.specs.Carrying.{HasAnswered, StopsInOrder, IsCausedIn};
 ghost use Rattle.host_enumerate.specs.Asking.{IsAskable, IsApart, PassesOnce};
 ghost use Rattle.host_enumerate.specs.Holding.{IsHolder};
 ghost use Rattle.host_enumerate.specs.Underway.{met_as};
@@ -61,15 +61,9 @@ pub(crate) fn take<M: Maint>(
         → entered (M.topology maint.old) path.now ≡ Some at
         → IsHolder host_id (M.registers maint.old) (M.registers maint.new) at.node holder) }
     ensures topology { M.topology maint.new ≡ M.topology maint.old }
-    ensures follows { OnOk result ((origin : _) → M.Follows origin maint.old
-        → M.Follows origin maint.new) }
-    ensures whole { OnOk result (M.IsWhole maint.new) }
-    ensures leaves { OnErr result ((origin : _) → M.Follows origin maint.old
-        → M.Leaves origin maint.new) }
-    ensures cause { IfErr result (IsCaused (M.undetected maint.old, M.undetected maint.new)
-        (M.faults maint.old, M.faults maint.new) (M.IsMet maint.new)) }
-    ensures undetected { OnOk result (M.undetected maint.new ≡ M.undetected maint.old) }
-    ensures faults { OnOk result (M.faults maint.new ≡ M.faults maint.old) }
+    ensures goes_on { OnOk result (HasAnswered M.Maint maint.old maint.new) }
+    ensures leaves { OnErr result (StopsInOrder M.Maint maint.old maint.new) }
+    ensures cause { IfErr result (IsCausedIn M.Maint maint.old maint.new) }
 {
     let lock = read(alloc, maint, path, HOST_LOCK)?;
     if lock == FREE {
@@ -107,15 +101,9 @@ fn number<M: Maint>(
     ensures host { numbering.new.host_id ≡ numbering.old.host_id }
     ensures devices { numbering.new.devices ≡ numbering.old.devices }
     ensures topology { M.topology maint.new ≡ M.topology maint.old }
-    ensures follows { OnOk result ((origin : _) → M.Follows origin maint.old
-        → M.Follows origin maint.new) }
-    ensures whole { OnOk result (M.IsWhole maint.new) }
-    ensures leaves { OnErr result ((origin : _) → M.Follows origin maint.old
-        → M.Leaves origin maint.new) }
-    ensures cause { IfErr result (IsCaused (M.undetected maint.old, M.undetected maint.new)
-        (M.faults maint.old, M.faults maint.new) (M.IsMet maint.new)) }
-    ensures undetected { OnOk result (M.undetected maint.new ≡ M.undetected maint.old) }
-    ensures faults { OnOk result (M.faults maint.new ≡ M.faults maint.old) }
+    ensures goes_on { OnOk result (HasAnswered M.Maint maint.old maint.new) }
+    ensures leaves { OnErr result (StopsInOrder M.Maint maint.old maint.new) }
+    ensures cause { IfErr result (IsCausedIn M.Maint maint.old maint.new) }
 {
     if path.as_slice().is_empty() {
         return Ok(numbering.host_id);
@@ -152,15 +140,9 @@ fn prepare<M: Maint>(
     ensures host { numbering.new.host_id ≡ numbering.old.host_id }
     ensures devices { numbering.new.devices ≡ numbering.old.devices }
     ensures topology { M.topology maint.new ≡ M.topology maint.old }
-    ensures follows { OnOk result ((origin : _) → M.Follows origin maint.old
-        → M.Follows origin maint.new) }
-    ensures whole { OnOk result (M.IsWhole maint.new) }
-    ensures leaves { OnErr result ((origin : _) → M.Follows origin maint.old
-        → M.Leaves origin maint.new) }
-    ensures cause { IfErr result (IsCaused (M.undetected maint.old, M.undetected maint.new)
-        (M.faults maint.old, M.faults maint.new) (M.IsMet maint.new)) }
-    ensures undetected { OnOk result (M.undetected maint.new ≡ M.undetected maint.old) }
-    ensures faults { OnOk result (M.faults maint.new ≡ M.faults maint.old) }
+    ensures goes_on { OnOk result (HasAnswered M.Maint maint.old maint.new) }
+    ensures leaves { OnErr result (StopsInOrder M.Maint maint.old maint.new) }
+    ensures cause { IfErr result (IsCausedIn M.Maint maint.old maint.new) }
 {
     let features = read(alloc, maint, path, FEATURES)?;
     if features & SWITCH == 0 {
@@ -195,15 +177,9 @@ pub(crate) fn take_in<M: Maint>(
         ++ met_as numbering.old.devices.items kind path.now ∷ []) }
     ensures host { numbering.new.host_id ≡ numbering.old.host_id }
     ensures topology { M.topology maint.new ≡ M.topology maint.old }
-    ensures follows { OnOk result ((origin : _) → M.Follows origin maint.old
-        → M.Follows origin maint.new) }
-    ensures whole { OnOk result (M.IsWhole maint.new) }
-    ensures leaves { OnErr result ((origin : _) → M.Follows origin maint.old
-        → M.Leaves origin maint.new) }
-    ensures cause { IfErr result (IsCaused (M.undetected maint.old, M.undetected maint.new)
-        (M.faults maint.old, M.faults maint.new) (M.IsMet maint.new)) }
-    ensures undetected { OnOk result (M.undetected maint.new ≡ M.undetected maint.old) }
-    ensures faults { OnOk result (M.faults maint.new ≡ M.faults maint.old) }
+    ensures goes_on { OnOk result (HasAnswered M.Maint maint.old maint.new) }
+    ensures leaves { OnErr result (StopsInOrder M.Maint maint.old maint.new) }
+    ensures cause { IfErr result (IsCausedIn M.Maint maint.old maint.new) }
 {
     let tag = numbering.devices.len() as u32 + 1;
     write(alloc, maint, path, COMPONENT_TAG, tag)?;

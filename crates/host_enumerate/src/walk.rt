@@ -11,6 +11,7 @@ ghost use Rattle.host_enumerate.specs.Underway.{AreUntagged, IsUnderway};
 ghost use Rattle.host_enumerate.specs.TakingIn.{IsTried};
 ghost use Rattle.host_enumerate.specs.Founds.{IsFound, IsUnderwayBehind, IsFoundBehind};
 ghost use Rattle.host_enumerate.specs.Ends.{IsEnded, EndsAtLock, IsLockFree};
+ghost use Rattle.host_enumerate.specs.Carrying.{HasAnswered, StopsInOrder, IsNumbering, HasWalkEnded};
 
 use crate::asking::read;
 use crate::ends::EnumEnd;
@@ -33,36 +34,24 @@ fn meet<M: Maint>(
 ) -> Result<Option<Kind>, EnumEnd>
     requires whole { M.IsWhole maint.old }
     requires underway { (before : AllRegisters)
-        × IsUnderway (M.topology maint.old) before (M.registers maint.old) numbering.old.host_id
-        numbering.old.devices.items numbering.old.next_id path.now }
+        × IsNumbering M.Maint maint.old numbering.old path.now before }
     requires begins { path.now ≡ [] → numbering.old.next_id ≡ 0 }
     requires next { IsNext (paths_of numbering.old.devices.items) path.now }
     requires askable { (at : PortRef)
         × IsAskable (M.topology maint.old) (M.registers maint.old) numbering.old.host_id path.now at }
     ensures tried { IfOk result (λ kind. (before : AllRegisters)
-        → IsUnderway (M.topology maint.old) before (M.registers maint.old) numbering.old.host_id
-        numbering.old.devices.items numbering.old.next_id path.now
+        → IsNumbering M.Maint maint.old numbering.old path.now before
         → IsTried (M.topology maint.old) before (M.registers maint.new) numbering.old.host_id
         numbering.old.devices.items numbering.new.devices.items numbering.old.next_id
         numbering.new.next_id path.now kind) }
     ensures opened { OnOk result
         (IsOpened (M.topology maint.old) (M.registers maint.new) numbering.old.host_id path.now) }
-    ensures end { IfErr result (IsEnded (M.undetected maint.old, M.undetected maint.new)
-        (M.faults maint.old, M.faults maint.new) (M.IsMet maint.new) (λ at id. M.IsWhole maint.new
-        × ((origin : _) → M.Follows origin maint.old → M.Follows origin maint.new)
-        × ((before : AllRegisters)
-        → IsUnderway (M.topology maint.old) before (M.registers maint.old) numbering.old.host_id
-        numbering.old.devices.items numbering.old.next_id path.now
-        → EndsAtLock (M.topology maint.old) before (M.registers maint.new) at id))) }
+    ensures end { IfErr result (HasWalkEnded M.Maint maint.old maint.new
+        (IsNumbering M.Maint maint.old numbering.old path.now)) }
     ensures host { numbering.new.host_id ≡ numbering.old.host_id }
     ensures topology { M.topology maint.new ≡ M.topology maint.old }
-    ensures follows { OnOk result ((origin : _) → M.Follows origin maint.old
-        → M.Follows origin maint.new) }
-    ensures whole { OnOk result (M.IsWhole maint.new) }
-    ensures leaves { OnErr result ((origin : _) → M.Follows origin maint.old
-        → M.Leaves origin maint.new) }
-    ensures undetected { OnOk result (M.undetected maint.new ≡ M.undetected maint.old) }
-    ensures faults { OnOk result (M.faults maint.new ≡ M.faults maint.old) }
+    ensures goes_on { OnOk result (HasAnswered M.Maint maint.old maint.new) }
+    ensures leaves { OnErr result (StopsInOrder M.Maint maint.old maint.new) }
 {
     match take(alloc, maint, numbering.host_id, path)? {
         Holder::Taken => {
@@ -98,37 +87,25 @@ fn look_behind<M: Maint>(
     requires found { IsFound (M.topology maint.old) (M.registers maint.old) numbering.old.host_id
         numbering.old.devices.items switch.now }
     requires underway { (before : AllRegisters)
-        × IsUnderway (M.topology maint.old) before (M.registers maint.old) numbering.old.host_id
-        numbering.old.devices.items numbering.old.next_id (onward switch.now.path port) }
+        × IsNumbering M.Maint maint.old numbering.old (onward switch.now.path port) before }
     requires below { port < switch.now.ports }
     requires apart { port ≢ switch.now.entry }
     ensures looked { IfOk result (λ found. (before : AllRegisters)
-        → IsUnderway (M.topology maint.old) before (M.registers maint.old) numbering.old.host_id
-        numbering.old.devices.items numbering.old.next_id (onward switch.now.path port)
+        → IsNumbering M.Maint maint.old numbering.old (onward switch.now.path port) before
         → IsUnderwayBehind (M.topology maint.old) before (M.registers maint.new)
         numbering.old.host_id numbering.new.devices.items numbering.new.next_id switch.now.path port
         found) }
     ensures found { IfOk result (λ found. IsFoundBehind (M.topology maint.old)
         (M.registers maint.new) numbering.old.host_id numbering.old.devices.items
         numbering.new.devices.items switch.now.path port found) }
-    ensures end { IfErr result (IsEnded (M.undetected maint.old, M.undetected maint.new)
-        (M.faults maint.old, M.faults maint.new) (M.IsMet maint.new) (λ at id. M.IsWhole maint.new
-        × ((origin : _) → M.Follows origin maint.old → M.Follows origin maint.new)
-        × ((before : AllRegisters)
-        → IsUnderway (M.topology maint.old) before (M.registers maint.old) numbering.old.host_id
-        numbering.old.devices.items numbering.old.next_id (onward switch.now.path port)
-        → EndsAtLock (M.topology maint.old) before (M.registers maint.new) at id))) }
+    ensures end { IfErr result (HasWalkEnded M.Maint maint.old maint.new
+        (IsNumbering M.Maint maint.old numbering.old (onward switch.now.path port))) }
     ensures host { numbering.new.host_id ≡ numbering.old.host_id }
     ensures longer { OnOk result
         (length numbering.old.devices.items ≤ length numbering.new.devices.items) }
     ensures topology { M.topology maint.new ≡ M.topology maint.old }
-    ensures follows { OnOk result ((origin : _) → M.Follows origin maint.old
-        → M.Follows origin maint.new) }
-    ensures whole { OnOk result (M.IsWhole maint.new) }
-    ensures leaves { OnErr result ((origin : _) → M.Follows origin maint.old
-        → M.Leaves origin maint.new) }
-    ensures undetected { OnOk result (M.undetected maint.new ≡ M.undetected maint.old) }
-    ensures faults { OnOk result (M.faults maint.new ≡ M.faults maint.old) }
+    ensures goes_on { OnOk result (HasAnswered M.Maint maint.old maint.new) }
+    ensures leaves { OnErr result (StopsInOrder M.Maint maint.old maint.new) }
 {
     let offset = FIRST_STATUS + STATUS_STEP * u32::from(port);
     let status = read(alloc, maint, &switch.path, offset)?;
@@ -157,34 +134,22 @@ fn explore<M: Maint>(
     requires found { IsFound (M.topology maint.old) (M.registers maint.old) numbering.old.host_id
         numbering.old.devices.items switch.now }
     requires underway { (before : AllRegisters)
-        × IsUnderway (M.topology maint.old) before (M.registers maint.old) numbering.old.host_id
-        numbering.old.devices.items numbering.old.next_id (onward switch.now.path 0) }
+        × IsNumbering M.Maint maint.old numbering.old (onward switch.now.path 0) before }
     ensures tried { OnOk result ((before : AllRegisters)
-        → IsUnderway (M.topology maint.old) before (M.registers maint.old) numbering.old.host_id
-        numbering.old.devices.items numbering.old.next_id (onward switch.now.path 0)
+        → IsNumbering M.Maint maint.old numbering.old (onward switch.now.path 0) before
         → IsUnderway (M.topology maint.old) before (M.registers maint.new) numbering.old.host_id
         numbering.new.devices.items numbering.new.next_id
         (onward switch.now.path switch.now.ports)) }
     ensures found { OnOk result (IsFound (M.topology maint.old) (M.registers maint.new)
         numbering.old.host_id numbering.new.devices.items switch.now) }
-    ensures end { IfErr result (IsEnded (M.undetected maint.old, M.undetected maint.new)
-        (M.faults maint.old, M.faults maint.new) (M.IsMet maint.new) (λ at id. M.IsWhole maint.new
-        × ((origin : _) → M.Follows origin maint.old → M.Follows origin maint.new)
-        × ((before : AllRegisters)
-        → IsUnderway (M.topology maint.old) before (M.registers maint.old) numbering.old.host_id
-        numbering.old.devices.items numbering.old.next_id (onward switch.now.path 0)
-        → EndsAtLock (M.topology maint.old) before (M.registers maint.new) at id))) }
+    ensures end { IfErr result (HasWalkEnded M.Maint maint.old maint.new
+        (IsNumbering M.Maint maint.old numbering.old (onward switch.now.path 0))) }
     ensures host { numbering.new.host_id ≡ numbering.old.host_id }
     ensures longer { OnOk result
         (length numbering.old.devices.items ≤ length numbering.new.devices.items) }
     ensures topology { M.topology maint.new ≡ M.topology maint.old }
-    ensures follows { OnOk result ((origin : _) → M.Follows origin maint.old
-        → M.Follows origin maint.new) }
-    ensures whole { OnOk result (M.IsWhole maint.new) }
-    ensures leaves { OnErr result ((origin : _) → M.Follows origin maint.old
-        → M.Leaves origin maint.new) }
-    ensures undetected { OnOk result (M.undetected maint.new ≡ M.undetected maint.old) }
-    ensures faults { OnOk result (M.faults maint.new ≡ M.faults maint.old) }
+    ensures goes_on { OnOk result (HasAnswered M.Maint maint.old maint.new) }
+    ensures leaves { OnErr result (StopsInOrder M.Maint maint.old maint.new) }
 {
     for port in 0..switch.ports {
         if port == switch.entry {
@@ -211,20 +176,12 @@ fn number_devices<M: Maint>(
         → IsUnderway (M.topology maint.old) before (M.registers maint.old) host_id [] 0 []
         → (next : ℕ) × IsUnderway (M.topology maint.old) before (M.registers maint.new) host_id
         devices.items next after_all_paths) }
-    ensures end { IfErr result (IsEnded (M.undetected maint.old, M.undetected maint.new)
-        (M.faults maint.old, M.faults maint.new) (M.IsMet maint.new) (λ at id. M.IsWhole maint.new
-        × ((origin : _) → M.Follows origin maint.old → M.Follows origin maint.new)
-        × ((before : AllRegisters)
-        → IsUnderway (M.topology maint.old) before (M.registers maint.old) host_id [] 0 []
-        → EndsAtLock (M.topology maint.old) before (M.registers maint.new) at id))) }
+    ensures end { IfErr result (HasWalkEnded M.Maint maint.old maint.new
+        (λ before. IsUnderway (M.topology maint.old) before (M.registers maint.old) host_id []
+        0 [])) }
     ensures topology { M.topology maint.new ≡ M.topology maint.old }
-    ensures follows { OnOk result ((origin : _) → M.Follows origin maint.old
-        → M.Follows origin maint.new) }
-    ensures whole { OnOk result (M.IsWhole maint.new) }
-    ensures leaves { OnErr result ((origin : _) → M.Follows origin maint.old
-        → M.Leaves origin maint.new) }
-    ensures undetected { OnOk result (M.undetected maint.new ≡ M.undetected maint.old) }
-    ensures faults { OnOk result (M.faults maint.new ≡ M.faults maint.old) }
+    ensures goes_on { OnOk result (HasAnswered M.Maint maint.old maint.new) }
+    ensures leaves { OnErr result (StopsInOrder M.Maint maint.old maint.new) }
 {
     let mut numbering = Numbering {
         host_id,

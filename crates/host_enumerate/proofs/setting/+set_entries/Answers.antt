@@ -38,7 +38,7 @@ set_entries-requires g t c κs within =
       (
         within,
         (
-          c.in_ok-set_entry.ensures.whole,
+          c.in_ok-set_entry.ensures.goes_on.whole,
           (
             λ empty. onward-not_empty c.args.front.now (get_or whole 0 0)
                 (sym empty ∙ c.onward-next.ensures),

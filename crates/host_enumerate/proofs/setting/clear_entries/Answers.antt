@@ -1,16 +1,14 @@
 use Rattle.std.proofs.Common.{refl, ◌∙◌}
+use Rattle.host_enumerate.proofs.Carrying.{answered_none, answered_on}
 use Rattle.host_enumerate.proofs.Clearing.{has_cleared-none, has_cleared-next, cleared_askable}
 use Rattle.host_enumerate.proofs.setting.clear_entries.Goals as goal
 
 pub loop-id-init : goal.loop-id-init
 loop-id-init g c = record {
-  whole = c.requires.whole;
   topology = refl;
-  follows = λ origin is. is;
+  goes_on = answered_none g.M.Maint c.args.maint.now c.requires.whole;
   cleared = has_cleared-none (g.M.Maint.topology c.args.maint.now)
       (g.M.Maint.registers c.args.maint.now) c.args.host_id c.args.path.now;
-  undetected = refl;
-  faults = refl;
 }
 
 pub set_entry-requires-clause-askable : goal.set_entry-requires-clause-askable
@@ -24,10 +22,8 @@ set_entry-requires-clause-askable g c =
 
 pub loop-id-preserved : goal.loop-id-preserved
 loop-id-preserved g c = record {
-  whole = c.in_ok-set_entry.ensures.whole;
   topology = c.in_ok-set_entry.ensures.topology ∙ c.loop-id.invariant.topology;
-  follows = λ origin is.
-      c.in_ok-set_entry.ensures.follows origin (c.loop-id.invariant.follows origin is);
+  goes_on = answered_on c.loop-id.invariant.goes_on c.in_ok-set_entry.ensures.goes_on;
   cleared = has_cleared-next (g.M.Maint.topology c.args.maint.now)
       (g.M.Maint.topology c.loop-id.maint) (g.M.Maint.registers c.args.maint.now)
       (g.M.Maint.registers c.loop-id.maint) (g.M.Maint.registers c.set_entry.new.maint)
@@ -35,6 +31,4 @@ loop-id-preserved g c = record {
       (g.M.Maint.whole_is_proper c.args.maint.now c.requires.whole)
       (g.M.Maint.whole_fits c.args.maint.now c.requires.whole) c.loop-id.invariant.topology
       c.loop-id-test.true c.loop-id.invariant.cleared c.in_ok-set_entry.ensures.registers;
-  undetected = c.in_ok-set_entry.ensures.undetected ∙ c.loop-id.invariant.undetected;
-  faults = c.in_ok-set_entry.ensures.faults ∙ c.loop-id.invariant.faults;
 }

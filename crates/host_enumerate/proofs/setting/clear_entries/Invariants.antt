@@ -4,19 +4,16 @@ use Rattle.maint_registers.specs.Devices.{Registers}
 use Rattle.fabric_map.specs.Topology.{entered}
 use Rattle.host_enumerate.specs.Asking.{Becomes}
 use Rattle.host_enumerate.specs.Setting.{IsCleared}
+use Rattle.host_enumerate.specs.Carrying.{HasAnswered}
 use Rattle.host_enumerate.proofs.setting.clear_entries.Given as goal
 
 abbrev pub invariant-loop-id : goal.invariant-loop-id
 invariant-loop-id g l = record {
-  whole : g.M.Maint.IsWhole l.maint;
   topology : g.M.Maint.topology l.maint ≡ g.M.Maint.topology l.initial.maint;
-  follows : (origin : _) → g.M.Maint.Follows origin l.initial.maint
-      → g.M.Maint.Follows origin l.maint;
+  goes_on : HasAnswered g.M.Maint l.initial.maint l.maint;
   cleared : (at : PortRef)
       → entered (g.M.Maint.topology l.initial.maint) l.path ≡ Some at
       → (held : Registers)
       × Becomes (g.M.Maint.registers l.initial.maint) (g.M.Maint.registers l.maint) at.node held
       × IsCleared l.host_id l.id (g.M.Maint.registers l.initial.maint at.node) held;
-  undetected : g.M.Maint.undetected l.maint ≡ g.M.Maint.undetected l.initial.maint;
-  faults : g.M.Maint.faults l.maint ≡ g.M.Maint.faults l.initial.maint;
 }
