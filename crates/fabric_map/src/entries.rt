@@ -23,7 +23,7 @@ fn is_given(devices: &[Device], id: u8) -> bool
 }
 
 /// The port by which a path goes on behind another, if it begins with that.
-fn toward(front: &[u8], path: &[u8]) -> Option<u8>
+pub fn toward(front: &[u8], path: &[u8]) -> Option<u8>
     ensures { result ≡ toward front.now path.now }
 {
     let [port, rest @ ..] = path else {

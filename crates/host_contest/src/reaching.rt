@@ -3,7 +3,7 @@ ghost use Rattle.std.specs.Prelude.{◌≡◌, ◌<◌, ◌^◌, OnOk, OnErr, If
 ghost use Rattle.fabric_script.specs.declared.ports.PortRef.{PortRef};
 ghost use Rattle.fabric_map.specs.Topology.{entered};
 ghost use Rattle.host_enumerate.specs.Accesses.{answered, access_offset, after_access};
-ghost use Rattle.host_enumerate.specs.Causes.{IsCaused};
+ghost use Rattle.host_enumerate.specs.Carrying.{HasAnswered, StopsInOrder, IsCausedIn};
 ghost use Rattle.host_contest.specs.Reaching.{PathIsReached};
 
 use fabric_map::Path;
@@ -29,15 +29,9 @@ pub(crate) fn reach<M: Maint>(
         → PathIsReached (M.topology maint.old) (M.registers maint.old) path.now access at
         → M.registers maint.new ≡ after_access (M.registers maint.old) at access) }
     ensures topology { M.topology maint.new ≡ M.topology maint.old }
-    ensures whole { OnOk result (M.IsWhole maint.new) }
-    ensures follows { OnOk result ((origin : _) → M.Follows origin maint.old
-        → M.Follows origin maint.new) }
-    ensures leaves { OnErr result ((origin : _) → M.Follows origin maint.old
-        → M.Leaves origin maint.new) }
-    ensures cause { IfErr result (IsCaused (M.undetected maint.old, M.undetected maint.new)
-        (M.faults maint.old, M.faults maint.new) (M.IsMet maint.new)) }
-    ensures undetected { OnOk result (M.undetected maint.new ≡ M.undetected maint.old) }
-    ensures faults { OnOk result (M.faults maint.new ≡ M.faults maint.old) }
+    ensures goes_on { OnOk result (HasAnswered M.Maint maint.old maint.new) }
+    ensures leaves { OnErr result (StopsInOrder M.Maint maint.old maint.new) }
+    ensures cause { IfErr result (IsCausedIn M.Maint maint.old maint.new) }
 {
     let ports = path.as_slice().len();
     if ports == 0 {

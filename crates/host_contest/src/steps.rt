@@ -1,7 +1,7 @@
 //! The turns of a machine, over whoever carries its accesses.
 ghost use Rattle.std.specs.Prelude.{◌≡◌, ◌<◌, ◌≤◌, ℕ, [], length, true, OnOk, OnErr, IfErr};
 ghost use Rattle.fabric_map.specs.Topology.{Topology};
-ghost use Rattle.host_enumerate.specs.Causes.{IsCaused};
+ghost use Rattle.host_enumerate.specs.Carrying.{HasAnswered, StopsInOrder, IsCausedIn};
 ghost use Rattle.contest_machine.specs.Machine.{stepped};
 ghost use Rattle.contest_machine.specs.Turns.{is_locking, locked_on, walker_turned, came_of};
 ghost use Rattle.host_contest.specs.Machines.{machine_of, is_clear};
@@ -27,15 +27,9 @@ impl Machine {
         ensures can { OnOk result (CanStep (M.topology maint.old) (M.registers maint.new)
             self.new) }
         ensures topology { M.topology maint.new ≡ M.topology maint.old }
-        ensures whole { OnOk result (M.IsWhole maint.new) }
-        ensures follows { OnOk result ((origin : _) → M.Follows origin maint.old
-            → M.Follows origin maint.new) }
-        ensures leaves { OnErr result ((origin : _) → M.Follows origin maint.old
-            → M.Leaves origin maint.new) }
-        ensures cause { IfErr result (IsCaused (M.undetected maint.old, M.undetected maint.new)
-            (M.faults maint.old, M.faults maint.new) (M.IsMet maint.new)) }
-        ensures undetected { OnOk result (M.undetected maint.new ≡ M.undetected maint.old) }
-        ensures faults { OnOk result (M.faults maint.new ≡ M.faults maint.old) }
+        ensures goes_on { OnOk result (HasAnswered M.Maint maint.old maint.new) }
+        ensures leaves { OnErr result (StopsInOrder M.Maint maint.old maint.new) }
+        ensures cause { IfErr result (IsCausedIn M.Maint maint.old maint.new) }
     {
         if self.begun {
             return self.step(alloc, maint);
@@ -58,15 +52,9 @@ impl Machine {
         ensures can { OnOk result (CanStep (M.topology maint.old) (M.registers maint.new)
             self.new) }
         ensures topology { M.topology maint.new ≡ M.topology maint.old }
-        ensures whole { OnOk result (M.IsWhole maint.new) }
-        ensures follows { OnOk result ((origin : _) → M.Follows origin maint.old
-            → M.Follows origin maint.new) }
-        ensures leaves { OnErr result ((origin : _) → M.Follows origin maint.old
-            → M.Leaves origin maint.new) }
-        ensures cause { IfErr result (IsCaused (M.undetected maint.old, M.undetected maint.new)
-            (M.faults maint.old, M.faults maint.new) (M.IsMet maint.new)) }
-        ensures undetected { OnOk result (M.undetected maint.new ≡ M.undetected maint.old) }
-        ensures faults { OnOk result (M.faults maint.new ≡ M.faults maint.old) }
+        ensures goes_on { OnOk result (HasAnswered M.Maint maint.old maint.new) }
+        ensures leaves { OnErr result (StopsInOrder M.Maint maint.old maint.new) }
+        ensures cause { IfErr result (IsCausedIn M.Maint maint.old maint.new) }
     {
         if is_locking(self.stage) {
             self.step(alloc, maint)
@@ -87,15 +75,9 @@ impl Machine {
         ensures can { OnOk result (CanStep (M.topology maint.old) (M.registers maint.new)
             self.new) }
         ensures topology { M.topology maint.new ≡ M.topology maint.old }
-        ensures whole { OnOk result (M.IsWhole maint.new) }
-        ensures follows { OnOk result ((origin : _) → M.Follows origin maint.old
-            → M.Follows origin maint.new) }
-        ensures leaves { OnErr result ((origin : _) → M.Follows origin maint.old
-            → M.Leaves origin maint.new) }
-        ensures cause { IfErr result (IsCaused (M.undetected maint.old, M.undetected maint.new)
-            (M.faults maint.old, M.faults maint.new) (M.IsMet maint.new)) }
-        ensures undetected { OnOk result (M.undetected maint.new ≡ M.undetected maint.old) }
-        ensures faults { OnOk result (M.faults maint.new ≡ M.faults maint.old) }
+        ensures goes_on { OnOk result (HasAnswered M.Maint maint.old maint.new) }
+        ensures leaves { OnErr result (StopsInOrder M.Maint maint.old maint.new) }
+        ensures cause { IfErr result (IsCausedIn M.Maint maint.old maint.new) }
     {
         let Some(asked) = self.wants() else {
             return Ok(());

@@ -1,11 +1,10 @@
 //! What a walker has still to write, put at the end of a list in order.
 ghost use Rattle.std.specs.Prelude.{◌≡◌, ◌≤◌, ◌++◌, ◌∷◌, [], OnOk};
-ghost use Rattle.fabric_map.specs.Numbered.{toward};
 ghost use Rattle.contest_machine.specs.Machine.{write, entry_set, route_pending, routes_to, cleared_below, home_set};
 
 use crate::values::CLEARED;
 use contest_machine::Pending;
-use fabric_map::{Device, Kind, Path};
+use fabric_map::{Device, Kind, Path, toward};
 use host_enumerate::offsets::{DEFAULT_PORT, ROUTE_ENTRY, ROUTE_SELECT};
 use std::alloc::AllocError;
 use std::collections::LinkedList;
@@ -71,23 +70,6 @@ fn push_route(
     match toward(device.path.as_slice(), path.as_slice()) {
         Some(port) => push_entry(todo, &device.path, id, port),
         None => Ok(()),
-    }
-}
-
-/// The port by which a path goes on behind another, if it begins with that.
-fn toward(front: &[u8], path: &[u8]) -> Option<u8>
-    ensures { result ≡ toward front.now path.now }
-{
-    let [port, rest @ ..] = path else {
-        return None;
-    };
-    let [first, others @ ..] = front else {
-        return Some(*port);
-    };
-    if first == port {
-        toward(others, rest)
-    } else {
-        None
     }
 }
 
