@@ -1,12 +1,11 @@
 -- Two hosts that are linked to each other: the least fabric that two contest.
-use Rattle.std.specs.Prelude.{ℕ, true, false, List, [], ◌∷◌, ◌++◌}
+use Rattle.std.specs.Prelude.{ℕ, true, List, [], ◌∷◌, ◌++◌}
 use Rattle.maint_registers.specs.Devices.{Registers, new_endpoint}
 use Rattle.fabric_map.specs.Plain.{topology_of, registers_of}
 use Rattle.host_enumerate.specs.Examples.{pair_links}
 use Rattle.link_watch.specs.declared.side.Side.{Side}
 use Rattle.link_watch.specs.declared.side.Side.TheVariants.{A, B}
-use Rattle.contest_machine.specs.declared.stages.Stage.TheVariants.{Ask}
-use Rattle.contest_machine.specs.Machine.{Walker}
+use Rattle.contest_machine.specs.Machine.{Walker, new_walker}
 use Rattle.contest_machine.specs.Turns.{Both}
 
 -- an endpoint with a link, and a lock in it
@@ -15,17 +14,8 @@ endpoint_locked id lock = record (new_endpoint id true) { lock = lock }
 
 -- the host of a node, with an ID, that has asked nothing yet
 abbrev pub beginner : ℕ → ℕ → Walker
-beginner host id = record {
-  view = topology_of (new_endpoint 5 true ∷ new_endpoint 7 true ∷ []) pair_links host;
-  id = id;
-  begun = false;
-  devices = [];
-  next = 0;
-  path = [];
-  tried = [];
-  todo = [];
-  stage = Ask;
-}
+beginner host id =
+    new_walker (topology_of (new_endpoint 5 true ∷ new_endpoint 7 true ∷ []) pair_links host) id
 
 -- the hosts 5 and 7, the first of which has this lock
 abbrev pub two_hosts : ℕ → Both

@@ -1,7 +1,7 @@
 -- A walker of a contested fabric as a machine: what it asks next, and what it does with the answer.
 -- How an access travels is not said here. What is written is made a list at the read that decides
 -- it, and is then written one access at a time.
-use Rattle.std.specs.Prelude.{ℕ, zero, suc, ◌+◌, ◌*◌, ◌/◌, ◌%◌, ◌==◌, nat_lt, Bool, List, [], ◌∷◌, ◌++◌, length, flat_map, Option, Some, None, if◌then◌else◌}
+use Rattle.std.specs.Prelude.{ℕ, zero, suc, ◌+◌, ◌*◌, ◌/◌, ◌%◌, ◌==◌, nat_lt, Bool, false, List, [], ◌∷◌, ◌++◌, length, flat_map, Option, Some, None, if◌then◌else◌}
 use Rattle.fabric_script.specs.declared.ports.PortRef.{PortRef}
 use Rattle.fabric_map.specs.declared.map.Kind.{Kind}
 use Rattle.fabric_map.specs.declared.map.Kind.TheVariants.{Endpoint, Switch}
@@ -34,6 +34,20 @@ pub record Walker : Type 0 where
   pub tried : List Tried
   pub todo : List Pending
   pub stage : Stage
+
+-- a walker that has asked nothing yet
+abbrev pub new_walker : Topology → ℕ → Walker
+new_walker view id = record {
+  view = view;
+  id = id;
+  begun = false;
+  devices = [];
+  next = 0;
+  path = [];
+  tried = [];
+  todo = [];
+  stage = Ask;
+}
 
 -- the device that is kept and not in the list yet
 abbrev pub fresh : Stage → List ℕ → List (List ℕ)

@@ -8,6 +8,7 @@ use Rattle.contest_machine.specs.declared.stages.Tried.{Tried}
 use Rattle.contest_machine.specs.declared.stages.Stage.{Stage}
 use Rattle.contest_machine.specs.declared.stages.Stage.TheVariants.{Ask, Claim, Check, Test, Features, Information, Status, Free, Done, Lost}
 use Rattle.contest_machine.specs.Machine.{Walker, home_set, port_after}
+pub use Rattle.contest_machine.specs.Machine.{new_walker}
 use Rattle.host_contest.specs.declared.machine.Machine.{Machine}
 
 -- the walker, with the fabric as its host sees it
@@ -22,20 +23,6 @@ machine_of view machine = record {
   tried = machine.tried;
   todo = machine.todo;
   stage = machine.stage;
-}
-
--- a walker that has asked nothing yet
-abbrev pub new_walker : Topology → ℕ → Walker
-new_walker view id = record {
-  view = view;
-  id = id;
-  begun = false;
-  devices = [];
-  next = 0;
-  path = [];
-  tried = [];
-  todo = [];
-  stage = Ask;
 }
 
 -- the device on its path is the next of its list
