@@ -349,17 +349,6 @@ turns_keep_apart both turns new_first new_second differ first_id second_id = rec
   others = last.others;
 }
   where
-    begun : Holds both.registers both
-    begun = record {
-      differ = differ;
-      first_id = first_id;
-      second_id = second_id;
-      first = new_mine both.first both.registers new_first;
-      second = new_mine both.second both.registers new_second;
-      others = λ node none not. inr (inl refl);
-      stale_first = λ node none not held apart. refl;
-      stale_second = λ node none not held apart. refl;
-    }
-
     last : Holds both.registers (after_turns both turns)
-    last = turns_hold both.registers both turns begun
+    last = turns_hold both.registers both turns
+        (begun_holds both new_first new_second differ first_id second_id)

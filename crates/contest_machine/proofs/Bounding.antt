@@ -22,13 +22,13 @@ use Rattle.contest_machine.proofs.Between.{IsBetween, freeing_within, checks, te
 
 -- ---- one access
 
-between : (w : Walker) (stage : Stage) → IsTopology w.view
-    → ((path : List ℕ) → Contains (paths_of w.devices ++ []) path → IsSome (node_at w.view path))
+between : (w : Walker) (last : List (List ℕ)) → IsTopology w.view
+    → ((path : List ℕ) → Contains (paths_of w.devices ++ last) path → IsSome (node_at w.view path))
     → WalkIsBounded w.devices w.id w.next w.path w.tried → IsBetween w
-between w stage proper leading bounded = record {
+between w last proper leading bounded = record {
   proper = proper;
   leading = λ path listed.
-      leading path (Contains-append_left (paths_of w.devices) [] path listed);
+      leading path (Contains-append_left (paths_of w.devices) last path listed);
   bounded = bounded;
 }
 
@@ -72,7 +72,7 @@ module _ (w : Walker) (old : AllRegisters) where
       (eqb (answered (old at.node) at.port (Read (0x158 + 0x20 * top.port))).answer.value 2))
     where
       stands : IsBetween (record w { tried = top ∷ rest })
-      stands = between (record w { tried = top ∷ rest }) Status within.proper within.leading
+      stands = between (record w { tried = top ∷ rest }) [] within.proper within.leading
           within.bounded
 
       go : (b : Bool) → WalkerIsWithin (if b
@@ -91,7 +91,7 @@ module _ (w : Walker) (old : AllRegisters) where
       (eqb (answered (old at.node) at.port (Read 0x68)).answer.value w.id))
     where
       stands : IsBetween w
-      stands = between w Ask within.proper within.leading within.bounded
+      stands = between w [] within.proper within.leading within.bounded
 
       go : (value : ℕ) (b : Bool) → WalkerIsWithin (if b then record w { todo = []; stage = Test }
           else judged (record w { todo = []; stage = Ask }) value)
@@ -99,14 +99,14 @@ module _ (w : Walker) (old : AllRegisters) where
       go value false = judged_within w stands Ask value
   stage_within Claim within =
       reached_within (record w { todo = []; stage = Claim }) (asked w.path (Write 0x68 w.id)) within
-      (λ at enters. checks w (between w Claim within.proper within.leading within.bounded))
+      (λ at enters. checks w (between w [] within.proper within.leading within.bounded))
   stage_within Check within =
       reached_within (record w { todo = []; stage = Check }) (asked w.path (Read 0x68)) within
       (λ at enters. go at enters (answered (old at.node) at.port (Read 0x68)).answer.value
       (eqb (answered (old at.node) at.port (Read 0x68)).answer.value w.id))
     where
       stands : IsBetween w
-      stands = between w Check within.proper within.leading within.bounded
+      stands = between w [] within.proper within.leading within.bounded
 
       go : (at : PortRef) → entered w.view w.path ≡ Some at → (value : ℕ) (b : Bool)
           → WalkerIsWithin (if b then taken (record w { todo = []; stage = Check })
@@ -118,7 +118,7 @@ module _ (w : Walker) (old : AllRegisters) where
       (λ at enters. go at enters (eqb (answered (old at.node) at.port (Read 0x6c)).answer.value 0))
     where
       stands : IsBetween w
-      stands = between w Test within.proper within.leading within.bounded
+      stands = between w [] within.proper within.leading within.bounded
 
       go : (at : PortRef) → entered w.view w.path ≡ Some at → (b : Bool)
           → WalkerIsWithin (if b then taken (record w { todo = []; stage = Test })
@@ -131,13 +131,7 @@ module _ (w : Walker) (old : AllRegisters) where
       (eqb ((answered (old at.node) at.port (Read 0x10)).answer.value / 0x10000000 % 2) 1))
     where
       stands : IsBetween w
-      stands = record {
-        proper = within.proper;
-        leading = λ path listed.
-            within.leading path (Contains-append_left (paths_of w.devices) (w.path ∷ []) path
-            listed);
-        bounded = within.bounded;
-      }
+      stands = between w (w.path ∷ []) within.proper within.leading within.bounded
 
       go : (at : PortRef) → entered w.view w.path ≡ Some at → (b : Bool)
           → WalkerIsWithin (if b then record w { todo = []; stage = Information }
@@ -156,13 +150,7 @@ module _ (w : Walker) (old : AllRegisters) where
       (value % 0x100))
     where
       stands : IsBetween w
-      stands = record {
-        proper = within.proper;
-        leading = λ path listed.
-            within.leading path (Contains-append_left (paths_of w.devices) (w.path ∷ []) path
-            listed);
-        bounded = within.bounded;
-      }
+      stands = between w (w.path ∷ []) within.proper within.leading within.bounded
   stage_within Status within = status_within w.tried within
   stage_within Free within =
       reached_within (record w { todo = []; stage = Free })
