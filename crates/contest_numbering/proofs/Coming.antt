@@ -117,9 +117,6 @@ module _ (w : Walker) (old : AllRegisters) (fits : w.id < 0xff) (proper : IsTopo
       (λ at enters. read_coming _ at (0x158 + 0x20 * top.port) (go at enters
       (eqb (answered (old at.node) at.port (Read (0x158 + 0x20 * top.port))).answer.value 2) refl))
     where
-      w0 : Walker
-      w0 = record w { todo = []; stage = Status; tried = top ∷ rest }
-
       go : (at : PortRef) → entered w.view top.path ≡ Some at → (b : Bool)
           → eqb (answered (old at.node) at.port (Read (0x158 + 0x20 * top.port))).answer.value 2
           ≡ b

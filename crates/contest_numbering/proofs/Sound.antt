@@ -1,5 +1,5 @@
 -- What registers show of a fabric they go on to show, whatever is written.
-use Rattle.std.proofs.Common.{◌≡◌, ℕ, ◌/◌, ◌%◌, ◌<◌, ◌==◌, Bool, true, false, List, [], ◌∷◌, slice_set, option_map, Option, Some, None, arith, subst, sym, refl, ap, ◌∙◌, if◌then◌else◌, length-set}
+use Rattle.std.proofs.Common.{◌≡◌, ℕ, ◌/◌, ◌%◌, ◌<◌, ◌==◌, Bool, true, false, List, [], ◌∷◌, length, slice_set, option_map, Option, Some, None, arith, subst, sym, refl, ap, ◌∙◌, if◌then◌else◌, length-set}
 use Rattle.std.specs.Option.{option_and_then, option_or}
 use Rattle.std.proofs.lemmas.Option.{same_Some}
 use Rattle.fabric_script.specs.declared.ports.PortRef.{PortRef}
@@ -8,22 +8,13 @@ use Rattle.maint_registers.specs.declared.registers.Kind.TheVariants as kinds
 use Rattle.maint_registers.specs.Devices.{Registers, is_switch}
 use Rattle.maint_registers.specs.Table.{Row, table, column, in_rows, status_port}
 use Rattle.maint_registers.specs.Access.{value_at, written_to, written_at, locked}
-use Rattle.maint_registers.proofs.SameLaws.{same_device}
 use Rattle.fabric_map.specs.Topology.{Topology}
 use Rattle.fabric_map.specs.Routes.{AllRegisters}
 use Rattle.fabric_map.specs.Fitting.{Fits}
 use Rattle.host_enumerate.specs.declared.maint.Access.{Access}
 use Rattle.host_enumerate.specs.declared.maint.Access.TheVariants.{Read, Write}
 use Rattle.host_enumerate.specs.Accesses.{after_read, after_write, answered, after_access}
-use Rattle.host_enumerate.proofs.Accessed.{Keeps, fits-with}
-
-keeps_itself : (device : Registers) → Keeps device device
-keeps_itself device = record {
-  same = same_device device;
-  device = λ is. is;
-  id = λ small. small;
-  lock = λ small. small;
-}
+use Rattle.host_enumerate.proofs.Accessed.{Keeps, keeps_itself, fits-with}
 
 locked_small : (lock id : ℕ) → lock < 65536 → locked lock (id % 0x10000) < 65536
 locked_small lock id small = go (lock == 0xffff) (lock == id % 0x10000)
@@ -45,83 +36,54 @@ module _ (device : Registers) (value : ℕ) where
   one_stays : (written : Registers) → Keeps device written → Stays (Some written)
   one_stays written keeps next is = subst (Keeps device) (same_Some written next is) keeps
 
-  -- a device whose kind, ports and links stay, with these numbers
-  lock_stays : Keeps device (record device { lock = locked device.lock (value % 0x10000) })
-  lock_stays = record {
+  -- a device whose kind, ports, links and IDs stay, with these numbers
+  stays_with : (routes : List ℕ) (default_port select lock tag : ℕ)
+      → length routes ≡ length device.routes → (device.select < 1024 → select < 1024)
+      → (device.lock < 65536 → lock < 65536)
+      → Keeps device (record device {
+        routes = routes;
+        default_port = default_port;
+        select = select;
+        lock = lock;
+        tag = tag;
+      })
+  stays_with routes default_port select lock tag long selected small = record {
     same = record { kind = refl; ports = refl; linked = refl; large_id = refl };
     device = λ is. record {
       most_ports = is.most_ports;
       endpoint_ports = is.endpoint_ports;
       switch_id = is.switch_id;
       switch_large = is.switch_large;
-      destinations = is.destinations;
-      selected = is.selected;
+      destinations = long ∙ is.destinations;
+      selected = selected is.selected;
     };
     id = λ small. small;
-    lock = λ small. locked_small device.lock value small;
+    lock = small;
   }
+
+  lock_stays : Keeps device (record device { lock = locked device.lock (value % 0x10000) })
+  lock_stays = stays_with device.routes device.default_port device.select
+      (locked device.lock (value % 0x10000)) device.tag refl (λ is. is)
+      (locked_small device.lock value)
 
   tag_stays : Keeps device (record device { tag = value })
-  tag_stays = record {
-    same = record { kind = refl; ports = refl; linked = refl; large_id = refl };
-    device = λ is. record {
-      most_ports = is.most_ports;
-      endpoint_ports = is.endpoint_ports;
-      switch_id = is.switch_id;
-      switch_large = is.switch_large;
-      destinations = is.destinations;
-      selected = is.selected;
-    };
-    id = λ small. small;
-    lock = λ small. small;
-  }
+  tag_stays = stays_with device.routes device.default_port device.select device.lock value refl
+      (λ is. is) (λ is. is)
 
   select_stays : Keeps device (record device { select = value % 0x400 })
-  select_stays = record {
-    same = record { kind = refl; ports = refl; linked = refl; large_id = refl };
-    device = λ is. record {
-      most_ports = is.most_ports;
-      endpoint_ports = is.endpoint_ports;
-      switch_id = is.switch_id;
-      switch_large = is.switch_large;
-      destinations = is.destinations;
-      selected = omega arith;
-    };
-    id = λ small. small;
-    lock = λ small. small;
-  }
+  select_stays = stays_with device.routes device.default_port (value % 0x400) device.lock
+      device.tag refl (λ is. omega arith) (λ is. is)
 
   entry_stays : Keeps device (record device {
     routes = slice_set device.routes device.select (value % 0x100);
   })
-  entry_stays = record {
-    same = record { kind = refl; ports = refl; linked = refl; large_id = refl };
-    device = λ is. record {
-      most_ports = is.most_ports;
-      endpoint_ports = is.endpoint_ports;
-      switch_id = is.switch_id;
-      switch_large = is.switch_large;
-      destinations = length-set device.routes device.select (value % 0x100) ∙ is.destinations;
-      selected = is.selected;
-    };
-    id = λ small. small;
-    lock = λ small. small;
-  }
+  entry_stays = stays_with (slice_set device.routes device.select (value % 0x100))
+      device.default_port device.select device.lock device.tag
+      (length-set device.routes device.select (value % 0x100)) (λ is. is) (λ is. is)
 
   default_stays : Keeps device (record device { default_port = value % 0x100 })
-  default_stays = record {
-    same = record { kind = refl; ports = refl; linked = refl; large_id = refl };
-    device = λ is. record {
-      most_ports = is.most_ports;
-      endpoint_ports = is.endpoint_ports;
-      switch_id = is.switch_id;
-      switch_large = is.switch_large;
-      destinations = is.destinations;
-      selected = is.selected;
-    };
-    id = λ small. small;
-    lock = λ small. small;
-  }
+  default_stays = stays_with device.routes (value % 0x100) device.select device.lock device.tag refl
+      (λ is. is) (λ is. is)
 
   -- the ID is that of an endpoint
   id_stays : device.kind ≡ kinds.Endpoint

@@ -21,7 +21,7 @@ pub record Keeps (before after : Registers) : Type 0 where
   pub id : before.base_id < 256 → after.base_id < 256
   pub lock : before.lock < 65536 → after.lock < 65536
 
-keeps_itself : (device : Registers) → Keeps device device
+pub keeps_itself : (device : Registers) → Keeps device device
 keeps_itself device = record {
   same = record { kind = refl; ports = refl; linked = refl; large_id = refl };
   device = λ is. is;
