@@ -8,7 +8,7 @@ ghost use Rattle.rio_port.specs.Requests.{SpellsGot};
 
 use crate::requests::Reason;
 use fabric_script::{read_number, split_word};
-use rio_chars::{Char, Chars, read_char, read_hex};
+use rio_chars::{Char, Chars, read_char};
 use std::alloc::{AllocError, Global};
 
 /// The number that the first of the words spells, at most this one, and the words behind it.
@@ -62,23 +62,5 @@ pub(crate) fn read_bytes(alloc: Global, words: Option<&[u8]>) -> Result<Option<V
     if rest.is_some() {
         return Ok(None);
     }
-    read_word_of_bytes(alloc, word)
-}
-
-/// The bytes that a word spells.
-fn read_word_of_bytes(alloc: Global, word: &[u8]) -> Result<Option<Vec<u8>>, AllocError>
-    ensures { IfOk result (λ read. MatchOption read
-        ((bytes : List ℕ) → All (λ byte. byte < 256) bytes → word.now ≢ hex_text bytes)
-        (λ bytes. All (λ byte. byte < 256) bytes.items × (word.now ≡ hex_text bytes.items))) }
-{
-    if word == b"-".as_slice() {
-        return Ok(Some(Vec::new(alloc)));
-    }
-    if word.is_empty() {
-        return Ok(None);
-    }
-    let Some(bytes) = read_hex(alloc, word)? else {
-        return Ok(None);
-    };
-    Ok(Some(bytes))
+    fabric_script::read_bytes(alloc, word)
 }
