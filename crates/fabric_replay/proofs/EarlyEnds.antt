@@ -8,11 +8,10 @@ use Rattle.fabric_script.specs.Scripts.{ScriptPasses}
 use Rattle.fabric_script.specs.declared.ports.PortRef.{PortRef}
 use Rattle.fabric_script.specs.declared.lines.Line.{Line}
 use Rattle.fabric_script.specs.declared.lines.Numbered.{Numbered}
-use Rattle.fabric_trace.specs.Known.{Seen}
 use Rattle.fabric_trace.specs.Lines.{TraceLine, Begun, Undetected}
 use Rattle.fabric_trace.specs.Runs.{start}
 use Rattle.fabric_trace.specs.Text.{trace_line_text}
-use Rattle.fabric_ports.specs.Events.{EventEnds}
+use Rattle.fabric_ports.specs.Events.{IsOwnBlock, Evented}
 use Rattle.fabric_ports.specs.Standing.{Stands}
 use Rattle.fabric_ports.specs.declared.answers.EventEnd.{EventEnd}
 use Rattle.fabric_ports.specs.declared.answers.EventEnd.TheVariants as Early
@@ -24,24 +23,17 @@ use Rattle.fabric_replay.specs.Going.{Going, ToldUntil, ToldFront, ToldWhole}
 use Rattle.fabric_replay.proofs.Naming.{found_named}
 use Rattle.fabric_replay.proofs.Telling.{IsItem, Going-broken, Going-short, Going-unsent, until_front, whole_front}
 
-pub EventEnds-names : (line : Line) (read names : List (List ℕ)) {K : Type 0}
-    (written : K → Option (List ℕ)) (faults : K → ℕ) (out out2 : Outbox K) (from : Seen)
-    (lines : List TraceLine) (end : EventEnd) → read ≡ names
-    → EventEnds line read written faults out out2 from lines end
-    → EventEnds line names written faults out out2 from lines end
-EventEnds-names line read names written faults out out2 from lines end same e =
-    subst (λ n. EventEnds line n written faults out out2 from lines end) same e
-
 pub end_named : (names read : List (List ℕ)) (script : List Numbered) {K : Type 0}
     (written : K → Option (List ℕ)) (faults : K → ℕ) (out out2 : Outbox K) (lines : List TraceLine)
     (line : Line) (fabric : Fabric) (end : EventEnd) → ScriptPasses names script → read ≡ names
-    → Stands (start script) lines fabric → EventEnds line names written faults out out2
-    (start script) lines end → EndIsNamed read end
+    → Stands (start script) lines fabric
+    → Evented line (IsOwnBlock line) names written faults out out2 (start script) lines (Err end)
+    → EndIsNamed read end
 end_named names read script written faults out out2 lines line fabric (Early.Undetected port event)
     passes same stands ends =
     subst (λ n. port.node < length n) (sym same)
     (found_named names script lines (lines ++ Begun line ∷ ends.block) fabric
-    (record { port = port; event = event }) passes stands ends.found)
+    (record { port = port; event = event }) passes stands ends.ends.1)
 end_named names read script written faults out out2 lines line fabric Early.Failed passes same
     stands ends = tt
 end_named names read script written faults out out2 lines line fabric Early.NoMemory passes same
@@ -63,7 +55,8 @@ module _ {K : Type 0} (written : K → Option (List ℕ)) (faults : K → ℕ) (
   pub Going-ended : (read : List (List ℕ)) (i : ℕ) (item : Numbered) (out out2 out3 : Outbox K)
       (fabric : Fabric) (end : EventEnd) (result : ReplayEnd) → read ≡ names → IsItem script i item
       → is_event item.line ≡ true → (h : Going written faults begun out names script i fabric)
-      → EventEnds item.line names written faults out out2 (start script) h.lines end
+      → Evented item.line (IsOwnBlock item.line) names written faults out out2 (start script)
+      h.lines (Err end)
       → EndsBy end item.number read written faults out2 out3 result → IsEnded out3 result
   Going-ended read i item out out2 out3 fabric (Early.Undetected port event) result same is has h
       ends told =
@@ -75,8 +68,7 @@ module _ {K : Type 0} (written : K → Option (List ℕ)) (faults : K → ℕ) (
   Going-ended read i item out out2 out3 fabric Early.Failed result same is has h ends told =
       ended_by out3 result Ends.WriteFault told.0
       (subst (λ o. ToldUntil written faults begun o names script) (sym told.1)
-      (Going-broken written faults begun names script i item out out2 fabric is has h ends.0
-      ends.1))
+      (Going-broken written faults begun names script i item out out2 fabric is has h ends))
   Going-ended read i item out out2 out3 fabric Early.NoMemory result same is has h ends told =
       ended_by out3 result Ends.NoMemory told.0
       (subst (λ o. ToldFront written faults begun o names script) (sym told.1)

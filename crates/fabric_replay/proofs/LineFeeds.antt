@@ -1,5 +1,5 @@
 -- No line of a trace has a line feed in its text.
-use Rattle.std.proofs.Common.{◌≡◌, ℕ, ◌+◌, ◌/◌, ◌%◌, ◌==◌, ◌<◌, ◌≤◌, inl, inr, ◌&&◌, zero, suc, Bool, true, false, not, List, [], ◌∷◌, ◌++◌, codes, cond, map, length, get_or, refl, sym, ap, ◌∙◌, subst, arith}
+use Rattle.std.proofs.Common.{◌≡◌, ℕ, ◌/◌, ◌%◌, ◌==◌, ◌<◌, ◌≤◌, inl, inr, ◌&&◌, zero, suc, Bool, true, false, not, List, [], ◌∷◌, ◌++◌, codes, cond, map, length, refl, sym, ap, ◌∙◌, subst, arith}
 use Rattle.std.specs.Fmt.{decimal, digit_glyph, digits_onto}
 use Rattle.std.proofs.DigitsParse.{digits_onto-nil}
 use Rattle.std.specs.List.{join_with_byte}

@@ -1,7 +1,6 @@
 -- How a replay goes from event to event, and what is told then.
-use Rattle.std.proofs.Common.{◌≡◌, inl, inr, ℕ, ◌+◌, ◌<◌, ◌≤◌, true, false, MatchBool, List, [], ◌∷◌, ◌++◌, All, length, take, drop, get_or, Option, Some, None, codes, refl, sym, ap, ◌∙◌, subst, append-nil, append_assoc, take-append-drop}
+use Rattle.std.proofs.Common.{◌≡◌, inl, inr, ℕ, ◌+◌, ◌<◌, ◌≤◌, true, false, MatchBool, List, [], ◌∷◌, ◌++◌, All, length, take, drop, get_or, Option, Some, None, Result, Ok, Err, codes, refl, sym, ap, ◌∙◌, subst, append-nil, append_assoc, take-append-drop}
 use Rattle.std.proofs.lemmas.List.{take_more, take_all, drop_more}
-use Rattle.std.proofs.lemmas.List.Concat.{flat_map-append}
 use Rattle.rio_chars.specs.Written.{Writes}
 use Rattle.rio_chars.specs.declared.outbox.Outbox.{Outbox}
 use Rattle.rio_chars.proofs.WrittenLaws.{Writes-nil, Writes-then}
@@ -17,14 +16,18 @@ use Rattle.fabric_trace.specs.Fold.{seen}
 use Rattle.fabric_trace.specs.Known.{Found, Seen}
 use Rattle.fabric_trace.specs.Lines.{TraceLine, Begun, Ended, Undetected}
 use Rattle.fabric_trace.specs.Runs.{bare, set_up_all, start, BlockThen, NamesNothing, BlocksFrom, RunsFrom, Runs, Begins}
-use Rattle.fabric_trace.specs.Text.{trace_line_text, trace_text}
+use Rattle.fabric_trace.specs.Text.{trace_line_text}
 use Rattle.fabric_trace.proofs.Network.Boards.{happens_still}
 use Rattle.fabric_trace.proofs.Parts.Folding.{seen-append}
 use Rattle.fabric_trace.proofs.SetUps.Happening.{may_happen}
-use Rattle.fabric_ports.specs.Events.{MayFollow, Evented, Exposed, CutShort}
+use Rattle.fabric_ports.specs.Events.{MayFollow, IsOwnBlock, IsAnsweredBlock, Evented}
+use Rattle.fabric_ports.specs.Ran.{Kind}
 use Rattle.fabric_ports.specs.Standing.{Stands}
+use Rattle.fabric_ports.specs.declared.answers.EventEnd.{EventEnd}
+use Rattle.fabric_ports.specs.declared.answers.EventEnd.TheVariants.{Undetected as Unsent, Failed, NoMemory}
 use Rattle.fabric_ports.specs.declared.answers.Happened.{Happened}
 use Rattle.fabric_ports.specs.declared.fabric.Fabric.{Fabric}
+use Rattle.fabric_ports.proofs.RanLaws.{lines_written, line_written, front_whole}
 use Rattle.fabric_replay.specs.Going.{Going, ToldUntil, ToldFront, ToldWhole}
 use Rattle.fabric_replay.proofs.Joining.{blocks-append, runs-append, one_block, one_last}
 use Rattle.fabric_replay.proofs.Naming.{names_suffice, names_few}
@@ -80,24 +83,6 @@ front_from script i item is =
     ∙ take-append-drop i script
 
 -- ---- what was told
-
-Writes-lines : (names : List (List ℕ)) (front more : List TraceLine) {K : Type 0}
-    {written : K → Option (List ℕ)} {faults : K → ℕ} {a b c : Outbox K}
-    → Writes written faults a b (trace_text names front)
-    → Writes written faults b c (trace_text names more)
-    → Writes written faults a c (trace_text names (front ++ more))
-Writes-lines names front more {K} {written} {faults} {a} {b} {c} first second =
-    subst (Writes written faults a c)
-    (sym (flat_map-append (λ line. trace_line_text names line ++ codes "\n") front more))
-    (Writes-then _ _ first second)
-
-Writes-line : (names : List (List ℕ)) (line : TraceLine) {K : Type 0}
-    {written : K → Option (List ℕ)} {faults : K → ℕ} {a b : Outbox K}
-    → Writes written faults a b (trace_line_text names line ++ codes "\n")
-    → Writes written faults a b (trace_text names (line ∷ []))
-Writes-line names line {K} {written} {faults} {a} {b} told =
-    subst (Writes written faults a b) (sym (append-nil (trace_line_text names line ++ codes "\n")))
-    told
 
 module _ {K : Type 0} (written : K → Option (List ℕ)) (faults : K → ℕ) (begun : Outbox K)
     (names : List (List ℕ)) (script : List Numbered) where
@@ -161,64 +146,62 @@ module _ {K : Type 0} (written : K → Option (List ℕ)) (faults : K → ℕ) (
   pub Going-event : (i : ℕ) (item : Numbered) (out out2 : Outbox K) (fabric fabric2 : Fabric)
       (what : Happened) → IsItem script i item → is_event item.line ≡ true → (h : Gone out i fabric)
       → out2.failed ≡ false
-      → Evented item.line names written faults out out2 (start script) h.lines fabric2 what
+      → Evented item.line (IsAnsweredBlock item.line what) names written faults out out2
+      (start script) h.lines (Ok fabric2)
       → Gone out2 (i + 1) fabric2
   Going-event i item out out2 fabric fabric2 what is has h fine done = record {
     lines = h.lines ++ Begun item.line ∷ done.block;
-    told = Writes-lines names h.lines (Begun item.line ∷ done.block) h.told done.prints;
+    told = lines_written written faults names begun out out2 h.lines (Begun item.line ∷ done.block) h.told done.ends.0;
     fine = fine;
-    blocks = blocks_with i item out fabric done.block is has h done.is;
-    stands = done.stands;
+    blocks = blocks_with i item out fabric done.block is has h done.is.0;
+    stands = done.ends.1;
+  }
+
+  -- it was carried out so far that a write failed
+  pub Going-broken : (i : ℕ) (item : Numbered) (out out2 : Outbox K) (fabric : Fabric)
+      → IsItem script i item → is_event item.line ≡ true → (h : Gone out i fabric)
+      → Evented item.line (IsOwnBlock item.line) names written faults out out2 (start script)
+      h.lines (Err Failed)
+      → ToldUntil written faults begun out2 names script
+  Going-broken i item out out2 fabric is has h ended = record {
+    count = i;
+    before = h.lines;
+    front = ended.ends.0.front;
+    rest = ended.ends.0.rest;
+    mid = out;
+    told_before = h.told;
+    blocks_before = h.blocks;
+    fine = h.fine;
+    told = ended.ends.0.prints;
+    blocks = subst (λ own. BlocksFrom (start script) (take (i + 1) script) (h.lines ++ own))
+        ended.ends.0.whole (blocks_with i item out fabric ended.block is has h ended.is.0);
+    failed = ended.ends.1;
   }
 
   -- and a write failed in it
   pub Going-until : (i : ℕ) (item : Numbered) (out out2 : Outbox K) (fabric fabric2 : Fabric)
       (what : Happened) → IsItem script i item → is_event item.line ≡ true → (h : Gone out i fabric)
       → out2.failed ≡ true
-      → Evented item.line names written faults out out2 (start script) h.lines fabric2 what
+      → Evented item.line (IsAnsweredBlock item.line what) names written faults out out2
+      (start script) h.lines (Ok fabric2)
       → ToldUntil written faults begun out2 names script
-  Going-until i item out out2 fabric fabric2 what is has h failed done = record {
-    count = i;
-    before = h.lines;
-    front = Begun item.line ∷ done.block;
-    rest = [];
-    mid = out;
-    told_before = h.told;
-    blocks_before = h.blocks;
-    fine = h.fine;
-    told = done.prints;
-    blocks = subst (λ own. BlocksFrom (start script) (take (i + 1) script) (h.lines ++ own))
-        (sym (append-nil (Begun item.line ∷ done.block)))
-        (blocks_with i item out fabric done.block is has h done.is);
-    failed = failed;
-  }
-
-  -- or before its end
-  pub Going-broken : (i : ℕ) (item : Numbered) (out out2 : Outbox K) (fabric : Fabric)
-      → IsItem script i item → is_event item.line ≡ true → (h : Gone out i fabric)
-      → CutShort item.line names written faults out out2 (start script) h.lines
-      → out2.failed ≡ true → ToldUntil written faults begun out2 names script
-  Going-broken i item out out2 fabric is has h short failed = record {
-    count = i;
-    before = h.lines;
-    front = short.front;
-    rest = short.rest;
-    mid = out;
-    told_before = h.told;
-    blocks_before = h.blocks;
-    fine = h.fine;
-    told = short.prints;
-    blocks = subst (λ own. BlocksFrom (start script) (take (i + 1) script) (h.lines ++ own))
-        short.whole (blocks_with i item out fabric short.block is has h short.is);
-    failed = failed;
-  }
+  Going-until i item out out2 fabric fabric2 what is has h failed done =
+      Going-broken i item out out2 fabric is has h (record {
+        block = done.block;
+        is = (done.is.0, done.is.1);
+        ends = (
+          front_whole written faults names out out2 (Begun item.line ∷ done.block) done.ends.0,
+          failed,
+        );
+      })
 
   -- and so a front of a trace was told
   pub until_front : (out : Outbox K) → ToldUntil written faults begun out names script → Fronts out
   until_front out until = record {
     lines = until.before ++ until.front;
     behind = until.rest;
-    told = Writes-lines names until.before until.front until.told_before until.told;
+    told = lines_written written faults names begun until.mid out until.before until.front
+        until.told_before until.told;
     begins = inl
         (subst (Begins script) (sym (append_assoc until.before until.front until.rest))
         (first_blocks (until.count + 1) (until.before ++ (until.front ++ until.rest))
@@ -228,23 +211,28 @@ module _ {K : Type 0} (written : K → Option (List ℕ)) (faults : K → ℕ) (
   -- or memory ran out in it
   pub Going-short : (i : ℕ) (item : Numbered) (out out2 : Outbox K) (fabric : Fabric)
       → IsItem script i item → is_event item.line ≡ true → (h : Gone out i fabric)
-      → CutShort item.line names written faults out out2 (start script) h.lines → Fronts out2
-  Going-short i item out out2 fabric is has h short = record {
-    lines = h.lines ++ short.front;
-    behind = short.rest;
-    told = Writes-lines names h.lines short.front h.told short.prints;
-    begins = inl
-        (subst (Begins script)
-        (ap (λ l. h.lines ++ l) short.whole ∙ sym (append_assoc h.lines short.front short.rest))
-        (first_blocks (i + 1) (h.lines ++ Begun item.line ∷ short.block)
-        (blocks_with i item out fabric short.block is has h short.is)));
-  }
+      → Evented item.line (IsOwnBlock item.line) names written faults out out2 (start script)
+      h.lines (Err NoMemory) → Fronts out2
+  Going-short i item out out2 fabric is has h ended =
+      let short = ended.ends in
+      record {
+        lines = h.lines ++ short.front;
+        behind = short.rest;
+        told = lines_written written faults names begun out out2 h.lines short.front h.told
+            short.prints;
+        begins = inl
+            (subst (Begins script)
+            (ap (λ l. h.lines ++ l) short.whole ∙ sym (append_assoc h.lines short.front short.rest))
+            (first_blocks (i + 1) (h.lines ++ Begun item.line ∷ ended.block)
+            (blocks_with i item out fabric ended.block is has h ended.is.0)));
+      }
 
   -- or an event was acted on that was not sent
   pub Going-unsent : (i : ℕ) (item : Numbered) (out out2 out3 : Outbox K) (fabric : Fabric)
       (port : PortRef) (event : Event) → IsItem script i item → is_event item.line ≡ true
       → (h : Gone out i fabric)
-      → Exposed item.line names written faults out out2 (start script) h.lines port event
+      → Evented item.line (IsOwnBlock item.line) names written faults out out2 (start script)
+      h.lines (Err (Unsent port event))
       → Writes written faults out2 out3
       (trace_line_text names (Undetected item.number port event) ++ codes "\n")
       → Wholes out3 (Undetected item.number port event)
@@ -255,20 +243,20 @@ module _ {K : Type 0} (written : K → Option (List ℕ)) (faults : K → ℕ) (
       let found : Found = record { port = port; event = event } in
       let there : seen (start script) (h.lines ++ own) ≡ seen (seen (start script) h.lines) own =
       seen-append (start script) h.lines own in
-      let finds = ap (λ (x : Seen). x.unfaithful) (sym there) ∙ exposed.found in
+      let finds = ap (λ (x : Seen). x.unfaithful) (sym there) ∙ exposed.ends.1 in
       record {
         lines = (h.lines ++ own) ++ named;
-        told = Writes-lines names (h.lines ++ own) named
-            (Writes-lines names h.lines own h.told exposed.prints)
-            (Writes-line names (Undetected item.number port event) last);
+        told = lines_written written faults names begun out2 out3 (h.lines ++ own) named
+            (lines_written written faults names begun out out2 h.lines own h.told exposed.ends.0)
+            (line_written written faults names out2 out3 (Undetected item.number port event) last);
         runs = subst (Runs script) (sym (append_assoc h.lines own named))
             (subst (λ all. RunsFrom (start script) all (h.lines ++ (own ++ named)))
             (front_from script i item is)
             (runs-append (take i script) (item ∷ drop (i + 1) script) (start script) h.lines
             (own ++ named) h.blocks h.stands.sent
             (one_last (seen (start script) h.lines) item (drop (i + 1) script) exposed.block found
-            has exposed.is finds)));
-        ends = record { front = h.lines ++ own; ends = refl; finds = exposed.found };
+            has exposed.is.0 finds)));
+        ends = record { front = h.lines ++ own; ends = refl; finds = exposed.ends.1 };
       }
 
   -- all events were carried out
@@ -280,7 +268,8 @@ module _ {K : Type 0} (written : K → Option (List ℕ)) (faults : K → ℕ) (
       let all : take count script ≡ script = take_all count script whole in
       record {
         lines = h.lines ++ Ended ∷ [];
-        told = Writes-lines names h.lines (Ended ∷ []) h.told (Writes-line names Ended last);
+        told = lines_written written faults names begun out out2 h.lines (Ended ∷ []) h.told
+            (line_written written faults names out out2 Ended last);
         runs = subst (λ l. RunsFrom (start script) l (h.lines ++ Ended ∷ [])) (append-nil script)
             (runs-append script [] (start script) h.lines (Ended ∷ [])
             (subst (λ l. BlocksFrom (start script) l h.lines) all h.blocks) h.stands.sent refl);
@@ -320,10 +309,10 @@ module _ {K : Type 0} (written : K → Option (List ℕ)) (faults : K → ℕ) (
   }
 
 -- the names were read from where they stand
-pub Evented-names : (line : Line) (read names : List (List ℕ)) {K : Type 0}
+pub Evented-names : (line : Line) (Is : Kind) (read names : List (List ℕ)) {K : Type 0}
     {written : K → Option (List ℕ)} {faults : K → ℕ} {out out2 : Outbox K} {from : Seen}
-    {lines : List TraceLine} {fabric : Fabric} {answer : Happened} → read ≡ names
-    → Evented line read written faults out out2 from lines fabric answer
-    → Evented line names written faults out out2 from lines fabric answer
-Evented-names line read names {K} {written} {faults} {out} {out2} {from} {lines} {fabric} {answer}
-    same e = subst (λ n. Evented line n written faults out out2 from lines fabric answer) same e
+    {lines : List TraceLine} {end : Result Fabric EventEnd} → read ≡ names
+    → Evented line Is read written faults out out2 from lines end
+    → Evented line Is names written faults out out2 from lines end
+Evented-names line Is read names {K} {written} {faults} {out} {out2} {from} {lines} {end} same e =
+    subst (λ n. Evented line Is n written faults out out2 from lines end) same e

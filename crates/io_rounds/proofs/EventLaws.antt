@@ -1,5 +1,5 @@
 -- One event, behind what was done.
-use Rattle.std.proofs.Common.{◌≡◌, ◌⊎◌, inl, inr, ◌<◌, ℕ, Bool, true, false, List, [], ◌∷◌, ◌++◌, Option, Some, None, refl, sym, ap, ◌∙◌, subst, arith, append_assoc, if◌then◌else◌}
+use Rattle.std.proofs.Common.{◌≡◌, ◌⊎◌, inl, inr, ◌<◌, ℕ, Bool, true, false, List, [], ◌∷◌, ◌++◌, Option, Some, None, Ok, Err, refl, sym, ap, ◌∙◌, subst, arith, append_assoc, if◌then◌else◌}
 use Rattle.std.proofs.lemmas.List.Elements.{All-push}
 use Rattle.rio_chars.specs.declared.outbox.Outbox.{Outbox}
 use Rattle.rio_packets.specs.Fields.{prio_of}
@@ -23,7 +23,7 @@ use Rattle.fabric_trace.specs.Served.{face_in, collect_lines, IsCollect}
 use Rattle.fabric_trace.proofs.Network.Boards.{happens_still}
 use Rattle.fabric_trace.proofs.Parts.Folding.{seen-append}
 use Rattle.fabric_ask.proofs.Gathering.{stays_endpoint, collected_fewer}
-use Rattle.fabric_ports.specs.Events.{MayFollow, Evented, Exposed, EventEnds, answer_collected}
+use Rattle.fabric_ports.specs.Events.{MayFollow, IsOwnBlock, IsAnsweredBlock, Evented, answer_collected}
 use Rattle.fabric_ports.specs.declared.answers.EventEnd.{EventEnd}
 use Rattle.fabric_ports.specs.declared.answers.EventEnd.TheVariants as Ends
 use Rattle.fabric_ports.specs.declared.answers.Happened.{Happened}
@@ -78,18 +78,19 @@ stays_calm names script events trace block stations course line holds kind is =
 nothing_unsent : (names : List (List ℕ)) (course : Course) (line : Line) {K : Type 0}
     (written : K → Option (List ℕ)) (faults : K → ℕ) (old new : Outbox K) (port : PortRef)
     (event : Event) (may : MayAct names course line)
-    → Exposed line names written faults old new (start may.script) may.trace port event → ⊥
+    → Evented line (IsOwnBlock line) names written faults old new (start may.script) may.trace
+    (Err (Ends.Undetected port event)) → ⊥
 nothing_unsent names course line written faults old new port event may exposed =
     let s = start may.script in
     let own = Begun line ∷ exposed.block in
     let stays = stays_calm names may.script may.events may.trace exposed.block may.stations course
-    line may.holds may.kind exposed.is in
+    line may.holds may.kind exposed.is.0 in
     let there : seen s (may.trace ++ own) ≡ seen (seen s may.trace) own =
     seen-append s may.trace own
     in
     let found : (seen (seen s may.trace) own).unfaithful
     ≡ Some (record { port = port; event = event })
-    = ap (λ (x : Seen). x.unfaithful) (sym there) ∙ exposed.found in
+    = ap (λ (x : Seen). x.unfaithful) (sym there) ∙ exposed.ends.1 in
     none_some (seen (seen s may.trace) own).unfaithful (record { port = port; event = event })
     stays.still found
   where
@@ -101,7 +102,8 @@ nothing_unsent names course line written faults old new port event may exposed =
 pub only_wanting : (names : List (List ℕ)) (course : Course) (line : Line) {K : Type 0}
     (written : K → Option (List ℕ)) (faults : K → ℕ) (old new : Outbox K) (end : EventEnd)
     (may : MayAct names course line)
-    → EventEnds line names written faults old new (start may.script) may.trace end
+    → Evented line (IsOwnBlock line) names written faults old new (start may.script) may.trace
+    (Err end)
     → (end ≡ Ends.Failed) ⊎ (end ≡ Ends.NoMemory)
 only_wanting names course line written faults old new (Ends.Undetected port event) may ends =
     absurd (nothing_unsent names course line written faults old new port event may ends)
@@ -112,7 +114,8 @@ pub acted : (names : List (List ℕ)) (script events : List Numbered) (trace : L
     (stations : List Station) (line : Line) (old new : Course) (what : Happened) {K : Type 0}
     (written : K → Option (List ℕ)) (faults : K → ℕ) (o1 o2 : Outbox K)
     → CourseHolds names script events trace stations old → IsIoEvent line
-    → Evented line names written faults o1 o2 (start script) trace new.fabric what
+    → Evented line (IsAnsweredBlock line what) names written faults o1 o2 (start script) trace
+    (Ok new.fabric)
     → new.stations.items ≡ old.stations.items → new.switches.items ≡ old.switches.items
     → EventActed names script events trace stations line what new
 acted names script events trace stations line old new what written faults o1 o2 holds kind done
@@ -121,22 +124,22 @@ acted names script events trace stations line old new what written faults o1 o2 
     let own = Begun line ∷ done.block in
     let next : Numbered = record { number = 0; line = line } in
     let there : seen s (trace ++ own) ≡ seen (seen s trace) own = seen-append s trace own in
-    let stays = stays_calm names script events trace done.block stations old line holds kind done.is
-    in
+    let stays = stays_calm names script events trace done.block stations old line holds kind
+    done.is.0 in
     record {
       block = done.block;
-      is = done.is;
-      answered = done.answered;
+      is = done.is.0;
+      answered = done.is.2;
       holds = record {
         passes = holds.passes;
         sets_up = holds.sets_up;
         are_events = All-push (λ (l : Numbered). is_event l.line ≡ true) events next
             holds.are_events (is_an_event line kind);
-        stands = done.stands;
+        stands = done.ends.1;
         calm = λ a b peer. subst (λ (x : Seen). LinksAreCalm x) (sym there) stays.calm a b peer;
         blocks = subst (λ l. BlocksFrom s l (trace ++ own)) (append_assoc script events (next ∷ []))
             (blocks-append (script ++ events) (next ∷ []) s trace own holds.blocks holds.stands.sent
-            (one_block (seen s trace) next done.block (is_an_event line kind) done.is));
+            (one_block (seen s trace) next done.block (is_an_event line kind) done.is.0));
         same_stations = same ∙ holds.same_stations;
         count = holds.count;
         kept = holds.kept;

@@ -1,9 +1,9 @@
 use Rattle.std.proofs.Common.{◌≤◌, None, length, sym, ap, ◌∙◌, subst, arith}
 use Rattle.fabric_trace.specs.Lines.{Ended}
 use Rattle.fabric_trace.specs.Runs.{start}
-use Rattle.fabric_ports.specs.Events.{MayFollow}
+use Rattle.fabric_ports.specs.Events.{MayFollow, IsOwnBlock}
 use Rattle.fabric_replay.proofs.Telling.{item_of, may_follow, Going-begin, Going-skip, Going-event, Going-until, Going-end, until_front, whole_front, Evented-names}
-use Rattle.fabric_replay.proofs.EarlyEnds.{EventEnds-names, end_named, Going-ended, ended_front, ended_until, ended_whole}
+use Rattle.fabric_replay.proofs.EarlyEnds.{end_named, Going-ended, ended_front, ended_until, ended_whole}
 use Rattle.fabric_replay.proofs.replaying.tell_trace.Goals as goal
 use Rattle.fabric_replay.proofs.replaying.tell_trace.Goals.{then-is_event+in_default+else-failed, else-is_event}
 
@@ -27,14 +27,13 @@ tell_end-requires g c =
     let script = c.args.script.now.lines.items in
     let h = c.loop-numbered.invariant in
     let line = c.numbered-item.result.line in
-    let ends = EventEnds-names line c.deref.result.now names _ _ _ _ (start script) h.lines
-    c.in-Err.end c.deref.ensures.value
+    let ends = Evented-names line (IsOwnBlock line) _ names c.deref.ensures.value
     (c.in-Err.ensures.ended (start script) h.lines h.stands) in
     end_named names _ script _ _ _ _ h.lines line c.loop-numbered.fabric c.in-Err.end
     c.requires.passes c.deref-in-Err.ensures.value h.stands ends
 
-pub returns-in-Err-clause-front : goal.returns-in-Err-clause-front
-returns-in-Err-clause-front g c =
+pub returns-in-Err : goal.returns-in-Err
+returns-in-Err g c =
     let names = c.args.script.now.names.items in
     let script = c.args.script.now.lines.items in
     let begun = c.args.outbox.now in
@@ -43,73 +42,35 @@ returns-in-Err-clause-front g c =
     let is = item_of script _ c.loop-numbered.numbered-index c.numbered-item.result
     c.deref-numbered-items.ensures.value c.numbered-item.is c.loop-numbered-test.true in
     let block = sym c.is_event.ensures ∙ c.if-is_event.true in
-    let ends = EventEnds-names line c.deref.result.now names _ _ _ _ (start script) h.lines
-    c.in-Err.end c.deref.ensures.value
+    let ends = Evented-names line (IsOwnBlock line) _ names c.deref.ensures.value
     (c.in-Err.ensures.ended (start script) h.lines h.stands) in
-    ended_front _ _ begun names script _ c.tell_end.result
-    (Going-ended _ _ begun names script _ _ c.numbered-item.result _ _ _ _ c.in-Err.end
-    c.tell_end.result c.deref-in-Err.ensures.value is block h ends c.tell_end.ensures)
+    let ended = Going-ended _ _ begun names script _ _ c.numbered-item.result _ _ _ _ c.in-Err.end
+    c.tell_end.result c.deref-in-Err.ensures.value is block h ends c.tell_end.ensures in
+    record {
+      front = ended_front _ _ begun names script _ c.tell_end.result ended;
+      done = tt;
+      undetected = ended_whole _ _ begun names script _ c.tell_end.result ended;
+      write_fault = ended_until _ _ begun names script _ c.tell_end.result ended;
+    }
 
-pub returns-in-Err-clause-undetected : goal.returns-in-Err-clause-undetected
-returns-in-Err-clause-undetected g c =
-    let names = c.args.script.now.names.items in
-    let script = c.args.script.now.lines.items in
-    let begun = c.args.outbox.now in
-    let h = c.loop-numbered.invariant in
-    let line = c.numbered-item.result.line in
-    let is = item_of script _ c.loop-numbered.numbered-index c.numbered-item.result
-    c.deref-numbered-items.ensures.value c.numbered-item.is c.loop-numbered-test.true in
-    let block = sym c.is_event.ensures ∙ c.if-is_event.true in
-    let ends = EventEnds-names line c.deref.result.now names _ _ _ _ (start script) h.lines
-    c.in-Err.end c.deref.ensures.value
-    (c.in-Err.ensures.ended (start script) h.lines h.stands) in
-    ended_whole _ _ begun names script _ c.tell_end.result
-    (Going-ended _ _ begun names script _ _ c.numbered-item.result _ _ _ _ c.in-Err.end
-    c.tell_end.result c.deref-in-Err.ensures.value is block h ends c.tell_end.ensures)
-
-pub returns-in-Err-clause-write_fault : goal.returns-in-Err-clause-write_fault
-returns-in-Err-clause-write_fault g c =
-    let names = c.args.script.now.names.items in
-    let script = c.args.script.now.lines.items in
-    let begun = c.args.outbox.now in
-    let h = c.loop-numbered.invariant in
-    let line = c.numbered-item.result.line in
-    let is = item_of script _ c.loop-numbered.numbered-index c.numbered-item.result
-    c.deref-numbered-items.ensures.value c.numbered-item.is c.loop-numbered-test.true in
-    let block = sym c.is_event.ensures ∙ c.if-is_event.true in
-    let ends = EventEnds-names line c.deref.result.now names _ _ _ _ (start script) h.lines
-    c.in-Err.end c.deref.ensures.value
-    (c.in-Err.ensures.ended (start script) h.lines h.stands) in
-    ended_until _ _ begun names script _ c.tell_end.result
-    (Going-ended _ _ begun names script _ _ c.numbered-item.result _ _ _ _ c.in-Err.end
-    c.tell_end.result c.deref-in-Err.ensures.value is block h ends c.tell_end.ensures)
-
-pub returns-then-failed-clause-front : goal.returns-then-failed-clause-front
-returns-then-failed-clause-front g c =
+pub returns-then-failed : goal.returns-then-failed
+returns-then-failed g c =
     let names = c.args.script.now.names.items in
     let script = c.args.script.now.lines.items in
     let h = c.loop-numbered.invariant in
     let is = item_of script _ c.loop-numbered.numbered-index c.numbered-item.result
     c.deref-numbered-items.ensures.value c.numbered-item.is c.loop-numbered-test.true in
     let block = sym c.is_event.ensures ∙ c.if-is_event.true in
-    let done = Evented-names c.numbered-item.result.line _ names c.deref.ensures.value
+    let done = Evented-names c.numbered-item.result.line _ _ names c.deref.ensures.value
     (c.in_default.ensures.done (start script) h.lines h.stands) in
-    until_front _ _ c.args.outbox.now names script _
-    (Going-until _ _ c.args.outbox.now names script _ c.numbered-item.result _ _ _ _ _ is block h
-    (sym c.failed.ensures ∙ c.if-failed.true) done)
-
-pub returns-then-failed-clause-write_fault : goal.returns-then-failed-clause-write_fault
-returns-then-failed-clause-write_fault g c = λ fault.
-    let names = c.args.script.now.names.items in
-    let script = c.args.script.now.lines.items in
-    let h = c.loop-numbered.invariant in
-    let is = item_of script _ c.loop-numbered.numbered-index c.numbered-item.result
-    c.deref-numbered-items.ensures.value c.numbered-item.is c.loop-numbered-test.true in
-    let block = sym c.is_event.ensures ∙ c.if-is_event.true in
-    let done = Evented-names c.numbered-item.result.line _ names c.deref.ensures.value
-    (c.in_default.ensures.done (start script) h.lines h.stands) in
-    Going-until _ _ c.args.outbox.now names script _ c.numbered-item.result _ _ _ _ _ is block h
-    (sym c.failed.ensures ∙ c.if-failed.true) done
+    let until = Going-until _ _ c.args.outbox.now names script _ c.numbered-item.result _ _ _ _ _ is
+    block h (sym c.failed.ensures ∙ c.if-failed.true) done in
+    record {
+      front = until_front _ _ c.args.outbox.now names script _ until;
+      done = tt;
+      undetected = λ line port event is. absurd cc;
+      write_fault = λ is. until;
+    }
 
 pub loop-numbered-init : goal.loop-numbered-init
 loop-numbered-init g c = Going-begin _ _ c.args.outbox.now c.args.script.now.names.items
@@ -125,7 +86,7 @@ loop-numbered-preserved g c =
     c.deref-numbered-items.ensures.value c.numbered-item.is c.loop-numbered-test.true in
     elim c.if-is_event.branch [
       | then-is_event+in_default+else-failed w ↦
-          let done = Evented-names c.numbered-item.result.line _ names w.deref.ensures.value
+          let done = Evented-names c.numbered-item.result.line _ _ names w.deref.ensures.value
           (w.in_default.ensures.done (start script) h.lines h.stands) in
           rw (w.outbox-is, w.fabric-is)
           (Going-event _ _ begun names script _ c.numbered-item.result _ _ _ _ _ is
@@ -136,31 +97,22 @@ loop-numbered-preserved g c =
           (sym c.is_event.ensures ∙ w.if-is_event.false) h)
     ]
 
-pub returns-clause-front : goal.returns-clause-front
-returns-clause-front g c =
+pub returns : goal.returns
+returns g c =
     let names = c.args.script.now.names.items in
     let script = c.args.script.now.lines.items in
     let begun = c.args.outbox.now in
-    let whole : length script ≤ c.loop-numbered.numbered-index =
+    let all : length script ≤ c.loop-numbered.numbered-index =
     omega (
       arith,
       ap length c.deref-numbered-items.ensures.value,
       c.loop-numbered-test.false,
     ) in
-    whole_front _ _ begun names script _ Ended None
-    (Going-end _ _ begun names script c.loop-numbered.numbered-index _ _ _ whole
-    c.loop-numbered.invariant c.write_end.ensures)
-
-pub returns-clause-done : goal.returns-clause-done
-returns-clause-done g c =
-    let names = c.args.script.now.names.items in
-    let script = c.args.script.now.lines.items in
-    let begun = c.args.outbox.now in
-    let whole : length script ≤ c.loop-numbered.numbered-index =
-    omega (
-      arith,
-      ap length c.deref-numbered-items.ensures.value,
-      c.loop-numbered-test.false,
-    ) in
-    Going-end _ _ begun names script c.loop-numbered.numbered-index _ _ _ whole
-    c.loop-numbered.invariant c.write_end.ensures
+    let whole = Going-end _ _ begun names script c.loop-numbered.numbered-index _ _ _ all
+    c.loop-numbered.invariant c.write_end.ensures in
+    record {
+      front = whole_front _ _ begun names script _ Ended None whole;
+      done = whole;
+      undetected = λ line port event is. absurd cc;
+      write_fault = λ is. absurd cc;
+    }

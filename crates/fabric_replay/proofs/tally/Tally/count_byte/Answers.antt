@@ -1,4 +1,4 @@
-use Rattle.std.proofs.Common.{refl, sym, ap, ◌∙◌}
+use Rattle.std.proofs.Common.{refl, ap}
 use Rattle.fabric_replay.proofs.TallyLaws.{Tallied-begun, Tallied-within}
 use Rattle.fabric_replay.proofs.tally.Tally.count_byte.Goals as goal
 use Rattle.fabric_replay.proofs.tally.Tally.count_byte.Goals.{then-self, else-self}
