@@ -15,8 +15,10 @@ use Rattle.fabric_trace.specs.Blocks.{IsBlock}
 use Rattle.fabric_trace.specs.Lines.{TraceLine, Begun, Undetected}
 use Rattle.fabric_trace.specs.Runs.{start}
 use Rattle.fabric_trace.specs.Text.{trace_line_text, trace_text}
-use Rattle.fabric_ports.specs.Events.{Evented, Exposed, CutShort}
+use Rattle.fabric_ports.specs.Events.{IsOwnBlock, IsAnsweredBlock, Evented}
+use Rattle.fabric_ports.specs.Ran.{WritesFront}
 use Rattle.fabric_ports.specs.Standing.{Stands}
+use Rattle.fabric_ports.specs.declared.answers.EventEnd.TheVariants.{Undetected as Unsent}
 use Rattle.fabric_ports.specs.declared.answers.Happened.{Happened as Did}
 use Rattle.fabric_ports.specs.declared.fabric.Fabric.{Fabric}
 use Rattle.rio_live.specs.declared.live.Asked.TheVariants.{Quiet, Event, Refused}
@@ -38,8 +40,8 @@ module _ {K : Type 0} (written : K → Option (List ℕ)) (faults : K → ℕ) (
       (did : Did) → LiveHolds live taken → Spells (for_event taken.known) line event
       → Stands (start taken.set_up) taken.trace fabric
       → now.text.items ≡ live.text.items → now.set_up ≡ live.set_up → now.fabric ≡ Some last
-      → Evented event taken.known.names written faults out next (start taken.set_up) taken.trace
-      last did
+      → Evented event (IsAnsweredBlock event did) taken.known.names written faults out next
+      (start taken.set_up) taken.trace (Ok last)
       → Happens written faults taken number line event out next now Goings.On
   happens_on out next number live now fabric last did holds spells stands text set_up put
       done =
@@ -47,11 +49,11 @@ module _ {K : Type 0} (written : K → Option (List ℕ)) (faults : K → ℕ) (
       let block_text = trace_text names (Begun event ∷ done.block) in
       record {
         block = done.block;
-        is = done.is;
+        is = done.is.0;
         told =
             subst (λ found. Writes written faults out next
-            (block_text ++ found_text names number found)) (sym done.stands.sent)
-            (subst (Writes written faults out next) (sym (append-nil block_text)) done.prints);
+            (block_text ++ found_text names number found)) (sym done.ends.1.sent)
+            (subst (Writes written faults out next) (sym (append-nil block_text)) done.ends.0);
         goes = record {
           text = text ∙ holds.text;
           few = holds.few;
@@ -59,10 +61,10 @@ module _ {K : Type 0} (written : K → Option (List ℕ)) (faults : K → ℕ) (
           known = ap (λ (s : SetUpLines). s.known) set_up ∙ holds.known;
           trace =
               trace_more taken number line event done.block fabric holds.trace
-              (is_one taken.known line event spells) stands done.is;
+              (is_one taken.known line event spells) stands done.is.0;
           stands =
               subst (λ f. StandsBy f (taken_after taken number line (Happened event done.block)))
-              (sym put) (refl, done.stands);
+              (sym put) (refl, done.ends.1);
         };
       }
 
@@ -71,8 +73,8 @@ module _ {K : Type 0} (written : K → Option (List ℕ)) (faults : K → ℕ) (
       (port : PortRef) (found : LinkEvent) → LiveHolds live taken
       → Spells (for_event taken.known) line event
       → Stands (start taken.set_up) taken.trace fabric
-      → Exposed event taken.known.names written faults out mid (start taken.set_up) taken.trace
-      port found
+      → Evented event (IsOwnBlock event) taken.known.names written faults out mid
+      (start taken.set_up) taken.trace (Err (Unsent port found))
       → Writes written faults mid next
       (trace_line_text taken.known.names (Undetected number port found) ++ codes "\n")
       → Happens written faults taken number line event out next now Goings.Undetected
@@ -82,25 +84,26 @@ module _ {K : Type 0} (written : K → Option (List ℕ)) (faults : K → ℕ) (
       let block_text = trace_text names (Begun event ∷ exposed.block) in
       record {
         block = exposed.block;
-        is = exposed.is;
+        is = exposed.is.0;
         told =
             subst (λ f. Writes written faults out next
-            (block_text ++ found_text names number f)) (sym exposed.found)
-            (Writes-then _ _ exposed.prints last);
+            (block_text ++ found_text names number f)) (sym exposed.ends.1)
+            (Writes-then _ _ exposed.ends.0 last);
         goes = (
           trace_more taken number line event exposed.block fabric holds.trace
-              (is_one taken.known line event spells) stands exposed.is,
-          (record { port = port; event = found }, exposed.found),
+              (is_one taken.known line event spells) stands exposed.is.0,
+          (record { port = port; event = found }, exposed.ends.1),
         );
       }
 
   -- it was not carried out to its end, or not begun
-  pub falls_short : (out next : Outbox K)
-      → CutShort event taken.known.names written faults out next (start taken.set_up) taken.trace
+  pub falls_short : (out next : Outbox K) (block : List TraceLine)
+      → IsBlock (seen_so_far taken) event block
+      → WritesFront taken.known.names written faults out next (Begun event ∷ block)
       → FallsShort written faults taken event out next
-  falls_short out next short = record {
+  falls_short out next block is short = record {
     front = short.front;
-    is = inr (short.block, short.rest, short.is, short.whole);
+    is = inr (block, short.rest, is, short.whole);
     told = short.prints;
   }
 

@@ -1,9 +1,11 @@
-use Rattle.std.proofs.Common.{◌≡◌, ◌<◌, ◌++◌, List, ℕ, length, codes, sym, ap, subst}
+use Rattle.std.proofs.Common.{◌≡◌, ◌<◌, ◌∷◌, ◌++◌, List, ℕ, Ok, Err, length, codes, sym, ap, subst}
 use Rattle.rio_chars.specs.Written.{Writes}
-use Rattle.fabric_trace.specs.Lines.{Undetected}
+use Rattle.fabric_trace.specs.Lines.{Begun, Undetected}
 use Rattle.fabric_trace.specs.Runs.{start}
 use Rattle.fabric_trace.specs.Text.{trace_line_text}
-use Rattle.fabric_ports.specs.Events.{MayFollow, Evented, Exposed, CutShort, EventEnds}
+use Rattle.fabric_ports.specs.Events.{MayFollow, IsOwnBlock, IsAnsweredBlock, Evented}
+use Rattle.fabric_ports.specs.Ran.{WritesFront}
+use Rattle.fabric_ports.specs.declared.answers.EventEnd.TheVariants.{Undetected as Unsent}
 use Rattle.rio_live.specs.declared.live.Live.{Live}
 use Rattle.rio_live.proofs.TakenLaws.{may_follow, port_named}
 use Rattle.rio_live.proofs.AnsweringLaws.{on_err, names_held, put_text, put_set_up, happens_on, happens_unsent, falls_short, falls_at_once}
@@ -39,8 +41,9 @@ returns-in-Ok-clause-happens g c = λ taken line holds spells.
     taken holds c.names-names.ensures c.set_up.ensures c.take_fabric.ensures.set_up in
     let stands = c.in_ok-fabric.ensures.stands taken holds in
     let done =
-    subst (λ n. Evented c.args.event.now n g.K.Sink.written g.K.Sink.faults c.args.outbox.now
-    c.event.new.outbox (start taken.set_up) taken.trace c.event.new.self c.in-Ok.field-0) named
+    subst (λ n. Evented c.args.event.now (IsAnsweredBlock c.args.event.now c.in-Ok.field-0) n
+    g.K.Sink.written g.K.Sink.faults c.args.outbox.now c.event.new.outbox (start taken.set_up)
+    taken.trace (Ok c.event.new.self)) named
     (c.in-Ok.ensures.done (start taken.set_up) taken.trace stands) in
     happens_on g.K.Sink.written g.K.Sink.faults taken line c.args.event.now c.args.outbox.now
     c.event.new.outbox c.args.number c.args.live.now c.put_fabric.new.self c.in_ok-fabric.fabric
@@ -60,13 +63,14 @@ write_undetected-requires g c =
     taken holds c.names-names.ensures c.set_up.ensures c.take_fabric.ensures.set_up in
     let stands = c.in_ok-fabric.ensures.stands taken holds in
     let exposed =
-    subst (λ e. EventEnds c.args.event.now c.names-names.result.now g.K.Sink.written
-    g.K.Sink.faults c.args.outbox.now c.event.new.outbox (start taken.set_up) taken.trace e)
+    subst (λ e. Evented c.args.event.now (IsOwnBlock c.args.event.now) c.names-names.result.now
+    g.K.Sink.written g.K.Sink.faults c.args.outbox.now c.event.new.outbox (start taken.set_up)
+    taken.trace (Err e))
     c.in-Err-Undetected.field-0-is
     (c.in-Err-Undetected.ensures.ended (start taken.set_up) taken.trace stands) in
     subst (λ (n : List (List ℕ)). c.in-Err-Undetected.port.node < length n) (sym named)
     (port_named taken c.args.event.now exposed.block c.in_ok-fabric.fabric
-    c.in-Err-Undetected.port c.in-Err-Undetected.event holds.trace stands exposed.found)
+    c.in-Err-Undetected.port c.in-Err-Undetected.event holds.trace stands exposed.ends.1)
 
 pub returns-in-Err-Undetected-clause-happens : goal.returns-in-Err-Undetected-clause-happens
 returns-in-Err-Undetected-clause-happens g c = λ taken line holds spells.
@@ -75,14 +79,15 @@ returns-in-Err-Undetected-clause-happens g c = λ taken line holds spells.
     taken holds c.names-names.ensures c.set_up.ensures c.take_fabric.ensures.set_up in
     let stands = c.in_ok-fabric.ensures.stands taken holds in
     let ends =
-    subst (λ e. EventEnds c.args.event.now c.names-names.result.now g.K.Sink.written
-    g.K.Sink.faults c.args.outbox.now c.event.new.outbox (start taken.set_up) taken.trace e)
+    subst (λ e. Evented c.args.event.now (IsOwnBlock c.args.event.now) c.names-names.result.now
+    g.K.Sink.written g.K.Sink.faults c.args.outbox.now c.event.new.outbox (start taken.set_up)
+    taken.trace (Err e))
     c.in-Err-Undetected.field-0-is
     (c.in-Err-Undetected.ensures.ended (start taken.set_up) taken.trace stands) in
     let exposed =
-    subst (λ n. Exposed c.args.event.now n g.K.Sink.written g.K.Sink.faults
-    c.args.outbox.now c.event.new.outbox (start taken.set_up) taken.trace
-    c.in-Err-Undetected.port c.in-Err-Undetected.event) named ends in
+    subst (λ n. Evented c.args.event.now (IsOwnBlock c.args.event.now) n g.K.Sink.written
+    g.K.Sink.faults c.args.outbox.now c.event.new.outbox (start taken.set_up) taken.trace
+    (Err (Unsent c.in-Err-Undetected.port c.in-Err-Undetected.event))) named ends in
     let told : c.event-in-Err-Undetected-2.result.now ≡ c.in-Err-Undetected.event =
     c.event-in-Err-Undetected-2.ensures in
     let last =
@@ -106,14 +111,15 @@ returns-in-Err-Failed-clause-short g c = λ taken line holds spells.
     taken holds c.names-names.ensures c.set_up.ensures c.take_fabric.ensures.set_up in
     let stands = c.in_ok-fabric.ensures.stands taken holds in
     let ends =
-    subst (λ e. EventEnds c.args.event.now c.names-names.result.now g.K.Sink.written
-    g.K.Sink.faults c.args.outbox.now c.event.new.outbox (start taken.set_up) taken.trace e)
+    subst (λ e. Evented c.args.event.now (IsOwnBlock c.args.event.now) c.names-names.result.now
+    g.K.Sink.written g.K.Sink.faults c.args.outbox.now c.event.new.outbox (start taken.set_up)
+    taken.trace (Err e))
     c.in-Err-Failed.field-0-is
     (c.in-Err-Failed.ensures.ended (start taken.set_up) taken.trace stands) in
     falls_short g.K.Sink.written g.K.Sink.faults taken line c.args.event.now c.args.outbox.now
-    c.event.new.outbox
-    (subst (λ n. CutShort c.args.event.now n g.K.Sink.written g.K.Sink.faults
-    c.args.outbox.now c.event.new.outbox (start taken.set_up) taken.trace) named ends.0)
+    c.event.new.outbox ends.block ends.is.0
+    (subst (λ n. WritesFront n g.K.Sink.written g.K.Sink.faults c.args.outbox.now
+    c.event.new.outbox (Begun c.args.event.now ∷ ends.block)) named ends.ends.0)
 
 pub returns-clause-short : goal.returns-clause-short
 returns-clause-short g c = λ taken line holds spells.
@@ -122,11 +128,12 @@ returns-clause-short g c = λ taken line holds spells.
     taken holds c.names-names.ensures c.set_up.ensures c.take_fabric.ensures.set_up in
     let stands = c.in_ok-fabric.ensures.stands taken holds in
     let ends =
-    subst (λ e. EventEnds c.args.event.now c.names-names.result.now g.K.Sink.written
-    g.K.Sink.faults c.args.outbox.now c.event.new.outbox (start taken.set_up) taken.trace e)
+    subst (λ e. Evented c.args.event.now (IsOwnBlock c.args.event.now) c.names-names.result.now
+    g.K.Sink.written g.K.Sink.faults c.args.outbox.now c.event.new.outbox (start taken.set_up)
+    taken.trace (Err e))
     c.in-Err-NoMemory.field-0-is
     (c.in-Err-NoMemory.ensures.ended (start taken.set_up) taken.trace stands) in
     falls_short g.K.Sink.written g.K.Sink.faults taken line c.args.event.now c.args.outbox.now
-    c.event.new.outbox
-    (subst (λ n. CutShort c.args.event.now n g.K.Sink.written g.K.Sink.faults
-    c.args.outbox.now c.event.new.outbox (start taken.set_up) taken.trace) named ends)
+    c.event.new.outbox ends.block ends.is.0
+    (subst (λ n. WritesFront n g.K.Sink.written g.K.Sink.faults c.args.outbox.now
+    c.event.new.outbox (Begun c.args.event.now ∷ ends.block)) named ends.ends)
