@@ -225,7 +225,8 @@ module _ (names : List (List ℕ)) (before after : Option (List ℕ)) (host : �
 
     -- the lines were told whole
     told_whole : (left : Option (List ℕ))
-        → (ran : Ran (AskLeaves host request noise left) names written faults a b from lines (Ok new))
+        → (ran : Ran (AskLeaves host request noise left) names written faults a b from lines
+        (Ok new))
         → Appends before after (trace_text names ran.block)
         → IsAnswered (response_or_end (response_in left))
     told_whole None ran told = nothing_came None ran told ran.is.1

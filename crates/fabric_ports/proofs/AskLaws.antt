@@ -122,7 +122,8 @@ module _ {K : Type 0} (written : K → Option (List ℕ)) (faults : K → ℕ) (
   -- and then the rounds are made
   pub asked_whole : (noise : List Edit) (a b c : Outbox K) (from : Seen) (lines : List TraceLine)
       (mid new : Fabric) (left : Option (List ℕ))
-      → (first : Ran (λ s block. Asks s host request block) names written faults a b from lines (Ok mid))
+      → (first : Ran (λ s block. Asks s host request block) names written faults a b from lines
+      (Ok mid))
       → Ran (RoundsLeave host most_rounds noise left) names written faults b c from
       (lines ++ first.block) (Ok new)
       → Ran (AskLeaves host request noise left) names written faults a c from lines (Ok new)

@@ -85,7 +85,8 @@ module _ {K : Type 0} (written : K → Option (List ℕ)) (faults : K → ℕ) (
       → Ran (P left) names written faults a b from lines end
       → Ran (WithLeft P) names written faults a b from lines end
   with_left P left a b from lines end ran =
-      ran_as written faults names (P left) (WithLeft P) a b from lines end (λ block own. (left, own))
+      ran_as written faults names (P left) (WithLeft P) a b from lines end
+      (λ block own. (left, own))
       ran
 
   -- ---- both ports of a link take a turn

@@ -134,7 +134,8 @@ module _ {K : Type 0} (written : K → Option (List ℕ)) (faults : K → ℕ) (
       → Stands from lines old → IsNext from k link
       → (first : Ran (CarryAll (take k from.network.links) noise middle) names written faults a b
       from lines (Ok mid))
-      → Ran (LinkCarries link middle left) names written faults b c from (lines ++ first.block) (Ok new)
+      → Ran (LinkCarries link middle left) names written faults b c from (lines ++ first.block)
+      (Ok new)
       → Ran (CarryAll (take (k + 1) from.network.links) noise left) names written faults a c from
       lines (Ok new)
   carried_more a b c from lines old mid new k link noise middle left stands next first own =

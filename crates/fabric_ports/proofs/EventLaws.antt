@@ -154,7 +154,8 @@ pub ran_evented : (line asked : Line) (Q : Kind) (names : List (List ℕ)) {K : 
     (written : K → Option (List ℕ)) (faults : K → ℕ) (b b2 b3 : Outbox K)
     (from : Seen) (lines : List TraceLine) (old : Fabric) (end : Result Fabric EventEnd)
     → line ≡ asked → edited_by (seen from lines) (edit_of asked) ≡ seen from lines
-    → ((block : List TraceLine) → IsOwnBlock line (seen from lines) block → Q (seen from lines) block)
+    → ((block : List TraceLine) → IsOwnBlock line (seen from lines) block → Q
+    (seen from lines) block)
     → Stands from lines old
     → Writes written faults b b2 (trace_line_text names (Begun line) ++ 10 ∷ [])
     → ((more : List TraceLine) → Stands from more old

@@ -219,7 +219,8 @@ module _ {K : Type 0} (written : K → Option (List ℕ)) (faults : K → ℕ) (
       → Did (λ block. IsCollect (seen from ((lines ++ first.block) ++ round.block)).network host
       block × (happened ≡ answer_collected block)) names written faults c d
       (seen from ((lines ++ first.block) ++ round.block)) new
-      → Ran (RoundsLeave host n noise (left_of happened)) names written faults a d from lines (Ok new)
+      → Ran (RoundsLeave host n noise (left_of happened)) names written faults a d from lines
+      (Ok new)
   fetched a b c d from lines old mid next new k n noise left last happened less stands is first
       round some did =
       let s = seen from lines in

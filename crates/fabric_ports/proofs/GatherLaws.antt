@@ -301,7 +301,8 @@ module _ {K : Type 0} (written : K → Option (List ℕ)) (faults : K → ℕ) (
   -- there is no room for a response
   pub gather_stops : (a b c : Outbox K) (from : Seen) (lines : List TraceLine) (mid new : Fabric)
       (node : ℕ) (told : Happened)
-      → (first : Ran (CollectsFirst node) names written faults a b from lines (Ok mid)) → told ≡ Full
+      → (first : Ran (CollectsFirst node) names written faults a b from lines (Ok mid))
+      → told ≡ Full
       → Did (λ block. IsCollect (seen from (lines ++ first.block)).network node block
       × (told ≡ answer_collected block)) names written faults b c (seen from (lines
       ++ first.block)) new

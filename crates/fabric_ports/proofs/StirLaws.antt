@@ -194,7 +194,8 @@ module _ {K : Type 0} (written : K → Option (List ℕ)) (faults : K → ℕ) (
       → Ran (EditsWire port edit) names written faults a b from lines (Ok new)
       → Ran (Stirs port noise left) names written faults a b from lines (Ok new)
   stir_some a b from lines new edit gives some ran =
-      ran_as written faults names (EditsWire port edit) (Stirs port noise left) a b from lines (Ok new)
+      ran_as written faults names (EditsWire port edit) (Stirs port noise left) a b from lines
+      (Ok new)
       (λ block is. edit_stirred noise left edit port ((seen from lines).wires port).chars block some
       gives is) ran
 

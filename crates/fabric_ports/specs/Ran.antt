@@ -1,5 +1,5 @@
--- What a call of a fabric did behind lines for which it stood: which lines it told, and how far they
--- were written.
+-- What a call of a fabric did behind lines for which it stood: which lines it told, and how far
+-- they were written.
 use Rattle.std.specs.Prelude.{◌≡◌, ℕ, true, List, [], ◌++◌, Option, Some, Result, Ok, Err}
 use Rattle.rio_chars.specs.Written.{Writes}
 use Rattle.rio_chars.specs.declared.outbox.Outbox.{Outbox}

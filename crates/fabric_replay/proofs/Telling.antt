@@ -151,7 +151,8 @@ module _ {K : Type 0} (written : K → Option (List ℕ)) (faults : K → ℕ) (
       → Gone out2 (i + 1) fabric2
   Going-event i item out out2 fabric fabric2 what is has h fine done = record {
     lines = h.lines ++ Begun item.line ∷ done.block;
-    told = lines_written written faults names begun out out2 h.lines (Begun item.line ∷ done.block) h.told done.ends.0;
+    told = lines_written written faults names begun out out2 h.lines
+        (Begun item.line ∷ done.block) h.told done.ends.0;
     fine = fine;
     blocks = blocks_with i item out fabric done.block is has h done.is.0;
     stands = done.ends.1;

@@ -53,7 +53,8 @@ returns g c =
           (g.K.Sink.written c.flush.new.self.sink.now) c.args.host c.args.request.now
           (g.N.Noise.edits c.args.noise.now) c.args.self.now c.tell_ask-told.new.self
           c.answer.result answers;
-      write_fault = λ is. absurd (no_fault c.args.names.now g.K.Sink.written g.K.Sink.faults c.args.outbox.now
+      write_fault = λ is. absurd
+          (no_fault c.args.names.now g.K.Sink.written g.K.Sink.faults c.args.outbox.now
           c.tell_ask-told.new.outbox c.flush.new.self c.args.host c.args.request.now
           (g.N.Noise.edits c.args.noise.now) c.args.self.now c.tell_ask-told.new.self
           c.tell_ask-told.result c.tell_ask-told.ensures.done

@@ -64,7 +64,8 @@ loop-node-preserved g c = λ from lines stands.
                 let host : c.loop-node.node ≡ c.args.host = omega (arith, from_is, eq) in
                 let node = next_node c.loop-node.node c.index.result.now false stands ran.ends.1
                 c.index.ensures within (sym c.is_switch.ensures ∙ v.if-not-is_switch.true) in
-                nodes_none g.K.Sink.written g.K.Sink.faults c.args.names.now (CollectNodes c.args.host)
+                nodes_none g.K.Sink.written g.K.Sink.faults c.args.names.now
+                (CollectNodes c.args.host)
                 (others_append c.args.host) from lines c.args.self.now c.loop-node.self
                 c.args.self.now.devices.items stands
                 c.args.outbox.now c.loop-node.outbox c.loop-node.node false node
@@ -73,7 +74,8 @@ loop-node-preserved g c = λ from lines stands.
             | else-not-is_switch-via-else-not-is_switch v ↦
                 let node = next_node c.loop-node.node c.index.result.now true stands ran.ends.1
                 c.index.ensures within (sym c.is_switch.ensures ∙ v.if-not-is_switch.false) in
-                nodes_none g.K.Sink.written g.K.Sink.faults c.args.names.now (CollectNodes c.args.host)
+                nodes_none g.K.Sink.written g.K.Sink.faults c.args.names.now
+                (CollectNodes c.args.host)
                 (others_append c.args.host) from lines c.args.self.now c.loop-node.self
                 c.args.self.now.devices.items stands
                 c.args.outbox.now c.loop-node.outbox c.loop-node.node true node

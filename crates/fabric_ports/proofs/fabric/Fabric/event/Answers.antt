@@ -43,14 +43,16 @@ edit-requires g c =
 
 pub returns-in_ok-act-in-AtLink-clause-done : goal.returns-in_ok-act-in-AtLink-clause-done
 returns-in_ok-act-in-AtLink-clause-done g c = λ from lines stands.
-    ran_evented c.args.line.now (line_for c.in-AtLink.port c.in-AtLink.action) (IsAnsweredBlock c.args.line.now Other) c.args.names.now
+    ran_evented c.args.line.now (line_for c.in-AtLink.port c.in-AtLink.action)
+    (IsAnsweredBlock c.args.line.now Other) c.args.names.now
     g.K.Sink.written g.K.Sink.faults c.args.outbox.now c.write_begun.new.outbox
     c.act.new.outbox from lines c.args.self.now (Ok c.act.new.self) c.in-AtLink.ensures
     (begun_same (seen from lines) c.in-AtLink.port c.in-AtLink.action)
     (λ block own. (
       own.0,
       own.1,
-      subst (λ (l : Line). Other ≡ happened l block) (sym c.in-AtLink.ensures) (action_answers c.in-AtLink.port c.in-AtLink.action block),
+      subst (λ (l : Line). Other ≡ happened l block) (sym c.in-AtLink.ensures)
+          (action_answers c.in-AtLink.port c.in-AtLink.action block),
     )) stands c.write_begun.ensures (c.in_ok-act-in-AtLink.ensures.done from)
 
 pub returns-in_err-act-in-AtLink-clause-ended : goal.returns-in_err-act-in-AtLink-clause-ended
@@ -61,15 +63,18 @@ returns-in_err-act-in-AtLink-clause-ended g c =
     g.K.Sink.faults c.args.outbox.now c.act.new.outbox from lines (Err end))
     c.from_residual.ensures.1
     (λ from lines stands.
-    ran_evented c.args.line.now (line_for c.in-AtLink.port c.in-AtLink.action) (IsOwnBlock c.args.line.now) c.args.names.now
+    ran_evented c.args.line.now (line_for c.in-AtLink.port c.in-AtLink.action)
+    (IsOwnBlock c.args.line.now) c.args.names.now
     g.K.Sink.written g.K.Sink.faults c.args.outbox.now c.write_begun.new.outbox
     c.act.new.outbox from lines c.args.self.now (Err c.in_err-act-in-AtLink.field-0.0)
-    c.in-AtLink.ensures (begun_same (seen from lines) c.in-AtLink.port c.in-AtLink.action) (λ block own. own) stands
+    c.in-AtLink.ensures (begun_same (seen from lines) c.in-AtLink.port c.in-AtLink.action)
+    (λ block own. own) stands
     c.write_begun.ensures (c.in_err-act-in-AtLink.ensures.ended from))
 
 pub returns-in_ok-run-in-Run-clause-done : goal.returns-in_ok-run-in-Run-clause-done
 returns-in_ok-run-in-Run-clause-done g c = λ from lines stands.
-    ran_evented c.args.line.now (Run c.in-Run.n) (IsAnsweredBlock c.args.line.now Other) c.args.names.now
+    ran_evented c.args.line.now (Run c.in-Run.n)
+    (IsAnsweredBlock c.args.line.now Other) c.args.names.now
     g.K.Sink.written g.K.Sink.faults c.args.outbox.now c.write_begun.new.outbox
     c.run.new.outbox from lines c.args.self.now (Ok c.run.new.self) c.in-Run.ensures
     refl
