@@ -21,8 +21,8 @@ use Rattle.link_law.proofs.DeliverLaws.{one_comes, one_stops, through_is, found_
 use Rattle.link_machine.specs.Settling.{SchedulePart}
 use Rattle.fabric_ports.specs.Acting.{part_of, Acts}
 use Rattle.fabric_ports.specs.declared.actions.Acted.{Acted}
-use Rattle.fabric_ports.specs.declared.operations.Action.{Action}
-use Rattle.fabric_ports.specs.declared.operations.Action.TheVariants.{Pump, Deliver, TimeOut}
+use Rattle.fabric_script.specs.declared.operations.Action.{Action}
+use Rattle.fabric_script.specs.declared.operations.Action.TheVariants.{Pump, Deliver, TimeOut}
 
 -- one act that was not noted to its end
 stops : {W : Type 0} (grew : W → List Note → W → Type 0) (cut : W → Note → W → Type 0) (side : Side)

@@ -4,8 +4,8 @@ use Rattle.std.proofs.lemmas.List.{with_items_is, length-set}
 use Rattle.std.specs.Vec.{with_item, with_items}
 use Rattle.rio_chars.specs.Written.{Writes}
 use Rattle.rio_chars.specs.declared.outbox.Outbox.{Outbox}
-use Rattle.fabric_ports.specs.Operations.{line_for}
-use Rattle.fabric_ports.specs.declared.operations.Action.{Action}
+use Rattle.fabric_script.specs.Operations.{line_for}
+use Rattle.fabric_script.specs.declared.operations.Action.{Action}
 use Rattle.link_port.specs.Ports.{PortState}
 use Rattle.link_watch.specs.Stops.{Stopped}
 use Rattle.link_watch.specs.declared.note.Note.{Note}

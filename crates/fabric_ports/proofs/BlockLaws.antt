@@ -24,12 +24,12 @@ use Rattle.fabric_trace.specs.Blocks.{port_at_side, lines_of, pumps, delivers, t
 use Rattle.fabric_trace.proofs.Parts.Folding.{seen-append}
 use Rattle.fabric_trace.proofs.Parts.Making.{sent_round, delivery_round}
 use Rattle.fabric_trace.proofs.Rounds.Running.{fired_round, silent_round}
-use Rattle.fabric_ports.specs.Operations.{line_for}
+use Rattle.fabric_script.specs.Operations.{line_for}
 use Rattle.fabric_ports.specs.Acting.{part_of, answer_of, lack_lines}
 use Rattle.fabric_ports.specs.declared.actions.Acted.{Acted}
 use Rattle.fabric_ports.specs.declared.actions.Acted.TheVariants.{Done, Short, Early}
-use Rattle.fabric_ports.specs.declared.operations.Action.{Action}
-use Rattle.fabric_ports.specs.declared.operations.Action.TheVariants.{Pump, Deliver, TimeOut, Settle}
+use Rattle.fabric_script.specs.declared.operations.Action.{Action}
+use Rattle.fabric_script.specs.declared.operations.Action.TheVariants.{Pump, Deliver, TimeOut, Settle}
 
 -- the block: the lines of what is noted, and of what is not there
 abbrev pub block_of : PortRef → PortRef → LinkState → List Act → Acted → List TraceLine

@@ -13,9 +13,9 @@ use Rattle.link_wires.specs.declared.edits.Edit.{Edit}
 use Rattle.link_wires.specs.declared.edits.Edited.{Edited}
 use Rattle.link_machine.specs.Calls.{edited_from}
 use Rattle.link_machine.specs.States.{Wires, LinkState, link, wire_at}
-use Rattle.fabric_ports.specs.Operations.{line_editing}
-use Rattle.fabric_ports.specs.declared.operations.WireEdit.{WireEdit}
-use Rattle.fabric_ports.specs.declared.operations.WireEdit.TheVariants as Asked
+use Rattle.fabric_script.specs.Operations.{line_editing}
+use Rattle.fabric_script.specs.declared.operations.WireEdit.{WireEdit}
+use Rattle.fabric_script.specs.declared.operations.WireEdit.TheVariants as Asked
 use Rattle.fabric_script.specs.declared.ports.PortRef.{PortRef}
 use Rattle.fabric_model.specs.Network.{same_port}
 use Rattle.fabric_model.proofs.Peers.{apart_back}

@@ -14,11 +14,11 @@ use Rattle.fabric_script.specs.declared.given_packets.Contents.TheVariants as Of
 use Rattle.fabric_script.specs.declared.given_packets.GivenPacket.{GivenPacket}
 use Rattle.fabric_script.specs.declared.given_packets.RequestHead.{RequestHead}
 use Rattle.fabric_script.specs.GivenPackets.{given_line, line_giving}
-use Rattle.fabric_ports.specs.Operations.{line_for, line_editing}
-use Rattle.fabric_ports.specs.declared.operations.Action.{Action}
-use Rattle.fabric_ports.specs.declared.operations.Action.TheVariants.{Pump, Deliver, TimeOut, Settle}
-use Rattle.fabric_ports.specs.declared.operations.WireEdit.{WireEdit}
-use Rattle.fabric_ports.specs.declared.operations.WireEdit.TheVariants as Edit
+use Rattle.fabric_script.specs.Operations.{line_for, line_editing}
+use Rattle.fabric_script.specs.declared.operations.Action.{Action}
+use Rattle.fabric_script.specs.declared.operations.Action.TheVariants.{Pump, Deliver, TimeOut, Settle}
+use Rattle.fabric_script.specs.declared.operations.WireEdit.{WireEdit}
+use Rattle.fabric_script.specs.declared.operations.WireEdit.TheVariants as Edit
 use Rattle.fabric_script.specs.declared.lines.Line.{Line}
 use Rattle.fabric_model.specs.Network.{Network, IsEndpoint, IsSwitch, sender_id, id_of, peer_in}
 use Rattle.fabric_trace.specs.Blocks.{take_lines, SendsBody, edits, IsBlock}

@@ -28,7 +28,7 @@ use Rattle.fabric_trace.proofs.Parts.Making.{Reaches}
 use Rattle.fabric_trace.proofs.Rounds.Running.{acts_reach, block_made}
 use Rattle.trace_lines.specs.Watching.{WritesNotes}
 use Rattle.trace_lines.specs.declared.watching.LinkLines.{LinkLines}
-use Rattle.fabric_ports.specs.Operations.{line_for}
+use Rattle.fabric_script.specs.Operations.{line_for}
 use Rattle.fabric_ports.specs.Acting.{part_of, answer_of, lack_lines}
 use Rattle.fabric_ports.specs.Ends.{IsPlaceOf}
 use Rattle.fabric_ports.specs.Places.{place_of}
@@ -37,7 +37,7 @@ use Rattle.fabric_ports.specs.Showing.{ShowsFabric}
 use Rattle.fabric_ports.specs.Standing.{Stands}
 use Rattle.fabric_ports.specs.declared.actions.Acted.{Acted}
 use Rattle.fabric_ports.specs.declared.actions.Acted.TheVariants.{Done}
-use Rattle.fabric_ports.specs.declared.operations.Action.{Action}
+use Rattle.fabric_script.specs.declared.operations.Action.{Action}
 use Rattle.fabric_ports.specs.declared.answers.EventEnd.TheVariants.{Undetected, NoMemory}
 use Rattle.fabric_ports.specs.declared.ends.LinkPlace.{LinkPlace}
 use Rattle.fabric_ports.specs.declared.fabric.Cable.{Cable}

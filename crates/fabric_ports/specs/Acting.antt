@@ -17,15 +17,15 @@ use Rattle.link_law.specs.declared.answers.LinkEnd.TheVariants.{Undetected, Fail
 use Rattle.fabric_trace.specs.Blocks.{port_at_side}
 use Rattle.fabric_trace.specs.Lines as traced
 use Rattle.fabric_trace.specs.Lines.{TraceLine, Lacked}
-use Rattle.fabric_ports.specs.declared.operations.WireEdit.{WireEdit}
-use Rattle.fabric_ports.specs.declared.operations.WireEdit.TheVariants as Asked
+use Rattle.fabric_script.specs.declared.operations.WireEdit.{WireEdit}
+use Rattle.fabric_script.specs.declared.operations.WireEdit.TheVariants as Asked
 use Rattle.fabric_script.specs.declared.ports.PortRef.{PortRef}
 use Rattle.fabric_ports.specs.declared.actions.Acted.{Acted}
 use Rattle.fabric_ports.specs.declared.actions.Acted.TheVariants.{Done, Short, Early}
-use Rattle.fabric_ports.specs.declared.operations.Action.{Action}
+use Rattle.fabric_script.specs.declared.operations.Action.{Action}
 use Rattle.fabric_ports.specs.declared.answers.EventEnd.{EventEnd}
 use Rattle.fabric_ports.specs.declared.answers.EventEnd.TheVariants as EventEnds
-use Rattle.fabric_ports.specs.declared.operations.Action.TheVariants.{Pump, Deliver, TimeOut, Settle}
+use Rattle.fabric_script.specs.declared.operations.Action.TheVariants.{Pump, Deliver, TimeOut, Settle}
 
 -- a delivery is of one character at least
 abbrev pub AsksForSome : Action → Type 0

@@ -1,5 +1,4 @@
 pub mod Places
-pub mod Operations
 pub mod Showing
 pub mod Standing
 pub mod Ran

@@ -2,14 +2,13 @@
 ghost use Rattle.std.specs.Prelude.{◌≡◌, ◌≢◌, ◌≤◌, ◌<◌, ℕ, List, length, slice_get, Some, OnOk, IfOk, IfErr, Ok, Err};
 ghost use Rattle.rio_chars.specs.Written.{Writes};
 ghost use Rattle.fabric_model.specs.Network.{Network};
-ghost use Rattle.fabric_trace.specs.Blocks.{port_at_side};
 ghost use Rattle.fabric_trace.specs.Known.{Seen};
 ghost use Rattle.fabric_trace.specs.Lines.{TraceLine};
 ghost use Rattle.fabric_trace.specs.Text.{trace_text};
 ghost use Rattle.link_machine.specs.Sound.{IsSoundLink};
 ghost use Rattle.link_machine.specs.States.{link};
 ghost use Rattle.link_port.specs.Ports.{PortState};
-ghost use Rattle.fabric_ports.specs.Operations.{line_for};
+ghost use Rattle.fabric_script.specs.Operations.{line_for};
 ghost use Rattle.fabric_ports.specs.Acting.{AsksForSome, part_of, answer_of, lack_lines, event_end, Acts, AtTwo};
 ghost use Rattle.fabric_ports.specs.Ends.{PortIsLinked};
 ghost use Rattle.fabric_ports.specs.Ran.{Ran, Blocks};
@@ -18,15 +17,14 @@ ghost use Rattle.fabric_ports.specs.Standing.{Stands};
 use crate::answers::EventEnd;
 use crate::ends::{LinkPlace, two};
 use crate::fabric::Fabric;
-use crate::operations::Action;
-use fabric_script::{Name, PortRef};
+use fabric_script::{Action, Name, PortRef};
 use link_law::{Fired, Link, LinkEnd};
 use link_port::Port;
 use link_watch::{Side, Watch};
 use link_wires::Edited;
 use rio_chars::{Outbox, Sink};
 use std::alloc::Global;
-use trace_lines::{LinkLines, write_early, write_short};
+use trace_lines::{LinkLines, port_at_side, write_early, write_short};
 
 /// What came of what a link was asked to do.
 #[derive(Clone, Copy)]
@@ -163,19 +161,9 @@ fn ended(a: PortRef, b: PortRef, end: LinkEnd) -> EventEnd
 {
     match end {
         LinkEnd::Undetected(side, event) => EventEnd::Undetected {
-            port: port_at(a, b, side),
+            port: port_at_side(a, b, side),
             event,
         },
         LinkEnd::Failed | LinkEnd::NoMemory => EventEnd::NoMemory,
-    }
-}
-
-/// The port at an end of a link.
-fn port_at(a: PortRef, b: PortRef, side: Side) -> PortRef
-    ensures { result ≡ port_at_side a b side }
-{
-    match side {
-        Side::A => a,
-        Side::B => b,
     }
 }

@@ -1,7 +1,7 @@
 //! What a script changes on the wires.
 ghost use Rattle.std.specs.Prelude.{◌≡◌, ℕ, List, Some, OnOk, IfErr};
 ghost use Rattle.fabric_model.specs.Network.{Network};
-ghost use Rattle.fabric_ports.specs.Operations.{line_editing};
+ghost use Rattle.fabric_script.specs.Operations.{line_editing};
 ghost use Rattle.fabric_trace.specs.Fold.{edited_by, seen};
 ghost use Rattle.fabric_trace.specs.Known.{Seen};
 ghost use Rattle.fabric_trace.specs.Lines.{TraceLine};
@@ -15,8 +15,7 @@ ghost use Rattle.fabric_ports.specs.declared.answers.EventEnd.TheVariants.{NoMem
 use crate::actions::{Acted, write_lack};
 use crate::answers::EventEnd;
 use crate::fabric::Fabric;
-use crate::operations::WireEdit;
-use fabric_script::PortRef;
+use fabric_script::{PortRef, WireEdit};
 use link_wires::{Edit, Edited};
 use rio_chars::{Outbox, Sink};
 use std::alloc::Global;

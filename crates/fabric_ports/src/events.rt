@@ -13,8 +13,7 @@ ghost use Rattle.fabric_ports.specs.Standing.{Stands};
 
 use crate::answers::{EventEnd, Happened};
 use crate::fabric::Fabric;
-use crate::operations::{Operation, operation_of};
-use fabric_script::{Contents, GivenPacket, Line, Name, RequestHead};
+use fabric_script::{Contents, GivenPacket, Line, Name, Operation, RequestHead};
 use maint_packets::{Op, Request, write_request};
 use maint_registers::Registers;
 use rio_chars::{Outbox, Sink};
@@ -49,7 +48,7 @@ impl Fabric {
             K.written K.faults outbox.old outbox.new from lines (Err end)) }
     {
         write_begun(outbox, names, line);
-        match operation_of(line) {
+        match line.operation() {
             Operation::SetUp => unreachable!(),
             Operation::Give(given) => {
                 let packet = packet_of(&given, &self.devices[usize::from(given.node)]);

@@ -25,7 +25,6 @@ mod fabric;
 mod gathering;
 mod nodes;
 mod noise;
-mod operations;
 mod own_registers;
 mod plans;
 mod rounds;

@@ -13,8 +13,7 @@ ghost use Rattle.fabric_ports.specs.Standing.{Stands};
 
 use crate::answers::EventEnd;
 use crate::fabric::Fabric;
-use crate::operations::Action;
-use fabric_script::{Name, PortRef};
+use fabric_script::{Action, Name, PortRef};
 use rio_chars::{Outbox, Sink};
 use std::alloc::Global;
 

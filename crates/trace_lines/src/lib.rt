@@ -18,7 +18,7 @@ mod writing;
 
 pub use begun::write_begun;
 pub use undetected::write_undetected;
-pub use watching::LinkLines;
+pub use watching::{LinkLines, port_at_side};
 pub use writing::{
     write_answer, write_drop, write_early, write_empty, write_end, write_fire, write_free,
     write_full, write_got, write_hold, write_leave, write_move, write_none, write_sent,

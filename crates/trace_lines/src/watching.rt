@@ -75,7 +75,7 @@ impl<'o, 's, 'n, K: Sink> Watch for LinkLines<'o, 's, 'n, K> {
         write_sent(
             self.outbox,
             self.names,
-            port_at(self.a, self.b, side),
+            port_at_side(self.a, self.b, side),
             chars,
         );
         Ok(())
@@ -93,7 +93,7 @@ impl<'o, 's, 'n, K: Sink> Watch for LinkLines<'o, 's, 'n, K> {
         write_got(
             self.outbox,
             self.names,
-            port_at(self.a, self.b, side),
+            port_at_side(self.a, self.b, side),
             chars,
         );
         Ok(())
@@ -111,7 +111,7 @@ impl<'o, 's, 'n, K: Sink> Watch for LinkLines<'o, 's, 'n, K> {
         write_hold(
             self.outbox,
             self.names,
-            port_at(self.a, self.b, side),
+            port_at_side(self.a, self.b, side),
             packet,
         );
         Ok(())
@@ -129,7 +129,7 @@ impl<'o, 's, 'n, K: Sink> Watch for LinkLines<'o, 's, 'n, K> {
         write_free(
             self.outbox,
             self.names,
-            port_at(self.a, self.b, side),
+            port_at_side(self.a, self.b, side),
             packet,
         );
         Ok(())
@@ -144,13 +144,13 @@ impl<'o, 's, 'n, K: Sink> Watch for LinkLines<'o, 's, 'n, K> {
         ensures never_falls { 0 ≤ 0 }
         ensures always { IsOk result }
     {
-        write_fire(self.outbox, self.names, port_at(self.a, self.b, side));
+        write_fire(self.outbox, self.names, port_at_side(self.a, self.b, side));
         Ok(())
     }
 }
 
 /// The port at an end of a link.
-fn port_at(a: PortRef, b: PortRef, side: Side) -> PortRef
+pub fn port_at_side(a: PortRef, b: PortRef, side: Side) -> PortRef
     ensures { result ≡ port_at_side a b side }
 {
     match side {

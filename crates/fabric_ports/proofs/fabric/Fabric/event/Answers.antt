@@ -1,6 +1,6 @@
 use Rattle.std.proofs.Common.{◌≡◌, List, Some, Ok, Err, refl, sym, ap, ◌∙◌, subst}
 use Rattle.rio_packets.specs.LinkForm.{LinkForm}
-use Rattle.fabric_ports.specs.Operations.{line_for}
+use Rattle.fabric_script.specs.Operations.{line_for}
 use Rattle.fabric_script.specs.declared.lines.Line.{Line}
 use Rattle.fabric_script.specs.declared.lines.Line.TheVariants.{Run}
 use Rattle.fabric_trace.specs.Blocks.{IsBlock}
