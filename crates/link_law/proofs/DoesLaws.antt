@@ -37,60 +37,50 @@ pub record IsWatch {W : Type 0} (grew : W → List Note → W → Type 0)
 
 -- ---- one part and then another
 
+joined : (P Q : SchedulePart) (before mid : LinkState) (xs ys : List Act)
+    → goes (At before) xs ≡ At mid → P (At before) xs → Q (At mid) ys
+    → NextOf goes P Q (At before) (xs ++ ys)
+joined P Q before mid xs ys there first next =
+    (xs, ys, refl, first, subst (λ (r : Reached). Q r ys) (sym there) next)
+
+notes_joined : (before mid : LinkState) (xs ys : List Act) → goes (At before) xs ≡ At mid
+    → acts_notes (At before) (xs ++ ys) ≡ acts_notes (At before) xs ++ acts_notes (At mid) ys
+notes_joined before mid xs ys there =
+    notes-append xs ys (At before)
+    ∙ ap (λ (r : Reached). acts_notes (At before) xs ++ acts_notes r ys) there
+
 pub comes_next : {W : Type 0} {grew : W → List Note → W → Type 0} {cut : W → Note → W → Type 0}
     → IsWatch grew cut
     → (P Q : SchedulePart) (before mid : LinkState) (old w new : W) (to : Reached)
     → Comes grew P before old (At mid) w → Comes grew Q mid w to new
     → Comes grew (NextOf goes P Q) before old to new
-comes_next {W} {grew} watch P Q before mid old w new to first next =
-    let there : goes (At before) first.acts ≡ At mid = first.reached in
-    let notes : acts_notes (At before) (first.acts ++ next.acts)
-    ≡ acts_notes (At before) first.acts ++ acts_notes (At mid) next.acts =
-    notes-append first.acts next.acts (At before)
-    ∙ ap (λ (r : Reached). acts_notes (At before) first.acts ++ acts_notes r next.acts) there in
-    record {
-      acts = first.acts ++ next.acts;
-      part = (
-        first.acts,
-        next.acts,
-        refl,
-        first.part,
-        subst (λ (r : Reached). Q r next.acts) (sym there) next.part,
-      );
-      reached =
-          goes-append first.acts next.acts (At before)
-          ∙ ap (λ (r : Reached). goes r next.acts) there
-          ∙ next.reached;
-      grown =
-          subst (λ (l : List Note). grew old l new) (sym notes) (watch.on old w new
-          (acts_notes (At before) first.acts) (acts_notes (At mid) next.acts) first.grown
-          next.grown);
-    }
+comes_next {W} {grew} watch P Q before mid old w new to first next = record {
+  acts = first.acts ++ next.acts;
+  part = joined P Q before mid first.acts next.acts first.reached first.part next.part;
+  reached =
+      goes-append first.acts next.acts (At before)
+      ∙ ap (λ (r : Reached). goes r next.acts) first.reached
+      ∙ next.reached;
+  grown =
+      subst (λ (l : List Note). grew old l new)
+      (sym (notes_joined before mid first.acts next.acts first.reached))
+      (watch.on old w new (acts_notes (At before) first.acts) (acts_notes (At mid) next.acts)
+      first.grown next.grown);
+}
 
 stops_next : {W : Type 0} {grew : W → List Note → W → Type 0} {cut : W → Note → W → Type 0}
     → IsWatch grew cut → (P Q : SchedulePart) (before mid : LinkState) (old w new : W)
     → Comes grew P before old (At mid) w → Stops grew cut Q mid w new
     → Stops grew cut (NextOf goes P Q) before old new
-stops_next {W} {grew} {cut} watch P Q before mid old w new first next =
-    let there : goes (At before) first.acts ≡ At mid = first.reached in
-    let notes : acts_notes (At before) (first.acts ++ next.acts)
-    ≡ acts_notes (At before) first.acts ++ acts_notes (At mid) next.acts =
-    notes-append first.acts next.acts (At before)
-    ∙ ap (λ (r : Reached). acts_notes (At before) first.acts ++ acts_notes r next.acts) there in
-    record {
-      acts = first.acts ++ next.acts;
-      part = (
-        first.acts,
-        next.acts,
-        refl,
-        first.part,
-        subst (λ (r : Reached). Q r next.acts) (sym there) next.part,
-      );
-      stopped =
-          subst (λ (l : List Note). Stopped grew cut old l new) (sym notes)
-          (stopped_then grew cut watch.on old w new (acts_notes (At before) first.acts)
-          (acts_notes (At mid) next.acts) first.grown next.stopped);
-    }
+stops_next {W} {grew} {cut} watch P Q before mid old w new first next = record {
+  acts = first.acts ++ next.acts;
+  part = joined P Q before mid first.acts next.acts first.reached first.part next.part;
+  stopped =
+      subst (λ (l : List Note). Stopped grew cut old l new)
+      (sym (notes_joined before mid first.acts next.acts first.reached))
+      (stopped_then grew cut watch.on old w new (acts_notes (At before) first.acts)
+      (acts_notes (At mid) next.acts) first.grown next.stopped);
+}
 
 pub ends_next : {W : Type 0} (grew : W → List Note → W → Type 0) (cut : W → Note → W → Type 0)
     → IsWatch grew cut

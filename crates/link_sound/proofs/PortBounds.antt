@@ -21,7 +21,7 @@ use Rattle.link_sound.specs.Between.{IsBetween}
 use Rattle.link_sound.specs.Sound.{IsSound}
 use Rattle.link_sound.specs.Lent.{waiting_from}
 use Rattle.link_sound.specs.Histories.{AreBuffers}
-use Rattle.link_sound.proofs.Bounds.{covers_none, nothing_from, turn_sends, time_out_sends, symbol_sends}
+use Rattle.link_sound.proofs.Bounds.{IsSender, covers_none, nothing_from, turn_sends, time_out_sends, symbol_sends}
 use Rattle.link_sound.proofs.Plain.{held_is}
 use Rattle.link_sound.proofs.Ranged.{HasAck}
 use Rattle.link_sound.proofs.Steps.{is_expected}
@@ -146,35 +146,26 @@ dropped_store store (InputRetryStopped expected) ack packet room buffers other =
 dropped_store store (InputErrorStopped expected) ack packet room buffers other =
     shut_store (ack == expected) room buffers store (InputErrorStopped expected) packet tt
 
-pub turn_port : (a : PortState) → IsPort a → IsPort (turns_to a)
-turn_port a is =
-    let sends = turn_sends a.tells a.output a.queued (record {
-      window_is = is.outstanding;
-      covered = is.covered;
-    }) in
+-- what a sender sends leaves a port, if the packets that it may have to send are there
+sent_port : (a : PortState) (output : Output) → IsPort a
+    → (IsSender a.output a.queued → IsSender output a.queued)
+    → IsPort (record a { output = output })
+sent_port a output is sends =
+    let sent = sends (record { window_is = is.outstanding; covered = is.covered }) in
     record {
-      outstanding = sends.window_is;
-      covered = sends.covered;
+      outstanding = sent.window_is;
+      covered = sent.covered;
       expected_ack = is.expected_ack;
       sends = is.sends;
       receives = is.receives;
       bounded = is.bounded;
     }
 
+pub turn_port : (a : PortState) → IsPort a → IsPort (turns_to a)
+turn_port a is = sent_port a (turns_to a).output is (turn_sends a.tells a.output a.queued)
+
 pub time_out_port : (a : PortState) → IsPort a → IsPort (timed_out a)
-time_out_port a is =
-    let sends = time_out_sends a.output a.queued (record {
-      window_is = is.outstanding;
-      covered = is.covered;
-    }) in
-    record {
-      outstanding = sends.window_is;
-      covered = sends.covered;
-      expected_ack = is.expected_ack;
-      sends = is.sends;
-      receives = is.receives;
-      bounded = is.bounded;
-    }
+time_out_port a is = sent_port a (timed_out a).output is (time_out_sends a.output a.queued)
 
 pub put_port :
     (a : PortState) (packet : List ℕ) → prio_of packet < 4 → Passes packet

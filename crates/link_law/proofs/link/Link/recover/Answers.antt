@@ -1,12 +1,13 @@
-use Rattle.std.proofs.Common.{not, sym, ap, ◌∙◌, rules}
+use Rattle.std.proofs.Common.{◌≡◌, true, not, sym, ap, ◌∙◌, rules}
 use Rattle.link_port.specs.Ports.{PortState}
 use Rattle.link_machine.specs.States.{link}
 use Rattle.link_machine.specs.Schedules.{NextOf}
-use Rattle.link_machine.specs.Acts.{goes}
+use Rattle.link_machine.specs.Acts.{At, goes}
 use Rattle.link_machine.specs.Settling.{Restarts, Requests, has_failed, of_end}
 use Rattle.link_law.proofs.DoesLaws.{IsWatch, comes_none, did_where, did_next, did_early}
 use Rattle.link_law.proofs.DrainLaws.{requests_follow, sound_then}
 use Rattle.link_law.proofs.link.Link.recover.Given.{Over}
+use Rattle.link_law.proofs.link.Link.recover.Goals.{After-restart}
 use Rattle.link_law.proofs.link.Link.recover.Goals as goal
 
 is_watch : (g : Over) → IsWatch g.W.Watch.grew g.W.Watch.cut
@@ -35,15 +36,21 @@ request-requires g c =
     sound_then (Restarts c.args.side) s restarted c.args.watch.now c.restart.new.watch c.requires
     c.in_ok-restart.ensures.does
 
+-- the port has not failed
+is_alive : (g : Over) (c : After-restart g)
+    → of_end c.args.side (λ link. not (has_failed link.a.output))
+    (At (link c.args.self.now c.args.a.now c.args.b.now)) ≡ true
+is_alive g c =
+    ap not
+    (ap (λ (p : PortState). has_failed p.output) (sym (c.near.ensures c.args.self.now))
+    ∙ sym c.failed.ensures
+    ∙ c.if-failed.false)
+
 pub returns-in_err-restart-clause-does : goal.returns-in_err-restart-clause-does
 returns-in_err-restart-clause-does g c =
     let s = link c.args.self.now c.args.a.now c.args.b.now in
     let restarted = link c.restart.new.self c.restart.new.a c.restart.new.b in
-    let alive =
-    ap not
-    (ap (λ (p : PortState). has_failed p.output) (sym (c.near.ensures c.args.self.now))
-    ∙ sym c.failed.ensures
-    ∙ c.if-failed.false) in
+    let alive = is_alive g (goal.at.returns-in_err-restart-clause-does g c).After-restart in
     did_where g.W.Watch.grew g.W.Watch.cut
     (of_end c.args.side (λ link. not (has_failed link.a.output)))
     (NextOf goes (Restarts c.args.side) (Requests c.args.side)) s c.args.watch.now
@@ -58,11 +65,7 @@ pub returns-clause-does : goal.returns-clause-does
 returns-clause-does g c =
     let s = link c.args.self.now c.args.a.now c.args.b.now in
     let next = link c.request.new.self c.request.new.a c.request.new.b in
-    let alive =
-    ap not
-    (ap (λ (p : PortState). has_failed p.output) (sym (c.near.ensures c.args.self.now))
-    ∙ sym c.failed.ensures
-    ∙ c.if-failed.false) in
+    let alive = is_alive g (goal.at.returns-clause-does g c).After-restart in
     did_where g.W.Watch.grew g.W.Watch.cut
     (of_end c.args.side (λ link. not (has_failed link.a.output)))
     (NextOf goes (Restarts c.args.side) (Requests c.args.side)) s c.args.watch.now

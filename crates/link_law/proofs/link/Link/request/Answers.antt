@@ -1,12 +1,13 @@
-use Rattle.std.proofs.Common.{not, sym, ap, ◌∙◌, rules}
+use Rattle.std.proofs.Common.{◌≡◌, true, not, sym, ap, ◌∙◌, rules}
 use Rattle.link_port.specs.Ports.{PortState}
 use Rattle.link_machine.specs.States.{link, from_end}
 use Rattle.link_machine.specs.Schedules.{NextOf}
-use Rattle.link_machine.specs.Acts.{goes}
+use Rattle.link_machine.specs.Acts.{At, goes}
 use Rattle.link_machine.specs.Settling.{TimesOut, TakesTurn, rests_to, first_rests, of_end}
 use Rattle.link_law.proofs.DoesLaws.{IsWatch, comes_none, did_where, did_next, did_early}
 use Rattle.link_law.proofs.DrainLaws.{turn_follows, sound_then}
 use Rattle.link_law.proofs.link.Link.request.Given.{Over}
+use Rattle.link_law.proofs.link.Link.request.Goals.{After-fire_if_due}
 use Rattle.link_law.proofs.link.Link.request.Goals as goal
 
 is_watch : (g : Over) → IsWatch g.W.Watch.grew g.W.Watch.cut
@@ -37,17 +38,24 @@ take_turn-requires g c =
     sound_then (TimesOut c.args.side) s fired c.args.watch.now c.fire_if_due.new.watch c.requires
     c.in_ok-fire_if_due.ensures.does
 
-pub returns-in_err-fire_if_due-clause-does : goal.returns-in_err-fire_if_due-clause-does
-returns-in_err-fire_if_due-clause-does g c =
+-- the direction is not at rest
+is_due : (g : Over) (c : After-fire_if_due g)
+    → of_end c.args.side (λ link. not (first_rests link))
+    (At (link c.args.self.now c.args.a.now c.args.b.now)) ≡ true
+is_due g c =
     let s = link c.args.self.now c.args.a.now c.args.b.now in
-    let fired = link c.fire_if_due.new.self c.fire_if_due.new.a c.fire_if_due.new.b in
-    let due =
     ap not
     (ap (λ (p : PortState). rests_to p (from_end c.args.side s).b)
     (sym (c.near.ensures c.args.self.now))
     ∙ ap (rests_to c.near.result.now) (sym (c.far.ensures c.args.self.now))
     ∙ sym c.is_quiet.ensures
-    ∙ c.if-is_quiet.false) in
+    ∙ c.if-is_quiet.false)
+
+pub returns-in_err-fire_if_due-clause-does : goal.returns-in_err-fire_if_due-clause-does
+returns-in_err-fire_if_due-clause-does g c =
+    let s = link c.args.self.now c.args.a.now c.args.b.now in
+    let fired = link c.fire_if_due.new.self c.fire_if_due.new.a c.fire_if_due.new.b in
+    let due = is_due g (goal.at.returns-in_err-fire_if_due-clause-does g c).After-fire_if_due in
     did_where g.W.Watch.grew g.W.Watch.cut (of_end c.args.side (λ link. not (first_rests link)))
     (NextOf goes (TimesOut c.args.side) (TakesTurn c.args.side)) s c.args.watch.now
     c.fire_if_due.new.watch
@@ -60,13 +68,7 @@ pub returns-clause-does : goal.returns-clause-does
 returns-clause-does g c =
     let s = link c.args.self.now c.args.a.now c.args.b.now in
     let next = link c.take_turn.new.self c.take_turn.new.a c.take_turn.new.b in
-    let due =
-    ap not
-    (ap (λ (p : PortState). rests_to p (from_end c.args.side s).b)
-    (sym (c.near.ensures c.args.self.now))
-    ∙ ap (rests_to c.near.result.now) (sym (c.far.ensures c.args.self.now))
-    ∙ sym c.is_quiet.ensures
-    ∙ c.if-is_quiet.false) in
+    let due = is_due g (goal.at.returns-clause-does g c).After-fire_if_due in
     did_where g.W.Watch.grew g.W.Watch.cut (of_end c.args.side (λ link. not (first_rests link)))
     (NextOf goes (TimesOut c.args.side) (TakesTurn c.args.side)) s c.args.watch.now
     c.take_turn.new.watch
