@@ -13,7 +13,7 @@ use Rattle.fabric_model.specs.Network.{port_of, same_port}
 use Rattle.fabric_model.specs.Steps.{Leave, AtNode}
 use Rattle.fabric_trace.specs.Fold.{seen}
 use Rattle.fabric_trace.specs.Known.{Seen}
-use Rattle.fabric_trace.specs.Lines.{TraceLine, Stepped}
+use Rattle.trace_lines.specs.Lines.{TraceLine, Stepped}
 use Rattle.fabric_trace.proofs.Parts.Keeping.{IsGood}
 use Rattle.fabric_ask.specs.Only.{IsClear}
 use Rattle.fabric_ask.specs.Course.{IsLaid}

@@ -25,7 +25,7 @@ use Rattle.fabric_model.proofs.Nodes.{few_prio}
 use Rattle.fabric_trace.specs.Blocks.{Asks}
 use Rattle.fabric_trace.specs.Fold.{seen_line, seen}
 use Rattle.fabric_trace.specs.Known.{Seen}
-use Rattle.fabric_trace.specs.Lines.{TraceLine, Stepped, Lacked, Full}
+use Rattle.trace_lines.specs.Lines.{TraceLine, Stepped, Lacked, Full}
 use Rattle.fabric_trace.specs.Parts.{Made, PartSteps}
 use Rattle.fabric_trace.specs.Served.{face_in, IsCollect}
 use Rattle.fabric_trace.proofs.Parts.Folding.{seen-append}

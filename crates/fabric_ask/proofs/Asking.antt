@@ -18,7 +18,7 @@ use Rattle.fabric_model.proofs.Moving.{sent_by}
 use Rattle.fabric_model.proofs.Nodes.{few_prio}
 use Rattle.fabric_trace.specs.Fold.{seen}
 use Rattle.fabric_trace.specs.Known.{Seen}
-use Rattle.fabric_trace.specs.Lines.{TraceLine}
+use Rattle.trace_lines.specs.Lines.{TraceLine}
 use Rattle.fabric_trace.specs.Parts.{Made}
 use Rattle.fabric_trace.specs.Served.{IsCollect}
 use Rattle.fabric_trace.proofs.Parts.Folding.{seen-append}

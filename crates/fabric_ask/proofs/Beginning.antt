@@ -16,7 +16,7 @@ use Rattle.fabric_trace.proofs.Network.Walks.{peers_round}
 use Rattle.fabric_trace.specs.Blocks.{take_lines, Asks, pumps}
 use Rattle.fabric_trace.specs.Fold.{seen}
 use Rattle.fabric_trace.specs.Known.{Found, Seen}
-use Rattle.fabric_trace.specs.Lines.{Full, TraceLine, Stepped, Lacked, steps_of}
+use Rattle.trace_lines.specs.Lines.{Full, TraceLine, Stepped, Lacked, steps_of}
 use Rattle.fabric_trace.specs.Parts.{Done, PartSteps, PartLacks}
 use Rattle.fabric_trace.specs.Ready.{IsReady}
 use Rattle.fabric_trace.specs.Rounds.{Follows, NamesNothing, ServeNodes}

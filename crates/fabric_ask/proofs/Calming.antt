@@ -15,7 +15,7 @@ use Rattle.fabric_trace.specs.Blocks.{pumps, IsSettle}
 use Rattle.fabric_trace.specs.Fold.{seen_line, seen}
 use Rattle.fabric_trace.specs.Known.{Wire, Seen, link_at, kept_of}
 use Rattle.fabric_trace.specs.Views.{Half}
-use Rattle.fabric_trace.specs.Lines.{Full, TraceLine, Begun, Stepped, Signed, Lacked, Ended, Undetected, steps_of}
+use Rattle.trace_lines.specs.Lines.{Full, TraceLine, Begun, Stepped, Signed, Lacked, Ended, Undetected, steps_of}
 use Rattle.fabric_trace.specs.Parts.{Made, Done}
 use Rattle.fabric_trace.specs.Served.{face_in, collect_lines, IsCollect}
 use Rattle.switch_core.specs.declared.endpoint.Collected.{Collected}

@@ -16,10 +16,11 @@ use Rattle.fabric_script.specs.declared.ports.PortRef.{PortRef}
 use Rattle.fabric_model.specs.Network.{same_port}
 use Rattle.fabric_model.specs.Steps.{Hold, Free, Linked, AtNode, ByDevice, Step}
 use Rattle.fabric_model.proofs.Peers.{ArePeers, same_port-refl}
-use Rattle.fabric_trace.specs.Blocks.{port_at_side, lines_of, pumps, IsSettle}
+use Rattle.trace_lines.specs.Notes.{port_at_side, lines_of}
+use Rattle.fabric_trace.specs.Blocks.{pumps, IsSettle}
 use Rattle.fabric_trace.specs.Fold.{changed, edit_of, edited_by, seen}
 use Rattle.fabric_trace.specs.Known.{Seen, link_at}
-use Rattle.fabric_trace.specs.Lines.{TraceLine, Begun, steps_of}
+use Rattle.trace_lines.specs.Lines.{TraceLine, Begun, steps_of}
 use Rattle.fabric_trace.specs.Parts.{Made, Done, PartBegins}
 use Rattle.fabric_trace.proofs.Parts.Folding.{seen-append}
 use Rattle.fabric_trace.proofs.Parts.Keeping.{IsGood, made_keeps, steps_of-append}

@@ -19,7 +19,7 @@ use Rattle.fabric_model.specs.Steps.{Step, Leave, Answer, AtNode, ByDevice, Need
 use Rattle.fabric_model.proofs.Nodes.{few_prio}
 use Rattle.fabric_trace.specs.Fold.{seen_line, seen}
 use Rattle.fabric_trace.specs.Known.{Seen}
-use Rattle.fabric_trace.specs.Lines.{Full, Empty, TraceLine, Stepped, Lacked}
+use Rattle.trace_lines.specs.Lines.{Full, Empty, TraceLine, Stepped, Lacked}
 use Rattle.fabric_trace.specs.Parts.{Made}
 use Rattle.fabric_trace.specs.Rounds.{Joined}
 use Rattle.fabric_trace.specs.Served.{face_in, collect_lines, HasResponseForm, IsCollect}

@@ -10,7 +10,7 @@ use Rattle.fabric_model.specs.Network.{Item, Network, same_port, peer_in, link_i
 use Rattle.fabric_model.proofs.Peers.{ArePeers, port_is, same_port-refl, link_peers, some_is}
 use Rattle.fabric_trace.specs.Fold.{seen}
 use Rattle.fabric_trace.specs.Known.{Found, Seen, link_at}
-use Rattle.fabric_trace.specs.Lines.{TraceLine, steps_of}
+use Rattle.trace_lines.specs.Lines.{TraceLine, steps_of}
 use Rattle.fabric_trace.specs.Links.{IsLink}
 use Rattle.fabric_trace.specs.Parts.{Made, Done}
 use Rattle.fabric_trace.specs.Rounds.{Follows, NamesNothing, Joined}

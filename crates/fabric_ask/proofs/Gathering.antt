@@ -12,7 +12,7 @@ use Rattle.fabric_model.proofs.Emptying.{behind_length, own_shorter}
 use Rattle.fabric_model.proofs.Nodes.{few_prio}
 use Rattle.fabric_trace.specs.Fold.{seen_line, seen}
 use Rattle.fabric_trace.specs.Known.{Seen}
-use Rattle.fabric_trace.specs.Lines.{Full, TraceLine, Stepped, Lacked}
+use Rattle.trace_lines.specs.Lines.{Full, TraceLine, Stepped, Lacked}
 use Rattle.fabric_trace.specs.Parts.{Done}
 use Rattle.fabric_trace.specs.Ready.{IsReady}
 use Rattle.fabric_trace.specs.Rounds.{Joined}

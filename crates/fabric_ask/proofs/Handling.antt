@@ -11,7 +11,7 @@ use Rattle.fabric_model.proofs.Nodes.{few_prio}
 use Rattle.fabric_model.proofs.Flows.{two_kinds}
 use Rattle.fabric_trace.specs.Fold.{seen_line, seen}
 use Rattle.fabric_trace.specs.Known.{Seen}
-use Rattle.fabric_trace.specs.Lines.{TraceLine, Stepped, steps_of}
+use Rattle.trace_lines.specs.Lines.{TraceLine, Stepped, steps_of}
 use Rattle.fabric_trace.specs.Parts.{Made}
 use Rattle.fabric_trace.specs.Rounds.{Joined, ServesAll, ServeRests, ServeGoes, ServeNodes}
 use Rattle.fabric_trace.specs.Served.{IsMove}

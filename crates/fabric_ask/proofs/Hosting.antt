@@ -13,7 +13,7 @@ use Rattle.fabric_model.specs.Network.{Item, Network, port_of, to_send, room_out
 use Rattle.fabric_model.specs.Steps.{Leave, Answer, AtNode, ByDevice}
 use Rattle.fabric_model.specs.Laws.Priorities.{ByPriority}
 use Rattle.fabric_trace.specs.Known.{Seen}
-use Rattle.fabric_trace.specs.Lines.{Empty, TraceLine, Stepped, Lacked, Full}
+use Rattle.trace_lines.specs.Lines.{Empty, TraceLine, Stepped, Lacked, Full}
 use Rattle.fabric_trace.specs.Served.{face_in, collect_lines, IsCollect}
 use Rattle.fabric_trace.proofs.Network.Faces.{head_held}
 use Rattle.fabric_trace.proofs.Parts.Keeping.{IsGood}

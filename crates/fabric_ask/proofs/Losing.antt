@@ -10,7 +10,7 @@ use Rattle.fabric_model.specs.Steps.{moved_item}
 use Rattle.fabric_model.proofs.Peers.{peer_back}
 use Rattle.fabric_trace.specs.Fold.{seen}
 use Rattle.fabric_trace.specs.Known.{Seen}
-use Rattle.fabric_trace.specs.Lines.{TraceLine}
+use Rattle.trace_lines.specs.Lines.{TraceLine}
 use Rattle.fabric_trace.specs.Served.{IsCollect}
 use Rattle.fabric_trace.proofs.Parts.Keeping.{IsGood}
 use Rattle.fabric_trace.proofs.Parts.Making.{made_by}

@@ -18,7 +18,7 @@ use Rattle.fabric_model.specs.Steps.{Hold, Free, Take, Leave, NodeStep, Move, Dr
 use Rattle.fabric_trace.specs.Settings.{with_change}
 use Rattle.fabric_trace.specs.Known.{Seen, peer_of}
 use Rattle.fabric_trace.specs.Fold.{edit_of, edited_by, got_from, fired_from, seen_line, seen}
-use Rattle.fabric_trace.specs.Lines.{Sent, Got, Fired, TraceLine, Begun, Stepped, Signed, Lacked, Ended, Undetected}
+use Rattle.trace_lines.specs.Lines.{Sent, Got, Fired, TraceLine, Begun, Stepped, Signed, Lacked, Ended, Undetected}
 use Rattle.fabric_trace.specs.Parts.{Part, PartBegins, PartLacks, PartEnds, PartNames, PartSteps, PartServes, PartTurns, PartTells, PartDelivers, PartFires, Made, Done, Then}
 use Rattle.fabric_trace.proofs.Network.Boards.{seen_board}
 use Rattle.fabric_trace.proofs.Parts.Keeping.{IsGood}

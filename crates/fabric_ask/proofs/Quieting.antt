@@ -13,7 +13,7 @@ use Rattle.fabric_model.proofs.Peers.{apart_back}
 use Rattle.fabric_trace.specs.Fold.{seen_line, seen}
 use Rattle.fabric_trace.specs.Known.{Found, Wire, Seen, link_at}
 use Rattle.fabric_trace.specs.Views.{Half}
-use Rattle.fabric_trace.specs.Lines.{Full, TraceLine, Begun, Stepped, Signed, Lacked, Ended, Undetected}
+use Rattle.trace_lines.specs.Lines.{Full, TraceLine, Begun, Stepped, Signed, Lacked, Ended, Undetected}
 use Rattle.fabric_trace.specs.Rounds.{Follows, NamesNothing, Joined, ServesAll, ServeRests, ServeGoes, ServeNodes}
 use Rattle.fabric_trace.proofs.Parts.Keeping.{IsGood}
 use Rattle.fabric_trace.proofs.Rounds.Blocks.{AreFound, all_found, by_test}

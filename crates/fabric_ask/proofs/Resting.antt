@@ -11,7 +11,7 @@ use Rattle.fabric_model.proofs.Nodes.{few_prio}
 use Rattle.fabric_trace.specs.Blocks.{Asks}
 use Rattle.fabric_trace.specs.Fold.{seen, seen_line}
 use Rattle.fabric_trace.specs.Known.{Seen, Found}
-use Rattle.fabric_trace.specs.Lines.{TraceLine, Stepped, steps_of, Full, Lacked}
+use Rattle.trace_lines.specs.Lines.{TraceLine, Stepped, steps_of, Full, Lacked}
 use Rattle.fabric_trace.specs.Parts.{Made, PartSteps, PartLacks}
 use Rattle.fabric_trace.specs.Served.{collect_lines}
 use Rattle.fabric_trace.proofs.Parts.Folding.{seen-append}

@@ -8,7 +8,7 @@ use Rattle.fabric_model.specs.Network.{Item, Network, peer_in}
 use Rattle.fabric_model.proofs.Nodes.{few_prio}
 use Rattle.fabric_trace.specs.Fold.{seen}
 use Rattle.fabric_trace.specs.Known.{Seen}
-use Rattle.fabric_trace.specs.Lines.{TraceLine}
+use Rattle.trace_lines.specs.Lines.{TraceLine}
 use Rattle.fabric_trace.specs.Parts.{Made, Done}
 use Rattle.fabric_trace.specs.Rounds.{ServeNodes}
 use Rattle.fabric_trace.proofs.Parts.Keeping.{IsGood}

@@ -28,7 +28,7 @@ use Rattle.fabric_model.proofs.Emptying.{port_by}
 use Rattle.fabric_model.proofs.Moving.{moves_on, named_goes, sent_by}
 use Rattle.fabric_model.proofs.Peers.{port_is}
 use Rattle.fabric_trace.specs.Known.{Seen}
-use Rattle.fabric_trace.specs.Lines.{NoStep, Stepped, Lacked}
+use Rattle.trace_lines.specs.Lines.{NoStep, Stepped, Lacked}
 use Rattle.fabric_trace.specs.Served.{face_in, faces_in, step_lines, ResponseHasForm, IsMove}
 use Rattle.fabric_trace.proofs.Network.Faces.{room_is, face_is, port_there, StepNeeds, step_needs}
 use Rattle.fabric_trace.proofs.Parts.Keeping.{IsGood, good_by_priority}

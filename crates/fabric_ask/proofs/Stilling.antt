@@ -6,7 +6,7 @@ use Rattle.fabric_model.specs.Network.{same_port, port_of, peer_in, room_out}
 use Rattle.fabric_model.proofs.Peers.{port_is}
 use Rattle.fabric_trace.specs.Fold.{seen}
 use Rattle.fabric_trace.specs.Known.{Found, Seen, link_at}
-use Rattle.fabric_trace.specs.Lines.{Full, TraceLine, Stepped, Lacked}
+use Rattle.trace_lines.specs.Lines.{Full, TraceLine, Stepped, Lacked}
 use Rattle.fabric_trace.specs.Parts.{Made, PartSteps, PartLacks}
 use Rattle.fabric_model.specs.Steps.{Take, AtNode}
 use Rattle.fabric_model.proofs.Nodes.{few_prio}

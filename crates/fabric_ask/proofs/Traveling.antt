@@ -20,7 +20,7 @@ use Rattle.fabric_model.proofs.Moving.{moves_on, sent_by}
 use Rattle.fabric_model.proofs.Peers.{peer_back, some_is}
 use Rattle.fabric_trace.specs.Fold.{seen}
 use Rattle.fabric_trace.specs.Known.{Seen}
-use Rattle.fabric_trace.specs.Lines.{TraceLine}
+use Rattle.trace_lines.specs.Lines.{TraceLine}
 use Rattle.fabric_trace.specs.Served.{IsCollect}
 use Rattle.fabric_trace.proofs.Parts.Folding.{seen-append}
 use Rattle.fabric_trace.proofs.Parts.Keeping.{IsGood}

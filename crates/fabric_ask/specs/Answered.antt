@@ -15,7 +15,7 @@ use Rattle.fabric_model.specs.Network.{port_of, with_device}
 use Rattle.fabric_model.specs.Steps.{Leave, AtNode}
 use Rattle.fabric_trace.specs.Fold.{seen}
 use Rattle.fabric_trace.specs.Known.{Seen}
-use Rattle.fabric_trace.specs.Lines.{TraceLine, Stepped}
+use Rattle.trace_lines.specs.Lines.{TraceLine, Stepped}
 use Rattle.fabric_trace.specs.Parts.{Made}
 use Rattle.fabric_ask.specs.Only.{IsClear}
 use Rattle.fabric_ask.specs.Own.{CollectsNothing}

@@ -9,7 +9,7 @@ use Rattle.fabric_model.specs.Steps.{Step}
 use Rattle.fabric_trace.specs.Blocks.{Asks}
 use Rattle.fabric_trace.specs.Fold.{seen_line}
 use Rattle.fabric_trace.specs.Known.{Seen}
-use Rattle.fabric_trace.specs.Lines.{Full, Empty, TraceLine, Stepped, Lacked}
+use Rattle.trace_lines.specs.Lines.{Full, Empty, TraceLine, Stepped, Lacked}
 use Rattle.fabric_trace.specs.Rounds.{Joined, ServeNodes}
 use Rattle.fabric_trace.specs.Served.{IsCollect}
 use Rattle.fabric_ask.specs.Noise.{IsCarry}

@@ -11,7 +11,7 @@ use Rattle.fabric_script.specs.declared.lines.Line.TheVariants.{Alter, Erase, In
 use Rattle.fabric_trace.specs.Blocks.{pumps, IsSettle}
 use Rattle.fabric_trace.specs.Fold.{seen}
 use Rattle.fabric_trace.specs.Known.{Seen}
-use Rattle.fabric_trace.specs.Lines.{TraceLine, Begun}
+use Rattle.trace_lines.specs.Lines.{TraceLine, Begun}
 
 -- the line of an edit of a port's wire
 abbrev pub edit_line : PortRef → Edit → Line

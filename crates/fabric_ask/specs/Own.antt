@@ -4,7 +4,7 @@ use Rattle.maint_registers.specs.Devices.{Registers}
 use Rattle.fabric_model.specs.Steps.{Leave, Answer, AtNode, ByDevice}
 use Rattle.fabric_trace.specs.Known.{Seen}
 use Rattle.fabric_trace.specs.Settings.{with_change}
-use Rattle.fabric_trace.specs.Lines.{TraceLine, Stepped}
+use Rattle.trace_lines.specs.Lines.{TraceLine, Stepped}
 
 -- what is known, with these registers for the host
 abbrev pub with_own : ℕ → Registers → Seen → Seen

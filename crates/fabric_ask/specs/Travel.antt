@@ -8,7 +8,7 @@ use Rattle.fabric_model.specs.Network.{Item, Network}
 use Rattle.fabric_model.specs.Laws.Leaving.{IsAfterMoves}
 use Rattle.fabric_trace.specs.Fold.{seen}
 use Rattle.fabric_trace.specs.Known.{Seen}
-use Rattle.fabric_trace.specs.Lines.{TraceLine}
+use Rattle.trace_lines.specs.Lines.{TraceLine}
 use Rattle.fabric_trace.specs.Parts.{Made}
 use Rattle.fabric_trace.specs.Served.{IsCollect}
 use Rattle.fabric_ask.specs.Course.{FinalAt}

@@ -11,7 +11,7 @@ ghost use Rattle.fabric_model.specs.Network.{IsEndpoint, Item};
 ghost use Rattle.fabric_model.specs.Steps.{AtNode, Leave};
 ghost use Rattle.fabric_trace.specs.Fold.{seen};
 ghost use Rattle.fabric_trace.specs.Known.{Seen};
-ghost use Rattle.fabric_trace.specs.Lines.{TraceLine, Stepped};
+ghost use Rattle.trace_lines.specs.Lines.{TraceLine, Stepped};
 ghost use Rattle.fabric_trace.specs.Parts.{Made};
 ghost use Rattle.fabric_trace.specs.Ready.{IsReady};
 ghost use Rattle.fabric_ask.specs.Answered.{IsRoundTrip, IsReplied};

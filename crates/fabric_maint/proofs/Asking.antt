@@ -17,7 +17,7 @@ use Rattle.fabric_map.specs.Plain.{topology_of, registers_of}
 use Rattle.fabric_model.proofs.Forms.{device_at}
 use Rattle.fabric_trace.specs.Fold.{seen}
 use Rattle.fabric_trace.specs.Known.{Seen}
-use Rattle.fabric_trace.specs.Lines.{TraceLine}
+use Rattle.trace_lines.specs.Lines.{TraceLine}
 use Rattle.fabric_ask.specs.Answered.{after_request, IsRoundTrip, response_home}
 use Rattle.fabric_ask.specs.Asks.{IsAsk}
 use Rattle.fabric_ports.specs.Asking.{CanAsk, Replied}

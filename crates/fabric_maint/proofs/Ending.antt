@@ -10,8 +10,8 @@ use Rattle.link_model.specs.declared.event.Event.{Event}
 use Rattle.link_wires.specs.declared.edits.Edit.{Edit}
 use Rattle.fabric_script.specs.declared.ports.PortRef.{PortRef}
 use Rattle.fabric_trace.specs.Known.{Seen}
-use Rattle.fabric_trace.specs.Lines.{TraceLine}
-use Rattle.fabric_trace.specs.Text.{trace_text}
+use Rattle.trace_lines.specs.Lines.{TraceLine}
+use Rattle.trace_lines.specs.Text.{trace_text}
 use Rattle.fabric_ask.specs.Asks.{IsAsk}
 use Rattle.fabric_ask.proofs.Resting.{AnswersNothing}
 use Rattle.fabric_ports.specs.declared.fabric.Fabric.{Fabric}

@@ -3,8 +3,8 @@ use Rattle.std.proofs.Common.{◌≡◌, ℕ, List, ◌++◌, Option, sym, subst
 use Rattle.std.proofs.lemmas.Grind.{flat_map-append}
 use Rattle.std.specs.Io.KnownBytes.{Appends}
 use Rattle.std.proofs.KnownBytes.{Appends-trans}
-use Rattle.fabric_trace.specs.Lines.{TraceLine}
-use Rattle.fabric_trace.specs.Text.{trace_text}
+use Rattle.trace_lines.specs.Lines.{TraceLine}
+use Rattle.trace_lines.specs.Text.{trace_text}
 
 pub text_more : (names : List (List ℕ)) (lines block : List TraceLine)
     → trace_text names lines ++ trace_text names block ≡ trace_text names (lines ++ block)

@@ -9,7 +9,7 @@ use Rattle.host_enumerate.specs.Accesses.{access_offset}
 use Rattle.host_enumerate.specs.declared.maint.Access.{Access}
 use Rattle.fabric_trace.specs.Fold.{seen}
 use Rattle.fabric_trace.specs.Known.{Seen}
-use Rattle.fabric_trace.specs.Lines.{TraceLine}
+use Rattle.trace_lines.specs.Lines.{TraceLine}
 use Rattle.fabric_ask.specs.Asks.{IsAsk}
 use Rattle.fabric_ask.specs.Own.{with_own}
 use Rattle.fabric_maint.specs.Requests.{request_for}

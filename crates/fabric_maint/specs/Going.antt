@@ -16,10 +16,10 @@ use Rattle.fabric_model.specs.Network.{IsEndpoint}
 use Rattle.host_enumerate.specs.Devised.{IsHost, devices_of, links_of}
 use Rattle.fabric_trace.specs.Fold.{seen}
 use Rattle.fabric_trace.specs.Known.{Seen}
-use Rattle.fabric_trace.specs.Lines.{TraceLine}
+use Rattle.trace_lines.specs.Lines.{TraceLine}
 use Rattle.fabric_trace.specs.Parts.{Made}
 use Rattle.fabric_trace.specs.Ready.{IsReady}
-use Rattle.fabric_trace.specs.Text.{trace_text}
+use Rattle.trace_lines.specs.Text.{trace_text}
 use Rattle.fabric_ask.specs.Own.{with_own}
 use Rattle.fabric_ask.specs.Quiet.{AreQuiet}
 use Rattle.fabric_ports.specs.Asking.{CanAsk}

@@ -7,7 +7,7 @@ use Rattle.fabric_map.specs.Topology.{IsTopology}
 use Rattle.fabric_map.specs.Fitting.{Fits}
 use Rattle.fabric_map.specs.Plain.{registers_of}
 use Rattle.host_enumerate.proofs.NewFabrics.{devised_fabric}
-use Rattle.fabric_trace.specs.Text.{trace_text}
+use Rattle.trace_lines.specs.Text.{trace_text}
 use Rattle.fabric_maint.specs.Going.{names_of, topology_in, registers_in, StandsWhole, Followed, NothingTold, Abandoned}
 use Rattle.fabric_maint.specs.declared.maint.FabricMaint.{FabricMaint}
 

@@ -15,8 +15,8 @@ use Rattle.link_law.specs.declared.answers.LinkEnd.{LinkEnd}
 use Rattle.link_law.specs.declared.answers.LinkEnd.TheVariants.{Undetected, Failed, NoMemory}
 use Rattle.fabric_script.specs.declared.ports.PortRef.{PortRef}
 use Rattle.fabric_trace.specs.Known.{Seen}
-use Rattle.fabric_trace.specs.Lines.{TraceLine}
-use Rattle.fabric_trace.specs.Text.{trace_text}
+use Rattle.trace_lines.specs.Lines.{TraceLine}
+use Rattle.trace_lines.specs.Text.{trace_text}
 use Rattle.trace_lines.specs.Watching.{WritesNotes}
 use Rattle.trace_lines.specs.declared.watching.LinkLines.{LinkLines}
 use Rattle.fabric_ports.specs.Acting.{part_of, answer_of, lack_lines, event_end, Acts, AtTwo}

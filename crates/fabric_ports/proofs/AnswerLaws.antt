@@ -18,8 +18,8 @@ use Rattle.fabric_script.specs.declared.ports.PortRef.{PortRef}
 use Rattle.fabric_model.specs.Steps.{Leave, AtNode}
 use Rattle.fabric_trace.specs.Fold.{seen}
 use Rattle.fabric_trace.specs.Known.{Seen}
-use Rattle.fabric_trace.specs.Lines.{TraceLine, Stepped}
-use Rattle.fabric_trace.specs.Text.{trace_line_text, trace_text}
+use Rattle.trace_lines.specs.Lines.{TraceLine, Stepped}
+use Rattle.trace_lines.specs.Text.{trace_line_text, trace_text}
 use Rattle.fabric_trace.proofs.Network.Boards.{seen_board}
 use Rattle.fabric_trace.proofs.Traces.Existing.{ready_on}
 use Rattle.fabric_trace.proofs.Parts.Folding.{seen-append}

@@ -15,7 +15,7 @@ use Rattle.fabric_model.specs.Steps.{Take, Leave, AtNode}
 use Rattle.fabric_trace.specs.Blocks.{take_lines, Asks}
 use Rattle.fabric_trace.specs.Fold.{seen}
 use Rattle.fabric_trace.specs.Known.{Found, Seen}
-use Rattle.fabric_trace.specs.Lines.{Full, TraceLine, Stepped, Lacked}
+use Rattle.trace_lines.specs.Lines.{Full, TraceLine, Stepped, Lacked}
 use Rattle.fabric_trace.specs.Parts.{PartSteps, PartLacks}
 use Rattle.fabric_trace.specs.Rounds.{Follows, NamesNothing}
 use Rattle.fabric_trace.specs.Served.{face_in, collect_lines, IsCollect}

@@ -16,11 +16,12 @@ use Rattle.link_machine.proofs.Settling.Lines.{goes_one}
 use Rattle.fabric_script.specs.declared.ports.PortRef.{PortRef}
 use Rattle.fabric_model.specs.Network.{peer_in, link_in}
 use Rattle.fabric_model.proofs.Peers.{ArePeers}
-use Rattle.fabric_trace.specs.Lines as traced
-use Rattle.fabric_trace.specs.Lines.{TraceLine, Lacked}
+use Rattle.trace_lines.specs.Lines as traced
+use Rattle.trace_lines.specs.Lines.{TraceLine, Lacked}
 use Rattle.fabric_trace.specs.Known.{Seen, peer_of, port_seen, link_at}
 use Rattle.fabric_trace.specs.Fold.{edit_of, edited_by, seen}
-use Rattle.fabric_trace.specs.Blocks.{port_at_side, lines_of, pumps, delivers, time_out_lines, IsSettle, WithPeer, WithLink, IsBlock}
+use Rattle.trace_lines.specs.Notes.{port_at_side, lines_of}
+use Rattle.fabric_trace.specs.Blocks.{pumps, delivers, time_out_lines, IsSettle, WithPeer, WithLink, IsBlock}
 use Rattle.fabric_trace.proofs.Parts.Folding.{seen-append}
 use Rattle.fabric_trace.proofs.Parts.Making.{sent_round, delivery_round}
 use Rattle.fabric_trace.proofs.Rounds.Running.{fired_round, silent_round}

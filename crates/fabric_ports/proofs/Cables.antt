@@ -17,10 +17,10 @@ use Rattle.fabric_model.specs.Steps.{Step, after, after_all, after_hold}
 use Rattle.fabric_model.specs.Laws.Proper.{AreProper}
 use Rattle.fabric_model.proofs.Joining.{links_stay}
 use Rattle.fabric_model.proofs.Peers.{apart_back}
-use Rattle.fabric_trace.specs.Blocks.{port_at_side, line_of, lines_of}
+use Rattle.trace_lines.specs.Notes.{port_at_side, line_of, lines_of}
 use Rattle.fabric_trace.specs.Known.{Seen, peer_of, link_at, port_seen, wire_state}
 use Rattle.fabric_trace.specs.Fold.{got_from, fired_from, seen_line, seen}
-use Rattle.fabric_trace.specs.Lines.{TraceLine, steps_of}
+use Rattle.trace_lines.specs.Lines.{TraceLine, steps_of}
 use Rattle.fabric_trace.proofs.Parts.Folding.{network_is}
 use Rattle.fabric_trace.specs.Views.{lists_in}
 use Rattle.fabric_trace.proofs.Parts.Making.{AreOthers}

@@ -9,7 +9,7 @@ use Rattle.fabric_model.proofs.Peers.{link_peers}
 use Rattle.fabric_trace.specs.Blocks.{pumps, WithPeer}
 use Rattle.fabric_trace.specs.Fold.{seen}
 use Rattle.fabric_trace.specs.Known.{Seen, peer_of}
-use Rattle.fabric_trace.specs.Lines.{TraceLine}
+use Rattle.trace_lines.specs.Lines.{TraceLine}
 use Rattle.fabric_ask.specs.Noise.{stirred}
 use Rattle.fabric_ports.specs.Carrying.{AreLinked, WithLeft, Turns, BothTurn, Stirs, BothStir, LinkCarries}
 use Rattle.fabric_ports.specs.Ends.{PortIsLinked}

@@ -19,7 +19,7 @@ use Rattle.fabric_model.specs.Steps.{Leave, Answer, AtNode, ByDevice, without_fi
 use Rattle.fabric_trace.specs.Fold.{seen}
 use Rattle.fabric_trace.specs.Known.{Seen, port_seen}
 use Rattle.fabric_trace.specs.Served.{face_in, collect_lines, HasResponseForm, IsCollect}
-use Rattle.fabric_trace.specs.Text.{trace_text}
+use Rattle.trace_lines.specs.Text.{trace_text}
 use Rattle.fabric_trace.proofs.Parts.Keeping.{few_prio}
 use Rattle.fabric_ports.specs.declared.answers.Happened.{Happened}
 use Rattle.fabric_ports.specs.declared.fabric.Fabric.{Fabric}

@@ -19,12 +19,13 @@ use Rattle.fabric_script.specs.declared.operations.WireEdit.TheVariants as Asked
 use Rattle.fabric_script.specs.declared.ports.PortRef.{PortRef}
 use Rattle.fabric_model.specs.Network.{same_port}
 use Rattle.fabric_model.proofs.Peers.{apart_back}
-use Rattle.fabric_trace.specs.Blocks.{port_at_side, edits, IsBlock}
+use Rattle.trace_lines.specs.Notes.{port_at_side}
+use Rattle.fabric_trace.specs.Blocks.{edits, IsBlock}
 use Rattle.fabric_trace.specs.Fold.{edit_of, changed, edited_by, seen}
 use Rattle.fabric_trace.specs.Known.{Wire, Seen, wire_state, port_seen, link_at}
-use Rattle.fabric_trace.specs.Lines as traced
-use Rattle.fabric_trace.specs.Lines.{TraceLine, Lacked}
-use Rattle.fabric_trace.specs.Text.{trace_text}
+use Rattle.trace_lines.specs.Lines as traced
+use Rattle.trace_lines.specs.Lines.{TraceLine, Lacked}
+use Rattle.trace_lines.specs.Text.{trace_text}
 use Rattle.fabric_trace.proofs.Parts.Folding.{wire_own, wire_other}
 use Rattle.fabric_trace.proofs.Parts.Making.{AreOthers}
 use Rattle.fabric_trace.proofs.Network.Walks.{elsewhere_here}

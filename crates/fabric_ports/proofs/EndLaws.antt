@@ -4,7 +4,7 @@ use Rattle.std.proofs.lemmas.Option.{slice_get-map, slice_get_within, get_or_fro
 use Rattle.link_watch.specs.declared.side.Side.{Side}
 use Rattle.link_watch.specs.declared.side.Side.TheVariants.{A, B}
 use Rattle.fabric_script.specs.declared.ports.PortRef.{PortRef}
-use Rattle.fabric_trace.specs.Blocks.{port_at_side}
+use Rattle.trace_lines.specs.Notes.{port_at_side}
 use Rattle.fabric_model.specs.Network.{same_port, link_in, peer_in}
 use Rattle.fabric_model.specs.Laws.Proper.{AreProper}
 use Rattle.fabric_model.proofs.Peers.{port_is}
@@ -19,7 +19,7 @@ use Rattle.fabric_ports.proofs.Cables.{own_apart, seen_links}
 use Rattle.fabric_ports.proofs.PlaceLaws.{places_apart}
 use Rattle.fabric_trace.specs.Fold.{seen}
 use Rattle.fabric_trace.specs.Known.{Seen}
-use Rattle.fabric_trace.specs.Lines.{TraceLine}
+use Rattle.trace_lines.specs.Lines.{TraceLine}
 
 link_first : (a b : Bool) (ends : PortRef × PortRef) (later : Option (PortRef × PortRef)) → a ≡ true
     → (if a then Some ends else (if b then Some ends else later)) ≡ Some ends

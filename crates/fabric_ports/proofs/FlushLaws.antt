@@ -12,7 +12,7 @@ use Rattle.maint_packets.specs.declared.response.Response.{Response}
 use Rattle.link_wires.specs.declared.edits.Edit.{Edit}
 use Rattle.fabric_trace.specs.Fold.{seen}
 use Rattle.fabric_trace.specs.Known.{Seen}
-use Rattle.fabric_trace.specs.Lines.{TraceLine}
+use Rattle.trace_lines.specs.Lines.{TraceLine}
 use Rattle.fabric_trace.proofs.Traces.Existing.{ready_on}
 use Rattle.fabric_ask.specs.Asks.{IsAsk}
 use Rattle.fabric_ask.proofs.Beginning.{ask_exists}

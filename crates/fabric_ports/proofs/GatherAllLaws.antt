@@ -5,7 +5,7 @@ use Rattle.link_wires.specs.declared.edits.Edit.{Edit}
 use Rattle.maint_registers.specs.Devices.{Registers, is_switch}
 use Rattle.fabric_trace.specs.Fold.{seen}
 use Rattle.fabric_trace.specs.Known.{Seen}
-use Rattle.fabric_trace.specs.Lines.{TraceLine}
+use Rattle.trace_lines.specs.Lines.{TraceLine}
 use Rattle.fabric_trace.proofs.Traces.Existing.{ready_on}
 use Rattle.fabric_ask.specs.Asks.{CollectNodes, Handles, AskRound}
 use Rattle.fabric_ask.proofs.Beginning.{handles_exist}

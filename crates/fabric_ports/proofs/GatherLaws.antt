@@ -13,7 +13,7 @@ use Rattle.fabric_model.specs.Network.{Item, Network, port_of, held, IsEndpoint}
 use Rattle.fabric_model.specs.Steps.{Step, Leave, Answer, AtNode, ByDevice}
 use Rattle.fabric_trace.specs.Fold.{seen, seen_line}
 use Rattle.fabric_trace.specs.Known.{Seen, port_seen}
-use Rattle.fabric_trace.specs.Lines.{Full as NoRoom, Empty as NoPacket, TraceLine, Stepped, Lacked}
+use Rattle.trace_lines.specs.Lines.{Full as NoRoom, Empty as NoPacket, TraceLine, Stepped, Lacked}
 use Rattle.fabric_trace.specs.Served.{face_in, collect_lines, IsCollect}
 use Rattle.fabric_trace.specs.Views.{lists_in}
 use Rattle.fabric_trace.proofs.Traces.Existing.{ready_on}

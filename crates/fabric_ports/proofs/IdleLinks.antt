@@ -8,7 +8,8 @@ use Rattle.link_machine.specs.Acts.{acts_notes}
 use Rattle.link_law.specs.Resting.{has_no_work}
 use Rattle.link_law.proofs.RestLaws.{IsIdle, idle_by, idle_round, idle_notes, idle_settles, wires_empty}
 use Rattle.fabric_script.specs.declared.ports.PortRef.{PortRef}
-use Rattle.fabric_trace.specs.Blocks.{lines_of, pumps, IsSettle}
+use Rattle.trace_lines.specs.Notes.{lines_of}
+use Rattle.fabric_trace.specs.Blocks.{pumps, IsSettle}
 use Rattle.fabric_trace.specs.Known.{Seen, link_at}
 use Rattle.fabric_ask.specs.Noise.{edit_lines, stirred, IsCarry}
 

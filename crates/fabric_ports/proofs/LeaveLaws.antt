@@ -10,7 +10,7 @@ use Rattle.fabric_model.specs.Network.{Network, port_of, IsEndpoint}
 use Rattle.fabric_model.specs.Steps.{Leave, AtNode, Linked, ByDevice, Take}
 use Rattle.fabric_trace.specs.Fold.{seen}
 use Rattle.fabric_trace.specs.Known.{Seen}
-use Rattle.fabric_trace.specs.Lines.{TraceLine, Begun, Stepped, Signed, Lacked, Ended, Undetected as Unsent}
+use Rattle.trace_lines.specs.Lines.{TraceLine, Begun, Stepped, Signed, Lacked, Ended, Undetected as Unsent}
 use Rattle.fabric_trace.specs.Parts.{Made}
 use Rattle.fabric_trace.specs.Served.{face_in, collect_lines, IsCollect}
 use Rattle.fabric_trace.proofs.Parts.Folding.{seen-append}

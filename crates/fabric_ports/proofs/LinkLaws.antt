@@ -17,10 +17,11 @@ use Rattle.fabric_model.specs.Network.{link_in}
 use Rattle.fabric_model.proofs.Peers.{ArePeers, link_peers}
 use Rattle.fabric_trace.specs.Fold.{seen}
 use Rattle.fabric_trace.specs.Known.{Seen, port_seen, link_at}
-use Rattle.fabric_trace.specs.Lines.{TraceLine}
+use Rattle.trace_lines.specs.Lines.{TraceLine}
 use Rattle.fabric_trace.specs.Parts.{Made}
-use Rattle.fabric_trace.specs.Blocks.{port_at_side, lines_of, IsBlock}
-use Rattle.fabric_trace.specs.Text.{trace_text}
+use Rattle.trace_lines.specs.Notes.{port_at_side, lines_of}
+use Rattle.fabric_trace.specs.Blocks.{IsBlock}
+use Rattle.trace_lines.specs.Text.{trace_text}
 use Rattle.fabric_trace.proofs.Parts.Folding.{seen-append, lines-append}
 use Rattle.fabric_trace.proofs.Traces.Existing.{good_of}
 use Rattle.fabric_trace.proofs.Parts.Keeping.{IsGood, made_keeps}

@@ -10,7 +10,7 @@ use Rattle.fabric_script.specs.declared.ports.PortRef.{PortRef}
 use Rattle.fabric_model.proofs.Forms.{device_at}
 use Rattle.fabric_trace.specs.Fold.{seen}
 use Rattle.fabric_trace.specs.Known.{Seen}
-use Rattle.fabric_trace.specs.Lines.{TraceLine}
+use Rattle.trace_lines.specs.Lines.{TraceLine}
 use Rattle.fabric_trace.specs.Parts.{Done}
 use Rattle.fabric_trace.proofs.Traces.Existing.{ready_on}
 use Rattle.fabric_ask.specs.Course.{IsDevicePort, IsLaid}

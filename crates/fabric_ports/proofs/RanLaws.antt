@@ -6,10 +6,10 @@ use Rattle.rio_chars.specs.declared.outbox.Outbox.{Outbox}
 use Rattle.rio_chars.proofs.WrittenLaws.{Writes-nil, Writes-then}
 use Rattle.fabric_trace.specs.Fold.{seen}
 use Rattle.fabric_trace.specs.Known.{Found, Seen}
-use Rattle.fabric_trace.specs.Lines.{TraceLine}
+use Rattle.trace_lines.specs.Lines.{TraceLine}
 use Rattle.fabric_trace.specs.Parts.{Made}
 use Rattle.fabric_trace.specs.Rounds.{Follows, NamesNothing, Joined}
-use Rattle.fabric_trace.specs.Text.{trace_line_text, trace_text}
+use Rattle.trace_lines.specs.Text.{trace_line_text, trace_text}
 use Rattle.fabric_trace.proofs.Parts.Folding.{seen-append}
 use Rattle.fabric_ports.specs.Ran.{Kind, WritesFront, WritesTo, RanBehind, Ran}
 use Rattle.fabric_ports.specs.Standing.{Stands}

@@ -8,7 +8,7 @@ use Rattle.fabric_script.specs.declared.ports.PortRef.{PortRef}
 use Rattle.fabric_model.proofs.Peers.{ArePeers}
 use Rattle.fabric_trace.specs.Blocks.{IsSettle}
 use Rattle.fabric_trace.specs.Fold.{seen}
-use Rattle.fabric_trace.specs.Lines.{TraceLine}
+use Rattle.trace_lines.specs.Lines.{TraceLine}
 use Rattle.fabric_trace.specs.Parts.{Made}
 use Rattle.fabric_trace.specs.Ready.{IsReady}
 use Rattle.fabric_trace.specs.Rounds.{ServeNodes, Round, Rounds}

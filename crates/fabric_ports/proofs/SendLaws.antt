@@ -11,9 +11,9 @@ use Rattle.fabric_model.specs.Steps.{Take, AtNode, item_of, after}
 use Rattle.fabric_trace.specs.Blocks.{take_lines}
 use Rattle.fabric_trace.specs.Fold.{seen_line}
 use Rattle.fabric_trace.specs.Known.{Seen, port_seen}
-use Rattle.fabric_trace.specs.Lines.{TraceLine, Full as NoRoom, Stepped, Lacked}
+use Rattle.trace_lines.specs.Lines.{TraceLine, Full as NoRoom, Stepped, Lacked}
 use Rattle.fabric_trace.specs.Served.{face_in}
-use Rattle.fabric_trace.specs.Text.{trace_line_text, trace_text}
+use Rattle.trace_lines.specs.Text.{trace_line_text, trace_text}
 use Rattle.fabric_ports.specs.declared.answers.Happened.TheVariants.{Took, Full}
 use Rattle.fabric_ports.specs.declared.fabric.Fabric.{Fabric}
 use Rattle.fabric_ports.specs.Events.{Did, answer_taken}

@@ -13,7 +13,7 @@ use Rattle.fabric_model.proofs.Emptying.{packets_at}
 use Rattle.fabric_model.proofs.Nodes.{count_ports, ports_stay}
 use Rattle.fabric_trace.specs.Fold.{seen}
 use Rattle.fabric_trace.specs.Known.{Seen}
-use Rattle.fabric_trace.specs.Lines.{NoStep, TraceLine, Stepped, Lacked}
+use Rattle.trace_lines.specs.Lines.{NoStep, TraceLine, Stepped, Lacked}
 use Rattle.fabric_trace.specs.Parts.{Made, Done}
 use Rattle.fabric_trace.specs.Rounds.{ServesAll, ServeRests, ServeGoes}
 use Rattle.fabric_trace.specs.Served.{faces_in, step_lines, IsMove}

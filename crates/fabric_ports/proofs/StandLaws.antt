@@ -4,7 +4,7 @@ use Rattle.fabric_script.specs.declared.lines.Line.{Line}
 use Rattle.fabric_trace.specs.Blocks.{IsBlock}
 use Rattle.fabric_trace.specs.Fold.{edit_of, edited_by, seen}
 use Rattle.fabric_trace.specs.Known.{Seen}
-use Rattle.fabric_trace.specs.Lines.{TraceLine, Begun}
+use Rattle.trace_lines.specs.Lines.{TraceLine, Begun}
 use Rattle.fabric_trace.specs.Parts.{Made}
 use Rattle.fabric_trace.specs.Parts.Part.{PartBegins}
 use Rattle.fabric_trace.proofs.Parts.Folding.{seen-append}

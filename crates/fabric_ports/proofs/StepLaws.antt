@@ -27,9 +27,9 @@ use Rattle.fabric_model.proofs.Boards.{first_item}
 use Rattle.fabric_model.proofs.Moving.{moves_on, named_goes, sent_by}
 use Rattle.fabric_trace.specs.Fold.{seen}
 use Rattle.fabric_trace.specs.Known.{Seen, port_seen}
-use Rattle.fabric_trace.specs.Lines.{TraceLine, NoStep, Lacked}
+use Rattle.trace_lines.specs.Lines.{TraceLine, NoStep, Lacked}
 use Rattle.fabric_trace.specs.Served.{face_in, faces_from, faces_in, step_lines, ResponseHasForm, IsMove}
-use Rattle.fabric_trace.specs.Text.{trace_line_text, trace_text}
+use Rattle.trace_lines.specs.Text.{trace_line_text, trace_text}
 use Rattle.fabric_trace.proofs.Network.Faces.{face_is, StepNeeds, step_needs}
 use Rattle.fabric_trace.proofs.Parts.Keeping.{few_prio}
 use Rattle.fabric_ports.specs.declared.fabric.Fabric.{Fabric}

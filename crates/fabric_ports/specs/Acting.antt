@@ -14,9 +14,9 @@ use Rattle.link_machine.specs.Settling.{SchedulePart, Settles}
 use Rattle.link_law.specs.Does.{Comes, Ends}
 use Rattle.link_law.specs.declared.answers.LinkEnd.{LinkEnd}
 use Rattle.link_law.specs.declared.answers.LinkEnd.TheVariants.{Undetected, Failed, NoMemory}
-use Rattle.fabric_trace.specs.Blocks.{port_at_side}
-use Rattle.fabric_trace.specs.Lines as traced
-use Rattle.fabric_trace.specs.Lines.{TraceLine, Lacked}
+use Rattle.trace_lines.specs.Notes.{port_at_side}
+use Rattle.trace_lines.specs.Lines as traced
+use Rattle.trace_lines.specs.Lines.{TraceLine, Lacked}
 use Rattle.fabric_script.specs.declared.operations.WireEdit.{WireEdit}
 use Rattle.fabric_script.specs.declared.operations.WireEdit.TheVariants as Asked
 use Rattle.fabric_script.specs.declared.ports.PortRef.{PortRef}

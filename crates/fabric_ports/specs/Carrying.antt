@@ -5,7 +5,7 @@ use Rattle.fabric_script.specs.declared.ports.PortRef.{PortRef}
 use Rattle.fabric_model.specs.Network.{link_in}
 use Rattle.fabric_trace.specs.Blocks.{pumps}
 use Rattle.fabric_trace.specs.Known.{Seen}
-use Rattle.fabric_trace.specs.Lines.{TraceLine}
+use Rattle.trace_lines.specs.Lines.{TraceLine}
 use Rattle.fabric_trace.specs.Rounds.{Joined}
 use Rattle.fabric_ask.specs.Noise.{edit_lines, stirred, IsCarry}
 use Rattle.fabric_ask.specs.Asks.{CarryAll}

@@ -5,7 +5,7 @@ use Rattle.maint_packets.specs.declared.request.Request.{Request}
 use Rattle.maint_packets.specs.declared.response.Response.{Response}
 use Rattle.link_wires.specs.declared.edits.Edit.{Edit}
 use Rattle.fabric_model.specs.Steps.{Leave, AtNode}
-use Rattle.fabric_trace.specs.Lines.{TraceLine, Stepped}
+use Rattle.trace_lines.specs.Lines.{TraceLine, Stepped}
 use Rattle.fabric_ask.specs.Asks.{AskRounds, IsAsk}
 use Rattle.fabric_ports.specs.declared.answers.EventEnd.{EventEnd}
 use Rattle.fabric_ports.specs.declared.answers.EventEnd.TheVariants as Ends

@@ -5,7 +5,7 @@ use Rattle.maint_registers.specs.Devices.{Registers}
 use Rattle.fabric_model.specs.Network.{IsEndpoint}
 use Rattle.fabric_trace.specs.Fold.{seen}
 use Rattle.fabric_trace.specs.Known.{Seen}
-use Rattle.fabric_trace.specs.Lines.{TraceLine}
+use Rattle.trace_lines.specs.Lines.{TraceLine}
 use Rattle.fabric_ask.specs.Own.{with_own}
 use Rattle.fabric_ports.specs.Asking.{CanAsk}
 use Rattle.fabric_ports.specs.Standing.{Stands}

@@ -7,9 +7,9 @@ use Rattle.fabric_script.specs.declared.lines.Line.{Line}
 use Rattle.fabric_trace.specs.Blocks.{IsBlock, IsSettle}
 use Rattle.fabric_trace.specs.Fold.{seen}
 use Rattle.fabric_trace.specs.Known.{Seen}
-use Rattle.fabric_trace.specs.Lines.{TraceLine}
+use Rattle.trace_lines.specs.Lines.{TraceLine}
 use Rattle.fabric_trace.specs.Rounds.{SettleAll, ServesAll, ServeNodes}
-use Rattle.fabric_trace.specs.Text.{trace_text}
+use Rattle.trace_lines.specs.Text.{trace_text}
 use Rattle.fabric_ports.specs.declared.answers.EventEnd.{EventEnd}
 use Rattle.fabric_ports.specs.declared.answers.EventEnd.TheVariants.{Undetected, Failed, NoMemory}
 use Rattle.fabric_ports.specs.declared.fabric.Fabric.{Fabric}

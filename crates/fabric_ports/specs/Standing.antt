@@ -2,7 +2,7 @@
 use Rattle.std.specs.Prelude.{◌≡◌, List, None}
 use Rattle.fabric_trace.specs.Fold.{seen}
 use Rattle.fabric_trace.specs.Known.{Seen}
-use Rattle.fabric_trace.specs.Lines.{TraceLine}
+use Rattle.trace_lines.specs.Lines.{TraceLine}
 use Rattle.fabric_trace.specs.Parts.{Made}
 use Rattle.fabric_trace.specs.Ready.{IsReady}
 use Rattle.fabric_ports.specs.Showing.{ShowsFabric}

@@ -9,9 +9,9 @@ use Rattle.switch_core.specs.Faces as faces
 use Rattle.switch_core.specs.SwitchSteps.{step_of, faces_after, switch_after}
 use Rattle.switch_core.specs.declared.switch.Step.{Step}
 use Rattle.switch_core.specs.declared.switch.Step.TheVariants.{Moved, Dropped, Answered, Nothing}
-use Rattle.fabric_trace.specs.Lines.{TraceLine}
+use Rattle.trace_lines.specs.Lines.{TraceLine}
 use Rattle.fabric_trace.specs.Served.{step_lines}
-use Rattle.fabric_trace.specs.Text.{trace_text}
+use Rattle.trace_lines.specs.Text.{trace_text}
 
 -- the lists of ports
 abbrev pub faces_at : List PortState → List faces.Face

@@ -5,7 +5,7 @@ ghost use Rattle.rio_packets.specs.LinkForm.{LinkForm};
 ghost use Rattle.maint_packets.specs.Requests.{IsGoodOp, request_body};
 ghost use Rattle.fabric_ask.specs.Asks.{AskRounds, IsAsk};
 ghost use Rattle.fabric_trace.specs.Known.{Seen};
-ghost use Rattle.fabric_trace.specs.Lines.{TraceLine};
+ghost use Rattle.trace_lines.specs.Lines.{TraceLine};
 ghost use Rattle.fabric_ports.specs.Asking.{CanAsk, Replied, AskEnds};
 ghost use Rattle.fabric_ports.specs.Fetching.{left_of, RoundsLeave, AskLeaves, response_in, ask_answer};
 ghost use Rattle.fabric_ports.specs.Places.{IsEndpointAt};

@@ -4,7 +4,7 @@ ghost use Rattle.fabric_model.specs.Network.{Network};
 ghost use Rattle.fabric_script.specs.Operations.{line_editing};
 ghost use Rattle.fabric_trace.specs.Fold.{edited_by, seen};
 ghost use Rattle.fabric_trace.specs.Known.{Seen};
-ghost use Rattle.fabric_trace.specs.Lines.{TraceLine};
+ghost use Rattle.trace_lines.specs.Lines.{TraceLine};
 ghost use Rattle.fabric_ports.specs.Acting.{edit_acted, edit_asked};
 ghost use Rattle.fabric_ports.specs.Ends.{PortIsLinked};
 ghost use Rattle.fabric_ports.specs.Events.{Did};

@@ -7,7 +7,7 @@ ghost use Rattle.fabric_script.specs.GivenPackets.{line_giving};
 ghost use Rattle.fabric_model.specs.Network.{Network, sender_id};
 ghost use Rattle.fabric_trace.specs.Events.{IsInRange, IsDataLength};
 ghost use Rattle.fabric_trace.specs.Known.{Seen};
-ghost use Rattle.fabric_trace.specs.Lines.{TraceLine};
+ghost use Rattle.trace_lines.specs.Lines.{TraceLine};
 ghost use Rattle.fabric_ports.specs.Events.{MayFollow, Evented, IsAnsweredBlock, IsOwnBlock, request_by, body_in};
 ghost use Rattle.fabric_ports.specs.Standing.{Stands};
 

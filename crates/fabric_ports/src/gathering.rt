@@ -3,7 +3,7 @@ ghost use Rattle.std.specs.Prelude.{◌≡◌, ◌≤◌, ◌<◌, List, length,
 ghost use Rattle.link_buffers.specs.Queues.{list_at};
 ghost use Rattle.link_port.specs.Faces.{AreLists};
 ghost use Rattle.fabric_trace.specs.Known.{Seen};
-ghost use Rattle.fabric_trace.specs.Lines.{TraceLine};
+ghost use Rattle.trace_lines.specs.Lines.{TraceLine};
 ghost use Rattle.fabric_ask.specs.Asks.{AskRound, holds_some};
 ghost use Rattle.fabric_ports.specs.Carrying.{WithLeft};
 ghost use Rattle.fabric_ports.specs.Gathering.{has_packets, Collects, OthersCollect};

@@ -4,7 +4,7 @@ ghost use Rattle.maint_registers.specs.Access.{value_at};
 ghost use Rattle.maint_registers.specs.Devices.{Registers};
 ghost use Rattle.fabric_trace.specs.Fold.{seen};
 ghost use Rattle.fabric_trace.specs.Known.{Seen};
-ghost use Rattle.fabric_trace.specs.Lines.{TraceLine};
+ghost use Rattle.trace_lines.specs.Lines.{TraceLine};
 ghost use Rattle.fabric_ports.specs.OwnRegisters.{HasEndpoint, OwnWritten};
 ghost use Rattle.fabric_ports.specs.Standing.{Stands};
 

@@ -4,7 +4,7 @@ ghost use Rattle.fabric_script.specs.declared.lines.Line.TheVariants.{Settle};
 ghost use Rattle.fabric_model.specs.Network.{Network};
 ghost use Rattle.fabric_trace.specs.Blocks.{IsSettle};
 ghost use Rattle.fabric_trace.specs.Known.{Seen};
-ghost use Rattle.fabric_trace.specs.Lines.{TraceLine};
+ghost use Rattle.trace_lines.specs.Lines.{TraceLine};
 ghost use Rattle.fabric_trace.specs.Rounds.{Rounds};
 ghost use Rattle.fabric_ports.specs.Ends.{PortIsLinked};
 ghost use Rattle.fabric_ports.specs.Places.{IsSwitchAt};

@@ -1,7 +1,7 @@
 -- A front of the text of a trace is that of whole lines, and a part of one more.
 use Rattle.std.proofs.Common.{◌≡◌, ◌≢◌, ℕ, List, [], ◌∷◌, ◌++◌, codes, refl, sym, ap, ◌∙◌, subst, append_assoc}
-use Rattle.fabric_trace.specs.Lines.{TraceLine}
-use Rattle.fabric_trace.specs.Text.{trace_line_text, trace_text}
+use Rattle.trace_lines.specs.Lines.{TraceLine}
+use Rattle.trace_lines.specs.Text.{trace_line_text, trace_text}
 use Rattle.fabric_replay.specs.Replaying.{IsPartOfLine}
 
 -- of two ways to cut a list: the first list is less than the second, or the second is its front

@@ -8,9 +8,9 @@ use Rattle.fabric_script.specs.Scripts.{ScriptPasses}
 use Rattle.fabric_script.specs.declared.ports.PortRef.{PortRef}
 use Rattle.fabric_script.specs.declared.lines.Line.{Line}
 use Rattle.fabric_script.specs.declared.lines.Numbered.{Numbered}
-use Rattle.fabric_trace.specs.Lines.{TraceLine, Begun, Undetected}
+use Rattle.trace_lines.specs.Lines.{TraceLine, Begun, Undetected}
 use Rattle.fabric_trace.specs.Runs.{start}
-use Rattle.fabric_trace.specs.Text.{trace_line_text}
+use Rattle.trace_lines.specs.Text.{trace_line_text}
 use Rattle.fabric_ports.specs.Events.{IsOwnBlock, Evented}
 use Rattle.fabric_ports.specs.Standing.{Stands}
 use Rattle.fabric_ports.specs.declared.answers.EventEnd.{EventEnd}

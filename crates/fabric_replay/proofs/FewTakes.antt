@@ -24,10 +24,11 @@ use Rattle.fabric_model.specs.Laws.Stock.{takes_by, steps_in}
 use Rattle.fabric_model.specs.Network.{room_out, port_of, link_in}
 use Rattle.fabric_model.specs.Steps.{Take, Step, AtNode}
 use Rattle.rio_packets.specs.Fields.{prio_of}
-use Rattle.fabric_trace.specs.Blocks.{SendsBody, lines_of, IsSettle, WithPeer, WithLink, edits, IsBlock}
+use Rattle.trace_lines.specs.Notes.{lines_of}
+use Rattle.fabric_trace.specs.Blocks.{SendsBody, IsSettle, WithPeer, WithLink, edits, IsBlock}
 use Rattle.fabric_trace.specs.Fold.{edit_of, seen}
 use Rattle.fabric_trace.specs.Known.{Found, Seen, peer_of, link_at}
-use Rattle.fabric_trace.specs.Lines.{Full, Short, TraceLine, Begun, Stepped, Lacked, steps_of}
+use Rattle.trace_lines.specs.Lines.{Full, Short, TraceLine, Begun, Stepped, Lacked, steps_of}
 use Rattle.fabric_trace.specs.Rounds.{Follows, NamesNothing, Joined, SettleAll, ServesAll, ServeRests, ServeGoes, ServeNodes, Round, Rounds}
 use Rattle.fabric_trace.specs.Runs.{start, EventThen, Names, RunsFrom, Runs}
 use Rattle.fabric_trace.specs.Served.{step_lines, collect_lines}

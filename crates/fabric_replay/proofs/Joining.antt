@@ -7,7 +7,7 @@ use Rattle.fabric_trace.specs.Blocks.{IsBlock}
 use Rattle.fabric_trace.specs.Fold.{seen}
 use Rattle.fabric_trace.specs.Known.{Found, Seen}
 use Rattle.std.proofs.lemmas.List.{append-nil}
-use Rattle.fabric_trace.specs.Lines.{TraceLine, Begun, Undetected}
+use Rattle.trace_lines.specs.Lines.{TraceLine, Begun, Undetected}
 use Rattle.fabric_trace.specs.Runs.{Follows, BlockThen, Names, NamesNothing, RunsFrom, BlocksFrom}
 use Rattle.fabric_trace.proofs.Parts.Folding.{seen-append}
 

@@ -28,8 +28,8 @@ use Rattle.fabric_script.proofs.Joins.{visible_keyword, visible_lacks}
 use Rattle.fabric_script.proofs.KnownLaws.{nothing-orderly, orderly-after}
 use Rattle.fabric_script.proofs.Points.{Lacks, and_parts, high_name, lacks_low}
 use Rattle.fabric_model.specs.Steps.{Hold, Free, Take, Leave, Move, Drop, Answer, Step, Linked, AtNode, ByDevice}
-use Rattle.fabric_trace.specs.Lines.{Full, Empty, Short, Early, NoStep, Sign, Sent, Got, Fired, TraceLine, Begun, Stepped, Signed, Lacked, Ended, Undetected}
-use Rattle.fabric_trace.specs.Text.{event_text, trace_line_text}
+use Rattle.trace_lines.specs.Lines.{Full, Empty, Short, Early, NoStep, Sign, Sent, Got, Fired, TraceLine, Begun, Stepped, Signed, Lacked, Ended, Undetected}
+use Rattle.trace_lines.specs.Text.{event_text, trace_line_text}
 
 -- whether no byte is a line feed
 abbrev pub feedless : List ℕ → Bool

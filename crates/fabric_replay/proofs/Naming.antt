@@ -16,7 +16,7 @@ use Rattle.fabric_model.specs.Network.{Network, same_port, peer_in}
 use Rattle.fabric_model.proofs.Peers.{port_is}
 use Rattle.fabric_trace.specs.Fold.{seen}
 use Rattle.fabric_trace.specs.Known.{Found, Seen}
-use Rattle.fabric_trace.specs.Lines.{TraceLine}
+use Rattle.trace_lines.specs.Lines.{TraceLine}
 use Rattle.fabric_trace.specs.Runs.{bare, set_up, set_up_all, begins, start}
 use Rattle.fabric_trace.proofs.Network.Boards.{seen_board, found_linked}
 use Rattle.fabric_trace.proofs.SetUps.SettingUp.{made_by, set_up-kinds}

@@ -8,9 +8,9 @@ use Rattle.fabric_script.specs.declared.lines.Numbered.{Numbered}
 use Rattle.fabric_model.specs.Laws.Nodes.{all_ports}
 use Rattle.fabric_model.specs.Laws.Stock.{stock, takes_by, leaves_by, drops_by, steps_in}
 use Rattle.fabric_trace.specs.Fold.{seen}
-use Rattle.fabric_trace.specs.Lines.{TraceLine, steps_of}
+use Rattle.trace_lines.specs.Lines.{TraceLine, steps_of}
 use Rattle.fabric_trace.specs.Runs.{start, Runs}
-use Rattle.fabric_trace.specs.Text.{trace_text}
+use Rattle.trace_lines.specs.Text.{trace_text}
 use Rattle.fabric_trace.proofs.SetUps.Balancing.{runs_stand, runs_balance}
 use Rattle.fabric_replay.specs.Replaying.{ReplayedWhole, ReplayedUnsent}
 use Rattle.fabric_replay.specs.Summing.{CountsLines, Summed, SummedUnsent, EndsLike}

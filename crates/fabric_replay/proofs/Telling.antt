@@ -14,9 +14,9 @@ use Rattle.fabric_trace.specs.Blocks.{IsBlock}
 use Rattle.fabric_trace.specs.Events.{MayHappen}
 use Rattle.fabric_trace.specs.Fold.{seen}
 use Rattle.fabric_trace.specs.Known.{Found, Seen}
-use Rattle.fabric_trace.specs.Lines.{TraceLine, Begun, Ended, Undetected}
+use Rattle.trace_lines.specs.Lines.{TraceLine, Begun, Ended, Undetected}
 use Rattle.fabric_trace.specs.Runs.{bare, set_up_all, start, BlockThen, NamesNothing, BlocksFrom, RunsFrom, Runs, Begins}
-use Rattle.fabric_trace.specs.Text.{trace_line_text}
+use Rattle.trace_lines.specs.Text.{trace_line_text}
 use Rattle.fabric_trace.proofs.Network.Boards.{happens_still}
 use Rattle.fabric_trace.proofs.Parts.Folding.{seen-append}
 use Rattle.fabric_trace.proofs.SetUps.Happening.{may_happen}

@@ -2,8 +2,8 @@
 use Rattle.std.specs.Prelude.{◌≡◌, ◌<◌, ℕ, List, ◌++◌, length, Option, codes}
 use Rattle.rio_chars.specs.Written.{Writes}
 use Rattle.rio_chars.specs.declared.outbox.Outbox.{Outbox}
-use Rattle.fabric_trace.specs.Lines.{Undetected as UnsentLine}
-use Rattle.fabric_trace.specs.Text.{trace_line_text}
+use Rattle.trace_lines.specs.Lines.{Undetected as UnsentLine}
+use Rattle.trace_lines.specs.Text.{trace_line_text}
 use Rattle.fabric_ports.specs.declared.answers.EventEnd.{EventEnd}
 use Rattle.fabric_ports.specs.declared.answers.EventEnd.TheVariants.{Undetected, Failed, NoMemory}
 use Rattle.fabric_replay.specs.declared.replaying.ReplayEnd.{ReplayEnd}

@@ -7,10 +7,10 @@ use Rattle.fabric_script.specs.declared.lines.Numbered.{Numbered}
 use Rattle.fabric_model.specs.Laws.Freeing.{IsFront}
 use Rattle.fabric_trace.specs.Fold.{seen}
 use Rattle.fabric_trace.specs.Known.{Found}
-use Rattle.fabric_trace.specs.Lines.{TraceLine, Ended, Undetected}
+use Rattle.trace_lines.specs.Lines.{TraceLine, Ended, Undetected}
 use Rattle.fabric_trace.specs.Runs.{start, Runs, Begins}
 use Rattle.fabric_trace.specs.Shown.{Shown}
-use Rattle.fabric_trace.specs.Text.{trace_line_text, trace_text}
+use Rattle.trace_lines.specs.Text.{trace_line_text, trace_text}
 
 -- The text of the one trace of the script was written, and all laws hold of it.
 pub record Replayed (names : List (List ℕ)) (script : List Numbered)

@@ -7,7 +7,7 @@ use Rattle.fabric_model.specs.Laws.Nodes.{StandAtNodes, all_ports}
 use Rattle.fabric_model.specs.Laws.Stock.{stock, takes_by, leaves_by, drops_by, steps_in}
 use Rattle.fabric_model.specs.Network.{Network}
 use Rattle.fabric_trace.specs.Fold.{seen}
-use Rattle.fabric_trace.specs.Lines.{TraceLine, Ended, Undetected, steps_of}
+use Rattle.trace_lines.specs.Lines.{TraceLine, Ended, Undetected, steps_of}
 use Rattle.fabric_trace.specs.Runs.{start, Runs}
 use Rattle.fabric_trace.specs.Shown.{Shown}
 use Rattle.fabric_replay.specs.Replaying.{EndsWith}

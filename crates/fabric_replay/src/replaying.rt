@@ -3,7 +3,7 @@ ghost use Rattle.std.specs.Prelude.{◌≤◌, ◌≡◌, ℕ, true, false, [], 
 ghost use Rattle.rio_chars.specs.Faults.{Rose};
 ghost use Rattle.fabric_script.specs.Scripts.{ScriptPasses};
 ghost use Rattle.fabric_script.specs.declared.ports.PortRef.{PortRef as Port};
-ghost use Rattle.fabric_trace.specs.Lines.{Ended, Undetected as UnsentLine};
+ghost use Rattle.trace_lines.specs.Lines.{Ended, Undetected as UnsentLine};
 ghost use Rattle.fabric_trace.specs.Runs.{start};
 ghost use Rattle.fabric_ports.specs.Standing.{Stands};
 ghost use Rattle.link_model.specs.declared.event.Event.{Event as LinkEvent};

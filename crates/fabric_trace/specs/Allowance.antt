@@ -9,7 +9,7 @@ use Rattle.fabric_script.specs.declared.ports.PortRef.{PortRef}
 use Rattle.fabric_model.specs.Network.{same_port}
 use Rattle.fabric_model.specs.Steps.{Free, Linked}
 use Rattle.fabric_trace.specs.Fold.{says}
-use Rattle.fabric_trace.specs.Lines.{Got, TraceLine, Stepped, Signed}
+use Rattle.trace_lines.specs.Lines.{Got, TraceLine, Stepped, Signed}
 
 -- ---- the allowance
 

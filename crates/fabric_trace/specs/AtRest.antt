@@ -4,7 +4,7 @@ use Rattle.fabric_script.specs.declared.lines.Line.TheVariants.{Settle, Run}
 use Rattle.fabric_script.specs.declared.lines.Numbered.{Numbered}
 use Rattle.fabric_model.specs.Network.{link_in}
 use Rattle.fabric_trace.specs.Blocks.{IsSettle, WithLink, IsBlock}
-use Rattle.fabric_trace.specs.Lines.{TraceLine}
+use Rattle.trace_lines.specs.Lines.{TraceLine}
 use Rattle.fabric_trace.specs.Rounds.{Rounds, SettlesTo}
 use Rattle.fabric_trace.specs.Runs.{OfEvent, start, RunsBy, BeginsBy}
 

@@ -1,15 +1,12 @@
 -- Which lines each event makes, from what is known before it.
-use Rattle.std.specs.Prelude.{◌≡◌, ℕ, Bool, true, false, List, [], ◌∷◌, map, Option, Some, None, if◌then◌else◌}
+use Rattle.std.specs.Prelude.{◌≡◌, ℕ, Bool, true, false, List, [], ◌∷◌, Option, Some, None, if◌then◌else◌}
 use Rattle.rio_packets.specs.Fields.{prio_of, body_of}
 use Rattle.rio_packets.specs.LinkForm.{LinkForm}
 use Rattle.maint_packets.specs.Requests.{request_body}
 use Rattle.maint_packets.specs.declared.request.Op.{Op}
 use Rattle.maint_packets.specs.declared.request.Op.TheVariants as Ops
 use Rattle.maint_packets.specs.declared.request.Request.{Request}
-use Rattle.link_watch.specs.declared.note.Note.{Note}
-use Rattle.link_watch.specs.declared.note.Note.TheVariants as Notes
-use Rattle.link_watch.specs.declared.side.Side.{Side}
-use Rattle.link_watch.specs.declared.side.Side.TheVariants.{A, B}
+use Rattle.link_watch.specs.declared.side.Side.TheVariants.{A}
 use Rattle.link_wires.specs.Wires.{fits}
 use Rattle.link_wires.specs.declared.edits.Edit.{Edit}
 use Rattle.link_machine.specs.Calls.{has_chars, pump_notes, delivery_notes, is_silent, time_out_notes}
@@ -19,8 +16,9 @@ use Rattle.fabric_script.specs.declared.ports.PortRef.{PortRef}
 use Rattle.fabric_script.specs.declared.lines.Line.{Line}
 use Rattle.fabric_script.specs.declared.lines.Line.TheVariants.{Send, Read, Write, Pump, Deliver, Alter, Erase, Insert, Timeout, Settle, Move, Collect, Run, Send16, Read16, Write16}
 use Rattle.fabric_model.specs.Network.{Network, IsEndpoint, port_of, room_out, id_of, link_in}
-use Rattle.fabric_model.specs.Steps.{Hold, Free, Take, Linked, AtNode}
-use Rattle.fabric_trace.specs.Lines.{Full, Short, Early, Sent, Got, Fired, TraceLine, Stepped, Signed, Lacked}
+use Rattle.fabric_model.specs.Steps.{Take, AtNode}
+use Rattle.trace_lines.specs.Lines.{Full, Short, Early, TraceLine, Stepped, Lacked}
+use Rattle.trace_lines.specs.Notes.{lines_of}
 use Rattle.fabric_trace.specs.Known.{Seen, peer_of, link_at}
 use Rattle.fabric_trace.specs.Fold.{edit_of}
 use Rattle.fabric_trace.specs.Rounds.{Rounds}
@@ -65,21 +63,6 @@ abbrev pub Asks : Seen → ℕ → Request → List TraceLine → Type 0
 Asks s node request block = SendsBody s node (request_body request) block
 
 -- ---- at a link
-
-abbrev pub port_at_side : PortRef → PortRef → Side → PortRef
-port_at_side a b A = a
-port_at_side a b B = b
-
--- what is noted of a link, as a line: its ends are these two ports
-abbrev pub line_of : PortRef → PortRef → Note → TraceLine
-line_of a b (Notes.Sent side chars) = Signed (Sent (port_at_side a b side) chars)
-line_of a b (Notes.Got side chars) = Signed (Got (port_at_side a b side) chars)
-line_of a b (Notes.Hold side packet) = Stepped (Linked (Hold (port_at_side a b side) packet))
-line_of a b (Notes.Free side packet) = Stepped (Linked (Free (port_at_side a b side) packet))
-line_of a b (Notes.Fire side) = Signed (Fired (port_at_side a b side))
-
-abbrev pub lines_of : PortRef → PortRef → List Note → List TraceLine
-lines_of a b notes = map (line_of a b) notes
 
 -- turns of a port, whose peer is q
 abbrev pub pumps : Seen → PortRef → ℕ → PortRef → List TraceLine

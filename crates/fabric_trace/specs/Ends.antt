@@ -1,6 +1,6 @@
 -- How a trace ends.
 use Rattle.std.specs.Prelude.{◌≡◌, ℕ, List, [], ◌∷◌, ◌++◌, Some, None}
-use Rattle.fabric_trace.specs.Lines.{TraceLine, Ended, Undetected}
+use Rattle.trace_lines.specs.Lines.{TraceLine, Ended, Undetected}
 use Rattle.fabric_trace.specs.Known.{Found, Seen}
 use Rattle.fabric_trace.specs.Fold.{seen}
 

@@ -12,7 +12,7 @@ use Rattle.maint_registers.specs.Devices.{new_switch}
 use Rattle.fabric_model.specs.Network.{Item, Network, port_of, with_lane}
 use Rattle.fabric_model.specs.Laws.Examples.{packet}
 use Rattle.fabric_model.specs.Steps.{Hold, Free, Take, Leave, Move as MoveOn, Drop, Linked, AtNode, ByDevice}
-use Rattle.fabric_trace.specs.Lines.{Empty, Short, Early, NoStep, Sent, Got, Fired, TraceLine, Begun, Stepped, Signed, Lacked, Ended, Undetected}
+use Rattle.trace_lines.specs.Lines.{Empty, Short, Early, NoStep, Sent, Got, Fired, TraceLine, Begun, Stepped, Signed, Lacked, Ended, Undetected}
 use Rattle.fabric_trace.specs.Views.{new_half}
 use Rattle.fabric_trace.specs.Known.{Seen}
 use Rattle.fabric_trace.specs.Fold.{seen}

@@ -6,7 +6,7 @@ use Rattle.link_model.specs.Said.{said}
 use Rattle.link_wires.specs.Acting.{acted_all}
 use Rattle.link_wires.specs.Kept.{IsSubsequence}
 use Rattle.fabric_script.specs.declared.ports.PortRef.{PortRef}
-use Rattle.fabric_trace.specs.Lines.{Got, TraceLine, Begun, Signed, Ended, Undetected}
+use Rattle.trace_lines.specs.Lines.{Got, TraceLine, Begun, Signed, Ended, Undetected}
 use Rattle.fabric_trace.specs.Known.{Seen, peer_of, port_seen}
 use Rattle.fabric_trace.specs.Fold.{seen_line}
 

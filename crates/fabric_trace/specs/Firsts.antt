@@ -1,6 +1,6 @@
 -- What is found not to be sent is the first such event, by the lines alone.
 use Rattle.std.specs.Prelude.{◌≡◌, List, [], ◌∷◌, None}
-use Rattle.fabric_trace.specs.Lines.{Got, TraceLine, Signed}
+use Rattle.trace_lines.specs.Lines.{Got, TraceLine, Signed}
 use Rattle.fabric_trace.specs.Known.{Seen}
 use Rattle.fabric_trace.specs.Fold.{seen_line}
 

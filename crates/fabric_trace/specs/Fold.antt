@@ -18,7 +18,7 @@ use Rattle.fabric_script.specs.declared.ports.PortRef.{PortRef}
 use Rattle.fabric_script.specs.declared.lines.Line.{Line}
 use Rattle.fabric_script.specs.declared.lines.Line.TheVariants.{Alter, Erase, Insert}
 use Rattle.fabric_model.specs.Steps.{after}
-use Rattle.fabric_trace.specs.Lines.{Sign, Sent, Got, Fired, TraceLine, Begun, Stepped, Signed, Lacked, Ended, Undetected}
+use Rattle.trace_lines.specs.Lines.{Sign, Sent, Got, Fired, TraceLine, Begun, Stepped, Signed, Lacked, Ended, Undetected}
 use Rattle.fabric_trace.specs.Views.{Half, half_of}
 use Rattle.fabric_trace.specs.Known.{Wire, Found, Seen, with_wire, with_half, peer_of, port_seen, kept_of}
 

@@ -10,7 +10,7 @@ use Rattle.link_wires.specs.Kept.{IsSubsequence}
 use Rattle.fabric_script.specs.declared.ports.PortRef.{PortRef}
 use Rattle.fabric_model.specs.Network.{same_port}
 use Rattle.fabric_model.specs.Steps.{Hold, Free, Step, Linked, AtNode, ByDevice}
-use Rattle.fabric_trace.specs.Lines.{Got, TraceLine, Stepped, Signed}
+use Rattle.trace_lines.specs.Lines.{Got, TraceLine, Stepped, Signed}
 
 -- an acceptance of the packet of this number, whose ackID is the number modulo 32, or a
 -- link-response

@@ -7,7 +7,7 @@ use Rattle.link_wires.specs.Kept.{IsSubsequence}
 use Rattle.fabric_script.specs.declared.ports.PortRef.{PortRef}
 use Rattle.fabric_model.specs.Network.{same_port}
 use Rattle.fabric_model.specs.Steps.{Hold, Free, Step, Linked, AtNode, ByDevice}
-use Rattle.fabric_trace.specs.Lines.{Sign, Sent, Got, Fired, TraceLine, Stepped, Signed}
+use Rattle.trace_lines.specs.Lines.{Sign, Sent, Got, Fired, TraceLine, Stepped, Signed}
 use Rattle.fabric_trace.specs.Fold.{says}
 
 -- the characters that a port got

@@ -1,5 +1,3 @@
-pub mod Lines
-pub mod Text
 pub mod Views
 pub mod Known
 pub mod Fold

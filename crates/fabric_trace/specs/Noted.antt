@@ -4,7 +4,7 @@ use Rattle.std.specs.Prelude.{◌≡◌, Bool, true, false, List, [], ◌∷◌}
 use Rattle.fabric_script.specs.declared.ports.PortRef.{PortRef}
 use Rattle.fabric_model.specs.Network.{same_port}
 use Rattle.fabric_model.specs.Steps.{Free, Linked}
-use Rattle.fabric_trace.specs.Lines.{Got, TraceLine, Stepped, Signed}
+use Rattle.trace_lines.specs.Lines.{Got, TraceLine, Stepped, Signed}
 
 -- whether the notes of a delivery to the port are under way, after one more line
 abbrev pub is_noting : PortRef → Bool → TraceLine → Bool

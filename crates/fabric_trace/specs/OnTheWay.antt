@@ -10,7 +10,7 @@ use Rattle.link_machine.specs.OnTheWay.{port_reached}
 use Rattle.fabric_script.specs.declared.ports.PortRef.{PortRef}
 use Rattle.fabric_trace.specs.Fold.{seen_line}
 use Rattle.fabric_trace.specs.Known.{Seen, peer_of, port_seen, kept_of}
-use Rattle.fabric_trace.specs.Lines.{Got, TraceLine, Signed}
+use Rattle.trace_lines.specs.Lines.{Got, TraceLine, Signed}
 
 -- the port q after so many events of characters that come to it from p
 abbrev pub reached_from : Seen → PortRef → PortRef → ℕ → List Char → PortState

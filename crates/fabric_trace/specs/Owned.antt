@@ -9,7 +9,7 @@ use Rattle.fabric_script.specs.declared.ports.PortRef.{PortRef}
 use Rattle.fabric_model.specs.Network.{Network}
 use Rattle.fabric_trace.specs.Fold.{says, seen_line}
 use Rattle.fabric_trace.specs.Known.{Seen, peer_of}
-use Rattle.fabric_trace.specs.Lines.{Sent, Fired, TraceLine, Signed}
+use Rattle.trace_lines.specs.Lines.{Sent, Fired, TraceLine, Signed}
 use Rattle.fabric_trace.specs.Views.{packets_in}
 
 -- the packet waits at the port to be sent, or the port has lent it

@@ -8,10 +8,10 @@ use Rattle.link_machine.specs.Calls.{has_chars, pump_notes, tell_notes, delivery
 use Rattle.fabric_script.specs.declared.ports.PortRef.{PortRef}
 use Rattle.fabric_script.specs.declared.lines.Line.{Line}
 use Rattle.fabric_model.specs.Steps.{NodeStep, Take, Leave, DeviceStep, AtNode, ByDevice, Needs}
-use Rattle.fabric_trace.specs.Lines.{Lack, TraceLine, Begun, Stepped, Lacked, Ended, Undetected}
+use Rattle.trace_lines.specs.Lines.{Lack, TraceLine, Begun, Stepped, Lacked, Ended, Undetected}
 use Rattle.fabric_trace.specs.Known.{Seen, peer_of, link_at}
 use Rattle.fabric_trace.specs.Fold.{seen}
-use Rattle.fabric_trace.specs.Blocks.{lines_of}
+use Rattle.trace_lines.specs.Notes.{lines_of}
 
 -- the packet of a step
 abbrev pub packet_of : NodeStep → List ℕ

@@ -5,7 +5,7 @@ use Rattle.link_machine.specs.Rest.{IsSettled}
 use Rattle.maint_registers.specs.Devices.{Registers, is_switch}
 use Rattle.fabric_script.specs.declared.ports.PortRef.{PortRef}
 use Rattle.fabric_model.specs.Steps.{DeviceStep, ByDevice}
-use Rattle.fabric_trace.specs.Lines.{NoStep, TraceLine, Stepped, Lacked}
+use Rattle.trace_lines.specs.Lines.{NoStep, TraceLine, Stepped, Lacked}
 use Rattle.fabric_trace.specs.Known.{Found, Seen, link_at}
 use Rattle.fabric_trace.specs.Fold.{seen_line, seen}
 use Rattle.fabric_trace.specs.Served.{IsMove}

@@ -7,7 +7,7 @@ use Rattle.fabric_model.specs.Network.{Network}
 pub use Rattle.fabric_model.specs.Network.{bare}
 pub use Rattle.fabric_trace.specs.Settings.{set_up, set_up_all}
 pub use Rattle.fabric_trace.specs.Rounds.{Follows, NamesNothing}
-use Rattle.fabric_trace.specs.Lines.{TraceLine, Begun, Ended, Undetected}
+use Rattle.trace_lines.specs.Lines.{TraceLine, Begun, Ended, Undetected}
 use Rattle.fabric_trace.specs.Views.{new_half}
 use Rattle.fabric_trace.specs.Known.{Found, Seen, new_wire}
 use Rattle.fabric_trace.specs.Fold.{seen}

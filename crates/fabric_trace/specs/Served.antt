@@ -13,7 +13,7 @@ use Rattle.switch_core.specs.declared.endpoint.Collected.TheVariants as Collects
 use Rattle.fabric_script.specs.declared.ports.PortRef.{PortRef}
 use Rattle.fabric_model.specs.Network.{Network, port_of, IsEndpoint, IsSwitch}
 use Rattle.fabric_model.specs.Steps.{Leave, Move, Drop, Answer, AtNode, ByDevice}
-use Rattle.fabric_trace.specs.Lines.{Full, Empty, NoStep, TraceLine, Stepped, Lacked}
+use Rattle.trace_lines.specs.Lines.{Full, Empty, NoStep, TraceLine, Stepped, Lacked}
 use Rattle.fabric_trace.specs.Views.{lists_in, queue}
 
 -- the lists of a port of the network, those that are lent among what it has to send

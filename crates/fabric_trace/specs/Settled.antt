@@ -6,7 +6,7 @@ use Rattle.fabric_script.specs.declared.ports.PortRef.{PortRef}
 use Rattle.fabric_script.specs.declared.lines.Line.{Line}
 use Rattle.fabric_script.specs.declared.lines.Line.TheVariants.{Settle}
 use Rattle.fabric_model.specs.Network.{link_in}
-use Rattle.fabric_trace.specs.Lines.{TraceLine, Begun, Ended, Undetected}
+use Rattle.trace_lines.specs.Lines.{TraceLine, Begun, Ended, Undetected}
 use Rattle.fabric_trace.specs.Known.{Seen, link_at}
 use Rattle.fabric_trace.specs.Fold.{seen_line}
 

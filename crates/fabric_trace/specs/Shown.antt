@@ -3,7 +3,7 @@ use Rattle.std.specs.Prelude.{false, List, [], None}
 use Rattle.fabric_script.specs.declared.ports.PortRef.{PortRef}
 use Rattle.fabric_script.specs.declared.lines.Numbered.{Numbered}
 use Rattle.fabric_model.specs.Laws.Lawful.{Lawful}
-use Rattle.fabric_trace.specs.Lines.{TraceLine, steps_of}
+use Rattle.trace_lines.specs.Lines.{TraceLine, steps_of}
 use Rattle.fabric_trace.specs.Fold.{seen}
 use Rattle.fabric_trace.specs.Runs.{start}
 use Rattle.fabric_trace.specs.AtRest.{GoesAtRest}

@@ -4,7 +4,7 @@ use Rattle.rio_chars.specs.declared.chars.Char.{Char}
 use Rattle.link_wires.specs.declared.edits.Edit.{Edit}
 use Rattle.fabric_script.specs.declared.ports.PortRef.{PortRef}
 use Rattle.fabric_model.specs.Network.{same_port, peer_in}
-use Rattle.fabric_trace.specs.Lines.{Sign, Sent, Got, Fired, TraceLine, Begun, Signed}
+use Rattle.trace_lines.specs.Lines.{Sign, Sent, Got, Fired, TraceLine, Begun, Signed}
 use Rattle.fabric_trace.specs.Fold.{edit_of, changed}
 
 -- the characters of each wire, named by the port that sends on it

@@ -19,7 +19,7 @@ ghost use Rattle.fabric_trace.specs.Fold.{says, seen};
 ghost use Rattle.fabric_trace.specs.Frees.{Gotten, nothing_got, completed, FreesSaid};
 ghost use Rattle.fabric_trace.specs.Holds.{HoldsCame};
 ghost use Rattle.fabric_trace.specs.Known.{Seen, link_at};
-ghost use Rattle.fabric_trace.specs.Lines.{TraceLine, steps_of};
+ghost use Rattle.trace_lines.specs.Lines.{TraceLine, steps_of};
 ghost use Rattle.fabric_trace.specs.Noted.{FreesNoted};
 ghost use Rattle.fabric_trace.specs.OnTheWay.{NeverFailWithin};
 ghost use Rattle.fabric_trace.specs.Owned.{AreOwned};

@@ -26,7 +26,7 @@ ghost use Rattle.fabric_trace.specs.Frees.{nothing_got, FreesSaid};
 ghost use Rattle.fabric_trace.specs.Holds.{HoldsCame};
 ghost use Rattle.fabric_trace.specs.Fold.{taken_from, seen};
 ghost use Rattle.fabric_trace.specs.Known.{Seen, peer_of, port_seen, link_at};
-ghost use Rattle.fabric_trace.specs.Lines.{TraceLine, steps_of};
+ghost use Rattle.trace_lines.specs.Lines.{TraceLine, steps_of};
 ghost use Rattle.fabric_trace.specs.Links.{AreLinks};
 ghost use Rattle.fabric_trace.specs.Noted.{FreesNoted};
 ghost use Rattle.fabric_trace.specs.OnTheWay.{NeverFailWithin};

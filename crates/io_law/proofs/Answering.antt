@@ -11,7 +11,7 @@ use Rattle.fabric_model.specs.Laws.History.{EndLeft, ended_by, taken_by, items_t
 use Rattle.fabric_model.specs.Laws.Holding.{how_often}
 use Rattle.fabric_model.specs.Laws.Leaving.{IsAfterMoves, moves}
 use Rattle.fabric_model.proofs.Lists.{all-parts}
-use Rattle.fabric_trace.specs.Lines.{steps_of}
+use Rattle.trace_lines.specs.Lines.{steps_of}
 use Rattle.fabric_trace.specs.Runs.{start, set_up_all, bare}
 use Rattle.fabric_trace.proofs.SetUps.Starting.{lawful}
 use Rattle.io_memory.specs.declared.meeting.Met.TheVariants.{Done}

@@ -11,7 +11,7 @@ use Rattle.fabric_model.specs.Network.{Item}
 use Rattle.fabric_model.specs.Laws.History.{taken_by, items_taken, gone}
 use Rattle.fabric_model.proofs.Lists.{all-append, all_weaker}
 use Rattle.fabric_trace.specs.Fold.{seen}
-use Rattle.fabric_trace.specs.Lines.{steps_of}
+use Rattle.trace_lines.specs.Lines.{steps_of}
 use Rattle.fabric_trace.specs.Runs.{start}
 use Rattle.fabric_ports.specs.Events.{happened}
 use Rattle.fabric_ports.specs.declared.answers.Happened.{Happened}

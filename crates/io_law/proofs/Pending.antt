@@ -15,7 +15,7 @@ use Rattle.fabric_model.specs.Laws.History.{items_taken, gone}
 use Rattle.fabric_trace.specs.Blocks.{IsBlock}
 use Rattle.fabric_trace.specs.Fold.{seen}
 use Rattle.fabric_trace.specs.Known.{Seen}
-use Rattle.fabric_trace.specs.Lines.{Full as NoRoom, TraceLine, Stepped, Lacked, steps_of}
+use Rattle.trace_lines.specs.Lines.{Full as NoRoom, TraceLine, Stepped, Lacked, steps_of}
 use Rattle.fabric_trace.specs.Runs.{start, set_up_all, bare}
 use Rattle.fabric_trace.specs.SetUps.{IsSetUp}
 use Rattle.fabric_ports.specs.Events.{happened}

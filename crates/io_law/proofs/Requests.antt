@@ -12,7 +12,7 @@ use Rattle.fabric_model.specs.Laws.Leaving.{IsAfterMoves, moves}
 use Rattle.fabric_model.specs.Laws.Holding.{how_often}
 use Rattle.fabric_model.proofs.Lists.{all-append, all_weaker}
 use Rattle.fabric_model.proofs.Holding.{how_often-append}
-use Rattle.fabric_trace.specs.Lines.{steps_of}
+use Rattle.trace_lines.specs.Lines.{steps_of}
 use Rattle.fabric_trace.specs.Runs.{start, set_up_all, bare}
 use Rattle.fabric_trace.proofs.SetUps.Starting.{lawful}
 use Rattle.fabric_ports.specs.Events.{happened}

@@ -9,7 +9,7 @@ use Rattle.fabric_model.specs.Steps.{Step, after}
 use Rattle.fabric_model.specs.Laws.History.{taken_by, items_taken}
 use Rattle.fabric_model.specs.Laws.Tables.{is_answer}
 use Rattle.fabric_model.proofs.Lists.{all-append, all-parts}
-use Rattle.fabric_trace.specs.Lines.{TraceLine, steps_of}
+use Rattle.trace_lines.specs.Lines.{TraceLine, steps_of}
 use Rattle.fabric_trace.specs.Runs.{start, set_up_all, bare}
 use Rattle.fabric_trace.specs.SetUps.{IsSetUp}
 use Rattle.fabric_trace.proofs.Parts.Keeping.{steps_of-append}

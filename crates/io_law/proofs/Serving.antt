@@ -17,7 +17,7 @@ use Rattle.fabric_model.proofs.Lists.{all-append, all_weaker}
 use Rattle.fabric_trace.specs.Blocks.{IsBlock}
 use Rattle.fabric_trace.specs.Fold.{seen}
 use Rattle.fabric_trace.specs.Known.{Seen}
-use Rattle.fabric_trace.specs.Lines.{TraceLine, steps_of}
+use Rattle.trace_lines.specs.Lines.{TraceLine, steps_of}
 use Rattle.fabric_trace.specs.Runs.{start, set_up_all, bare}
 use Rattle.fabric_trace.specs.SetUps.{IsSetUp}
 use Rattle.fabric_trace.proofs.SetUps.Starting.{legal}

@@ -8,7 +8,7 @@ use Rattle.fabric_model.specs.Laws.History.{gathered}
 use Rattle.fabric_trace.specs.Blocks.{IsBlock}
 use Rattle.fabric_trace.specs.Fold.{seen}
 use Rattle.fabric_trace.specs.Known.{Seen}
-use Rattle.fabric_trace.specs.Lines.{TraceLine, Begun, steps_of}
+use Rattle.trace_lines.specs.Lines.{TraceLine, Begun, steps_of}
 use Rattle.fabric_trace.specs.Parts.{Made, Done, Then, PartBegins}
 use Rattle.fabric_trace.specs.Runs.{start, set_up_all, bare}
 use Rattle.fabric_trace.specs.SetUps.{IsSetUp}

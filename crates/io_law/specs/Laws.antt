@@ -6,7 +6,7 @@ use Rattle.fabric_script.specs.declared.lines.Numbered.{Numbered}
 use Rattle.fabric_model.specs.Network.{Item}
 use Rattle.fabric_model.specs.Laws.History.{WasTaken}
 use Rattle.fabric_model.specs.Laws.Holding.{how_often}
-use Rattle.fabric_trace.specs.Lines.{steps_of}
+use Rattle.trace_lines.specs.Lines.{steps_of}
 use Rattle.fabric_trace.specs.Runs.{start}
 use Rattle.io_memory.specs.declared.meeting.Met.TheVariants.{Read}
 use Rattle.io_script.specs.declared.lines.NumberedIo.{NumberedIo}

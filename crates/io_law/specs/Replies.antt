@@ -6,7 +6,7 @@ use Rattle.fabric_script.specs.declared.lines.Numbered.{Numbered}
 use Rattle.fabric_model.specs.Network.{Item}
 use Rattle.fabric_model.specs.Laws.Freeing.{IsFront}
 use Rattle.fabric_model.specs.Laws.History.{items_taken, gone}
-use Rattle.fabric_trace.specs.Lines.{steps_of}
+use Rattle.trace_lines.specs.Lines.{steps_of}
 use Rattle.fabric_trace.specs.Runs.{start}
 use Rattle.fabric_ports.specs.Events.{happened}
 use Rattle.fabric_ports.specs.declared.answers.Happened.{Happened}

@@ -14,7 +14,7 @@ use Rattle.fabric_script.specs.declared.lines.Line.TheVariants.{Endpoint, Switch
 use Rattle.fabric_script.specs.declared.lines.Numbered.{Numbered}
 use Rattle.fabric_model.specs.Network.{Network, IsEndpoint}
 use Rattle.fabric_trace.specs.Known.{Seen}
-use Rattle.fabric_trace.specs.Lines.{TraceLine}
+use Rattle.trace_lines.specs.Lines.{TraceLine}
 use Rattle.fabric_trace.specs.Runs.{bare, set_up_all, start, BlocksFrom, BlockThen, NamesNothing}
 use Rattle.fabric_trace.proofs.SetUps.SettingUp.{made_by, set_up-kinds, set_up_all-append}
 use Rattle.fabric_ports.specs.Standing.{Stands}

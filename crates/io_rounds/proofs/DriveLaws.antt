@@ -11,7 +11,7 @@ use Rattle.fabric_script.specs.declared.lines.Line.{Line}
 use Rattle.fabric_script.specs.declared.lines.Line.TheVariants.{Endpoint, Switch, Link, Buffers, Route, Default, Lock, Large}
 use Rattle.fabric_script.specs.declared.lines.Numbered.{Numbered}
 use Rattle.fabric_model.specs.Network.{Network}
-use Rattle.fabric_trace.specs.Lines.{Ended}
+use Rattle.trace_lines.specs.Lines.{Ended}
 use Rattle.fabric_trace.specs.Runs.{bare, set_up, set_up_all, begins, start, RunsFrom, Runs}
 use Rattle.fabric_trace.specs.SetUps.{MaySetUp, MaySetUpAll}
 use Rattle.fabric_trace.proofs.SetUps.Happening.{may_set_up}

@@ -17,7 +17,7 @@ use Rattle.fabric_model.specs.Steps.{Step, Take, Leave, Answer, AtNode, ByDevice
 use Rattle.fabric_trace.specs.Blocks.{IsBlock}
 use Rattle.fabric_trace.specs.Fold.{seen, seen_line}
 use Rattle.fabric_trace.specs.Known.{Seen, Found}
-use Rattle.fabric_trace.specs.Lines.{Full as NoRoom, TraceLine, Begun, Stepped, Lacked}
+use Rattle.trace_lines.specs.Lines.{Full as NoRoom, TraceLine, Begun, Stepped, Lacked}
 use Rattle.fabric_trace.specs.Runs.{bare, set_up_all, start, BlocksFrom}
 use Rattle.fabric_trace.specs.Served.{face_in, collect_lines, IsCollect}
 use Rattle.fabric_trace.proofs.Network.Boards.{happens_still}

@@ -12,7 +12,7 @@ use Rattle.fabric_model.specs.Network.{Network, held, port_of}
 use Rattle.fabric_trace.specs.Blocks.{IsBlock}
 use Rattle.fabric_trace.specs.Events.{MayHappen}
 use Rattle.fabric_trace.specs.Fold.{seen}
-use Rattle.fabric_trace.specs.Lines.{TraceLine, Begun}
+use Rattle.trace_lines.specs.Lines.{TraceLine, Begun}
 use Rattle.fabric_trace.specs.Runs.{start, BlocksFrom}
 use Rattle.fabric_ports.specs.Events.{happened}
 use Rattle.fabric_ports.specs.Standing.{Stands}

@@ -7,7 +7,7 @@ use Rattle.fabric_script.specs.Scripts.{ScriptPasses}
 use Rattle.fabric_script.specs.declared.lines.Numbered.{Numbered}
 use Rattle.fabric_model.specs.Laws.Freeing.{IsFront}
 use Rattle.fabric_model.specs.Network.{Network, IsEndpoint}
-use Rattle.fabric_trace.specs.Lines.{TraceLine, Ended}
+use Rattle.trace_lines.specs.Lines.{TraceLine, Ended}
 use Rattle.fabric_trace.specs.Runs.{start, Runs}
 use Rattle.fabric_trace.specs.Shown.{Shown}
 use Rattle.io_packets.specs.Forms.{IsGood}

@@ -4,7 +4,7 @@ ghost use Rattle.maint_registers.specs.Devices.{is_switch};
 ghost use Rattle.fabric_script.specs.Lines.{is_event};
 ghost use Rattle.fabric_script.specs.Scripts.{ScriptPasses};
 ghost use Rattle.fabric_script.specs.declared.lines.Numbered.{Numbered as NumberedLine};
-ghost use Rattle.fabric_trace.specs.Lines.{TraceLine};
+ghost use Rattle.trace_lines.specs.Lines.{TraceLine};
 ghost use Rattle.fabric_trace.specs.Runs.{start};
 ghost use Rattle.io_rounds.specs.declared.stations.Station.{Station as StationModel};
 ghost use Rattle.io_rounds.specs.Stations.{new_station};

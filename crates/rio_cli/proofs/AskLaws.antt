@@ -12,7 +12,7 @@ use Rattle.host_enumerate.specs.Ends.{EndsAtLock, IsEnded, IsLockFree}
 use Rattle.host_enumerate.specs.declared.ends.EnumEnd.{EnumEnd}
 use Rattle.host_enumerate.specs.declared.ends.EnumEnd.TheVariants.{LockedBy, Undetected, WriteFault, NoMemory}
 use Rattle.fabric_trace.specs.Runs.{start}
-use Rattle.fabric_trace.specs.Text.{trace_text}
+use Rattle.trace_lines.specs.Text.{trace_text}
 use Rattle.fabric_ports.specs.declared.noise.Quiet.{Quiet}
 use Rattle.fabric_maint.specs.Asked.{Asked}
 use Rattle.fabric_maint.specs.Going.{names_of, topology_in, registers_in, StandsWhole, MaintIsSame, LeadsTo, AskBegun, Followed, Abandoned, HasMet}

@@ -10,7 +10,7 @@ use Rattle.fabric_script.specs.declared.lines.Numbered.{Numbered}
 use Rattle.fabric_map.specs.Routes.{AllRegisters}
 use Rattle.fabric_map.specs.declared.map.Device.{Device}
 use Rattle.fabric_map.specs.declared.map.Entry.{Entry}
-use Rattle.fabric_trace.specs.Text.{trace_text}
+use Rattle.trace_lines.specs.Text.{trace_text}
 use Rattle.host_enumerate.specs.Ends.{EndsAtLock}
 use Rattle.host_enumerate.specs.MapTexts.{map_text, locked_text}
 use Rattle.rio_cli.specs.declared.command.Command.TheVariants.{Enumerate}

@@ -24,9 +24,9 @@ use Rattle.host_enumerate.specs.declared.devising.NoHost.{NoHost}
 use Rattle.host_enumerate.specs.declared.ends.EnumEnd.{EnumEnd}
 use Rattle.host_enumerate.specs.declared.ends.EnumEnd.TheVariants as Ends
 use Rattle.fabric_trace.specs.Known.{Seen}
-use Rattle.fabric_trace.specs.Lines.{TraceLine}
+use Rattle.trace_lines.specs.Lines.{TraceLine}
 use Rattle.fabric_trace.specs.Runs.{start}
-use Rattle.fabric_trace.specs.Text.{trace_text}
+use Rattle.trace_lines.specs.Text.{trace_text}
 use Rattle.fabric_ports.specs.declared.noise.Quiet.{Quiet}
 use Rattle.fabric_maint.specs.Asked.{Asked}
 use Rattle.fabric_maint.specs.Going.{LeadsTo, AskBegun, topology_in, registers_in, StandsWhole, MaintRestsAt, Followed}

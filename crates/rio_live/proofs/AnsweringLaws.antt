@@ -12,9 +12,9 @@ use Rattle.fabric_script.specs.Known.{Known}
 use Rattle.fabric_script.specs.Reading.{Spells}
 use Rattle.fabric_script.specs.SetUps.{SetUpLines, for_event}
 use Rattle.fabric_trace.specs.Blocks.{IsBlock}
-use Rattle.fabric_trace.specs.Lines.{TraceLine, Begun, Undetected}
+use Rattle.trace_lines.specs.Lines.{TraceLine, Begun, Undetected}
 use Rattle.fabric_trace.specs.Runs.{start}
-use Rattle.fabric_trace.specs.Text.{trace_line_text, trace_text}
+use Rattle.trace_lines.specs.Text.{trace_line_text, trace_text}
 use Rattle.fabric_ports.specs.Events.{IsOwnBlock, IsAnsweredBlock, Evented}
 use Rattle.fabric_ports.specs.Ran.{WritesFront}
 use Rattle.fabric_ports.specs.Standing.{Stands}

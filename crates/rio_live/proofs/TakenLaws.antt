@@ -13,7 +13,7 @@ use Rattle.fabric_script.specs.SetUps.{for_event}
 use Rattle.fabric_script.proofs.ScriptLaws.{script_once}
 use Rattle.fabric_trace.specs.Blocks.{IsBlock}
 use Rattle.fabric_trace.specs.Fold.{seen}
-use Rattle.fabric_trace.specs.Lines.{TraceLine, Begun}
+use Rattle.trace_lines.specs.Lines.{TraceLine, Begun}
 use Rattle.fabric_trace.specs.Runs.{bare, set_up_all, start, BlocksFrom}
 use Rattle.fabric_trace.proofs.Network.Boards.{happens_still}
 use Rattle.fabric_ports.specs.Events.{MayFollow}

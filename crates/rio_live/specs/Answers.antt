@@ -10,8 +10,8 @@ use Rattle.fabric_script.specs.Scripts.{pieces_of, is_skipped, SpellsFrom, Refus
 use Rattle.fabric_script.specs.SetUps.{for_event, IsRefused, NoEvents}
 use Rattle.fabric_trace.specs.Blocks.{IsBlock}
 use Rattle.fabric_trace.specs.Known.{Found}
-use Rattle.fabric_trace.specs.Lines.{TraceLine, Begun}
-use Rattle.fabric_trace.specs.Text.{trace_text}
+use Rattle.trace_lines.specs.Lines.{TraceLine, Begun}
+use Rattle.trace_lines.specs.Text.{trace_text}
 use Rattle.live_lines.specs.Lines.{with_feed}
 use Rattle.live_lines.specs.declared.input.LineEnd.{LineEnd}
 use Rattle.live_lines.specs.declared.input.LineEnd.TheVariants.{End, Fault, TooLong, NoMemory}

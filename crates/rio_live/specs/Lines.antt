@@ -10,9 +10,9 @@ use Rattle.fabric_script.specs.SetUps.{for_event, IsRefused}
 use Rattle.fabric_trace.specs.Blocks.{IsBlock}
 use Rattle.fabric_trace.specs.Fold.{seen}
 use Rattle.fabric_trace.specs.Known.{Found, Seen}
-use Rattle.fabric_trace.specs.Lines.{TraceLine, Begun, Undetected}
+use Rattle.trace_lines.specs.Lines.{TraceLine, Begun, Undetected}
 use Rattle.fabric_trace.specs.Runs.{start}
-use Rattle.fabric_trace.specs.Text.{trace_line_text, trace_text}
+use Rattle.trace_lines.specs.Text.{trace_line_text, trace_text}
 use Rattle.live_lines.specs.Lines.{with_feed}
 
 -- The lines that were taken. `text` is those of set-up, each with its line feed: they spell these

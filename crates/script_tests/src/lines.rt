@@ -4,8 +4,8 @@ ghost use Rattle.rio_chars.specs.Faults.{Rose};
 ghost use Rattle.rio_chars.specs.Written.{Writes};
 ghost use Rattle.link_watch.specs.Stops.{Stopped};
 ghost use Rattle.link_watch.specs.declared.note.Note.{Note};
-ghost use Rattle.fabric_trace.specs.Text.{trace_text};
-ghost use Rattle.fabric_trace.specs.Blocks.{lines_of};
+ghost use Rattle.trace_lines.specs.Text.{trace_text};
+ghost use Rattle.trace_lines.specs.Notes.{lines_of};
 
 use fabric_script::{Name, PortRef, read_name};
 use link_watch::{Note, NoteEnd, Side, Watch};

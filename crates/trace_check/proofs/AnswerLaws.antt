@@ -9,7 +9,7 @@ use Rattle.fabric_script.specs.Known.{Known}
 use Rattle.fabric_model.specs.Steps.{after, AtNode, ByDevice, DeviceStep, Free, Hold, Linked, Needs, NodeStep, Step}
 use Rattle.fabric_model.proofs.Joining.{links_stay}
 use Rattle.fabric_trace.specs.Fold.{changed, edit_of}
-use Rattle.fabric_trace.specs.Lines.{Begun, Got, Sent, Signed, Stepped, steps_of, TraceLine}
+use Rattle.trace_lines.specs.Lines.{Begun, Got, Sent, Signed, Stepped, steps_of, TraceLine}
 use Rattle.fabric_trace.specs.Wires.{edited_chars, IsFrontOf, with_chars}
 use Rattle.trace_check.specs.declared.lines.Step.{Step as ReadStep}
 use Rattle.trace_check.specs.declared.lines.Step.TheVariants as S

@@ -4,7 +4,7 @@ use Rattle.std.specs.Cmp.Lexicographic.{pointwise}
 use Rattle.fabric_script.specs.declared.ports.PortRef.{PortRef}
 use Rattle.fabric_script.specs.Known.{Known, IsOrderly}
 use Rattle.fabric_model.specs.Network.{Network}
-use Rattle.fabric_trace.specs.Lines.{TraceLine}
+use Rattle.trace_lines.specs.Lines.{TraceLine}
 use Rattle.fabric_trace.specs.Wires.{WireChars}
 use Rattle.trace_check.specs.Checks.{LinePasses}
 use Rattle.trace_check.specs.Lawful.{as_behind, OffWire}

@@ -3,7 +3,7 @@ use Rattle.std.proofs.Common.{◌≡◌, ℕ, true, List, [], ◌∷◌, length,
 use Rattle.fabric_script.specs.Known.{Known}
 use Rattle.fabric_script.specs.Lines.{words_of}
 use Rattle.fabric_script.specs.Texts.{Value}
-use Rattle.fabric_trace.specs.Lines.{TraceLine}
+use Rattle.trace_lines.specs.Lines.{TraceLine}
 use Rattle.trace_check.specs.declared.keywords.Keyword.{Keyword}
 use Rattle.trace_check.specs.Keywords.{trace_keyword_of, words_behind, keyword_text, NoneBehind}
 use Rattle.trace_check.specs.Words.{SpellsLine}

@@ -14,7 +14,7 @@ use Rattle.fabric_model.specs.Network.{Network, peer_in}
 use Rattle.fabric_model.specs.Steps.{Hold, Free, Step, Linked, AtNode, ByDevice, LegalFrom}
 use Rattle.fabric_model.proofs.Joining.{legal_parts}
 use Rattle.fabric_model.proofs.Peers.{same_port-refl}
-use Rattle.fabric_trace.specs.Lines.{Sent, Got, Fired, TraceLine, Begun, Stepped, Signed, Lacked, Ended, Undetected, steps_of}
+use Rattle.trace_lines.specs.Lines.{Sent, Got, Fired, TraceLine, Begun, Stepped, Signed, Lacked, Ended, Undetected, steps_of}
 use Rattle.fabric_trace.specs.Known.{Seen}
 use Rattle.fabric_trace.specs.Fold.{edit_of, says, seen}
 use Rattle.fabric_trace.specs.Holds.{got, holds, numbered_packets, HoldsCame}

@@ -7,7 +7,7 @@ use Rattle.fabric_script.specs.Known.{Known}
 use Rattle.fabric_script.specs.Reading.{MayBe}
 use Rattle.fabric_model.specs.Steps.{Answer, AtNode, ByDevice, Drop, Free, Hold, Leave, Linked, Move, Step, Take}
 use Rattle.fabric_trace.specs.Fold.{edit_of}
-use Rattle.fabric_trace.specs.Lines.{Begun, Ended, Fired, Got, Lacked, Sent, Signed, Stepped, TraceLine, Undetected}
+use Rattle.trace_lines.specs.Lines.{Begun, Ended, Fired, Got, Lacked, Sent, Signed, Stepped, TraceLine, Undetected}
 use Rattle.trace_check.specs.Networks.{IsStepOf}
 use Rattle.trace_check.specs.States.{IsEditIn, IsLineIn}
 use Rattle.trace_check.specs.Tables.{IsIn}

@@ -4,7 +4,7 @@ use Rattle.link_model.specs.declared.event.Event.{Event}
 use Rattle.fabric_script.specs.declared.ports.PortRef.{PortRef}
 use Rattle.fabric_script.specs.declared.lines.Line.{Line}
 use Rattle.fabric_model.specs.Steps.{Hold, Free, Take, Leave, Move, Drop, Answer, Linked, AtNode, ByDevice}
-use Rattle.fabric_trace.specs.Lines.{Full, Empty, Short, Early, NoStep, Sent, Got, Fired, TraceLine, Begun, Stepped, Signed, Lacked, Ended, Undetected}
+use Rattle.trace_lines.specs.Lines.{Full, Empty, Short, Early, NoStep, Sent, Got, Fired, TraceLine, Begun, Stepped, Signed, Lacked, Ended, Undetected}
 use Rattle.trace_check.specs.declared.keywords.Keyword.{Keyword}
 use Rattle.trace_check.specs.declared.keywords.Keyword.TheVariants as K
 use Rattle.trace_check.specs.Keywords.{keyword_text, trace_keyword_of, words_behind}

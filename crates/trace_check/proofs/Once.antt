@@ -3,7 +3,7 @@ use Rattle.std.proofs.Common.{◌≡◌, ℕ, zero, suc, ◌+◌, ◌++◌, ◌<
 use Rattle.std.proofs.lemmas.List.{append-nil}
 use Rattle.fabric_script.specs.Known.{Known, IsOrderly}
 use Rattle.fabric_model.specs.Network.{Network}
-use Rattle.fabric_trace.specs.Lines.{TraceLine, steps_of}
+use Rattle.trace_lines.specs.Lines.{TraceLine, steps_of}
 use Rattle.trace_check.specs.Checks.{LinePasses}
 use Rattle.trace_check.specs.Lawful.{as_behind, BehindLast, Fault, fault_number, HitsLine, HitsNext, is_last, IsLawful, IsUnlawful, SpellsNone, PassFront, SpellAll, SpellFront, Spares}
 use Rattle.trace_check.specs.Wires.{are_short}

@@ -14,7 +14,7 @@ use Rattle.fabric_script.specs.Known.{Known, IsOrderly}
 use Rattle.fabric_script.proofs.HexWords.{hex_text-injective}
 use Rattle.fabric_script.proofs.LineLaws.{same_said, same_value}
 use Rattle.fabric_model.specs.Steps.{Hold, Free, Take, Leave, Move, Drop, Answer, Linked, AtNode, ByDevice}
-use Rattle.fabric_trace.specs.Lines.{Full, Empty, Short, Early, NoStep, Sent, Got, Fired, TraceLine, Begun, Stepped, Signed, Lacked, Ended, Undetected}
+use Rattle.trace_lines.specs.Lines.{Full, Empty, Short, Early, NoStep, Sent, Got, Fired, TraceLine, Begun, Stepped, Signed, Lacked, Ended, Undetected}
 use Rattle.trace_check.specs.Keywords.{trace_keyword_of, words_behind}
 use Rattle.trace_check.specs.Words.{event_words, trace_words, LineFits, EventFits}
 use Rattle.trace_check.proofs.LineKeywords.{same_keyword, begun_of, undetected_of}

@@ -16,7 +16,7 @@ use Rattle.fabric_script.specs.Hits.{FitsField, FitAll}
 use Rattle.fabric_script.proofs.LineLaws.{AreSmall, same_values}
 use Rattle.fabric_script.proofs.Joins.{AreVisible, visible_values}
 use Rattle.fabric_model.specs.Steps.{Hold, Free, Take, Leave, Move, Drop, Answer, Linked, AtNode, ByDevice}
-use Rattle.fabric_trace.specs.Lines.{Full, Empty, Short, Early, NoStep, Sent, Got, Fired, TraceLine, Begun, Stepped, Signed, Lacked, Ended, Undetected}
+use Rattle.trace_lines.specs.Lines.{Full, Empty, Short, Early, NoStep, Sent, Got, Fired, TraceLine, Begun, Stepped, Signed, Lacked, Ended, Undetected}
 use Rattle.trace_check.specs.declared.keywords.Keyword.{Keyword}
 use Rattle.trace_check.specs.declared.keywords.Keyword.TheVariants as K
 use Rattle.trace_check.specs.Keywords.{trace_keyword_of, words_behind}

@@ -11,9 +11,9 @@ use Rattle.fabric_script.specs.Known.{Known, IsOrderly}
 use Rattle.fabric_script.proofs.LineLaws.{small_fields}
 use Rattle.fabric_script.proofs.Joins.{is_visible, AreVisible, visible_values, visible_keyword, split_join}
 use Rattle.trace_check.proofs.Wording.{text_join}
-use Rattle.fabric_trace.specs.Text.{trace_line_text}
+use Rattle.trace_lines.specs.Text.{trace_line_text}
 use Rattle.fabric_model.specs.Steps.{Hold, Free, Take, Leave, Move, Drop, Answer, Linked, AtNode, ByDevice}
-use Rattle.fabric_trace.specs.Lines.{Full, Empty, Short, Early, NoStep, Sent, Got, Fired, TraceLine, Begun, Stepped, Signed, Lacked, Ended, Undetected}
+use Rattle.trace_lines.specs.Lines.{Full, Empty, Short, Early, NoStep, Sent, Got, Fired, TraceLine, Begun, Stepped, Signed, Lacked, Ended, Undetected}
 use Rattle.trace_check.specs.declared.keywords.Keyword.{Keyword}
 use Rattle.trace_check.specs.declared.keywords.Keyword.TheVariants as K
 use Rattle.trace_check.specs.Keywords.{keyword_text, trace_keyword_of, words_behind}

@@ -7,7 +7,7 @@ use Rattle.fabric_model.proofs.Peers.{port_is}
 use Rattle.fabric_model.proofs.Flows.{links_along}
 use Rattle.fabric_trace.specs.Allowance.{allowance}
 use Rattle.fabric_trace.specs.Holds.{got}
-use Rattle.fabric_trace.specs.Lines.{Begun, Ended, Lacked, Signed, Stepped, steps_of, TraceLine, Undetected}
+use Rattle.trace_lines.specs.Lines.{Begun, Ended, Lacked, Signed, Stepped, steps_of, TraceLine, Undetected}
 use Rattle.fabric_trace.specs.Wires.{WireChars}
 use Rattle.fabric_trace.proofs.Parts.Keeping.{steps_of-append}
 use Rattle.trace_check.specs.Checks.{freed, HoldHasCome, IsAllowed, LineIsStep, SendMayBe, net_after, OnWires, LinePasses}

@@ -13,7 +13,7 @@ use Rattle.fabric_script.specs.Lines.{is_event, line_words, new_name, words_of}
 use Rattle.fabric_script.specs.Reading.{MayBe, Spells, new_name_in}
 use Rattle.fabric_script.specs.Refusals.{out_of_place_in}
 use Rattle.fabric_script.specs.SetUps.{KnownIsReady}
-use Rattle.fabric_trace.specs.Lines.{Begun}
+use Rattle.trace_lines.specs.Lines.{Begun}
 use Rattle.trace_check.specs.Keywords.{SpellsBehind}
 use Rattle.trace_check.specs.declared.keywords.Keyword.TheVariants as K
 

@@ -14,7 +14,7 @@ use Rattle.link_wires.proofs.KeptLaws.{all_then, all-more}
 use Rattle.fabric_script.specs.declared.ports.PortRef.{PortRef}
 use Rattle.fabric_model.specs.Network.{same_port}
 use Rattle.fabric_model.specs.Steps.{Hold, Free, Linked, AtNode, ByDevice}
-use Rattle.fabric_trace.specs.Lines.{Sent, Got, Fired, TraceLine, Begun, Stepped, Signed, Lacked, Ended, Undetected}
+use Rattle.trace_lines.specs.Lines.{Sent, Got, Fired, TraceLine, Begun, Stepped, Signed, Lacked, Ended, Undetected}
 use Rattle.fabric_trace.specs.Fold.{says}
 use Rattle.fabric_trace.specs.Holds.{got, holds, numbered_packets}
 use Rattle.fabric_trace.specs.Frees.{frees_by}

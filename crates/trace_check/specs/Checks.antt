@@ -9,7 +9,7 @@ use Rattle.link_wires.specs.declared.edits.Edit.{Edit}
 use Rattle.fabric_script.specs.declared.ports.PortRef.{PortRef}
 use Rattle.fabric_model.specs.Network.{Network, peer_in}
 use Rattle.fabric_model.specs.Steps.{Hold, Free, Linked, Needs, after_all}
-use Rattle.fabric_trace.specs.Lines.{Sent, Got, Fired, TraceLine, Begun, Stepped, Signed, steps_of}
+use Rattle.trace_lines.specs.Lines.{Sent, Got, Fired, TraceLine, Begun, Stepped, Signed, steps_of}
 use Rattle.fabric_trace.specs.Fold.{edit_of, says}
 use Rattle.fabric_trace.specs.Wires.{WireChars, IsFrontOf}
 use Rattle.fabric_trace.specs.Holds.{got, holds, numbered_packets}

@@ -11,7 +11,7 @@ use Rattle.fabric_script.specs.Known.{Known}
 use Rattle.fabric_model.specs.Network.{first_packet, Network, peer_in}
 use Rattle.fabric_model.specs.Steps.{Free, Hold, Linked}
 use Rattle.fabric_trace.specs.Fold.{edit_of, says}
-use Rattle.fabric_trace.specs.Lines.{Begun, Fired, Got, Sent, Signed, Stepped, TraceLine}
+use Rattle.trace_lines.specs.Lines.{Begun, Fired, Got, Sent, Signed, Stepped, TraceLine}
 use Rattle.fabric_trace.specs.Owned.{HasPacket}
 use Rattle.fabric_trace.specs.Runs.{bare, set_up_all}
 use Rattle.trace_check.specs.declared.expecting.Expected.{Expected}

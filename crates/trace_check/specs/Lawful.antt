@@ -3,7 +3,7 @@ use Rattle.std.specs.Prelude.{◌≡◌, ℕ, ◌+◌, ◌<◌, Bool, true, fals
 use Rattle.std.specs.Cmp.Lexicographic.{pointwise}
 use Rattle.fabric_script.specs.Known.{Known}
 use Rattle.fabric_model.specs.Network.{Network}
-use Rattle.fabric_trace.specs.Lines.{Short, Lacked, TraceLine, Ended, Undetected, steps_of}
+use Rattle.trace_lines.specs.Lines.{Short, Lacked, TraceLine, Ended, Undetected, steps_of}
 use Rattle.trace_check.specs.Checks.{OnWires, LineIsStep, HoldHasCome, IsAllowed, SendMayBe, net_after, LinePasses, PassAll}
 use Rattle.trace_check.specs.Wires.{are_short, wires_after}
 use Rattle.trace_check.specs.Words.{SpellsLine}

@@ -4,7 +4,7 @@ use Rattle.fabric_script.specs.declared.lines.Numbered.{Numbered}
 use Rattle.fabric_script.specs.declared.scripts.ScriptEnd.{ScriptEnd}
 use Rattle.fabric_script.specs.declared.scripts.ScriptEnd.TheVariants as S
 use Rattle.fabric_script.specs.Known.{Known}
-use Rattle.fabric_trace.specs.Lines.{TraceLine, steps_of}
+use Rattle.trace_lines.specs.Lines.{TraceLine, steps_of}
 use Rattle.fabric_trace.specs.Runs.{bare, set_up_all}
 use Rattle.trace_check.specs.declared.checking.CheckEnd.{CheckEnd}
 use Rattle.trace_check.specs.declared.checking.CheckEnd.TheVariants as C

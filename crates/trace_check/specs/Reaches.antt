@@ -6,7 +6,7 @@ use Rattle.fabric_script.specs.declared.ports.PortRef.{PortRef}
 use Rattle.fabric_model.specs.Network.{Network}
 use Rattle.fabric_trace.specs.Allowance.{allowance}
 use Rattle.fabric_trace.specs.Holds.{got, holds}
-use Rattle.fabric_trace.specs.Lines.{TraceLine}
+use Rattle.trace_lines.specs.Lines.{TraceLine}
 use Rattle.trace_check.specs.Checks.{freed, net_after, unheld}
 use Rattle.trace_check.specs.Running.{packets_come, PortRun}
 use Rattle.trace_check.specs.States.{ReachedState}

@@ -11,7 +11,7 @@ use Rattle.rio_framer.specs.Giving.{events_by, listed}
 use Rattle.fabric_script.specs.declared.ports.PortRef.{PortRef}
 use Rattle.fabric_model.specs.Network.{same_port}
 use Rattle.fabric_model.specs.Steps.{Hold, Free, Linked}
-use Rattle.fabric_trace.specs.Lines.{Got, TraceLine, Stepped, Signed}
+use Rattle.trace_lines.specs.Lines.{Got, TraceLine, Stepped, Signed}
 use Rattle.fabric_trace.specs.Allowance.{raised_all}
 use Rattle.trace_check.specs.declared.hearing.Hearing.{Hearing}
 

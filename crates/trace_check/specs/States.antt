@@ -5,7 +5,7 @@ use Rattle.fabric_script.specs.declared.ports.PortRef.{PortRef}
 use Rattle.fabric_model.specs.Network.{Network, same_port}
 use Rattle.fabric_model.specs.Steps.{Free, Hold, Linked}
 use Rattle.fabric_trace.specs.Fold.{edit_of}
-use Rattle.fabric_trace.specs.Lines.{Begun, Ended, Fired, Got, Lacked, Sent, Signed, Stepped, TraceLine, Undetected}
+use Rattle.trace_lines.specs.Lines.{Begun, Ended, Fired, Got, Lacked, Sent, Signed, Stepped, TraceLine, Undetected}
 use Rattle.fabric_trace.specs.Wires.{WireChars}
 use Rattle.trace_check.specs.declared.state.Fault.{Fault as ReadFault}
 use Rattle.trace_check.specs.declared.state.Fault.TheVariants as F

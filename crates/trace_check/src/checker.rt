@@ -1,7 +1,7 @@
 //! Which reason hits a line of a trace, behind the lines before it.
 
 ghost use Rattle.std.specs.Prelude.{◌≡◌, ◌+◌, ◌<◌, false, [], ◌∷◌, length, IfOk};
-ghost use Rattle.fabric_trace.specs.Lines.{steps_of};
+ghost use Rattle.trace_lines.specs.Lines.{steps_of};
 ghost use Rattle.trace_check.specs.Lawful.{is_last};
 ghost use Rattle.trace_check.specs.Reads.{line_read};
 ghost use Rattle.trace_check.specs.Starting.{IsBegun, net_of, nodes_of};

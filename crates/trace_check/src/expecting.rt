@@ -3,7 +3,7 @@
 ghost use Rattle.std.specs.Prelude.{◌≡◌, ◌+◌, ◌≤◌, ℕ, Bool, List, length, false, true, IfOk, IfSome, IsSome, IsSomeAnd, MatchOption};
 ghost use Rattle.fabric_script.specs.SetUps.{KnownIsReady};
 ghost use Rattle.fabric_trace.specs.Fold.{edit_of};
-ghost use Rattle.fabric_trace.specs.Lines.{Begun, Fired as AFired, Got as AGot, Sent as ASent, Signed, Stepped, TraceLine as ALine};
+ghost use Rattle.trace_lines.specs.Lines.{Begun, Fired as AFired, Got as AGot, Sent as ASent, Signed, Stepped, TraceLine as ALine};
 ghost use Rattle.fabric_model.specs.Steps.{Free, Hold, Linked};
 ghost use Rattle.rio_chars.specs.declared.chars.Char.{Char as AChar};
 ghost use Rattle.trace_check.specs.Checks.{SendMayBe};

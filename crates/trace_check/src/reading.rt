@@ -12,7 +12,7 @@ ghost use Rattle.fabric_script.specs.Lines.{words_of};
 ghost use Rattle.fabric_script.specs.Names.{name_of};
 ghost use Rattle.fabric_script.specs.SetUps.{KnownIsReady};
 ghost use Rattle.fabric_script.specs.Texts.{port_text};
-ghost use Rattle.fabric_trace.specs.Lines.{TraceLine as ALine};
+ghost use Rattle.trace_lines.specs.Lines.{TraceLine as ALine};
 ghost use Rattle.trace_check.specs.Keywords.{SpellsBehind, NoneBehind};
 ghost use Rattle.trace_check.specs.Reads.{line_read};
 ghost use Rattle.trace_check.specs.Words.{IsEnd, IsNode, SpellsLine};

@@ -7,7 +7,7 @@ ghost use Rattle.rio_symbols.specs.Fields.{Fields};
 ghost use Rattle.fabric_script.specs.declared.ports.PortRef.{PortRef as APortRef};
 ghost use Rattle.fabric_model.specs.Network.{first_packet, Network as ANetwork};
 ghost use Rattle.fabric_trace.specs.Fold.{says};
-ghost use Rattle.fabric_trace.specs.Lines.{Sent, Signed};
+ghost use Rattle.trace_lines.specs.Lines.{Sent, Signed};
 ghost use Rattle.fabric_trace.specs.Owned.{HasEvent, HasPacket};
 ghost use Rattle.trace_check.specs.Checks.{SendMayBe};
 ghost use Rattle.trace_check.specs.Expecting.{OneIsLacked};

@@ -4,7 +4,7 @@ ghost use Rattle.std.specs.Prelude.{◌≡◌, ◌↔◌, [], false, option_map,
 ghost use Rattle.std.specs.Option.{option_copied};
 ghost use Rattle.fabric_model.specs.Network.{first_packet};
 ghost use Rattle.fabric_trace.specs.Fold.{edit_of, says};
-ghost use Rattle.fabric_trace.specs.Lines.{Begun, Fired as AFired, Got as AGot, Sent as ASent, Signed, Stepped};
+ghost use Rattle.trace_lines.specs.Lines.{Begun, Fired as AFired, Got as AGot, Sent as ASent, Signed, Stepped};
 ghost use Rattle.trace_check.specs.Checks.{SendMayBe};
 ghost use Rattle.trace_check.specs.Expecting.{OneIsLacked, wire_to};
 ghost use Rattle.trace_check.specs.Lawful.{fault_number};

@@ -2,8 +2,8 @@
 use Rattle.std.specs.Prelude.{◌≡◌, ℕ, List, Option}
 use Rattle.rio_chars.specs.Written.{Writes}
 use Rattle.link_watch.specs.declared.note.Note.{Note}
-use Rattle.fabric_trace.specs.Text.{trace_text}
-use Rattle.fabric_trace.specs.Blocks.{lines_of}
+use Rattle.trace_lines.specs.Text.{trace_text}
+use Rattle.trace_lines.specs.Notes.{lines_of}
 use Rattle.trace_lines.specs.declared.watching.LinkLines.{LinkLines}
 
 -- The lines of these notes were told, in order. Outbox, names and ends are those of before.

@@ -6,8 +6,8 @@ use Rattle.rio_chars.specs.Written.{Writes}
 use Rattle.rio_chars.proofs.WrittenLaws.{Writes-nil, Writes-then}
 use Rattle.link_watch.specs.declared.note.Note.{Note}
 use Rattle.fabric_script.specs.declared.ports.PortRef.{PortRef}
-use Rattle.fabric_trace.specs.Text.{trace_text}
-use Rattle.fabric_trace.specs.Blocks.{line_of, lines_of}
+use Rattle.trace_lines.specs.Text.{trace_text}
+use Rattle.trace_lines.specs.Notes.{line_of, lines_of}
 use Rattle.trace_lines.specs.Watching.{WritesNotes}
 use Rattle.trace_lines.specs.declared.watching.LinkLines.{LinkLines}
 

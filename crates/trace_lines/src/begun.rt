@@ -2,8 +2,8 @@
 ghost use Rattle.std.specs.Prelude.{◌++◌, codes};
 ghost use Rattle.rio_chars.specs.Written.{Writes};
 ghost use Rattle.fabric_script.specs.LineTexts.{AreNamed};
-ghost use Rattle.fabric_trace.specs.Lines.{Begun};
-ghost use Rattle.fabric_trace.specs.Text.{trace_line_text};
+ghost use Rattle.trace_lines.specs.Lines.{Begun};
+ghost use Rattle.trace_lines.specs.Text.{trace_line_text};
 
 use fabric_script::{Line, Name, write_line};
 use rio_chars::{Outbox, Sink};

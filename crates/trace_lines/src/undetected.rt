@@ -3,8 +3,8 @@ ghost use Rattle.std.specs.Prelude.{◌<◌, ◌++◌, length, codes};
 ghost use Rattle.std.specs.Fmt.{decimal};
 ghost use Rattle.rio_chars.specs.Written.{Writes};
 ghost use Rattle.link_model.specs.declared.event.Event.TheVariants.{Ctl, Pkt};
-ghost use Rattle.fabric_trace.specs.Lines.{Undetected};
-ghost use Rattle.fabric_trace.specs.Text.{event_text, trace_line_text};
+ghost use Rattle.trace_lines.specs.Lines.{Undetected};
+ghost use Rattle.trace_lines.specs.Text.{event_text, trace_line_text};
 
 use fabric_script::{Name, PortRef, write_port};
 use link_model::Event;

@@ -1,7 +1,7 @@
 //! `LinkLines`: a watch of a link that writes its notes.
 ghost use Rattle.std.specs.Prelude.{◌≡◌, ◌<◌, ◌≤◌, ◌∷◌, [], ℕ, length, IsOk, OnOk, OnErr, IsErrOf};
 ghost use Rattle.rio_chars.specs.Faults.{Rose};
-ghost use Rattle.fabric_trace.specs.Blocks.{port_at_side};
+ghost use Rattle.trace_lines.specs.Notes.{port_at_side};
 ghost use Rattle.link_watch.specs.declared.note.Note.TheVariants.{Sent, Got, Hold, Free, Fire};
 
 use crate::writing::{write_fire, write_free, write_got, write_hold, write_sent};

@@ -4,8 +4,8 @@ ghost use Rattle.rio_chars.specs.HexText.{hex_of};
 ghost use Rattle.rio_chars.specs.CharText.{spaced_chars};
 ghost use Rattle.rio_chars.specs.Written.{Writes};
 ghost use Rattle.fabric_model.specs.Steps.{Hold, Free, Linked, Take, Leave, AtNode, Move, Drop, Answer, ByDevice};
-ghost use Rattle.fabric_trace.specs.Lines.{Sent, Got, Fired, Full, Empty, Short, Early, NoStep, Stepped, Signed, Lacked, Ended};
-ghost use Rattle.fabric_trace.specs.Text.{trace_line_text};
+ghost use Rattle.trace_lines.specs.Lines.{Sent, Got, Fired, Full, Empty, Short, Early, NoStep, Stepped, Signed, Lacked, Ended};
+ghost use Rattle.trace_lines.specs.Text.{trace_line_text};
 
 use fabric_script::{Name, PortRef, write_name, write_port};
 use rio_chars::{Char, Outbox, Sink};

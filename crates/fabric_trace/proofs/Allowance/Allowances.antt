@@ -8,7 +8,7 @@ use Rattle.link_machine.proofs.Settling.SaidLaws.{said-append}
 use Rattle.fabric_script.specs.declared.ports.PortRef.{PortRef}
 use Rattle.fabric_model.specs.Network.{same_port}
 use Rattle.fabric_model.specs.Steps.{Hold, Free, Linked, AtNode, ByDevice}
-use Rattle.fabric_trace.specs.Lines.{Sent, Got, Fired, TraceLine, Begun, Stepped, Signed, Lacked, Ended, Undetected}
+use Rattle.trace_lines.specs.Lines.{Sent, Got, Fired, TraceLine, Begun, Stepped, Signed, Lacked, Ended, Undetected}
 use Rattle.fabric_trace.specs.Fold.{says}
 use Rattle.fabric_trace.specs.Holds.{got}
 use Rattle.fabric_trace.proofs.Frees.FreesStill.{frees_all}

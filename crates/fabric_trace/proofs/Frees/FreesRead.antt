@@ -15,11 +15,11 @@ use Rattle.link_machine.specs.Calls.{move_note}
 use Rattle.fabric_script.specs.declared.ports.PortRef.{PortRef}
 use Rattle.fabric_model.specs.Network.{same_port}
 use Rattle.fabric_model.proofs.Peers.{same_port-refl}
-use Rattle.fabric_trace.specs.Lines.{Got, TraceLine, Signed}
+use Rattle.trace_lines.specs.Lines.{Got, TraceLine, Signed}
 use Rattle.fabric_trace.specs.Views.{Half}
 use Rattle.fabric_trace.specs.Known.{Seen, port_seen, kept_of}
 use Rattle.fabric_trace.specs.Fold.{taken_from, half_after, found_at}
-use Rattle.fabric_trace.specs.Blocks.{port_at_side, lines_of}
+use Rattle.trace_lines.specs.Notes.{port_at_side, lines_of}
 use Rattle.fabric_trace.specs.Frees.{IsSaid, Gotten, nothing_got, gets, completed, FreesSaid}
 use Rattle.fabric_trace.specs.Links.{IsLink}
 use Rattle.fabric_trace.proofs.Frees.Heard.{freed_count, HaveFreed, delivered_frees}

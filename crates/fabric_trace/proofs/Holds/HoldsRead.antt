@@ -18,11 +18,11 @@ use Rattle.link_wires.proofs.Throughs.{through_place}
 use Rattle.link_machine.specs.Calls.{move_note}
 use Rattle.fabric_script.specs.declared.ports.PortRef.{PortRef}
 use Rattle.fabric_model.proofs.Peers.{same_port-refl}
-use Rattle.fabric_trace.specs.Lines.{TraceLine}
+use Rattle.trace_lines.specs.Lines.{TraceLine}
 use Rattle.fabric_trace.specs.Views.{Half}
 use Rattle.fabric_trace.specs.Known.{Seen, port_seen, kept_of}
 use Rattle.fabric_trace.specs.Fold.{says, taken_from, half_after, found_at}
-use Rattle.fabric_trace.specs.Blocks.{port_at_side, lines_of}
+use Rattle.trace_lines.specs.Notes.{port_at_side, lines_of}
 use Rattle.fabric_trace.specs.Holds.{got, holds, numbered_packets, HoldsCame}
 use Rattle.fabric_trace.specs.Links.{IsLink}
 use Rattle.fabric_trace.proofs.Holds.Coming.{held_in, HaveCome, within-append, numbered-append, delivered_comes}

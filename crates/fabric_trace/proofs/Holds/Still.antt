@@ -8,8 +8,8 @@ use Rattle.link_wires.specs.declared.moves.Move.{Move}
 use Rattle.link_wires.specs.declared.moves.Move.TheVariants.{Held, Freed}
 use Rattle.link_machine.specs.Calls.{sent_notes, move_note}
 use Rattle.fabric_script.specs.declared.ports.PortRef.{PortRef}
-use Rattle.fabric_trace.specs.Lines.{Got, TraceLine, Signed}
-use Rattle.fabric_trace.specs.Blocks.{lines_of}
+use Rattle.trace_lines.specs.Lines.{Got, TraceLine, Signed}
+use Rattle.trace_lines.specs.Notes.{lines_of}
 
 unfoldable pub GotNone : List TraceLine → Type 0
 GotNone [] = Unit {0}

@@ -22,7 +22,7 @@ use Rattle.rio_chars.specs.declared.chars.Char.{Char}
 use Rattle.fabric_trace.specs.Views.{half_of}
 use Rattle.fabric_trace.specs.Known.{Seen, Found, with_wire, port_seen, kept_of, wire_state, link_at}
 use Rattle.fabric_trace.specs.Fold.{says, sends, wire_silenced, fired_from, seen}
-use Rattle.fabric_trace.specs.Blocks.{lines_of}
+use Rattle.trace_lines.specs.Notes.{lines_of}
 use Rattle.fabric_trace.specs.Links.{queues_in, IsKept, IsLink}
 use Rattle.fabric_trace.proofs.Links.Bursts.{turns_leave}
 use Rattle.fabric_trace.proofs.Network.Walks.{AreElsewhere, elsewhere_here}

@@ -26,11 +26,11 @@ use Rattle.fabric_script.specs.declared.ports.PortRef.{PortRef}
 use Rattle.fabric_model.specs.Network.{Network, same_port}
 use Rattle.fabric_model.specs.Steps.{Step, after_all, LegalFrom}
 use Rattle.fabric_model.proofs.Peers.{ArePeers, apart_back}
-use Rattle.fabric_trace.specs.Lines.{Got, steps_of}
+use Rattle.trace_lines.specs.Lines.{Got, steps_of}
 use Rattle.fabric_trace.specs.Views.{Half, half_of}
 use Rattle.fabric_trace.specs.Known.{Wire, Seen, port_seen, kept_of, wire_state, link_at}
 use Rattle.fabric_trace.specs.Fold.{says, sends, wire_sent, half_sent, taken_from, half_after, found_at, got_from, signed, seen}
-use Rattle.fabric_trace.specs.Blocks.{lines_of}
+use Rattle.trace_lines.specs.Notes.{lines_of}
 use Rattle.fabric_trace.specs.Links.{queues_in, IsKept, IsLink}
 use Rattle.fabric_trace.proofs.Links.Bursts.{answers_say, answers_leave}
 use Rattle.fabric_trace.proofs.Links.Cuts.{taken_again}

@@ -14,10 +14,10 @@ use Rattle.link_machine.specs.Acts.{Act, Pump as PumpAct, Tell as TellAct, Deliv
 use Rattle.link_watch.specs.Sides.{other_side}
 use Rattle.fabric_script.specs.declared.ports.PortRef.{PortRef}
 use Rattle.fabric_model.proofs.Peers.{ArePeers}
-use Rattle.fabric_trace.specs.Lines.{TraceLine}
+use Rattle.trace_lines.specs.Lines.{TraceLine}
 use Rattle.fabric_trace.specs.Known.{Seen, link_at}
 use Rattle.fabric_trace.specs.Fold.{seen}
-use Rattle.fabric_trace.specs.Blocks.{port_at_side, lines_of}
+use Rattle.trace_lines.specs.Notes.{port_at_side, lines_of}
 use Rattle.fabric_trace.specs.Parts.{Done}
 use Rattle.fabric_trace.proofs.Parts.Folding.{seen-append, lines-append}
 use Rattle.fabric_trace.proofs.Parts.Keeping.{IsGood, legal_links, made_keeps}

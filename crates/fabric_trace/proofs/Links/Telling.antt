@@ -13,7 +13,7 @@ use Rattle.link_wires.specs.Kept.{behind}
 use Rattle.fabric_script.specs.declared.ports.PortRef.{PortRef}
 use Rattle.fabric_model.specs.Network.{Network, peer_in}
 use Rattle.fabric_model.specs.Steps.{Hold, Free, Take, Leave, Move, Drop, Answer, Step, Linked, AtNode, ByDevice, after_hold, after, after_all}
-use Rattle.fabric_trace.specs.Lines.{TraceLine, steps_of}
+use Rattle.trace_lines.specs.Lines.{TraceLine, steps_of}
 use Rattle.fabric_trace.specs.Known.{Seen}
 use Rattle.fabric_trace.specs.Fold.{seen}
 use Rattle.fabric_trace.proofs.Parts.Folding.{network_is}

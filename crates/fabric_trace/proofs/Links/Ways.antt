@@ -14,10 +14,10 @@ use Rattle.link_machine.specs.Calls.{sent_notes, delivery_from, move_note, told_
 use Rattle.link_machine.proofs.Ways.{events_work}
 use Rattle.link_machine.proofs.Arriving.{HasAckAt, run_has}
 use Rattle.fabric_script.specs.declared.ports.PortRef.{PortRef}
-use Rattle.fabric_trace.specs.Blocks.{lines_of}
+use Rattle.trace_lines.specs.Notes.{lines_of}
 use Rattle.fabric_trace.specs.Fold.{seen_line, seen}
 use Rattle.fabric_trace.specs.Known.{Seen, port_seen, kept_of, link_at}
-use Rattle.fabric_trace.specs.Lines.{TraceLine, Got, Signed}
+use Rattle.trace_lines.specs.Lines.{TraceLine, Got, Signed}
 use Rattle.fabric_trace.specs.OnTheWay.{WorksWithin, NeverFailWithin}
 use Rattle.fabric_trace.specs.Parts.{Part, PartBegins, PartLacks, PartEnds, PartNames, PartSteps, PartServes, PartTurns, PartTells, PartDelivers, PartFires, Made, Done, Then}
 use Rattle.fabric_trace.proofs.Parts.Keeping.{IsGood, part_keeps}

@@ -19,7 +19,7 @@ use Rattle.fabric_model.proofs.Joining.{links_stay}
 use Rattle.fabric_trace.specs.Events.{HasLink, IsThere, MayHappen}
 use Rattle.fabric_trace.specs.Fold.{edit_of, taken_from, found_at, got_from, seen_line, seen}
 use Rattle.fabric_trace.specs.Known.{Found, Seen, peer_of}
-use Rattle.fabric_trace.specs.Lines.{TraceLine, Begun, Stepped, Signed, Lacked, Ended, Undetected, Sent, Got, Fired}
+use Rattle.trace_lines.specs.Lines.{TraceLine, Begun, Stepped, Signed, Lacked, Ended, Undetected, Sent, Got, Fired}
 use Rattle.fabric_trace.specs.Runs.{begins}
 use Rattle.fabric_trace.proofs.Parts.Folding.{edited_net, got_net, fired_net, edited_found, fired_found}
 

@@ -15,9 +15,9 @@ use Rattle.fabric_script.specs.declared.ports.PortRef.{PortRef}
 use Rattle.fabric_model.specs.Network.{Network, same_port, with_lane, with_lent, first_packet}
 use Rattle.fabric_model.specs.Steps.{Hold, Free, Step, Linked, Needs, behind_first, only_first, after_hold, after, after_all, LegalFrom}
 use Rattle.fabric_model.proofs.Peers.{ArePeers, apart_back}
-use Rattle.fabric_trace.specs.Lines.{steps_of}
+use Rattle.trace_lines.specs.Lines.{steps_of}
 use Rattle.fabric_trace.specs.Views.{packets_in, lists_in}
-use Rattle.fabric_trace.specs.Blocks.{port_at_side, lines_of}
+use Rattle.trace_lines.specs.Notes.{port_at_side, lines_of}
 use Rattle.fabric_trace.specs.Links.{queues_in}
 use Rattle.fabric_trace.proofs.Network.Lanes.{packets-append, first_is, only_is, behind_is, lane_at, has_lane, counted, lists_set, lane_other, lent_own, lent_other}
 

@@ -13,10 +13,10 @@ use Rattle.fabric_script.specs.declared.ports.PortRef.{PortRef}
 use Rattle.fabric_model.specs.Network.{same_port}
 use Rattle.fabric_model.specs.Steps.{after_all}
 use Rattle.fabric_model.proofs.Peers.{port_is}
-use Rattle.fabric_trace.specs.Lines.{Got, TraceLine, Signed}
+use Rattle.trace_lines.specs.Lines.{Got, TraceLine, Signed}
 use Rattle.fabric_trace.specs.Known.{Seen, peer_of, port_seen, kept_of, link_at}
 use Rattle.fabric_trace.specs.Fold.{taken_from, half_after, found_at, got_from, seen}
-use Rattle.fabric_trace.specs.Blocks.{lines_of}
+use Rattle.trace_lines.specs.Notes.{lines_of}
 use Rattle.fabric_trace.specs.Links.{IsLink}
 use Rattle.fabric_trace.specs.Parts.{Part, PartBegins, PartLacks, PartEnds, PartNames, PartSteps, PartServes, PartTurns, PartTells, PartDelivers, PartFires, Made, Done, Then}
 use Rattle.fabric_trace.proofs.Links.Cuts.{taken_again}

@@ -17,11 +17,11 @@ use Rattle.fabric_script.specs.declared.ports.PortRef.{PortRef}
 use Rattle.fabric_model.specs.Network.{Network, same_port}
 use Rattle.fabric_model.specs.Steps.{after_all}
 use Rattle.fabric_model.proofs.Peers.{same_port-refl}
-use Rattle.fabric_trace.specs.Lines.{TraceLine, Begun, Stepped, Signed, Lacked, Ended, Undetected, Sign, Sent, Got, Fired, steps_of}
+use Rattle.trace_lines.specs.Lines.{TraceLine, Begun, Stepped, Signed, Lacked, Ended, Undetected, Sign, Sent, Got, Fired, steps_of}
 use Rattle.fabric_trace.specs.Views.{Half}
 use Rattle.fabric_trace.specs.Known.{Wire, Seen, with_wire, with_half, peer_of, kept_of}
 use Rattle.fabric_trace.specs.Fold.{edit_of, edited_by, got_from, fired_from, says, sends, wire_sent, half_sent, signed, seen_line, seen}
-use Rattle.fabric_trace.specs.Blocks.{port_at_side, line_of, lines_of}
+use Rattle.trace_lines.specs.Notes.{port_at_side, line_of, lines_of}
 use Rattle.fabric_trace.specs.Links.{IsKept}
 use Rattle.fabric_trace.proofs.Links.Bursts.{sends-none}
 use Rattle.fabric_trace.proofs.Network.Walks.{net_steps}

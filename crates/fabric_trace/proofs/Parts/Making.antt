@@ -16,11 +16,11 @@ use Rattle.link_machine.specs.Acts.{Deliver as DeliverAct, Reached, At, FoundAt,
 use Rattle.fabric_script.specs.declared.ports.PortRef.{PortRef}
 use Rattle.fabric_model.specs.Network.{same_port}
 use Rattle.fabric_model.proofs.Peers.{ArePeers}
-use Rattle.fabric_trace.specs.Lines.{TraceLine}
+use Rattle.trace_lines.specs.Lines.{TraceLine}
 use Rattle.fabric_model.specs.Steps.{Step}
 use Rattle.fabric_trace.specs.Known.{Seen, Found, link_at}
 use Rattle.fabric_trace.specs.Fold.{found_at, seen}
-use Rattle.fabric_trace.specs.Blocks.{port_at_side, line_of, lines_of}
+use Rattle.trace_lines.specs.Notes.{port_at_side, line_of, lines_of}
 use Rattle.fabric_trace.specs.Parts.{Part, PartTurns, PartTells, PartDelivers, PartFires, Made, Done, Then}
 use Rattle.fabric_trace.proofs.Links.Calling.{IsCall, turns_call, tells_call, fires_call}
 use Rattle.fabric_trace.proofs.Links.Delivering.{delivers_call}

@@ -19,11 +19,11 @@ use Rattle.fabric_script.specs.declared.ports.PortRef.{PortRef}
 use Rattle.fabric_model.specs.Network.{same_port}
 use Rattle.fabric_model.specs.Steps.{Hold, Free, Linked, AtNode, ByDevice}
 use Rattle.fabric_model.proofs.Peers.{port_is}
-use Rattle.fabric_trace.specs.Lines.{Sent, Got, Fired, TraceLine, Begun, Stepped, Signed, Lacked, Ended, Undetected}
+use Rattle.trace_lines.specs.Lines.{Sent, Got, Fired, TraceLine, Begun, Stepped, Signed, Lacked, Ended, Undetected}
 use Rattle.fabric_trace.specs.Views.{Half, half_of}
 use Rattle.fabric_trace.specs.Known.{Seen, with_half, peer_of, port_seen}
 use Rattle.fabric_trace.specs.Fold.{edit_of, edited_by, event_leaves, sends, says, half_sent, fired_from, signed, seen_line, seen}
-use Rattle.fabric_trace.specs.Blocks.{port_at_side, lines_of}
+use Rattle.trace_lines.specs.Notes.{port_at_side, lines_of}
 
 -- ---- lines with no step at a link, in which no port gets anything
 

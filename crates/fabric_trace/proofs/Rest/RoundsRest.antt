@@ -1,7 +1,7 @@
 -- Within a run, each link is at rest when it has settled.
 use Rattle.std.proofs.Common.{◌≡◌, ℕ, List, None}
 use Rattle.fabric_model.specs.Network.{Network}
-use Rattle.fabric_trace.specs.Lines.{TraceLine}
+use Rattle.trace_lines.specs.Lines.{TraceLine}
 use Rattle.fabric_trace.specs.Fold.{seen}
 use Rattle.fabric_trace.specs.Blocks.{IsSettle}
 use Rattle.fabric_trace.specs.Rounds.{Rounds, SettlesTo}

@@ -11,7 +11,7 @@ use Rattle.fabric_trace.specs.AtRest.{IsBlockAtRest}
 use Rattle.fabric_trace.specs.Blocks.{IsSettle, WithLink, IsBlock}
 use Rattle.fabric_trace.specs.Fold.{seen}
 use Rattle.fabric_trace.specs.Known.{Found, Seen}
-use Rattle.fabric_trace.specs.Lines.{TraceLine, Begun}
+use Rattle.trace_lines.specs.Lines.{TraceLine, Begun}
 use Rattle.fabric_trace.specs.Parts.{PartBegins, Made, Then}
 use Rattle.fabric_trace.specs.Rounds.{Follows, NamesNothing, SettlesTo}
 use Rattle.fabric_trace.specs.Runs.{bare, set_up_all, start, EventThen, BlockThen, Names, RunsBy, RunsFrom, Runs, BlocksBy, BlocksFrom, BeginsBy, Begins}

@@ -7,7 +7,7 @@ use Rattle.fabric_model.specs.Network.{link_in}
 use Rattle.fabric_model.specs.Steps.{ByDevice}
 use Rattle.fabric_model.specs.Laws.Proper.{AreProper}
 use Rattle.fabric_model.proofs.Peers.{same_port-refl, unlinked_apart, ArePeers, link_peers}
-use Rattle.fabric_trace.specs.Lines.{TraceLine, Stepped, steps_of}
+use Rattle.trace_lines.specs.Lines.{TraceLine, Stepped, steps_of}
 use Rattle.fabric_trace.specs.Known.{Found, Seen}
 use Rattle.fabric_trace.specs.Fold.{seen}
 use Rattle.fabric_trace.specs.Served.{IsMove}

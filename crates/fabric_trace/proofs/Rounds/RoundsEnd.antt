@@ -20,7 +20,7 @@ use Rattle.fabric_script.specs.declared.ports.PortRef.{PortRef}
 use Rattle.fabric_model.specs.Steps.{DeviceStep, Move, Drop, Answer, ByDevice, after}
 use Rattle.fabric_model.proofs.Emptying.{packets_at, step_empties}
 use Rattle.fabric_model.proofs.Nodes.{few_prio}
-use Rattle.fabric_trace.specs.Lines.{Stepped}
+use Rattle.trace_lines.specs.Lines.{Stepped}
 use Rattle.fabric_trace.specs.Known.{Seen}
 use Rattle.fabric_trace.specs.Served.{faces_in, step_lines, ResponseHasForm, IsMove}
 use Rattle.fabric_trace.proofs.Network.Faces.{StepNeeds, step_needs}

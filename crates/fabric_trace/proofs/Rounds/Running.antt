@@ -22,11 +22,12 @@ use Rattle.fabric_model.specs.Network.{IsEndpoint, link_in, port_of, room_out}
 use Rattle.fabric_model.specs.Steps.{Take, Leave, Move as MoveOn, Drop, Answer, AtNode}
 use Rattle.fabric_model.proofs.Peers.{ArePeers, link_peers}
 use Rattle.fabric_model.proofs.Nodes.{few_prio}
-use Rattle.fabric_trace.specs.Lines.{TraceLine, Begun, Stepped, Lacked, Full, Empty, Short, Early, NoStep}
+use Rattle.trace_lines.specs.Lines.{TraceLine, Begun, Stepped, Lacked, Full, Empty, Short, Early, NoStep}
 use Rattle.fabric_trace.specs.Known.{Seen, Found, peer_of, link_at}
 use Rattle.fabric_trace.specs.Fold.{edit_of, edited_by, seen}
 use Rattle.fabric_trace.specs.Served.{face_in, faces_in, step_lines, ResponseHasForm, IsMove, collect_lines, HasResponseForm, IsCollect}
-use Rattle.fabric_trace.specs.Blocks.{take_lines, SendsBody, lines_of, pumps, delivers, time_out_lines, edits, IsSettle, WithPeer, WithLink, IsBlock}
+use Rattle.trace_lines.specs.Notes.{lines_of}
+use Rattle.fabric_trace.specs.Blocks.{take_lines, SendsBody, pumps, delivers, time_out_lines, edits, IsSettle, WithPeer, WithLink, IsBlock}
 use Rattle.fabric_trace.specs.Rounds.{Follows, Rounds}
 use Rattle.fabric_trace.specs.Runs.{BlockThen, Names, RunsFrom}
 use Rattle.fabric_trace.specs.Parts.{PartBegins, PartLacks, PartEnds, PartNames, PartSteps, PartServes, PartTurns, PartDelivers, PartFires, Made, Done, Then}

@@ -20,11 +20,12 @@ use Rattle.fabric_script.specs.declared.lines.Line.{Line}
 use Rattle.fabric_script.specs.declared.lines.Line.TheVariants.{Endpoint, Switch, Link, Buffers, Route, Default, Lock, Large, Send, Read, Write, Pump, Deliver, Alter, Insert, Erase, Timeout, Settle, Move, Collect, Run, Send16, Read16, Write16, Credits}
 use Rattle.fabric_model.specs.Network.{link_in, room_out, port_of}
 use Rattle.fabric_model.specs.Steps.{Take, AtNode}
-use Rattle.fabric_trace.specs.Lines.{TraceLine, Begun, Stepped, Signed, Lacked, Ended, Undetected, Full, Short, Early}
+use Rattle.trace_lines.specs.Lines.{TraceLine, Begun, Stepped, Signed, Lacked, Ended, Undetected, Full, Short, Early}
 use Rattle.fabric_trace.specs.Known.{Found, Seen, peer_of, link_at}
 use Rattle.fabric_trace.specs.Fold.{edit_of, seen}
 use Rattle.fabric_trace.specs.Served.{face_in, faces_in, step_lines, collect_lines}
-use Rattle.fabric_trace.specs.Blocks.{take_lines, lines_of, pumps, delivers, time_out_lines, edits, IsSettle, WithPeer, WithLink, IsBlock}
+use Rattle.trace_lines.specs.Notes.{lines_of}
+use Rattle.fabric_trace.specs.Blocks.{take_lines, pumps, delivers, time_out_lines, edits, IsSettle, WithPeer, WithLink, IsBlock}
 use Rattle.fabric_trace.specs.Rounds.{Follows, NamesNothing, Joined, SettleAll, ServesAll, ServeRests, ServeGoes, ServeNodes, Round, Rounds}
 use Rattle.fabric_trace.proofs.Rounds.Blocks.{by_test}
 

@@ -7,7 +7,7 @@ use Rattle.fabric_model.specs.Laws.Stock.{stock, takes_by, leaves_by, drops_by, 
 use Rattle.fabric_model.proofs.Nodes.{all_at_nodes}
 use Rattle.fabric_model.proofs.Stocks.{taken_balance}
 use Rattle.fabric_trace.specs.Fold.{seen}
-use Rattle.fabric_trace.specs.Lines.{TraceLine, steps_of}
+use Rattle.trace_lines.specs.Lines.{TraceLine, steps_of}
 use Rattle.fabric_trace.specs.Runs.{bare, set_up_all, start, Runs}
 use Rattle.fabric_trace.proofs.SetUps.Happening.{may_set_up}
 use Rattle.fabric_trace.proofs.SetUps.Joins.{scripts_join}

@@ -31,11 +31,12 @@ use Rattle.fabric_model.proofs.Leaving.{once, unchanged}
 use Rattle.fabric_model.proofs.Tables.{by_tables}
 use Rattle.fabric_model.proofs.Flows.{in_order}
 use Rattle.fabric_model.proofs.Peers.{ArePeers, AreProper-append}
-use Rattle.fabric_trace.specs.Lines.{TraceLine, steps_of}
+use Rattle.trace_lines.specs.Lines.{TraceLine, steps_of}
 use Rattle.fabric_trace.specs.Views.{packets_in}
 use Rattle.fabric_trace.specs.Known.{Seen, peer_of, port_seen, link_at}
 use Rattle.fabric_trace.specs.Fold.{says, taken_from, seen}
-use Rattle.fabric_trace.specs.Blocks.{lines_of, IsSettle}
+use Rattle.trace_lines.specs.Notes.{lines_of}
+use Rattle.fabric_trace.specs.Blocks.{IsSettle}
 use Rattle.fabric_trace.specs.Runs.{bare, set_up, set_up_all, begins, start, Runs}
 use Rattle.fabric_trace.specs.Links.{IsLink, AreLinks}
 use Rattle.fabric_trace.specs.Parts.{Made}

@@ -23,11 +23,11 @@ use Rattle.fabric_script.specs.declared.ports.PortRef.{PortRef}
 use Rattle.fabric_model.specs.Network.{same_port, peer_in}
 use Rattle.fabric_model.specs.Steps.{AtNode, ByDevice}
 use Rattle.fabric_model.proofs.Peers.{port_is}
-use Rattle.fabric_trace.specs.Lines.{TraceLine, Begun, Stepped, Signed, Lacked, Ended, Undetected, Sent, Got, Fired, steps_of}
+use Rattle.trace_lines.specs.Lines.{TraceLine, Begun, Stepped, Signed, Lacked, Ended, Undetected, Sent, Got, Fired, steps_of}
 use Rattle.fabric_trace.specs.Views.{Half, half_of}
 use Rattle.fabric_trace.specs.Known.{Seen, with_half, peer_of, port_seen, link_at}
 use Rattle.fabric_trace.specs.Fold.{edit_of, edited_by, symbol_leaves, packet_leaves, event_leaves, sends, says, half_sent, taken_from, half_after, found_at, got_from, fired_from, signed, seen_line, seen}
-use Rattle.fabric_trace.specs.Blocks.{lines_of}
+use Rattle.trace_lines.specs.Notes.{lines_of}
 use Rattle.fabric_trace.specs.Parts.{Part, PartBegins, PartLacks, PartEnds, PartNames, PartSteps, PartServes, PartTurns, PartTells, PartDelivers, PartFires, Made, Done, Then}
 use Rattle.fabric_trace.specs.Firsts.{FindsFirst}
 use Rattle.fabric_trace.specs.Working.{NoneFailed, NeverFail}

@@ -13,7 +13,7 @@ use Rattle.link_wires.proofs.Exact.{delivered_exact}
 use Rattle.link_wires.proofs.KeptLaws.{all_then}
 use Rattle.fabric_script.specs.declared.ports.PortRef.{PortRef}
 use Rattle.fabric_model.specs.Network.{Network, same_port}
-use Rattle.fabric_trace.specs.Lines.{Sent, Got, Fired, TraceLine, Begun, Stepped, Signed, Lacked, Ended, Undetected}
+use Rattle.trace_lines.specs.Lines.{Sent, Got, Fired, TraceLine, Begun, Stepped, Signed, Lacked, Ended, Undetected}
 use Rattle.fabric_trace.specs.Known.{Wire, Seen, with_wire, peer_of, port_seen, kept_of}
 use Rattle.fabric_trace.specs.Fold.{edit_of, edited_by, taken_from, found_at, got_from, wire_silenced, fired_from, signed, seen_line, seen}
 use Rattle.fabric_trace.specs.Links.{IsKept}

@@ -43,11 +43,11 @@ use Rattle.link_machine.specs.Calls.{sent_notes, has_chars, has_none, is_silent,
 use Rattle.fabric_script.specs.declared.ports.PortRef.{PortRef}
 use Rattle.fabric_model.specs.Network.{Item, Network}
 use Rattle.fabric_model.proofs.Lists.{all-append}
-use Rattle.fabric_trace.specs.Lines.{Got, Fired, TraceLine, Signed}
+use Rattle.trace_lines.specs.Lines.{Got, Fired, TraceLine, Signed}
 use Rattle.fabric_trace.specs.Views.{packets_in, lists_in, queue}
 use Rattle.fabric_trace.specs.Known.{Seen, peer_of, port_seen, kept_of, link_at}
 use Rattle.fabric_trace.specs.Fold.{says, seen_line, seen}
-use Rattle.fabric_trace.specs.Blocks.{port_at_side, line_of, lines_of}
+use Rattle.trace_lines.specs.Notes.{port_at_side, line_of, lines_of}
 use Rattle.fabric_trace.specs.Parts.{Part, PartBegins, PartLacks, PartEnds, PartNames, PartSteps, PartServes, PartTurns, PartTells, PartDelivers, PartFires, Made, Done, Then}
 use Rattle.fabric_trace.proofs.Links.Bursts.{startable_has, answers_say}
 use Rattle.fabric_trace.proofs.Parts.Folding.{lines-append}

@@ -3,7 +3,7 @@ use Rattle.std.proofs.Common.{◌++◌, inl, inr, false, List, [], None, refl, s
 use Rattle.std.proofs.lemmas.List.{append-nil}
 use Rattle.fabric_script.specs.declared.lines.Numbered.{Numbered}
 use Rattle.fabric_trace.specs.AtRest.{GoesAtRest}
-use Rattle.fabric_trace.specs.Lines.{TraceLine, steps_of}
+use Rattle.trace_lines.specs.Lines.{TraceLine, steps_of}
 use Rattle.fabric_trace.specs.Frees.{nothing_got}
 use Rattle.fabric_trace.specs.Runs.{bare, set_up_all, start, Runs, Begins}
 use Rattle.fabric_trace.specs.SetUps.{MaySetUpAll}

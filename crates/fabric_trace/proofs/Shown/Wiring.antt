@@ -13,10 +13,10 @@ use Rattle.fabric_model.specs.Network.{Network, same_port, peer_in}
 use Rattle.fabric_model.specs.Steps.{after_all}
 use Rattle.fabric_model.proofs.Peers.{peer_back, port_is}
 use Rattle.fabric_model.proofs.Joining.{links_stay}
-use Rattle.fabric_trace.specs.Lines.{Sign, Sent, Got, Fired, TraceLine, Begun, Stepped, Signed, Lacked, Ended, Undetected, steps_of}
+use Rattle.trace_lines.specs.Lines.{Sign, Sent, Got, Fired, TraceLine, Begun, Stepped, Signed, Lacked, Ended, Undetected, steps_of}
 use Rattle.fabric_trace.specs.Known.{Wire, Seen, with_wire, peer_of, link_at}
 use Rattle.fabric_trace.specs.Fold.{edit_of, changed, edited_by, wire_sent, taken_from, got_from, wire_silenced, fired_from, signed, seen_line, seen}
-use Rattle.fabric_trace.specs.Blocks.{lines_of}
+use Rattle.trace_lines.specs.Notes.{lines_of}
 use Rattle.fabric_trace.specs.Parts.{Part, PartBegins, PartLacks, PartEnds, PartNames, PartSteps, PartServes, PartTurns, PartTells, PartDelivers, PartFires, Made, Done, Then}
 use Rattle.fabric_trace.specs.Wires.{WireChars, with_chars, edited_chars, taken_chars, signed_chars, on_wires, WireFold}
 use Rattle.fabric_trace.proofs.Parts.Folding.{network_is}

@@ -3,7 +3,7 @@ use Rattle.std.proofs.Common.{◌≡◌, ℕ, List, [], ◌∷◌, ◌++◌, Opt
 use Rattle.fabric_script.specs.Lines.{is_event}
 use Rattle.fabric_script.specs.declared.lines.Line.{Line}
 use Rattle.fabric_script.specs.declared.lines.Numbered.{Numbered}
-use Rattle.fabric_trace.specs.Lines.{TraceLine, Begun, Ended, Undetected}
+use Rattle.trace_lines.specs.Lines.{TraceLine, Begun, Ended, Undetected}
 use Rattle.fabric_trace.specs.Known.{Found, Seen}
 use Rattle.fabric_trace.specs.Fold.{seen}
 use Rattle.fabric_trace.specs.Ends.{EndsAs, Whole, EndsNaming}

@@ -17,10 +17,11 @@ use Rattle.fabric_model.proofs.Flows.{switches_stay}
 use Rattle.fabric_model.proofs.Forms.{device_at, stays_formed, empty_formed}
 use Rattle.fabric_model.proofs.Lanes.{well_by}
 use Rattle.fabric_model.proofs.Peers.{ArePeers, link_peers}
-use Rattle.fabric_trace.specs.Blocks.{lines_of, IsSettle}
+use Rattle.trace_lines.specs.Notes.{lines_of}
+use Rattle.fabric_trace.specs.Blocks.{IsSettle}
 use Rattle.fabric_trace.specs.Fold.{seen_line, seen}
 use Rattle.fabric_trace.specs.Known.{Found, Seen, link_at}
-use Rattle.fabric_trace.specs.Lines.{TraceLine, Stepped, steps_of}
+use Rattle.trace_lines.specs.Lines.{TraceLine, Stepped, steps_of}
 use Rattle.fabric_trace.specs.Parts.{Made, Done}
 use Rattle.fabric_trace.specs.Ready.{IsReady}
 use Rattle.fabric_trace.specs.Rounds.{Follows, NamesNothing, Joined, SettleAll, ServesAll, ServeRests, ServeGoes, ServeNodes, Round, Rounds}

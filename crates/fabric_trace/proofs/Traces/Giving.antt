@@ -17,7 +17,7 @@ use Rattle.fabric_model.proofs.Forms.{device_at}
 use Rattle.fabric_trace.specs.Blocks.{take_lines, SendsBody}
 use Rattle.fabric_trace.specs.Events.{id_limit, FitsSend, FitsRequest}
 use Rattle.fabric_trace.specs.Known.{Seen}
-use Rattle.fabric_trace.specs.Lines.{TraceLine}
+use Rattle.trace_lines.specs.Lines.{TraceLine}
 
 -- ---- packets
 

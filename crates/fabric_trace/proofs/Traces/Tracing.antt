@@ -33,7 +33,7 @@ use Rattle.fabric_trace.specs.Blocks.{pumps, delivers, time_out_lines, edits, Is
 use Rattle.fabric_trace.specs.Events.{FitsPacket, IsInRange, IsThere, MayHappen}
 use Rattle.fabric_trace.specs.Fold.{edit_of, seen}
 use Rattle.fabric_trace.specs.Known.{Found, Seen, peer_of}
-use Rattle.fabric_trace.specs.Lines.{TraceLine, Begun, Ended, Undetected, steps_of}
+use Rattle.trace_lines.specs.Lines.{TraceLine, Begun, Ended, Undetected, steps_of}
 use Rattle.fabric_trace.specs.Parts.{PartBegins, Made, Then}
 use Rattle.fabric_trace.specs.Ready.{IsReady}
 use Rattle.fabric_trace.specs.Rounds.{Follows}

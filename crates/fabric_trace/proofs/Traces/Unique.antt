@@ -14,11 +14,12 @@ use Rattle.fabric_script.specs.declared.lines.Numbered.{Numbered}
 use Rattle.fabric_model.specs.Network.{Network, link_in, port_of}
 use Rattle.fabric_model.specs.Steps.{ByDevice}
 use Rattle.fabric_model.specs.Laws.Freeing.{IsFront}
-use Rattle.fabric_trace.specs.Lines.{NoStep, TraceLine, Begun, Stepped, Lacked}
+use Rattle.trace_lines.specs.Lines.{NoStep, TraceLine, Begun, Stepped, Lacked}
 use Rattle.fabric_trace.specs.Known.{Found, Seen, peer_of, link_at}
 use Rattle.fabric_trace.specs.Fold.{seen_line, seen}
 use Rattle.fabric_trace.specs.Served.{face_in, faces_in, step_lines, IsMove, collect_lines, IsCollect}
-use Rattle.fabric_trace.specs.Blocks.{take_lines, SendsBody, pumps, delivers, time_out_lines, lines_of, IsSettle, WithPeer, WithLink, IsBlock}
+use Rattle.trace_lines.specs.Notes.{lines_of}
+use Rattle.fabric_trace.specs.Blocks.{take_lines, SendsBody, pumps, delivers, time_out_lines, IsSettle, WithPeer, WithLink, IsBlock}
 use Rattle.fabric_trace.specs.Rounds.{Follows, NamesNothing, Joined, SettleAll, ServesAll, ServeRests, ServeGoes, ServeNodes, Round, Rounds}
 use Rattle.fabric_trace.specs.Runs.{start, BlockThen, Names, RunsFrom, Runs, BlocksFrom, Begins}
 

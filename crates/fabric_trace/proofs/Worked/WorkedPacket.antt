@@ -25,7 +25,7 @@ use Rattle.rio_packets.proofs.FormLaws.{LinkForm-made}
 use Rattle.fabric_model.specs.Laws.Examples.{packet}
 use Rattle.fabric_model.specs.Steps.{Hold, Free, Take, Leave, Linked, AtNode}
 use Rattle.fabric_trace.specs.Fold.{sends}
-use Rattle.fabric_trace.specs.Lines.{Sent, Got, Stepped, Signed}
+use Rattle.trace_lines.specs.Lines.{Sent, Got, Stepped, Signed}
 use Rattle.fabric_trace.specs.Runs.{Runs}
 use Rattle.fabric_trace.specs.Examples.{near, far, packet_chars, accepted_chars, packet_script, packet_trace, status_chars, telling_script, telling_trace}
 

@@ -24,7 +24,7 @@ use Rattle.fabric_model.specs.Network.{Network, same_port, link_in}
 use Rattle.fabric_model.specs.Laws.Examples.{packet}
 use Rattle.fabric_model.specs.Serving.{next_at}
 use Rattle.fabric_model.specs.Steps.{LegalFrom}
-use Rattle.fabric_trace.specs.Lines.{TraceLine, Empty, Short, Early, NoStep, Fired, Signed, Lacked, steps_of}
+use Rattle.trace_lines.specs.Lines.{TraceLine, Empty, Short, Early, NoStep, Fired, Signed, Lacked, steps_of}
 use Rattle.fabric_trace.specs.Known.{Found, Seen, link_at}
 use Rattle.fabric_trace.specs.Fold.{says, seen}
 use Rattle.fabric_trace.specs.Runs.{bare, begins, Runs}

@@ -6,8 +6,8 @@ use Rattle.switch_core.specs.declared.switch.Step.{Step}
 use Rattle.switch_core.specs.SwitchSteps.{step_of, switch_after}
 use Rattle.switch_core.proofs.GoingLaws.{dropped_is, moved_is}
 use Rattle.fabric_model.specs.Steps.{Move, Drop, Answer, ByDevice}
-use Rattle.fabric_trace.specs.Lines.{Stepped}
-use Rattle.fabric_trace.specs.Text.{trace_text}
+use Rattle.trace_lines.specs.Lines.{Stepped}
+use Rattle.trace_lines.specs.Text.{trace_text}
 use Rattle.fabric_ports.specs.Switching.{faces_at, AreForms, is_step, written_lines, Wrote}
 use Rattle.fabric_ports.proofs.FaceLaws.{port}
 use Rattle.fabric_ports.proofs.SendLaws.{one_line}

@@ -1,7 +1,7 @@
 use Rattle.std.proofs.Common.{◌≡◌, ◌++◌, codes, sym, ap, ◌∙◌, subst}
 use Rattle.rio_chars.specs.Written.{Writes}
-use Rattle.fabric_trace.specs.Lines.{Undetected as UnsentLine}
-use Rattle.fabric_trace.specs.Text.{trace_line_text}
+use Rattle.trace_lines.specs.Lines.{Undetected as UnsentLine}
+use Rattle.trace_lines.specs.Text.{trace_line_text}
 use Rattle.fabric_replay.specs.Ending.{EndsBy}
 use Rattle.fabric_replay.specs.declared.replaying.ReplayEnd.TheVariants as Ends
 use Rattle.fabric_replay.proofs.replaying.tell_end.Goals as goal

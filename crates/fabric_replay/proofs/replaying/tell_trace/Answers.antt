@@ -1,5 +1,5 @@
 use Rattle.std.proofs.Common.{◌≤◌, None, length, sym, ap, ◌∙◌, subst, arith}
-use Rattle.fabric_trace.specs.Lines.{Ended}
+use Rattle.trace_lines.specs.Lines.{Ended}
 use Rattle.fabric_trace.specs.Runs.{start}
 use Rattle.fabric_ports.specs.Events.{MayFollow, IsOwnBlock}
 use Rattle.fabric_replay.proofs.Telling.{item_of, may_follow, Going-begin, Going-skip, Going-event, Going-until, Going-end, until_front, whole_front, Evented-names}

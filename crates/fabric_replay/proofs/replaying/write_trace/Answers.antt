@@ -1,7 +1,7 @@
 use Rattle.std.proofs.Common.{None, sym, ◌∙◌}
 use Rattle.std.proofs.lemmas.Bool.{true≢false}
-use Rattle.fabric_trace.specs.Lines.{Ended, Undetected}
-use Rattle.fabric_trace.specs.Text.{trace_text}
+use Rattle.trace_lines.specs.Lines.{Ended, Undetected}
+use Rattle.trace_lines.specs.Text.{trace_text}
 use Rattle.rio_chars.proofs.WrittenLaws.{Writes-rose}
 use Rattle.fabric_replay.proofs.Telling.{Fronts-flushed, Wholes-flushed}
 use Rattle.fabric_replay.proofs.Writing.{written_front, written_done, written_unsent, on_ok}

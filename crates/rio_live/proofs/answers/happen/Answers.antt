@@ -1,8 +1,8 @@
 use Rattle.std.proofs.Common.{◌≡◌, ◌<◌, ◌∷◌, ◌++◌, List, ℕ, Ok, Err, length, codes, sym, ap, subst}
 use Rattle.rio_chars.specs.Written.{Writes}
-use Rattle.fabric_trace.specs.Lines.{Begun, Undetected}
+use Rattle.trace_lines.specs.Lines.{Begun, Undetected}
 use Rattle.fabric_trace.specs.Runs.{start}
-use Rattle.fabric_trace.specs.Text.{trace_line_text}
+use Rattle.trace_lines.specs.Text.{trace_line_text}
 use Rattle.fabric_ports.specs.Events.{MayFollow, IsOwnBlock, IsAnsweredBlock, Evented}
 use Rattle.fabric_ports.specs.Ran.{WritesFront}
 use Rattle.fabric_ports.specs.declared.answers.EventEnd.TheVariants.{Undetected as Unsent}

@@ -1,7 +1,7 @@
 use Rattle.std.proofs.Common.{◌≡◌, ◌++◌, List, length, take, rules, arith, vec_len, sym, ap, ◌∙◌, Err}
 use Rattle.std.proofs.lemmas.List.{take_all, length-map}
 use Rattle.fabric_trace.specs.Known.{Seen}
-use Rattle.fabric_trace.specs.Lines.{TraceLine}
+use Rattle.trace_lines.specs.Lines.{TraceLine}
 use Rattle.fabric_ports.specs.Carrying.{WithLeft, LinksCarry}
 use Rattle.fabric_ports.specs.Ran.{Ran}
 use Rattle.fabric_ports.specs.Showing.{ends_of}

@@ -1,7 +1,7 @@
 use Rattle.std.proofs.Common.{refl}
 use Rattle.fabric_model.specs.Network.{port_of}
 use Rattle.fabric_model.specs.Steps.{Leave, Answer, AtNode, ByDevice}
-use Rattle.fabric_trace.specs.Lines.{Full, Empty, Stepped, Lacked}
+use Rattle.trace_lines.specs.Lines.{Full, Empty, Stepped, Lacked}
 use Rattle.switch_core.specs.declared.endpoint.Collected.TheVariants as Collects
 use Rattle.fabric_ports.proofs.CollectLaws.{did_collect}
 use Rattle.fabric_ports.proofs.DeviceLaws.{kind_read}

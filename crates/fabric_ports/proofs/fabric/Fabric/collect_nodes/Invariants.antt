@@ -1,6 +1,6 @@
 use Rattle.std.proofs.Common.{List, take, Ok}
 use Rattle.fabric_trace.specs.Known.{Seen}
-use Rattle.fabric_trace.specs.Lines.{TraceLine}
+use Rattle.trace_lines.specs.Lines.{TraceLine}
 use Rattle.fabric_ask.specs.Asks.{CollectNodes}
 use Rattle.fabric_ports.specs.Ran.{Ran}
 use Rattle.fabric_ports.specs.Standing.{Stands}

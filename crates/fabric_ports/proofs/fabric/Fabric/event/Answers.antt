@@ -7,7 +7,7 @@ use Rattle.fabric_trace.specs.Blocks.{IsBlock}
 use Rattle.fabric_trace.specs.Events.{IsInRange, IsThere}
 use Rattle.fabric_trace.specs.Fold.{edit_of, edited_by, seen}
 use Rattle.fabric_trace.specs.Known.{Seen}
-use Rattle.fabric_trace.specs.Lines.{TraceLine}
+use Rattle.trace_lines.specs.Lines.{TraceLine}
 use Rattle.fabric_model.specs.Network.{sender_id}
 use Rattle.fabric_ports.specs.Acting.{edit_asked}
 use Rattle.fabric_ports.specs.Events.{IsOwnBlock, IsAnsweredBlock, Evented, happened, body_in}

@@ -2,7 +2,7 @@ use Rattle.std.proofs.Common.{◌++◌, List, sym, subst, arith, ◌∙◌, Ok, 
 use Rattle.fabric_ask.specs.Asks.{AskRounds}
 use Rattle.fabric_trace.specs.Fold.{seen}
 use Rattle.fabric_trace.specs.Known.{Seen}
-use Rattle.fabric_trace.specs.Lines.{TraceLine}
+use Rattle.trace_lines.specs.Lines.{TraceLine}
 use Rattle.fabric_trace.proofs.Traces.Existing.{ready_on}
 use Rattle.fabric_ports.specs.Fetching.{RoundsLeave}
 use Rattle.fabric_ports.specs.Ran.{Ran}

@@ -1,7 +1,7 @@
 use Rattle.std.proofs.Common.{List, Ok}
 use Rattle.fabric_ask.specs.Asks.{Unheld}
 use Rattle.fabric_trace.specs.Known.{Seen}
-use Rattle.fabric_trace.specs.Lines.{TraceLine}
+use Rattle.trace_lines.specs.Lines.{TraceLine}
 use Rattle.fabric_ports.specs.Ran.{Ran}
 use Rattle.fabric_ports.specs.Standing.{Stands}
 use Rattle.fabric_ports.proofs.fabric.Fabric.fetch.Given as goal

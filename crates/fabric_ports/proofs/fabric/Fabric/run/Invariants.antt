@@ -1,7 +1,7 @@
 use Rattle.std.proofs.Common.{List, Ok}
 use Rattle.fabric_trace.specs.Blocks.{IsSettle}
 use Rattle.fabric_trace.specs.Known.{Seen}
-use Rattle.fabric_trace.specs.Lines.{TraceLine}
+use Rattle.trace_lines.specs.Lines.{TraceLine}
 use Rattle.fabric_trace.specs.Rounds.{Rounds}
 use Rattle.fabric_ports.specs.Ran.{Ran}
 use Rattle.fabric_ports.specs.Standing.{Stands}

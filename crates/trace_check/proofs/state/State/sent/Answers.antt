@@ -1,6 +1,6 @@
 use Rattle.std.proofs.Common.{◌≡◌, ◌++◌, List, true, ap, ◌∙◌, subst, rules, tests}
 use Rattle.rio_chars.specs.declared.chars.Char.{Char}
-use Rattle.fabric_trace.specs.Lines.{Sent, Signed}
+use Rattle.trace_lines.specs.Lines.{Sent, Signed}
 use Rattle.trace_check.specs.Checks.{SendMayBe}
 use Rattle.trace_check.proofs.AnswerLaws.{sent_stands}
 use Rattle.trace_check.proofs.StateLaws.{wires_set}

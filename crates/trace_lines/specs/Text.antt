@@ -11,7 +11,7 @@ use Rattle.fabric_script.specs.Names.{name_of}
 use Rattle.fabric_script.specs.Texts.{port_text}
 use Rattle.fabric_script.specs.Lines.{line_text}
 use Rattle.fabric_model.specs.Steps.{Hold, Free, Take, Leave, Move, Drop, Answer, Step, Linked, AtNode, ByDevice}
-use Rattle.fabric_trace.specs.Lines.{Lack, Full, Empty, Short, Early, NoStep, Sign, Sent, Got, Fired, TraceLine, Begun, Stepped, Signed, Lacked, Ended, Undetected}
+use Rattle.trace_lines.specs.Lines.{Lack, Full, Empty, Short, Early, NoStep, Sign, Sent, Got, Fired, TraceLine, Begun, Stepped, Signed, Lacked, Ended, Undetected}
 
 abbrev pub step_text : List (List ℕ) → Step → List ℕ
 step_text names (Linked (Hold q packet)) =
