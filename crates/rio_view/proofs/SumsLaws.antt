@@ -14,7 +14,7 @@ use Rattle.rio_framer.specs.declared.events.Told.{Told}
 use Rattle.rio_framer.specs.Framing.{Framing, framing_after}
 use Rattle.rio_framer.specs.Giving.{listed, told_of_events, events_by}
 use Rattle.rio_framer.proofs.GivingLaws.{events_by-front, listed-front}
-use Rattle.trace_check.specs.declared.lines.TraceLine.{TraceLine}
+use Rattle.trace_lines.specs.declared.lines.TraceLine.{TraceLine}
 use Rattle.rio_view.specs.declared.sums.Sums.{Sums}
 use Rattle.rio_view.specs.Sums.{PortCounts, noted, noted_all, nothing_done}
 use Rattle.rio_view.specs.Counts.{line_counted, counted_all, counts_of_lines}

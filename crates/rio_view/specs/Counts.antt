@@ -2,10 +2,10 @@
 use Rattle.std.specs.Prelude.{ℕ, ◌+◌, ◌*◌, nat_lt, List, [], ◌∷◌, length, replicate, slice_index_or, slice_set, if◌then◌else◌}
 use Rattle.rio_packets.specs.LinkForm.{Passes}
 use Rattle.fabric_script.specs.declared.ports.PortRef.{PortRef}
-use Rattle.trace_check.specs.declared.lines.TraceLine.{TraceLine}
-use Rattle.trace_check.specs.declared.lines.TraceLine.TheVariants as L
-use Rattle.trace_check.specs.declared.lines.Step.{Step}
-use Rattle.trace_check.specs.declared.lines.Step.TheVariants as S
+use Rattle.trace_lines.specs.declared.lines.TraceLine.{TraceLine}
+use Rattle.trace_lines.specs.declared.lines.TraceLine.TheVariants as L
+use Rattle.trace_lines.specs.declared.lines.Step.{Step}
+use Rattle.trace_lines.specs.declared.lines.Step.TheVariants as S
 use Rattle.rio_view.specs.declared.sums.LineKind.{LineKind}
 use Rattle.rio_view.specs.declared.sums.LineKind.TheVariants as K
 use Rattle.rio_view.specs.Sums.{PortCounts, sent, kind_raised, nothing_done}

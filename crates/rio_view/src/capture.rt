@@ -7,7 +7,7 @@ use crate::view::{Seen, View};
 use fabric_script::{Line, PortRef, SetUp};
 use rio_packets::Packet;
 use std::alloc::Global;
-use trace_check::{Step, TraceLine};
+use trace_lines::{Step, TraceLine};
 
 /// The head of a section: its bytes are in the order of this number, the version is 1.0, and its
 /// length is not told.

@@ -8,7 +8,7 @@ use crate::text::Text;
 use crate::view::{Seen, View};
 use fabric_script::{PortRef, SetUp};
 use std::alloc::Global;
-use trace_check::TraceLine;
+use trace_lines::TraceLine;
 
 /// How many nodes a fabric has at most.
 const MOST_NODES: u8 = 64;

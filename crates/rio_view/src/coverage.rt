@@ -13,7 +13,7 @@ use fabric_script::{Line, PortRef, SetUp};
 use link_port::Port;
 use rio_chars::NoMemory;
 use std::alloc::{AllocError, Global};
-use trace_check::{Step, TraceLine};
+use trace_lines::{Step, TraceLine};
 
 /// The receive buffers of a port of which no line says another number.
 const BUFFERS: u8 = 8;

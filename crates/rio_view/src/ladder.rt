@@ -16,7 +16,7 @@ use link_model::Event;
 use rio_chars::Char;
 use rio_packets::Packet;
 use std::alloc::{AllocError, Global};
-use trace_check::{Lack, Step, TraceLine};
+use trace_lines::{Lack, Step, TraceLine};
 
 /// The lifeline of a port, and what stands on its wire.
 #[derive(Drop)]

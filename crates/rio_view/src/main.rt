@@ -2,7 +2,7 @@
 //! from standard input, and writes one view of it: words, counts, a ladder, a wave, packets, or
 //! what it covers of the step tables. `docs/pictures.md` shows each of them.
 //!
-//! Promised: each line of a trace is read by the reader of `trace_check`. Left out: whether a trace
+//! Promised: each line of a trace is read by the reader of `trace_lines`. Left out: whether a trace
 //! is lawful, which that crate tells.
 //!
 //! - `run`: the whole program, over any source, sink and sink of messages; `main` gives it the

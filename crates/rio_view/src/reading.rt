@@ -9,7 +9,7 @@ use crate::view::{Seen, View};
 use fabric_script::{ScriptEnd, SetUp, read_set_up};
 use rio_chars::{Failed, Sink, Source, write_all};
 use std::alloc::{AllocError, AllocFailed, Global};
-use trace_check::{LineEnd, TraceLine, read_trace_line};
+use trace_lines::{LineEnd, TraceLine, read_trace_line};
 
 /// The line between the set-up lines and the trace.
 const BETWEEN: &[u8] = b"---";

@@ -1,7 +1,7 @@
 //! What each port did, counted over the lines of a trace.
 ghost use Rattle.std.specs.Prelude.{◌≡◌, ◌*◌, ◌<◌, IfOk, IfSome, IfNone, OnOk, [], ◌∷◌, ◌++◌, List, ℕ, length, slice_get, option_copied};
 ghost use Rattle.fabric_script.specs.Known.{Known as AKnown};
-ghost use Rattle.trace_check.specs.declared.lines.TraceLine.{TraceLine as ALine};
+ghost use Rattle.trace_lines.specs.declared.lines.TraceLine.{TraceLine as ALine};
 ghost use Rattle.rio_view.specs.Sums.{nothing_done, sent, PortCounts};
 ghost use Rattle.rio_view.specs.Counts.{count_place, at_port, with_line_kind, with_step, line_counted, counts_of_lines, endpoint_port};
 
@@ -11,7 +11,7 @@ use rio_chars::Char;
 use rio_framer::Framer;
 use std::alloc::{AllocError, Global};
 use std::marker::Model;
-use trace_check::{Step, TraceLine};
+use trace_lines::{Step, TraceLine};
 
 /// What a port did, and where the reading of what it sends is.
 #[derive(Drop)]

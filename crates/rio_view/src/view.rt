@@ -3,7 +3,7 @@
 use crate::reading::ViewEnd;
 use crate::text::Text;
 use fabric_script::SetUp;
-use trace_check::TraceLine;
+use trace_lines::TraceLine;
 
 /// A line of a trace, as it is seen.
 #[derive(Drop)]

@@ -10,7 +10,7 @@ use crate::view::{Seen, View};
 use fabric_script::{PortRef, SetUp};
 use rio_chars::Char;
 use std::alloc::Global;
-use trace_check::{Step, TraceLine};
+use trace_lines::{Step, TraceLine};
 
 /// What stands before the signals.
 const HEAD: &[u8] = b"$comment a unit of time is a character $end\n$timescale 1 ns $end\n\

@@ -13,7 +13,7 @@ use rio_chars::Char;
 use rio_packets::{Cause, Packet};
 use rio_symbols::Symbol;
 use std::alloc::{AllocError, Global};
-use trace_check::{Lack, Step, TraceLine};
+use trace_lines::{Lack, Step, TraceLine};
 
 /// A trace in words.
 #[derive(Drop)]

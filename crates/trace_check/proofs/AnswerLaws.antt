@@ -11,8 +11,8 @@ use Rattle.fabric_model.proofs.Joining.{links_stay}
 use Rattle.fabric_trace.specs.Fold.{changed, edit_of}
 use Rattle.trace_lines.specs.Lines.{Begun, Got, Sent, Signed, Stepped, steps_of, TraceLine}
 use Rattle.fabric_trace.specs.Wires.{edited_chars, IsFrontOf, with_chars}
-use Rattle.trace_check.specs.declared.lines.Step.{Step as ReadStep}
-use Rattle.trace_check.specs.declared.lines.Step.TheVariants as S
+use Rattle.trace_lines.specs.declared.lines.Step.{Step as ReadStep}
+use Rattle.trace_lines.specs.declared.lines.Step.TheVariants as S
 use Rattle.trace_check.specs.declared.network.Network.{Network as Kept}
 use Rattle.trace_check.specs.declared.state.Fault.{Fault as ReadFault}
 use Rattle.trace_check.specs.declared.state.Fault.TheVariants as F
@@ -21,10 +21,10 @@ use Rattle.trace_check.specs.Checks.{EditFits, SendMayBe}
 use Rattle.trace_check.specs.Lawful.{Fault, fault_number, is_last}
 use Rattle.trace_check.specs.Networks.{AreKeptLinks, IsNetwork, IsStepOf, MakesIt}
 use Rattle.trace_check.specs.Outcomes.{ReadsNextText}
-use Rattle.trace_check.specs.Reads.{step_read}
+use Rattle.trace_lines.specs.Reads.{step_read}
 use Rattle.trace_check.specs.States.{Checks, fault_of, ChecksFree, ChecksHold, IsReachedState, reached_after, ReachedState, SparesAt}
 use Rattle.trace_check.specs.Tables.{IsIn}
-use Rattle.trace_check.specs.Words.{SpellsLine}
+use Rattle.trace_lines.specs.Words.{SpellsLine}
 use Rattle.trace_check.proofs.FaultLaws.{all_stand, below_allowed, below_come, below_step}
 
 stands : (r : ReachedState) (line : TraceLine) (short : Bool) (state : State)

@@ -9,7 +9,7 @@ use Rattle.fabric_trace.specs.Wires.{WireChars}
 use Rattle.trace_check.specs.Checks.{LinePasses}
 use Rattle.trace_check.specs.Lawful.{as_behind, OffWire}
 use Rattle.trace_check.specs.Wires.{are_short, told_wires, wires_after}
-use Rattle.trace_check.specs.Words.{SpellsLine}
+use Rattle.trace_lines.specs.Words.{SpellsLine}
 use Rattle.trace_check.proofs.Exclusive.{short_text, stands}
 
 -- one more line

@@ -6,7 +6,7 @@ use Rattle.trace_lines.specs.Lines.{TraceLine}
 use Rattle.trace_check.specs.Checks.{LinePasses}
 use Rattle.trace_check.specs.Lawful.{as_behind, PassFront}
 use Rattle.trace_check.specs.Wires.{are_short}
-use Rattle.trace_check.specs.Words.{SpellsLine}
+use Rattle.trace_lines.specs.Words.{SpellsLine}
 use Rattle.trace_check.proofs.Behind.{passes_alike, text_short}
 use Rattle.trace_check.proofs.Exclusive.{short_alike}
 

@@ -1,16 +1,8 @@
 pub mod Edits
 pub mod Lawful
-pub mod Wording
 pub mod Exclusive
-pub mod OneLine
-pub mod LineKeywords
-pub mod PlainLines
-pub mod PrintedWords
 pub mod Legal
 pub mod Running
-pub mod ReadLaws
-pub mod FieldLaws
-pub mod KeywordLaws
 pub mod HearingLaws
 pub mod StopLaws
 pub mod TableLaws

@@ -11,7 +11,7 @@ use Rattle.trace_lines.specs.Lines.{Begun, Ended, Fired, Got, Lacked, Sent, Sign
 use Rattle.trace_check.specs.Networks.{IsStepOf}
 use Rattle.trace_check.specs.States.{IsEditIn, IsLineIn}
 use Rattle.trace_check.specs.Tables.{IsIn}
-use Rattle.trace_check.specs.Words.{IsScriptPort, LineFits, StepFits}
+use Rattle.trace_lines.specs.Words.{IsScriptPort, LineFits, StepFits}
 
 port_in : (known : Known) (p : PortRef) → IsScriptPort known p → IsIn (length known.names) p
 port_in known p is = record { node = is.0; port = is.1 }

@@ -7,7 +7,7 @@ use Rattle.trace_lines.specs.Lines.{TraceLine, steps_of}
 use Rattle.trace_check.specs.Checks.{LinePasses}
 use Rattle.trace_check.specs.Lawful.{as_behind, BehindLast, Fault, fault_number, HitsLine, HitsNext, is_last, IsLawful, IsUnlawful, SpellsNone, PassFront, SpellAll, SpellFront, Spares}
 use Rattle.trace_check.specs.Wires.{are_short}
-use Rattle.trace_check.specs.Words.{SpellsLine}
+use Rattle.trace_lines.specs.Words.{SpellsLine}
 use Rattle.trace_check.proofs.Behind.{text_short}
 use Rattle.trace_check.proofs.Exclusive.{same_line, stands}
 

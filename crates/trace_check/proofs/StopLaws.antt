@@ -13,7 +13,7 @@ use Rattle.trace_check.specs.Outcomes.{ReadsNextText}
 use Rattle.trace_check.specs.Reaches.{Reaches}
 use Rattle.trace_check.specs.States.{fault_of, IsReachedState, reached_after, ReachedState, SparesAt, unreached}
 use Rattle.trace_check.specs.Wires.{are_short}
-use Rattle.trace_check.specs.Words.{SpellsLine}
+use Rattle.trace_lines.specs.Words.{SpellsLine}
 use Rattle.trace_check.proofs.Behind.{text_short}
 use Rattle.trace_check.proofs.Fronts.{pass_more}
 use Rattle.trace_check.proofs.Reaching.{on_behind, other_behind, passes_so, stands_by, stands_so, start_behind}

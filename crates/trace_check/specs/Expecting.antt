@@ -21,7 +21,7 @@ use Rattle.trace_check.specs.Lawful.{as_behind, Fault, fault_number, PassFront, 
 use Rattle.trace_check.specs.Reaches.{Reaches}
 use Rattle.trace_check.specs.Running.{Come}
 use Rattle.trace_check.specs.States.{ReachedState, SparesAt}
-use Rattle.trace_check.specs.Words.{SpellsLine}
+use Rattle.trace_lines.specs.Words.{SpellsLine}
 
 -- the reasons of which it is told what would have been lawful: those of wires, holds, frees and
 -- packets that are sent

@@ -6,7 +6,7 @@ use Rattle.fabric_model.specs.Network.{Network}
 use Rattle.trace_lines.specs.Lines.{Short, Lacked, TraceLine, Ended, Undetected, steps_of}
 use Rattle.trace_check.specs.Checks.{OnWires, LineIsStep, HoldHasCome, IsAllowed, SendMayBe, net_after, LinePasses, PassAll}
 use Rattle.trace_check.specs.Wires.{are_short, wires_after}
-use Rattle.trace_check.specs.Words.{SpellsLine}
+use Rattle.trace_lines.specs.Words.{SpellsLine}
 
 -- the last line of a trace
 abbrev pub is_last : TraceLine → Bool

@@ -1,10 +1,7 @@
 pub mod Wires
 pub mod Checks
-pub mod Words
-pub mod Keywords
 pub mod Running
 pub mod Lawful
-pub mod Reads
 pub mod Tables
 pub mod States
 pub mod Reaches

@@ -13,7 +13,7 @@ use Rattle.trace_check.specs.declared.state.State.{State}
 use Rattle.script_input.specs.Inputs.{IsInput, set_up_texts, texts_of}
 use Rattle.trace_check.specs.Lawful.{fault_number, is_last, IsLawful, IsUnlawful, NoLine}
 use Rattle.trace_check.specs.States.{Checks, fault_of, IsLeast, ReachedState, SparesAt}
-use Rattle.trace_check.specs.Words.{SpellsLine}
+use Rattle.trace_lines.specs.Words.{SpellsLine}
 
 -- ---- of the whole input
 

@@ -3,14 +3,14 @@
 ghost use Rattle.std.specs.Prelude.{◌≡◌, ◌+◌, ◌<◌, false, [], ◌∷◌, length, IfOk};
 ghost use Rattle.trace_lines.specs.Lines.{steps_of};
 ghost use Rattle.trace_check.specs.Lawful.{is_last};
-ghost use Rattle.trace_check.specs.Reads.{line_read};
+ghost use Rattle.trace_lines.specs.Reads.{line_read};
 ghost use Rattle.trace_check.specs.Starting.{IsBegun, net_of, nodes_of};
 ghost use Rattle.trace_check.specs.States.{Checks, IsLineIn, IsReachedState, ReachedState, unreached};
 
-use crate::lines::TraceLine;
 use crate::state::{Fault, State};
 use fabric_script::SetUp;
 use std::alloc::{AllocError, Global};
+use trace_lines::TraceLine;
 
 /// What is known after lines of a trace.
 #[derive(Drop)]

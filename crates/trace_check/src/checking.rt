@@ -11,12 +11,11 @@ ghost use Rattle.trace_check.specs.Wires.{are_short};
 ghost use Rattle.trace_check.specs.declared.checking.CheckEnd.TheVariants.{NoMemory as OutOfMemory};
 
 use crate::checker::Checker;
-use crate::fields::LineEnd;
-use crate::reading::read_trace_line;
 use crate::state::Fault;
 use fabric_script::{Refusal, ScriptEnd, SetUp, read_set_up};
 use script_input::{next_line, split_input, unparted};
 use std::alloc::{AllocError, Global};
+use trace_lines::{LineEnd, read_trace_line};
 
 /// The reason if a line is of no form, or the last line does not come.
 const BAD_FORM: u8 = 21;

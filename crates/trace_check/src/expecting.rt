@@ -11,18 +11,15 @@ ghost use Rattle.trace_check.specs.Expecting.{HasExpected, IsExpected, IsExplain
 ghost use Rattle.script_input.specs.Inputs.{texts_of};
 ghost use Rattle.trace_check.specs.Lawful.{Fault, fault_number, IsUnlawful};
 ghost use Rattle.trace_check.specs.Outcomes.{HasUnlawful};
-ghost use Rattle.trace_check.specs.Reads.{line_read, step_read};
+ghost use Rattle.trace_lines.specs.Reads.{line_read, step_read};
 ghost use Rattle.trace_check.specs.Starting.{IsBegun, net_of, nodes_of};
 ghost use Rattle.trace_check.specs.States.{IsEditIn, IsLineIn, IsReachedState, ReachedState, SparesAt};
 ghost use Rattle.trace_check.specs.Networks.{IsStepOf};
 ghost use Rattle.trace_check.specs.Tables.{IsIn};
-ghost use Rattle.trace_check.specs.Words.{SpellsLine};
+ghost use Rattle.trace_lines.specs.Words.{SpellsLine};
 
 use crate::checker::Checker;
 use crate::checking::is_short;
-use crate::fields::LineEnd;
-use crate::lines::{Step, TraceLine};
-use crate::reading::read_trace_line;
 use crate::state::{State, edit_of};
 use arrayvec::ArrayVec;
 use fabric_script::{Line, PortRef, ScriptEnd, SetUp, read_set_up};
@@ -30,6 +27,7 @@ use rio_chars::Char;
 use rio_packets::Packet;
 use script_input::{next_line, split_input};
 use std::alloc::{AllocError, Global};
+use trace_lines::{LineEnd, Step, TraceLine, read_trace_line};
 
 /// What would have been lawful at a line, as far as one sentence can say it.
 #[derive(Debug, Drop)]

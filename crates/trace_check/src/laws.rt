@@ -1,18 +1,15 @@
 //! What lawful traces are: each law is the contract of a function with an empty body.
 
-ghost use Rattle.std.specs.Prelude.{◌≡◌, ℕ, List};
+ghost use Rattle.std.specs.Prelude.{ℕ, List};
 ghost use Rattle.fabric_script.specs.declared.lines.Numbered.{Numbered};
 ghost use Rattle.fabric_script.specs.Known.{Known, IsOrderly};
-ghost use Rattle.fabric_script.specs.Lines.{words_of};
 ghost use Rattle.fabric_model.specs.Laws.Lawful.{Lawful};
 ghost use Rattle.fabric_model.specs.Network.{Network};
 ghost use Rattle.trace_lines.specs.Lines.{TraceLine as ALine, steps_of};
 ghost use Rattle.fabric_trace.specs.Runs.{bare, set_up_all, Runs};
 ghost use Rattle.fabric_trace.specs.SetUps.{IsSetUp, MaySetUpAll};
-ghost use Rattle.trace_lines.specs.Text.{trace_line_text};
 ghost use Rattle.trace_check.specs.Checks.{PassAll, net_after};
 ghost use Rattle.trace_check.specs.Lawful.{IsLawful, IsUnlawful};
-ghost use Rattle.trace_check.specs.Words.{trace_words, LineFits, SpellsLine};
 
 /// No reason of wires, steps, holds, frees and packets sent hits a line of a trace of a script.
 pub fn every_trace_is_lawful()
@@ -25,24 +22,6 @@ pub fn every_trace_is_lawful()
 pub fn lawful_traces_are_legal()
     ensures { (net : Network) (lines : List ALine) → IsSetUp net → PassAll net lines
         → Lawful net (steps_of lines) (net_after net lines) }
-{}
-
-/// A text that has the words of a line is its text.
-pub fn words_are_the_text()
-    ensures { (names : List (List ℕ)) (text : List ℕ) (line : ALine)
-        → words_of text ≡ trace_words names line → text ≡ trace_line_text names line }
-{}
-
-/// A text spells one line of a trace at most.
-pub fn one_trace_line()
-    ensures { (known : Known) (text : List ℕ) (a b : ALine) → IsOrderly known
-        → SpellsLine known text a → SpellsLine known text b → a ≡ b }
-{}
-
-/// The text of a line that fits spells it.
-pub fn texts_spell_their_lines()
-    ensures { (known : Known) (line : ALine) → IsOrderly known → LineFits known line
-        → SpellsLine known (trace_line_text known.names line) line }
 {}
 
 /// Texts that are a lawful trace have no line that a reason hits.

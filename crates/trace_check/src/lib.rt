@@ -22,27 +22,16 @@ mod building;
 mod checker;
 mod checking;
 mod expecting;
-mod fields;
 mod hearing;
-mod keywords;
 mod lanes;
 mod laws;
-mod lines;
 mod links;
 mod network;
 mod places;
 mod queue;
-mod reading;
 mod sending;
 mod state;
-mod undetected;
 
 pub use checking::{CheckEnd, Unlawful, check_trace};
 pub use expecting::{Expected, expect};
-pub use fields::LineEnd;
-pub use laws::{
-    every_trace_is_lawful, lawful_or_unlawful, lawful_traces_are_legal, one_trace_line,
-    texts_spell_their_lines, words_are_the_text,
-};
-pub use lines::{Lack, Step, TraceLine};
-pub use reading::read_trace_line;
+pub use laws::{every_trace_is_lawful, lawful_or_unlawful, lawful_traces_are_legal};

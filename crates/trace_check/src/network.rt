@@ -8,12 +8,11 @@ ghost use Rattle.fabric_model.specs.Steps.{Answer, AtNode, ByDevice, Drop as ADr
 ghost use Rattle.fabric_trace.specs.Views.{packets_in};
 ghost use Rattle.fabric_model.specs.Serving.{next_at, response_at};
 ghost use Rattle.trace_check.specs.Networks.{AreKeptLinks, IsNetwork, IsStepOf, MakesIt, WaitsFirst, with_answered, with_lending, with_received, without_waiting};
-ghost use Rattle.trace_check.specs.Reads.{step_read};
+ghost use Rattle.trace_lines.specs.Reads.{step_read};
 ghost use Rattle.trace_check.specs.Tables.{IsIn};
 ghost use Rattle.maint_packets.specs.NextHops.{is_at_end};
 
 use crate::lanes::Lanes;
-use crate::lines::Step;
 use crate::links::Links;
 use crate::places::place_of;
 use fabric_script::PortRef;
@@ -22,6 +21,7 @@ use maint_registers::Registers;
 use rio_packets::Packet;
 use std::alloc::AllocError;
 use std::collections::VecDeque;
+use trace_lines::Step;
 
 /// How many packets of a priority a port may have to be sent, those that are lent among them.
 const PLACES: usize = 16;

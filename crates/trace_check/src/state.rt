@@ -9,14 +9,13 @@ ghost use Rattle.trace_check.specs.Checks.{SendMayBe};
 ghost use Rattle.trace_check.specs.Expecting.{OneIsLacked, wire_to};
 ghost use Rattle.trace_check.specs.Lawful.{fault_number};
 ghost use Rattle.trace_check.specs.Networks.{IsStepOf};
-ghost use Rattle.trace_check.specs.Reads.{step_read};
+ghost use Rattle.trace_lines.specs.Reads.{step_read};
 ghost use Rattle.trace_check.specs.Running.{run_of};
 ghost use Rattle.trace_check.specs.Starting.{IsBegun, net_of, nodes_of};
 ghost use Rattle.trace_check.specs.States.{Checks, fault_of, ChecksFree, ChecksHold, IsEditIn, IsLeast, IsReachedState, ReachedState, SparesAt, unreached};
 ghost use Rattle.trace_check.specs.Tables.{IsIn};
 
 use crate::hearing::Hearing;
-use crate::lines::Step;
 use crate::links::Links;
 use crate::network::Network;
 use crate::places::place_of;
@@ -26,6 +25,7 @@ use link_wires::Edit;
 use rio_chars::Char;
 use rio_packets::Packet;
 use std::alloc::{AllocError, Global};
+use trace_lines::Step;
 
 /// Why a line is not lawful, apart from its form.
 #[derive(Clone, Copy)]

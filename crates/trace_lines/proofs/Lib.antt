@@ -1,1 +1,9 @@
 pub mod WritingLaws
+pub mod FieldLaws
+pub mod KeywordLaws
+pub mod LineKeywords
+pub mod OneLine
+pub mod PlainLines
+pub mod PrintedWords
+pub mod ReadLaws
+pub mod Wording

@@ -1,22 +1,36 @@
-//! The lines of a trace over ports, written to an outbox.
+//! The lines of a trace over ports: what they say, their text, their writer and their reader.
 //!
-//! Promised: each function writes the text of one line, with its line feed; the watch writes the
-//! line of each note, in order.
+//! Promised: each function that writes writes the text of one line, with its line feed; the watch
+//! writes the line of each note, in order. A text is read as the line that it spells, and as no
+//! line exactly if it spells none, unless memory runs out; it spells one line at most.
 //!
 //! Left out: which lines a trace has.
 //!
+//! - `Lines`, `Text` and `Notes`, in `specs`: what a line says, its text, and the line of what is
+//!   noted of a link; `Words`: which text spells a line
 //! - `write_begun`: the line with which an event begins
 //! - `write_take` to `write_none`: the lines of an event
 //! - [`LinkLines`]: a watch of a link, which writes its notes
 //! - `write_end`, `write_undetected`: the last line
+//! - [`read_trace_line`]: a [`TraceLine`] from its text
 #![tactic(auto)]
 
 mod begun;
+mod fields;
+mod keywords;
+mod laws;
+mod lines;
+mod reading;
+mod reading_undetected;
 mod undetected;
 mod watching;
 mod writing;
 
 pub use begun::write_begun;
+pub use fields::LineEnd;
+pub use laws::{one_trace_line, texts_spell_their_lines, words_are_the_text};
+pub use lines::{Lack, Step, TraceLine};
+pub use reading::read_trace_line;
 pub use undetected::write_undetected;
 pub use watching::{LinkLines, port_at_side};
 pub use writing::{

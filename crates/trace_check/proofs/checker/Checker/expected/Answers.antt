@@ -1,5 +1,5 @@
 use Rattle.std.proofs.Common.{◌≡◌, sym, ◌∙◌, subst, rules, tests}
-use Rattle.trace_check.specs.Reads.{line_read}
+use Rattle.trace_lines.specs.Reads.{line_read}
 use Rattle.trace_check.specs.States.{IsLineIn, IsReachedState, SparesAt}
 use Rattle.trace_check.proofs.ExpectLaws.{if_some_map}
 use Rattle.trace_check.proofs.LineIn.{line_in}

@@ -1,5 +1,5 @@
 use Rattle.std.proofs.Common.{◌∙◌, sym, subst}
-use Rattle.trace_check.specs.Reads.{line_read}
+use Rattle.trace_lines.specs.Reads.{line_read}
 use Rattle.trace_check.specs.States.{IsLineIn}
 use Rattle.trace_check.proofs.AnswerLaws.{reads_by}
 use Rattle.trace_check.proofs.LineIn.{line_in}

@@ -1,10 +1,10 @@
 use Rattle.std.proofs.Common.{Bool, ℕ, IfOk, sym, subst}
 use Rattle.fabric_model.specs.Network.{Network}
-use Rattle.trace_check.specs.declared.lines.Step.{Step}
+use Rattle.trace_lines.specs.declared.lines.Step.{Step}
 use Rattle.trace_check.specs.declared.links.Links.{Links}
 use Rattle.trace_check.specs.declared.network.Network.{Network as Kept}
 use Rattle.trace_check.specs.Networks.{AreKeptLinks, IsNetwork, IsStepOf, MakesIt}
-use Rattle.trace_check.specs.Reads.{step_read}
+use Rattle.trace_lines.specs.Reads.{step_read}
 use Rattle.trace_check.proofs.NetworkLaws.{if_ok_map}
 use Rattle.trace_check.proofs.network.Network.make.Goals as goal
 

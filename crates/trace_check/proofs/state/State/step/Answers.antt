@@ -1,5 +1,5 @@
 use Rattle.std.proofs.Common.{◌≡◌, false, true, ap, rules, tests}
-use Rattle.trace_check.specs.Reads.{step_read}
+use Rattle.trace_lines.specs.Reads.{step_read}
 use Rattle.trace_check.proofs.AnswerLaws.{device_made, free_allowed, free_early, hold_came, hold_late, node_made, not_made}
 use Rattle.trace_check.proofs.state.State.step.Goals as goal
 

@@ -1,8 +1,0 @@
-use Rattle.trace_check.proofs.PrintedWords.{printed_words}
-use Rattle.trace_check.proofs.laws.texts_spell_their_lines.Goals as goal
-
-pub returns : goal.returns
-returns c = λ known line orderly fits. record {
-  words = printed_words known line orderly fits;
-  fits = fits;
-}

@@ -1,5 +1,0 @@
-use Rattle.trace_check.proofs.Wording.{words_text}
-use Rattle.trace_check.proofs.laws.words_are_the_text.Goals as goal
-
-pub returns : goal.returns
-returns c = words_text
