@@ -8,7 +8,7 @@ use Rattle.link_watch.specs.declared.side.Side.{Side}
 use Rattle.link_watch.specs.declared.side.Side.TheVariants.{A, B}
 use Rattle.host_enumerate.specs.declared.maint.Access.TheVariants.{Read, Write}
 use Rattle.contest_machine.specs.declared.stages.Asked.{Asked}
-use Rattle.contest_machine.specs.declared.stages.Pending.{Pending}
+use Rattle.contest_machine.specs.declared.stages.PendingWrite.{PendingWrite}
 use Rattle.contest_machine.specs.declared.stages.Stage.{Stage}
 use Rattle.contest_machine.specs.declared.stages.Stage.TheVariants.{Ask, Claim, Check, Test, Features, Information, Status, Free, Done, Lost}
 use Rattle.contest_machine.specs.Machine.{Walker, State, fresh, asked, wants_at, wants_with, wants}
@@ -27,7 +27,7 @@ use Rattle.contest_asking.proofs.Guided.{AreOut, AreBehindHost, PathIs, IsGuided
 use Rattle.contest_asking.proofs.Carried.{along_carried, along_short}
 
 -- a walker that has not taken in its host asks its host alone
-first_own : (view : Topology) (id : ℕ) (begun : Bool) (stage : Stage) (todo : List Pending)
+first_own : (view : Topology) (id : ℕ) (begun : Bool) (stage : Stage) (todo : List PendingWrite)
     (ask : Asked) → AreOwnWrites (fresh stage []) todo
     → wants_with (starter view id begun stage todo) todo ≡ Some ask → ask.path ≡ []
 first_own view id begun stage [] ask own wanted = at stage wanted

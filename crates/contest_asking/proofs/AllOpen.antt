@@ -16,7 +16,7 @@ use Rattle.host_enumerate.specs.Underway.{AreOwnUntagged}
 use Rattle.link_watch.specs.declared.side.Side.{Side}
 use Rattle.link_watch.specs.declared.side.Side.TheVariants.{A, B}
 use Rattle.contest_machine.specs.declared.stages.Asked.{Asked}
-use Rattle.contest_machine.specs.declared.stages.Pending.{Pending}
+use Rattle.contest_machine.specs.declared.stages.PendingWrite.{PendingWrite}
 use Rattle.contest_machine.specs.declared.stages.Tried.{Tried}
 use Rattle.contest_machine.specs.declared.stages.Stage.{Stage}
 use Rattle.contest_machine.specs.declared.stages.Stage.TheVariants.{Ask, Claim, Check, Test, Features, Information, Status, Free, Done, Lost}
@@ -231,7 +231,7 @@ module _ (w : Walker) (now : AllRegisters) (opening : IsOpening w now) where
   pub asked_opened : (ask : Asked) → wants w ≡ Some ask → IsOpened w.view now w.id ask.path
   asked_opened ask wanted = go w.todo opening.writes opening.stands wanted
     where
-      go : (todo : List Pending) → AreOpen w.view w.devices w.id now todo
+      go : (todo : List PendingWrite) → AreOpen w.view w.devices w.id now todo
           → IsOpenAt w.view w.devices w.id w.path w.tried (performed w.view now todo) w.stage
           → wants_with w todo ≡ Some ask → IsOpened w.view now w.id ask.path
       go [] writes stands wanted = stage_asked w.stage stands ask wanted
@@ -295,7 +295,7 @@ module _ (w : Walker) (now : AllRegisters) (proper : IsTopology w.view) (mine : 
   leaving_carried : (ask : Asked) → wants w ≡ Some ask → Carries ask
   leaving_carried ask wanted = go w.todo mine.own wanted
     where
-      go : (todo : List Pending) → AreOwnWrites (kept w) todo → wants_with w todo ≡ Some ask
+      go : (todo : List PendingWrite) → AreOwnWrites (kept w) todo → wants_with w todo ≡ Some ask
           → Carries ask
       go [] own wanted =
           subst Carries (same_Some (asked (last_path w.devices) (Write 0x68 w.id)) ask
@@ -308,7 +308,7 @@ module _ (w : Walker) (now : AllRegisters) (proper : IsTopology w.view) (mine : 
   pub leaving_short : (ask : Asked) → wants w ≡ Some ask → length ask.path ≤ 64
   leaving_short ask wanted = go w.todo mine.own wanted
     where
-      go : (todo : List Pending) → AreOwnWrites (kept w) todo → wants_with w todo ≡ Some ask
+      go : (todo : List PendingWrite) → AreOwnWrites (kept w) todo → wants_with w todo ≡ Some ask
           → length ask.path ≤ 64
       go [] own wanted =
           subst (λ (a : Asked). length a.path ≤ 64)

@@ -15,7 +15,7 @@ use Rattle.host_enumerate.specs.declared.maint.Access.TheVariants.{Read, Write}
 use Rattle.host_enumerate.specs.Accesses.{after_access}
 use Rattle.host_enumerate.proofs.Opening.{open_after_read}
 use Rattle.contest_machine.specs.declared.stages.Asked.{Asked}
-use Rattle.contest_machine.specs.declared.stages.Pending.{Pending}
+use Rattle.contest_machine.specs.declared.stages.PendingWrite.{PendingWrite}
 use Rattle.contest_machine.specs.declared.stages.Tried.{Tried}
 use Rattle.contest_machine.specs.declared.stages.Stage.{Stage}
 use Rattle.contest_machine.specs.declared.stages.Stage.TheVariants.{Ask, Claim, Check, Test, Features, Information, Status, Free, Done, Lost}
@@ -275,7 +275,7 @@ module _ (w : Walker) (now : AllRegisters) (within : WalkerIsWithin w) (mine : I
   wanted_free : (ask : Asked) → w.stage ≢ stages.Free → wants w ≡ Some ask → CanBe ask
   wanted_free ask on wanted = go w.todo refl wanted
     where
-      go : (todo : List Pending) → w.todo ≡ todo → wants_with w todo ≡ Some ask → CanBe ask
+      go : (todo : List PendingWrite) → w.todo ≡ todo → wants_with w todo ≡ Some ask → CanBe ask
       go [] is wanted = read_at w.stage refl ask on wanted
       go (p ∷ rest) is wanted =
           let own = subst (AreOwnWrites (kept w)) is mine.own in

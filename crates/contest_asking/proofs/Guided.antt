@@ -14,7 +14,7 @@ use Rattle.host_enumerate.specs.Underway.{id_after, met_as}
 use Rattle.fabric_map.specs.Walked.{onward}
 use Rattle.contest_numbering.proofs.Along.{not_empty}
 use Rattle.contest_machine.specs.declared.stages.Asked.{Asked}
-use Rattle.contest_machine.specs.declared.stages.Pending.{Pending}
+use Rattle.contest_machine.specs.declared.stages.PendingWrite.{PendingWrite}
 use Rattle.contest_machine.specs.declared.stages.Tried.{Tried}
 use Rattle.contest_machine.specs.declared.stages.Stage.{Stage}
 use Rattle.contest_machine.specs.declared.stages.Stage.TheVariants.{Ask, Claim, Check, Test, Features, Information, Status, Free, Done, Lost}
@@ -35,7 +35,7 @@ AreBehindHost [] = Unit {0}
 AreBehindHost (device ∷ rest) = IsBehindHost device.path device.kind × AreBehindHost rest
 
 -- no write is to the host
-abbrev pub AreOutside : List Pending → Type 0
+abbrev pub AreOutside : List PendingWrite → Type 0
 AreOutside [] = Unit {0}
 AreOutside (p ∷ rest) = (p.path ≢ []) × AreOutside rest
 
@@ -59,7 +59,7 @@ abbrev pub IsGuided : Walker → Type 0
 IsGuided w = AreOut w.tried × AreBehindHost w.devices
     × ((w.path ≡ []) ⊎ AreOutside w.todo) × PathIs w w.stage × IsPast w.devices w.path
 
-outside-append : (first second : List Pending) → AreOutside first → AreOutside second
+outside-append : (first second : List PendingWrite) → AreOutside first → AreOutside second
     → AreOutside (first ++ second)
 outside-append [] second one two = two
 outside-append (p ∷ rest) second one two = (one.0, outside-append rest second one.1 two)
@@ -258,7 +258,7 @@ module _ (w : Walker) (value : ℕ) (out : AreOut w.tried) (all : AreBehindHost 
   told_guided_at Lost known = (out, all, inr tt, tt, past)
 
 -- a write was made
-settled_guided : (w : Walker) (rest : List Pending) (stage : Stage) (path : List ℕ)
+settled_guided : (w : Walker) (rest : List PendingWrite) (stage : Stage) (path : List ℕ)
     → AreOut w.tried → AreBehindHost w.devices → (path ≡ []) ⊎ AreOutside rest
     → (stage ≡ Information → path ≢ []) → IsPast w.devices path
     → IsGuided (settled (record w { stage = stage; path = path }) rest stage path)
@@ -308,16 +308,16 @@ settled_guided w (q ∷ rest) Lost path out all todo known past =
 told_guided : (w : Walker) (value : ℕ) → IsGuided w → IsGuided (walker_told w value)
 told_guided w value guided = go w.todo guided.2 guided.3
   where
-    first : (p : Pending) (rest : List Pending) → (w.path ≡ []) ⊎ AreOutside (p ∷ rest)
+    first : (p : PendingWrite) (rest : List PendingWrite) → (w.path ≡ []) ⊎ AreOutside (p ∷ rest)
         → (w.path ≡ []) ⊎ AreOutside rest
     first p rest (inl same) = inl same
     first p rest (inr outside) = inr outside.1
 
-    informed : (stage : Stage) (todo : List Pending) → PathIs (record w { todo = todo }) stage
+    informed : (stage : Stage) (todo : List PendingWrite) → PathIs (record w { todo = todo }) stage
         → stage ≡ Information → w.path ≢ []
     informed stage todo known is = subst (PathIs (record w { todo = todo })) is known
 
-    go : (todo : List Pending) → (w.path ≡ []) ⊎ AreOutside todo
+    go : (todo : List PendingWrite) → (w.path ≡ []) ⊎ AreOutside todo
         → PathIs (record w { todo = todo }) w.stage
         → IsGuided (walker_told (record w { todo = todo })
         value)

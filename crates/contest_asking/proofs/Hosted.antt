@@ -17,7 +17,7 @@ use Rattle.host_enumerate.specs.Accesses.{after_access}
 use Rattle.host_enumerate.specs.Underway.{IsUnderway}
 use Rattle.host_enumerate.proofs.Frames.{with_device-other}
 use Rattle.host_enumerate.proofs.Meeting.{IsMember}
-use Rattle.contest_machine.specs.declared.stages.Pending.{Pending}
+use Rattle.contest_machine.specs.declared.stages.PendingWrite.{PendingWrite}
 use Rattle.contest_machine.specs.Contest.{AreOwnWrites}
 use Rattle.contest_numbering.proofs.OnWay.{one_performed, performed}
 use Rattle.contest_asking.proofs.Guided.{AreOutside}
@@ -82,7 +82,8 @@ module _ (view : Topology) (before seen : AllRegisters) (id next : ℕ) (devices
       has (Switch ports entry) is shown = absurd (cc)
 
 -- writes to other devices leave the host
-pub host_stays : (view : Topology) (all : List (List ℕ)) (todo : List Pending) (now : AllRegisters)
+pub host_stays : (view : Topology) (all : List (List ℕ)) (todo : List PendingWrite)
+    (now : AllRegisters)
     → ((path : List ℕ) (at : PortRef) → Contains all path → entered view path ≡ Some at
     → path ≢ [] → at.node ≢ view.host)
     → AreOwnWrites all todo → AreOutside todo

@@ -24,7 +24,7 @@ use Rattle.host_enumerate.specs.Setting.{with_entry}
 use Rattle.host_enumerate.proofs.Frames.{with_device-at, with_device-other}
 use Rattle.host_enumerate.proofs.Keeping.{next-with_entry}
 use Rattle.host_enumerate.proofs.Routing.{entry_sends}
-use Rattle.contest_machine.specs.declared.stages.Pending.{Pending}
+use Rattle.contest_machine.specs.declared.stages.PendingWrite.{PendingWrite}
 use Rattle.contest_machine.specs.Machine.{entry_set, route_of, route_pending, routes_to}
 use Rattle.contest_numbering.proofs.OnWay.{performed}
 use Rattle.contest_numbering.proofs.Leading.{performed-append}
@@ -112,7 +112,7 @@ module _ (view : Topology) (proper : IsTopology view) (id : ℕ) (fits : id < 25
     few : (now at.node).ports ≤ 16
     few = (stands.shown.devices at.node inside).most_ports
 
-    abbrev todo : List Pending
+    abbrev todo : List PendingWrite
     todo = entry_set here 255 port
 
     abbrev new : AllRegisters

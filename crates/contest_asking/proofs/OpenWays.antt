@@ -17,7 +17,7 @@ use Rattle.host_enumerate.specs.Accesses.{after_write, after_access, answered, r
 use Rattle.host_enumerate.proofs.Askable.{opened-empty, opened-first, never_empty, never_single}
 use Rattle.host_enumerate.proofs.Frames.{with_device-at, with_device-other}
 use Rattle.host_enumerate.proofs.Routing.{opened-front}
-use Rattle.contest_machine.specs.declared.stages.Pending.{Pending}
+use Rattle.contest_machine.specs.declared.stages.PendingWrite.{PendingWrite}
 use Rattle.contest_machine.specs.Contest.{AreOwnWrites}
 use Rattle.contest_machine.proofs.Lists.{Leads}
 use Rattle.contest_numbering.proofs.OnWay.{one_performed, performed}
@@ -34,7 +34,7 @@ pub record IsWay (view : Topology) (devices : List map.Device) (id : ℕ) (now :
   pub passes : PassesListed view devices path
 
 -- each write that is left finds its way open, once those before it are made
-abbrev pub AreOpen : Topology → List map.Device → ℕ → AllRegisters → List Pending → Type 0
+abbrev pub AreOpen : Topology → List map.Device → ℕ → AllRegisters → List PendingWrite → Type 0
 AreOpen view devices id now [] = Unit {0}
 AreOpen view devices id now (p ∷ rest) =
     IsWay view devices id now p.path
@@ -111,7 +111,8 @@ module _ (view : Topology) (id : ℕ) where
     passes = way.passes;
   }
 
-  pub open-append : (devices : List map.Device) (now : AllRegisters) (first second : List Pending)
+  pub open-append : (devices : List map.Device) (now : AllRegisters)
+      (first second : List PendingWrite)
       → AreOpen view devices id now first
       → AreOpen view devices id (performed view now first) second
       → AreOpen view devices id now (first ++ second)
@@ -121,7 +122,7 @@ module _ (view : Topology) (id : ℕ) where
     open-append devices (one_performed now p (entered view p.path)) rest second one.1 two,
   )
 
-  pub open-more : (devices more : List map.Device) (now : AllRegisters) (todo : List Pending)
+  pub open-more : (devices more : List map.Device) (now : AllRegisters) (todo : List PendingWrite)
       → ((one : List ℕ) → Contains (paths_of devices) one → Contains (paths_of more) one)
       → AreOpen view devices id now todo → AreOpen view more id now todo
   open-more devices more now [] on open_now = tt
@@ -132,7 +133,7 @@ module _ (view : Topology) (id : ℕ) where
 
   -- what is kept stays
   pub open-stays : (devices : List map.Device) (paths : List (List ℕ)) (old new : AllRegisters)
-      (todo : List Pending) → AreOwnWrites paths todo
+      (todo : List PendingWrite) → AreOwnWrites paths todo
       → ((one : List ℕ) → Contains (paths_of devices) one → Contains paths one)
       → ((node : ℕ) → Leads view paths node → new node ≡ old node)
       → AreOpen view devices id old todo → AreOpen view devices id new todo
@@ -147,7 +148,7 @@ module _ (view : Topology) (id : ℕ) where
   )
 
   -- writes to the device on an open path, which it does not pass
-  pub at_one : (devices : List map.Device) (path : List ℕ) (at : PortRef) (todo : List Pending)
+  pub at_one : (devices : List map.Device) (path : List ℕ) (at : PortRef) (todo : List PendingWrite)
       (now : AllRegisters) → entered view path ≡ Some at → AreAt path todo
       → PassesOthers view path at.node → IsWay view devices id now path
       → AreOpen view devices id now todo
@@ -206,7 +207,8 @@ module _ (view : Topology) (id : ℕ) where
       (ap (λ d. next_port d 255) written) (ap (λ d. next_port d id) written)
 
 -- what shows the fabric still does after the writes that are left
-pub performed_fits : (view : Topology) (now : AllRegisters) (todo : List Pending) → Fits view now
+pub performed_fits : (view : Topology) (now : AllRegisters) (todo : List PendingWrite)
+    → Fits view now
     → Fits view (performed view now todo)
 performed_fits view now [] shown = shown
 performed_fits view now (p ∷ rest) shown =

@@ -7,7 +7,7 @@ use Rattle.fabric_map.specs.Topology.{entered}
 use Rattle.fabric_map.specs.Routes.{AllRegisters}
 use Rattle.host_enumerate.specs.declared.maint.Access.TheVariants.{Read, Write}
 use Rattle.contest_machine.specs.declared.stages.Asked.{Asked}
-use Rattle.contest_machine.specs.declared.stages.Pending.{Pending}
+use Rattle.contest_machine.specs.declared.stages.PendingWrite.{PendingWrite}
 use Rattle.contest_machine.specs.declared.stages.Tried.{Tried}
 use Rattle.contest_machine.specs.declared.stages.Stage.{Stage}
 use Rattle.contest_machine.specs.declared.stages.Stage.TheVariants.{Ask, Claim, Check, Test, Features, Information, Status, Free, Done, Lost}
@@ -76,7 +76,7 @@ module _ (w : Walker) (now : AllRegisters) (within : WalkerIsWithin w) (mine : I
   pub asked_leads : (ask : Asked) → wants w ≡ Some ask → Leads ask
   asked_leads ask wanted = go w.todo mine.own wanted
     where
-      go : (todo : List Pending) → AreOwnWrites (kept w) todo → wants_with w todo ≡ Some ask
+      go : (todo : List PendingWrite) → AreOwnWrites (kept w) todo → wants_with w todo ≡ Some ask
           → Leads ask
       go [] own wanted = stage_leads w.stage led.1 ask wanted
       go (p ∷ rest) own wanted =

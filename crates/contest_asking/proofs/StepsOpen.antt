@@ -19,7 +19,7 @@ use Rattle.host_enumerate.specs.Underway.{IsUnmet, IsUnderway}
 use Rattle.host_enumerate.proofs.Frames.{with_device-at, with_device-other}
 use Rattle.host_enumerate.proofs.Keeping.{underway-same, next-home}
 use Rattle.contest_machine.specs.declared.stages.Asked.{Asked}
-use Rattle.contest_machine.specs.declared.stages.Pending.{Pending}
+use Rattle.contest_machine.specs.declared.stages.PendingWrite.{PendingWrite}
 use Rattle.contest_machine.specs.declared.stages.Tried.{Tried}
 use Rattle.contest_machine.specs.declared.stages.Stage.{Stage}
 use Rattle.contest_machine.specs.declared.stages.Stage.TheVariants.{Ask, Claim, Check, Test, Features, Information, Status, Free, Done, Lost}
@@ -335,14 +335,14 @@ module _ (w : Walker) (old : AllRegisters) (fits : w.id < 0xff) (proper : IsTopo
 
 -- ---- a write
 
-write_opening : (w : Walker) (p : Pending) (old : AllRegisters) (at : PortRef)
-    → entered w.view p.path ≡ Some at → (rest : List Pending) (stage : Stage) (path : List ℕ)
+write_opening : (w : Walker) (p : PendingWrite) (old : AllRegisters) (at : PortRef)
+    → entered w.view p.path ≡ Some at → (rest : List PendingWrite) (stage : Stage) (path : List ℕ)
     → IsOpening (record w { todo = p ∷ rest; stage = stage; path = path }) old
     → IsOpening (settled (record w { todo = p ∷ rest; stage = stage; path = path }) rest stage path)
     (after_access old at (Write p.offset p.value))
 write_opening w p old at enters = go
   where
-    one : (rest : List Pending) (stage : Stage) (path : List ℕ)
+    one : (rest : List PendingWrite) (stage : Stage) (path : List ℕ)
         → IsOpening (record w { todo = p ∷ rest; stage = stage; path = path }) old
         → IsOpening (record w { todo = rest; stage = stage; path = path })
         (after_access old at (Write p.offset p.value))
@@ -353,7 +353,7 @@ write_opening w p old at enters = go
           (performed w.view (one_performed old p o) rest) stage) enters opening.stands;
     }
 
-    go : (rest : List Pending) (stage : Stage) (path : List ℕ)
+    go : (rest : List PendingWrite) (stage : Stage) (path : List ℕ)
         → IsOpening (record w { todo = p ∷ rest; stage = stage; path = path }) old
         → IsOpening (settled (record w { todo = p ∷ rest; stage = stage; path = path }) rest stage
         path) (after_access old at (Write p.offset p.value))
@@ -379,7 +379,7 @@ pub step_opening : (w : Walker) (old : AllRegisters) → w.id < 0xff → IsTopol
 step_opening w old fits proper shown few guided led coming opening =
     go w.todo w.stage w.path few guided led coming opening
   where
-    go : (todo : List Pending) (stage : Stage) (path : List ℕ)
+    go : (todo : List PendingWrite) (stage : Stage) (path : List ℕ)
         → (stage ≡ Features → w.next ≤ 65)
         → IsGuided (record w { todo = todo; stage = stage; path = path })
         → IsLed (record w { todo = todo; stage = stage; path = path })

@@ -22,7 +22,7 @@ use Rattle.host_enumerate.proofs.Askable.{split-onward, opened-onward}
 use Rattle.host_enumerate.proofs.Frames.{with_device-at}
 use Rattle.host_enumerate.proofs.Keeping.{next-with_entry}
 use Rattle.host_enumerate.proofs.Routing.{entry_sends, opened-entry, sends_is_switch, enters_before}
-use Rattle.contest_machine.specs.declared.stages.Pending.{Pending}
+use Rattle.contest_machine.specs.declared.stages.PendingWrite.{PendingWrite}
 use Rattle.contest_machine.specs.declared.stages.Tried.{Tried}
 use Rattle.contest_machine.specs.declared.stages.Stage.{Stage}
 use Rattle.contest_machine.specs.declared.stages.Stage.TheVariants.{Information, Status}
@@ -43,7 +43,7 @@ use Rattle.contest_asking.proofs.Opened.{IsOpening, AreNested, top_here, gone_op
 module _ (view : Topology) (devices : List Device) (id given : ℕ) (path : List ℕ)
     (not_all : 255 ≢ given) (not_host : id ≢ given) (few : given < 256) (end : PortRef)
     (leads : entered view path ≡ Some end) where
-  abbrev Both : AllRegisters → List Pending → Type 0
+  abbrev Both : AllRegisters → List PendingWrite → Type 0
   Both now todo = AreOpen view devices id now todo
       × IsWay view devices id (performed view now todo) path
 
@@ -166,14 +166,14 @@ module _ (w : Walker) (now : AllRegisters) where
   given = id_after w.id w.next
 
   -- the ID is written to the endpoint
-  abbrev numbers : List ℕ → Pending
+  abbrev numbers : List ℕ → PendingWrite
   numbers path = write path 0x60 (given * 0x10000)
 
   abbrev with_endpoint : List ℕ → List Device
   with_endpoint path = w.devices ++ met_as w.devices (Endpoint given) path ∷ []
 
   -- all that is written for it
-  abbrev given_writes : List ℕ → List Pending
+  abbrev given_writes : List ℕ → List PendingWrite
   given_writes path = numbers path ∷ routes_to w.devices path given
 
   abbrev with_switch : ℕ → ℕ → List Device

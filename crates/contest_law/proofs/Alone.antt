@@ -3,7 +3,7 @@ use Rattle.std.proofs.Common.{◌≡◌, ◌≢◌, ℕ, ◌+◌, ◌≤◌, Lis
 use Rattle.fabric_map.specs.Routes.{AllRegisters}
 use Rattle.link_watch.specs.declared.side.Side.{Side}
 use Rattle.link_watch.specs.declared.side.Side.TheVariants.{A, B}
-use Rattle.contest_machine.specs.declared.stages.Pending.{Pending}
+use Rattle.contest_machine.specs.declared.stages.PendingWrite.{PendingWrite}
 use Rattle.contest_machine.specs.declared.stages.Turn.{Turn}
 use Rattle.contest_machine.specs.declared.stages.Turn.TheVariants as Turns
 use Rattle.contest_machine.specs.declared.stages.Stage.{Stage}
@@ -73,7 +73,7 @@ done_stage : (w after : Walker) (stage : Stage) → came_at w after stage ≡ Tu
     → (stage ≡ Done) × (after.todo ≡ [])
 done_stage w after Ask is = absurd (waiting w.todo after.todo is)
   where
-    waiting : (todo left : List Pending) → waits_or_goes todo left ≢ Turns.Done
+    waiting : (todo left : List PendingWrite) → waits_or_goes todo left ≢ Turns.Done
     waiting [] [] = λ e. cc
     waiting (p ∷ rest) left = λ e. cc
     waiting [] (p ∷ rest) = λ e. cc
@@ -86,12 +86,12 @@ done_stage w after Status is = absurd (cc)
 done_stage w after Free is = absurd (cc)
 done_stage w after Done is = (refl, clear after.todo is)
   where
-    clear : (left : List Pending) → ends left Turns.Done ≡ Turns.Done → left ≡ []
+    clear : (left : List PendingWrite) → ends left Turns.Done ≡ Turns.Done → left ≡ []
     clear [] e = refl
     clear (p ∷ rest) e = absurd (cc)
 done_stage w after Lost is = absurd (lost after.todo is)
   where
-    lost : (left : List Pending) → ends left Turns.Lost ≢ Turns.Done
+    lost : (left : List PendingWrite) → ends left Turns.Lost ≢ Turns.Done
     lost [] = λ e. cc
     lost (p ∷ rest) = λ e. cc
 

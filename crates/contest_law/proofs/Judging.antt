@@ -14,7 +14,7 @@ use Rattle.host_enumerate.specs.Accesses.{answered}
 use Rattle.host_enumerate.specs.Underway.{id_after, met_as}
 use Rattle.link_watch.specs.declared.side.Side.{Side}
 use Rattle.contest_machine.specs.declared.stages.Asked.{Asked}
-use Rattle.contest_machine.specs.declared.stages.Pending.{Pending}
+use Rattle.contest_machine.specs.declared.stages.PendingWrite.{PendingWrite}
 use Rattle.contest_machine.specs.declared.stages.Tried.{Tried}
 use Rattle.contest_machine.specs.declared.stages.Turn.TheVariants as Turns
 use Rattle.contest_machine.specs.declared.stages.Stage.{Stage}
@@ -96,7 +96,7 @@ module _ (id : ℕ) (locks : List ℕ) where
   outward_judged w [] is none = (is, none)
   outward_judged w (top ∷ rest) is none = (is, none)
 
-  settled_judged : (w : Walker) (rest : List Pending) (stage : Stage) (path : List ℕ)
+  settled_judged : (w : Walker) (rest : List PendingWrite) (stage : Stage) (path : List ℕ)
       → w.id ≡ id → IsJudgedAt id locks (record w { todo = rest }) stage
       → IsJudged id locks (settled (record w { stage = stage }) rest stage path)
   settled_judged w (q ∷ rest) stage path is holds = (is, holds)
@@ -256,7 +256,7 @@ step_judged : (id : ℕ) (locks : List ℕ) (w : Walker) (old : AllRegisters) �
     → IsJudged id (locks ++ lock_next (state_of w old)) (stepped w old).walker
 step_judged id locks w old holds = go w.todo w.stage holds
   where
-    still : (p : Pending) (rest : List Pending) (stage : Stage)
+    still : (p : PendingWrite) (rest : List PendingWrite) (stage : Stage)
         → IsJudgedAt id locks (record w { todo = p ∷ rest }) stage
         → IsJudgedAt id locks (record w { todo = rest }) stage
     still p rest Ask none = none
@@ -270,7 +270,7 @@ step_judged id locks w old holds = go w.todo w.stage holds
     still p rest Done none = none
     still p rest Lost some = absurd (some_left p rest some.2)
 
-    go : (todo : List Pending) (stage : Stage)
+    go : (todo : List PendingWrite) (stage : Stage)
         → IsJudged id locks (record w { todo = todo; stage = stage })
         → IsJudged id (locks ++ lock_next (state_of (record w { todo = todo; stage = stage }) old))
         (stepped (record w { todo = todo; stage = stage }) old).walker
@@ -287,7 +287,7 @@ pub lost_stage : (w after : Walker) (stage : Stage) → came_at w after stage �
     → stage ≡ Lost
 lost_stage w after Ask is = absurd (waiting w.todo after.todo is)
   where
-    waiting : (todo left : List Pending) → waits_or_goes todo left ≢ Turns.Lost
+    waiting : (todo left : List PendingWrite) → waits_or_goes todo left ≢ Turns.Lost
     waiting [] [] e = cc
     waiting (p ∷ rest) left e = cc
     waiting [] (p ∷ rest) e = cc
@@ -300,7 +300,7 @@ lost_stage w after Status is = absurd (cc)
 lost_stage w after Free is = absurd (cc)
 lost_stage w after Done is = absurd (done after.todo is)
   where
-    done : (left : List Pending) → ends left Turns.Done ≢ Turns.Lost
+    done : (left : List PendingWrite) → ends left Turns.Done ≢ Turns.Lost
     done [] e = cc
     done (p ∷ rest) e = cc
 lost_stage w after Lost is = refl

@@ -15,7 +15,7 @@ use Rattle.host_enumerate.specs.declared.maint.Access.TheVariants.{Read, Write}
 use Rattle.host_enumerate.specs.Accesses.{after_read, after_write, answered, after_access}
 use Rattle.host_enumerate.specs.Underway.{id_after, met_as}
 use Rattle.contest_machine.specs.declared.stages.Asked.{Asked}
-use Rattle.contest_machine.specs.declared.stages.Pending.{Pending}
+use Rattle.contest_machine.specs.declared.stages.PendingWrite.{PendingWrite}
 use Rattle.contest_machine.specs.declared.stages.Tried.{Tried}
 use Rattle.contest_machine.specs.declared.stages.Stage.{Stage}
 use Rattle.contest_machine.specs.declared.stages.Stage.TheVariants.{Ask, Claim, Check, Test, Features, Information, Status, Free, Done, Lost}
@@ -125,7 +125,7 @@ module _ (w0 : Walker) where
   told_same w value Done same = moved (record w { stage = Done }) same.view same.id same.begun
   told_same w value Lost same = moved (record w { stage = Lost }) same.view same.id same.begun
 
-  settled_same : (w : Walker) (rest : List Pending) (stage : Stage) (path : List ℕ)
+  settled_same : (w : Walker) (rest : List PendingWrite) (stage : Stage) (path : List ℕ)
       → IsSameWalker w0 w → IsSameWalker w0 (settled (record w { stage = stage }) rest stage path)
   settled_same w [] Features [] same = record {
     view = same.view;
@@ -134,7 +134,7 @@ module _ (w0 : Walker) where
   }
   settled_same w rest stage path same = go rest stage path
     where
-      go : (rest : List Pending) (stage : Stage) (path : List ℕ)
+      go : (rest : List PendingWrite) (stage : Stage) (path : List ℕ)
           → IsSameWalker w0 (settled (record w { stage = stage }) rest stage path)
       go (q ∷ rest) stage path = record { view = same.view; id = same.id; begun = same.begun }
       go [] Ask path = record { view = same.view; id = same.id; begun = same.begun }
@@ -155,7 +155,7 @@ same_walker w = record { view = refl; id = refl; begun = refl }
 told_keeps : (w : Walker) (value : ℕ) → IsSameWalker w (walker_told w value)
 told_keeps w value = go w.todo w.stage w.path
   where
-    go : (todo : List Pending) (stage : Stage) (path : List ℕ)
+    go : (todo : List PendingWrite) (stage : Stage) (path : List ℕ)
         → IsSameWalker (record w { todo = todo; stage = stage; path = path })
         (walker_told (record w { todo = todo; stage = stage; path = path }) value)
     go [] stage path =

@@ -12,7 +12,7 @@ use Rattle.host_enumerate.specs.declared.maint.Access.TheVariants.{Read, Write}
 use Rattle.host_enumerate.specs.Accesses.{answered}
 use Rattle.host_enumerate.specs.Underway.{id_after, met_as}
 use Rattle.contest_machine.specs.declared.stages.Asked.{Asked}
-use Rattle.contest_machine.specs.declared.stages.Pending.{Pending}
+use Rattle.contest_machine.specs.declared.stages.PendingWrite.{PendingWrite}
 use Rattle.contest_machine.specs.declared.stages.Tried.{Tried}
 use Rattle.contest_machine.specs.declared.stages.Stage.{Stage}
 use Rattle.contest_machine.specs.declared.stages.Stage.TheVariants.{Ask, Claim, Check, Test, Features, Information, Status, Free, Done, Lost}
@@ -212,13 +212,14 @@ module _ (w : Walker) (before old : AllRegisters) (proper : IsTopology w.view)
   stage_led Lost led = led
 
 -- what was written does not matter, but that the host is taken in
-settled_led : (w : Walker) (p : Pending) (rest : List Pending) (stage : Stage) (path : List ℕ)
+settled_led : (w : Walker) (p : PendingWrite) (rest : List PendingWrite) (stage : Stage)
+    (path : List ℕ)
     → IsTopology w.view → AreAtSwitches w.view w.tried
     → IsLedAt (record w { todo = p ∷ rest; path = path }) stage
     → IsLed (settled (record w { todo = p ∷ rest; stage = stage; path = path }) rest stage path)
 settled_led w p rest stage path proper all led = go rest stage path led
   where
-    go : (rest : List Pending) (stage : Stage) (path : List ℕ)
+    go : (rest : List PendingWrite) (stage : Stage) (path : List ℕ)
         → IsLedAt (record w { todo = p ∷ rest; path = path }) stage
         → IsLed (settled (record w { todo = p ∷ rest; stage = stage; path = path }) rest stage
         path)
@@ -249,7 +250,7 @@ pub step_led : (w : Walker) (before old : AllRegisters) → IsTopology w.view �
     → AreSameDevices before old → IsLed w → IsLed (stepped w old).walker
 step_led w before old proper fits same led = go w.todo w.stage w.path led
   where
-    go : (todo : List Pending) (stage : Stage) (path : List ℕ)
+    go : (todo : List PendingWrite) (stage : Stage) (path : List ℕ)
         → IsLed (record w { todo = todo; stage = stage; path = path })
         → IsLed (stepped (record w { todo = todo; stage = stage; path = path }) old).walker
     go [] stage path led =

@@ -19,7 +19,7 @@ use Rattle.host_enumerate.specs.declared.maint.Access.TheVariants.{Read, Write}
 use Rattle.host_enumerate.specs.Accesses.{after_read, answered, after_access}
 use Rattle.host_enumerate.specs.Underway.{met_as}
 use Rattle.contest_machine.specs.declared.stages.Asked.{Asked}
-use Rattle.contest_machine.specs.declared.stages.Pending.{Pending}
+use Rattle.contest_machine.specs.declared.stages.PendingWrite.{PendingWrite}
 use Rattle.contest_machine.specs.declared.stages.Tried.{Tried}
 use Rattle.contest_machine.specs.declared.stages.Stage.{Stage}
 use Rattle.contest_machine.specs.declared.stages.Stage.TheVariants.{Ask, Claim, Check, Test, Features, Information, Status, Free, Done, Lost}
@@ -223,7 +223,7 @@ module _ (w : Walker) (before old : AllRegisters) (fits : w.id < 0xff) (shown : 
   }
 
 -- a write is left less
-settled_spends : (w : Walker) (old new : AllRegisters) (p : Pending) (rest : List Pending)
+settled_spends : (w : Walker) (old new : AllRegisters) (p : PendingWrite) (rest : List PendingWrite)
     (stage : Stage) (path : List ℕ)
     → WalkerIsWithin (record w { todo = p ∷ rest; stage = stage; path = path })
     → IsMine (record w { todo = p ∷ rest; stage = stage; path = path }) old
@@ -238,7 +238,7 @@ settled_spends w old new p rest stage path within mine led = go rest stage path 
     one before after less =
         one_less before after (turns_left after new) (turns_left before old) less
 
-    go : (rest : List Pending) (stage : Stage) (path : List ℕ)
+    go : (rest : List PendingWrite) (stage : Stage) (path : List ℕ)
         → WalkerIsWithin (record w { todo = p ∷ rest; stage = stage; path = path })
         → IsMine (record w { todo = p ∷ rest; stage = stage; path = path }) old
         → IsLedAt (record w { todo = p ∷ rest; path = path }) stage
@@ -328,7 +328,7 @@ pub step_spends : (w : Walker) (before old : AllRegisters) → w.id < 0xff → F
 step_spends w before old fits shown same mine within led =
     go w.todo w.stage w.path mine within led
   where
-    go : (todo : List Pending) (stage : Stage) (path : List ℕ)
+    go : (todo : List PendingWrite) (stage : Stage) (path : List ℕ)
         → IsMine (record w { todo = todo; stage = stage; path = path }) old
         → WalkerIsWithin (record w { todo = todo; stage = stage; path = path })
         → IsLed (record w { todo = todo; stage = stage; path = path })

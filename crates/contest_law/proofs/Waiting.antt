@@ -11,7 +11,7 @@ use Rattle.host_enumerate.specs.declared.maint.Access.TheVariants.{Read, Write}
 use Rattle.host_enumerate.specs.Accesses.{answered}
 use Rattle.host_enumerate.specs.Underway.{id_after, met_as}
 use Rattle.contest_machine.specs.declared.stages.Asked.{Asked}
-use Rattle.contest_machine.specs.declared.stages.Pending.{Pending}
+use Rattle.contest_machine.specs.declared.stages.PendingWrite.{PendingWrite}
 use Rattle.contest_machine.specs.declared.stages.Tried.{Tried}
 use Rattle.contest_machine.specs.declared.stages.Turn.{Turn}
 use Rattle.contest_machine.specs.declared.stages.Turn.TheVariants as Turns
@@ -29,7 +29,7 @@ use Rattle.contest_law.proofs.Led.{IsLed}
 abbrev IsNoWait : Walker → Walker → Type 0
 IsNoWait w after = came_of w after ≢ Turns.Waiting
 
-ends_no_wait : (todo : List Pending) (turn : Turn) → turn ≢ Turns.Waiting
+ends_no_wait : (todo : List PendingWrite) (turn : Turn) → turn ≢ Turns.Waiting
     → ends todo turn ≢ Turns.Waiting
 ends_no_wait [] turn other = other
 ends_no_wait (p ∷ rest) turn other = λ e. cc
@@ -48,7 +48,7 @@ no_wait_at w after Done other = ends_no_wait after.todo Turns.Done (λ e. cc)
 no_wait_at w after Lost other = ends_no_wait after.todo Turns.Lost (λ e. cc)
 
 -- a turn that writes does not wait
-writes_no_wait : (w after : Walker) (p : Pending) (rest : List Pending) (stage : Stage)
+writes_no_wait : (w after : Walker) (p : PendingWrite) (rest : List PendingWrite) (stage : Stage)
     → w.todo ≡ p ∷ rest → came_at w after stage ≢ Turns.Waiting
 writes_no_wait w after p rest Ask is =
     subst (λ t. waits_or_goes t after.todo ≢ Turns.Waiting) (sym is) (λ e. cc)
@@ -246,7 +246,7 @@ pub step_waits : (w : Walker) (old : AllRegisters) → w.id < 0xff → IsLed w
     → Waits w.id w (stepped w old).walker (lock_next (state_of w old))
 step_waits w old fits led = go w.todo w.stage led
   where
-    go : (todo : List Pending) (stage : Stage)
+    go : (todo : List PendingWrite) (stage : Stage)
         → IsLed (record w { todo = todo; stage = stage })
         → Waits w.id (record w { todo = todo; stage = stage })
         (stepped (record w { todo = todo; stage = stage }) old).walker

@@ -6,7 +6,7 @@ use Rattle.fabric_map.specs.Routes.{AllRegisters}
 use Rattle.fabric_map.specs.Numbered.{paths_of}
 use Rattle.host_enumerate.specs.declared.maint.Access.TheVariants.{Read, Write}
 use Rattle.host_enumerate.specs.Accesses.{answered, after_access}
-use Rattle.contest_machine.specs.declared.stages.Pending.{Pending}
+use Rattle.contest_machine.specs.declared.stages.PendingWrite.{PendingWrite}
 use Rattle.contest_machine.specs.declared.stages.Tried.{Tried}
 use Rattle.contest_machine.specs.declared.stages.Stage.{Stage}
 use Rattle.contest_machine.specs.declared.stages.Stage.TheVariants.{Ask, Claim, Check, Test, Features, Information, Status, Free, Done, Lost}
@@ -43,8 +43,8 @@ read_leaves w after old at offset leaves =
     subst (λ r. Leaves w old after r) (sym (read-same old at offset)) leaves
 
 -- The host is taken in as soon as it has its marks.
-settled_leaves : (w : Walker) (old : AllRegisters) → w.id < 0xff → (p : Pending)
-    (rest : List Pending) (stage : Stage) (path : List ℕ) (new : AllRegisters)
+settled_leaves : (w : Walker) (old : AllRegisters) → w.id < 0xff → (p : PendingWrite)
+    (rest : List PendingWrite) (stage : Stage) (path : List ℕ) (new : AllRegisters)
     → Leaves (record w { todo = p ∷ rest; stage = stage; path = path }) old
     (record w { todo = rest; stage = stage; path = path }) new
     → Leaves (record w { todo = p ∷ rest; stage = stage; path = path }) old
@@ -144,7 +144,7 @@ pub step_leaves : (w : Walker) (old : AllRegisters) → w.id < 0xff → IsMine w
     → Leaves w old (stepped w old).walker (stepped w old).registers
 step_leaves w old fits mine = go w.todo w.stage w.path mine
   where
-    go : (todo : List Pending) (stage : Stage) (path : List ℕ)
+    go : (todo : List PendingWrite) (stage : Stage) (path : List ℕ)
         → IsMine (record w { todo = todo; stage = stage; path = path }) old
         → Leaves (record w { todo = todo; stage = stage; path = path }) old
         (stepped (record w { todo = todo; stage = stage; path = path }) old).walker

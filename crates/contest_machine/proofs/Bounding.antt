@@ -10,7 +10,7 @@ use Rattle.fabric_map.proofs.Growing.{node_at-entered}
 use Rattle.fabric_map.proofs.Lists.{Contains-first}
 use Rattle.host_enumerate.specs.declared.maint.Access.TheVariants.{Read, Write}
 use Rattle.host_enumerate.specs.Accesses.{answered}
-use Rattle.contest_machine.specs.declared.stages.Pending.{Pending}
+use Rattle.contest_machine.specs.declared.stages.PendingWrite.{PendingWrite}
 use Rattle.contest_machine.specs.declared.stages.Tried.{Tried}
 use Rattle.contest_machine.specs.declared.stages.Stage.{Stage}
 use Rattle.contest_machine.specs.declared.stages.Stage.TheVariants.{Ask, Claim, Check, Test, Features, Information, Status, Free, Done, Lost}
@@ -161,13 +161,14 @@ module _ (w : Walker) (old : AllRegisters) where
   stage_within Lost within = within
 
 -- what was written does not matter, but that the host is taken in
-settled_within : (w : Walker) (p : Pending) (rest : List Pending) (stage : Stage) (path : List ℕ)
+settled_within : (w : Walker) (p : PendingWrite) (rest : List PendingWrite) (stage : Stage)
+    (path : List ℕ)
     → WalkerIsWithin (record w { todo = p ∷ rest; stage = stage; path = path })
     → WalkerIsWithin
     (settled (record w { todo = p ∷ rest; stage = stage; path = path }) rest stage path)
 settled_within w p rest stage path within = go rest stage path within
   where
-    same : (rest : List Pending) (stage : Stage) (path : List ℕ)
+    same : (rest : List PendingWrite) (stage : Stage) (path : List ℕ)
         → WalkerIsWithin (record w { todo = p ∷ rest; stage = stage; path = path })
         → WalkerIsWithin (record w { todo = rest; stage = stage; path = path })
     same rest stage path within = record {
@@ -176,7 +177,7 @@ settled_within w p rest stage path within = go rest stage path within
       bounded = within.bounded;
     }
 
-    go : (rest : List Pending) (stage : Stage) (path : List ℕ)
+    go : (rest : List PendingWrite) (stage : Stage) (path : List ℕ)
         → WalkerIsWithin (record w { todo = p ∷ rest; stage = stage; path = path })
         → WalkerIsWithin
         (settled (record w { todo = p ∷ rest; stage = stage; path = path }) rest stage
@@ -204,7 +205,7 @@ pub stepped_within : (w : Walker) (old : AllRegisters) → WalkerIsWithin w
     → WalkerIsWithin (stepped w old).walker
 stepped_within w old within = go w.todo w.stage w.path within
   where
-    go : (todo : List Pending) (stage : Stage) (path : List ℕ)
+    go : (todo : List PendingWrite) (stage : Stage) (path : List ℕ)
         → WalkerIsWithin (record w { todo = todo; stage = stage; path = path })
         → WalkerIsWithin (stepped (record w { todo = todo; stage = stage; path = path }) old).walker
     go [] stage path within = stage_within (record w { path = path }) old stage within

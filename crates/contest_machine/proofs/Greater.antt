@@ -8,7 +8,7 @@ use Rattle.fabric_map.specs.declared.map.Kind.TheVariants.{Endpoint}
 use Rattle.host_enumerate.specs.Underway.{id_after, met_as}
 use Rattle.host_enumerate.specs.declared.maint.Access.TheVariants.{Read, Write}
 use Rattle.host_enumerate.specs.Accesses.{answered}
-use Rattle.contest_machine.specs.declared.stages.Pending.{Pending}
+use Rattle.contest_machine.specs.declared.stages.PendingWrite.{PendingWrite}
 use Rattle.contest_machine.specs.declared.stages.Tried.{Tried}
 use Rattle.contest_machine.specs.declared.stages.Stage.{Stage}
 use Rattle.contest_machine.specs.declared.stages.Stage.TheVariants.{Ask, Claim, Check, Test, Features, Information, Status, Free, Done, Lost}
@@ -165,7 +165,7 @@ module _ (w : Walker) (old : AllRegisters) (small : (node : ℕ) → IsNoGreater
     stage_holds Done on = tt
     stage_holds Lost on = absurd on
 
-settled_holds : (w : Walker) (rest : List Pending) (stage : Stage) (path : List ℕ)
+settled_holds : (w : Walker) (rest : List PendingWrite) (stage : Stage) (path : List ℕ)
     → HoldsOn stage → HoldsOn (settled (record w { stage = stage }) rest stage path).stage
 settled_holds w (q ∷ rest) stage path on = on
 settled_holds w [] Ask path on = tt
@@ -185,7 +185,7 @@ stepped_holds : (w : Walker) (old : AllRegisters)
     → HoldsOn (stepped w old).walker.stage
 stepped_holds w old small on = go w.todo w.stage on
   where
-    go : (todo : List Pending) (stage : Stage) → HoldsOn stage
+    go : (todo : List PendingWrite) (stage : Stage) → HoldsOn stage
         → HoldsOn (stepped (record w { todo = todo; stage = stage }) old).walker.stage
     go [] stage on = stage_holds w old small stage on
     go (p ∷ rest) stage on =

@@ -7,7 +7,7 @@ use Rattle.fabric_map.specs.declared.map.Device.{Device}
 use Rattle.fabric_map.specs.Topology.{Topology, node_at}
 use Rattle.fabric_map.specs.Numbered.{paths_of}
 use Rattle.fabric_map.proofs.Lists.{Contains-first, Contains-rest, Contains-cases}
-use Rattle.contest_machine.specs.declared.stages.Pending.{Pending}
+use Rattle.contest_machine.specs.declared.stages.PendingWrite.{PendingWrite}
 use Rattle.contest_machine.specs.declared.stages.Tried.{Tried}
 use Rattle.contest_machine.specs.Machine.{last_path, but_last}
 use Rattle.contest_machine.specs.Contest.{IsOwnWrite, AreOwnWrites, AreListed, AreOnce}
@@ -95,7 +95,7 @@ split_last (device ∷ second ∷ rest) some =
     ap (λ l. device.path ∷ l) (split_last (second ∷ rest) (λ e. cc))
 
 -- more paths
-pub writes-more : (paths more : List (List ℕ)) (todo : List Pending)
+pub writes-more : (paths more : List (List ℕ)) (todo : List PendingWrite)
     → ((path : List ℕ) → Contains paths path → Contains more path)
     → AreOwnWrites paths todo → AreOwnWrites more todo
 writes-more paths more [] on own = tt
@@ -104,7 +104,7 @@ writes-more paths more (p ∷ rest) on own = (
   writes-more paths more rest on own.1,
 )
 
-pub writes-append : (paths : List (List ℕ)) (first second : List Pending)
+pub writes-append : (paths : List (List ℕ)) (first second : List PendingWrite)
     → AreOwnWrites paths first → AreOwnWrites paths second
     → AreOwnWrites paths (first ++ second)
 writes-append paths [] second own more = more

@@ -10,7 +10,7 @@ use Rattle.fabric_map.specs.Numbered.{paths_of}
 use Rattle.fabric_map.proofs.Growing.{paths_of-push}
 use Rattle.fabric_map.proofs.Lists.{Contains-first, Contains-cases}
 use Rattle.host_enumerate.specs.Underway.{id_after, met_as}
-use Rattle.contest_machine.specs.declared.stages.Pending.{Pending}
+use Rattle.contest_machine.specs.declared.stages.PendingWrite.{PendingWrite}
 use Rattle.contest_machine.specs.declared.stages.Tried.{Tried}
 use Rattle.contest_machine.specs.declared.stages.Stage.{Stage}
 use Rattle.contest_machine.specs.declared.stages.Stage.TheVariants.{Features, Information, Status}
@@ -87,7 +87,7 @@ module _ (w : Walker) (old : AllRegisters) (fits : w.id < 0xff) where
     tried_more = listed-more (paths_of w.devices) (paths_of (more kind)) w.tried listed_more
         mine.tried
 
-    own_more : (todo : List Pending) → AreOwnWrites (paths_of (more kind)) todo
+    own_more : (todo : List PendingWrite) → AreOwnWrites (paths_of (more kind)) todo
         → AreOwnWrites (paths_of (more kind) ++ []) todo
     own_more todo own = writes-more (paths_of (more kind)) (paths_of (more kind) ++ []) todo
         (λ path listed. Contains-append_left (paths_of (more kind)) [] path listed) own

@@ -15,7 +15,7 @@ use Rattle.fabric_map.proofs.Lists.{Contains-first, Contains-cases}
 use Rattle.host_enumerate.specs.declared.maint.Access.TheVariants.{Write}
 use Rattle.host_enumerate.specs.Accesses.{answered, after_access}
 use Rattle.host_enumerate.proofs.Frames.{with_device-at, with_device-other}
-use Rattle.contest_machine.specs.declared.stages.Pending.{Pending}
+use Rattle.contest_machine.specs.declared.stages.PendingWrite.{PendingWrite}
 use Rattle.contest_machine.specs.declared.stages.Stage.{Stage}
 use Rattle.contest_machine.specs.declared.stages.Stage.TheVariants.{Ask, Claim, Check, Test, Features, Information, Status, Free, Done, Lost}
 use Rattle.contest_machine.specs.Machine.{Walker, kept, freeing, gone_on, taken, judged, told_at}
@@ -29,10 +29,10 @@ use Rattle.contest_machine.proofs.Turning.{Leaves, quiet, judged_mine, taken_min
 abbrev pub at_stage : Walker → Stage → Walker
 at_stage w stage = record w { todo = []; stage = stage }
 
-pub some_left : (p : Pending) (rest : List Pending) → p ∷ rest ≢ []
+pub some_left : (p : PendingWrite) (rest : List PendingWrite) → p ∷ rest ≢ []
 some_left p rest e = cc
 
-tag-irrelevant : (path : List ℕ) (p : Pending) (rest : List Pending) (tag other : ℕ)
+tag-irrelevant : (path : List ℕ) (p : PendingWrite) (rest : List PendingWrite) (tag other : ℕ)
     → TagComes path (p ∷ rest) tag → TagComes path (p ∷ rest) other
 tag-irrelevant path p [] tag other comes = comes
 tag-irrelevant path p (q ∷ rest) tag other comes = tag-irrelevant path q rest tag other comes
@@ -44,7 +44,7 @@ one_node view path at node enters leads =
     same_Some node at.node (sym leads ∙ node_at-entered view path at enters)
 
 -- a write of the walker's own
-module _ (w : Walker) (old : AllRegisters) (p : Pending) (rest : List Pending)
+module _ (w : Walker) (old : AllRegisters) (p : PendingWrite) (rest : List PendingWrite)
     (mine : IsMine (record w { todo = p ∷ rest }) old) (at : PortRef)
     (enters : entered w.view p.path ≡ Some at) where
   abbrev written : AllRegisters
@@ -109,7 +109,8 @@ module _ (w : Walker) (old : AllRegisters) (p : Pending) (rest : List Pending)
           (same_lock node (inl same))
       does node (inr apart) = Nothing (beside node apart)
 
-      comes : (more : List Pending) → rest ≡ more → (node : ℕ) → node_at w.view w.path ≡ Some node
+      comes : (more : List PendingWrite) → rest ≡ more → (node : ℕ)
+          → node_at w.view w.path ≡ Some node
           → TagComes w.path (p ∷ more) (old node).tag → TagComes w.path more (written node).tag
       comes [] is node leads last = λ none.
           let same = one_node w.view p.path at node enters
@@ -135,7 +136,8 @@ module _ (w : Walker) (old : AllRegisters) (p : Pending) (rest : List Pending)
 
 module _ (w : Walker) (old : AllRegisters) where
   -- a port was tried, and nothing else
-  pub gone_leaves : (w0 : Walker) (todo : List Pending) (stage : Stage) → w0.view ≡ w.view → w0.id
+  pub gone_leaves : (w0 : Walker) (todo : List PendingWrite) (stage : Stage) → w0.view ≡ w.view
+      → w0.id
       ≡ w.id
       → ((node : ℕ) → Leads w.view (paths_of w.devices ++ []) node → Keeps w0 node)
       → ((node : ℕ) → Keeps w0 node → Leads w.view (paths_of w.devices ++ []) node)

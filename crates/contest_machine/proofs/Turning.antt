@@ -15,7 +15,7 @@ use Rattle.fabric_map.specs.Numbered.{paths_of, toward}
 use Rattle.fabric_map.proofs.Growing.{paths_of-push, node_at-entered}
 use Rattle.fabric_map.proofs.Lists.{Contains-first, Contains-rest, Contains-cases}
 use Rattle.host_enumerate.specs.Underway.{met_as}
-use Rattle.contest_machine.specs.declared.stages.Pending.{Pending}
+use Rattle.contest_machine.specs.declared.stages.PendingWrite.{PendingWrite}
 use Rattle.contest_machine.specs.declared.stages.Tried.{Tried}
 use Rattle.contest_machine.specs.declared.stages.Stage.{Stage}
 use Rattle.contest_machine.specs.declared.stages.Stage.TheVariants.{Ask, Claim, Check, Test, Features, Information, Status, Free, Done, Lost}
@@ -236,7 +236,7 @@ module _ (w : Walker) (now : AllRegisters) (fits : w.id < 0xff)
           here path node leads (Contains-cases w.path [] path found)
 
   -- a port was tried
-  pub gone_mine : (todo : List Pending) → AreOwnWrites (paths_of w.devices ++ []) todo
+  pub gone_mine : (todo : List PendingWrite) → AreOwnWrites (paths_of w.devices ++ []) todo
       → (stage : Stage)
       → IsMine (gone_on (record w { todo = todo; stage = stage }) w.tried) now
   gone_mine todo own stage =

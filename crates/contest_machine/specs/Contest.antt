@@ -3,7 +3,7 @@ use Rattle.std.specs.Prelude.{◌≡◌, ◌≢◌, ℕ, ◌<◌, ◌⊎◌, Lis
 use Rattle.fabric_map.specs.Topology.{Topology, node_at}
 use Rattle.fabric_map.specs.Routes.{AllRegisters}
 use Rattle.fabric_map.specs.Numbered.{paths_of}
-use Rattle.contest_machine.specs.declared.stages.Pending.{Pending}
+use Rattle.contest_machine.specs.declared.stages.PendingWrite.{PendingWrite}
 use Rattle.contest_machine.specs.declared.stages.Tried.{Tried}
 use Rattle.contest_machine.specs.declared.stages.Stage.{Stage}
 use Rattle.contest_machine.specs.declared.stages.Stage.TheVariants.{Ask, Claim, Check, Test, Features, Information, Status, Free, Done, Lost}
@@ -18,7 +18,7 @@ abbrev pub IsAtPath : Walker → ℕ → Type 0
 IsAtPath w node = node_at w.view w.path ≡ Some node
 
 -- the last of these writes gives the device a tag, or it has one
-abbrev pub TagComes : List ℕ → List Pending → ℕ → Type 0
+abbrev pub TagComes : List ℕ → List PendingWrite → ℕ → Type 0
 TagComes path [] tag = tag ≢ 0
 TagComes path (p ∷ []) tag = (p.path ≡ path) × (p.offset ≡ 0x6c) × (p.value ≢ 0)
 TagComes path (p ∷ q ∷ rest) tag = TagComes path (q ∷ rest) tag
@@ -39,11 +39,11 @@ Knows w now Lost = Unit {0}
 
 -- a write that is still to be made is to a device that is kept, and not to its lock; no tag is
 -- made 0
-abbrev pub IsOwnWrite : List (List ℕ) → Pending → Type 0
+abbrev pub IsOwnWrite : List (List ℕ) → PendingWrite → Type 0
 IsOwnWrite paths p =
     Contains paths p.path × (p.offset ≢ 0x68) × (p.offset ≡ 0x6c → p.value ≢ 0)
 
-abbrev pub AreOwnWrites : List (List ℕ) → List Pending → Type 0
+abbrev pub AreOwnWrites : List (List ℕ) → List PendingWrite → Type 0
 AreOwnWrites paths [] = Unit {0}
 AreOwnWrites paths (p ∷ rest) = IsOwnWrite paths p × AreOwnWrites paths rest
 

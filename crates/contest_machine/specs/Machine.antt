@@ -15,7 +15,7 @@ use Rattle.host_enumerate.specs.declared.maint.Access.TheVariants.{Read, Write}
 use Rattle.host_enumerate.specs.Accesses.{answered, after_access}
 use Rattle.host_enumerate.specs.Underway.{id_after, met_as}
 use Rattle.contest_machine.specs.declared.stages.Asked.{Asked}
-use Rattle.contest_machine.specs.declared.stages.Pending.{Pending}
+use Rattle.contest_machine.specs.declared.stages.PendingWrite.{PendingWrite}
 use Rattle.contest_machine.specs.declared.stages.Tried.{Tried}
 use Rattle.contest_machine.specs.declared.stages.Stage.{Stage}
 use Rattle.contest_machine.specs.declared.stages.Stage.TheVariants.{Ask, Claim, Check, Test, Features, Information, Status, Free, Done, Lost}
@@ -32,7 +32,7 @@ pub record Walker : Type 0 where
   pub next : ℕ
   pub path : List ℕ
   pub tried : List Tried
-  pub todo : List Pending
+  pub todo : List PendingWrite
   pub stage : Stage
 
 -- a walker that has asked nothing yet
@@ -66,32 +66,32 @@ fresh Lost path = []
 abbrev pub kept : Walker → List (List ℕ)
 kept w = paths_of w.devices ++ fresh w.stage w.path
 
-abbrev pub write : List ℕ → ℕ → ℕ → Pending
+abbrev pub write : List ℕ → ℕ → ℕ → PendingWrite
 write path offset value = record { path = path; offset = offset; value = value }
 
 -- the entry of a destination is set
-abbrev pub entry_set : List ℕ → ℕ → ℕ → List Pending
+abbrev pub entry_set : List ℕ → ℕ → ℕ → List PendingWrite
 entry_set path id port = write path 0x70 id ∷ write path 0x74 port ∷ []
 
 -- in a switch on a path, the entry of an ID is set to the port by which another path goes on
-abbrev pub route_of : List ℕ → ℕ → Kind → Option ℕ → List Pending
+abbrev pub route_of : List ℕ → ℕ → Kind → Option ℕ → List PendingWrite
 route_of at id (Endpoint given) port = []
 route_of at id (Switch ports entry) None = []
 route_of at id (Switch ports entry) (Some port) = entry_set at id port
 
-abbrev pub route_pending : List ℕ → ℕ → Device → List Pending
+abbrev pub route_pending : List ℕ → ℕ → Device → List PendingWrite
 route_pending path id device = route_of device.path id device.kind (toward device.path path)
 
-abbrev pub routes_to : List Device → List ℕ → ℕ → List Pending
+abbrev pub routes_to : List Device → List ℕ → ℕ → List PendingWrite
 routes_to devices path id = flat_map (route_pending path id) devices
 
 -- the entries of the IDs below a number, but the host's, are cleared
-abbrev pub cleared_below : List ℕ → ℕ → ℕ → List Pending
+abbrev pub cleared_below : List ℕ → ℕ → ℕ → List PendingWrite
 cleared_below path host_id zero = []
 cleared_below path host_id (suc n) =
     cleared_below path host_id n ++ (if n == host_id then [] else entry_set path n 255)
 
-abbrev pub home_set : List ℕ → ℕ → ℕ → List Pending
+abbrev pub home_set : List ℕ → ℕ → ℕ → List PendingWrite
 home_set path host_id entry =
     write path 0x78 entry ∷ (cleared_below path host_id 63 ++ entry_set path host_id entry)
 
@@ -132,7 +132,7 @@ gone_on w (top ∷ rest) =
     else gone_on w rest
 
 -- The device is kept from now on. The host writes its own ID first.
-abbrev pub own_id : ℕ → List ℕ → List Pending
+abbrev pub own_id : ℕ → List ℕ → List PendingWrite
 own_id id [] = write [] 0x60 (id * 0x10000) ∷ []
 own_id id (port ∷ rest) = []
 
@@ -210,7 +210,7 @@ wants_at w Free = Some (asked (last_path w.devices) (Write 0x68 w.id))
 wants_at w Done = None
 wants_at w Lost = None
 
-abbrev pub wants_with : Walker → List Pending → Option Asked
+abbrev pub wants_with : Walker → List PendingWrite → Option Asked
 wants_with w [] = wants_at w w.stage
 wants_with w (p ∷ rest) = Some (asked p.path (Write p.offset p.value))
 
@@ -232,11 +232,11 @@ told_at w value Done = w
 told_at w value Lost = w
 
 -- The host's own features are not read: once its writes are made, it is taken in.
-abbrev pub settled : Walker → List Pending → Stage → List ℕ → Walker
+abbrev pub settled : Walker → List PendingWrite → Stage → List ℕ → Walker
 settled w [] Features [] = numbered (record w { todo = [] }) []
 settled w rest stage path = record w { todo = rest }
 
-abbrev pub told_with : Walker → ℕ → List Pending → Walker
+abbrev pub told_with : Walker → ℕ → List PendingWrite → Walker
 told_with w value [] = told_at w value w.stage
 told_with w value (p ∷ rest) = settled w rest w.stage w.path
 

@@ -3,7 +3,7 @@ use Rattle.std.specs.Prelude.{Bool, true, false, List, [], ◌∷◌, if◌then�
 use Rattle.link_watch.specs.declared.side.Side.{Side}
 use Rattle.link_watch.specs.declared.side.Side.TheVariants.{A, B}
 use Rattle.fabric_map.specs.Routes.{AllRegisters}
-use Rattle.contest_machine.specs.declared.stages.Pending.{Pending}
+use Rattle.contest_machine.specs.declared.stages.PendingWrite.{PendingWrite}
 use Rattle.contest_machine.specs.declared.stages.Stage.{Stage}
 use Rattle.contest_machine.specs.declared.stages.Stage.TheVariants.{Ask, Claim, Check, Test, Features, Information, Status, Free, Done, Lost}
 use Rattle.contest_machine.specs.declared.stages.Turn.{Turn}
@@ -41,13 +41,13 @@ walker_turned w registers =
 -- ---- what came of it
 
 -- it waits, if it asks for a lock again and has nothing to write
-abbrev pub waits_or_goes : List Pending → List Pending → Turn
+abbrev pub waits_or_goes : List PendingWrite → List PendingWrite → Turn
 waits_or_goes [] [] = Turns.Waiting
 waits_or_goes (p ∷ rest) after = Turns.Going
 waits_or_goes [] (p ∷ rest) = Turns.Going
 
 -- it has ended once nothing is left to be written
-abbrev pub ends : List Pending → Turn → Turn
+abbrev pub ends : List PendingWrite → Turn → Turn
 ends [] turn = turn
 ends (p ∷ rest) turn = Turns.Going
 

@@ -8,8 +8,8 @@
 //!
 //! Left out: how an access travels, and code that runs, which `host_contest` has.
 //!
-//! - [`Stage`] is what a walker asks next, [`Asked`] the access, [`Pending`] a write that it has
-//!   still to make, [`Tried`] a switch whose ports it tries, and [`Turn`] what came of a turn.
+//! - [`Stage`] is what a walker asks next, [`Asked`] the access, [`PendingWrite`] a write that it
+//!   has still to make, [`Tried`] a switch whose ports it tries, and [`Turn`] what came of a turn.
 //! - `specs/Machine.antt` is the machine, `specs/Turns.antt` a turn of it, `specs/Contest.antt`
 //!   what stands between two turns, `specs/Within.antt` how long paths and lists are, and
 //!   `specs/Laws.antt` the laws.
@@ -21,4 +21,4 @@ mod laws;
 mod stages;
 
 pub use laws::{a_walker_stays_within_bounds, each_turn_keeps_apart, the_greater_is_never_lost};
-pub use stages::{Asked, Pending, Stage, Tried, Turn};
+pub use stages::{Asked, PendingWrite, Stage, Tried, Turn};

@@ -12,7 +12,7 @@ pub struct Asked {
 
 /// A write that is still to be made to the device on a path. The offset is in bytes.
 #[derive(Debug, Drop)]
-pub struct Pending {
+pub struct PendingWrite {
     pub path: Path,
     pub offset: u32,
     pub value: u32,

@@ -14,7 +14,7 @@ use Rattle.host_enumerate.specs.Accesses.{answered, registers_with}
 use Rattle.host_enumerate.specs.Holding.{IsTakable}
 use Rattle.host_enumerate.specs.Underway.{met_as}
 use Rattle.host_enumerate.proofs.Meeting.{IsMember}
-use Rattle.contest_machine.specs.declared.stages.Pending.{Pending}
+use Rattle.contest_machine.specs.declared.stages.PendingWrite.{PendingWrite}
 use Rattle.contest_machine.specs.declared.stages.Stage.{Stage}
 use Rattle.contest_machine.specs.declared.stages.Stage.TheVariants.{Ask, Claim, Check, Test, Features, Information, Status, Free, Done, Lost}
 use Rattle.contest_machine.specs.Machine.{Walker, write, taken, numbered}
@@ -32,7 +32,7 @@ use Rattle.host_enumerate.proofs.TakingSwitch.{IsTaken, underway-host}
 use Rattle.contest_machine.specs.Machine.{own_id}
 
 -- a walker that has taken in nothing yet
-abbrev pub starter : Topology → ℕ → Bool → Stage → List Pending → Walker
+abbrev pub starter : Topology → ℕ → Bool → Stage → List PendingWrite → Walker
 starter view id begun stage todo = record {
   view = view;
   id = id;
@@ -83,7 +83,7 @@ module _ (view : Topology) (id : ℕ) (begun : Bool) (now : AllRegisters) (prope
   beside : (lock node : ℕ) → node ≢ view.host → before_it lock node ≡ now node
   beside lock node apart = with_device-other now view.host node (was lock) apart
 
-  abbrev marks : List Pending
+  abbrev marks : List PendingWrite
   marks = own_id id [] ++ write [] 0x6c 1 ∷ []
 
   marked : device_after (now view.host) 0 marks ≡ record (now view.host) { base_id = id; tag = 1 }

@@ -11,7 +11,7 @@ use Rattle.fabric_map.specs.Routes.{AllRegisters}
 use Rattle.host_enumerate.specs.declared.maint.Access.TheVariants.{Read, Write}
 use Rattle.host_enumerate.specs.Accesses.{answered, after_access}
 use Rattle.host_enumerate.specs.Underway.{id_after, met_as}
-use Rattle.contest_machine.specs.declared.stages.Pending.{Pending}
+use Rattle.contest_machine.specs.declared.stages.PendingWrite.{PendingWrite}
 use Rattle.contest_machine.specs.declared.stages.Tried.{Tried}
 use Rattle.contest_machine.specs.declared.stages.Stage.{Stage}
 use Rattle.contest_machine.specs.declared.stages.Stage.TheVariants.{Ask, Claim, Check, Test, Features, Information, Status, Free, Done, Lost}
@@ -227,7 +227,8 @@ module _ (dest : ℕ) (far : 62 < dest) (not_all : dest ≢ 255) where
     stage_keeping Lost small = record { careful = (tt, tt); left = λ node. refl }
 
   -- what is written next was selected
-  pub head_after : (view : Topology) (old : AllRegisters) (p : Pending) (rest : List Pending)
+  pub head_after : (view : Topology) (old : AllRegisters) (p : PendingWrite)
+      (rest : List PendingWrite)
       (at : PortRef) → entered view p.path ≡ Some at → AreLinked dest (p ∷ rest)
       → HeadOk dest view (after_access old at (Write p.offset p.value)) rest
   head_after view old p [] at enters linked = tt

@@ -16,7 +16,7 @@ use Rattle.host_enumerate.specs.Holding.{IsTakable}
 use Rattle.host_enumerate.specs.Underway.{IsUnmet, IsUnderway}
 use Rattle.host_enumerate.proofs.Frames.{with_device-at, with_device-other}
 use Rattle.host_enumerate.proofs.Meeting.{IsMember}
-use Rattle.contest_machine.specs.declared.stages.Pending.{Pending}
+use Rattle.contest_machine.specs.declared.stages.PendingWrite.{PendingWrite}
 use Rattle.contest_machine.specs.declared.stages.Stage.{Stage}
 use Rattle.contest_machine.specs.declared.stages.Stage.TheVariants.{Claim, Check}
 use Rattle.contest_machine.specs.Machine.{Walker, own_id, write, taken}
@@ -134,7 +134,7 @@ module _ (w : Walker) (old : AllRegisters) (fits : w.id < 0xff) (at : PortRef)
       with_tag : ℕ → Registers → Registers
       with_tag n device = record device { tag = n }
 
-      one : List Pending
+      one : List PendingWrite
       one = write w.path 0x6c (length w.devices + 1) ∷ []
 
       is_one : (taken w).todo ≡ one

@@ -12,7 +12,7 @@ use Rattle.fabric_map.specs.Fitting.{Fits}
 use Rattle.fabric_map.proofs.Growing.{node_at-entered}
 use Rattle.host_enumerate.specs.declared.maint.Access.TheVariants.{Read, Write}
 use Rattle.host_enumerate.specs.Accesses.{answered, after_access}
-use Rattle.contest_machine.specs.declared.stages.Pending.{Pending}
+use Rattle.contest_machine.specs.declared.stages.PendingWrite.{PendingWrite}
 use Rattle.contest_machine.specs.declared.stages.Tried.{Tried}
 use Rattle.contest_machine.specs.declared.stages.Stage.{Stage}
 use Rattle.contest_machine.specs.declared.stages.Stage.TheVariants.{Ask, Claim, Check, Test, Features, Information, Status, Free, Done, Lost}
@@ -228,7 +228,8 @@ module _ (w : Walker) (old : AllRegisters) (fits : w.id < 0xff) (proper : IsTopo
   stage_along Lost few mine led along = inl tt
 
 -- a write of a walker that is along its way
-write_along : (w : Walker) (p : Pending) (rest : List Pending) (old : AllRegisters) (at : PortRef)
+write_along : (w : Walker) (p : PendingWrite) (rest : List PendingWrite) (old : AllRegisters)
+    (at : PortRef)
     (stage : Stage) (path : List ℕ)
     → IsMine (record w { todo = p ∷ rest; stage = stage; path = path }) old
     → entered w.view p.path ≡ Some at
@@ -237,7 +238,7 @@ write_along : (w : Walker) (p : Pending) (rest : List Pending) (old : AllRegiste
     (after_access old at (Write p.offset p.value))
 write_along w p rest old at stage path mine enters along = go rest stage path mine along
   where
-    one : (rest : List Pending) (stage : Stage) (path : List ℕ)
+    one : (rest : List PendingWrite) (stage : Stage) (path : List ℕ)
         → IsMine (record w { todo = p ∷ rest; stage = stage; path = path }) old
         → IsAlong (record w { todo = p ∷ rest; stage = stage; path = path }) old
         → IsHereAt (record w { todo = rest; stage = stage; path = path }) stage
@@ -251,7 +252,7 @@ write_along w p rest old at stage path mine enters along = go rest stage path mi
       here = here;
     }
 
-    go : (rest : List Pending) (stage : Stage) (path : List ℕ)
+    go : (rest : List PendingWrite) (stage : Stage) (path : List ℕ)
         → IsMine (record w { todo = p ∷ rest; stage = stage; path = path }) old
         → IsAlong (record w { todo = p ∷ rest; stage = stage; path = path }) old
         → IsAlong (settled (record w { todo = p ∷ rest; stage = stage; path = path }) rest stage
@@ -289,7 +290,7 @@ pub step_along : (w : Walker) (old : AllRegisters) → w.id < 0xff → IsTopolog
 step_along w old fits proper shown few mine led along =
     go w.todo w.stage w.path few mine led along
   where
-    go : (todo : List Pending) (stage : Stage) (path : List ℕ)
+    go : (todo : List PendingWrite) (stage : Stage) (path : List ℕ)
         → (stage ≡ Features → w.next ≤ 65)
         → IsMine (record w { todo = todo; stage = stage; path = path }) old
         → IsLed (record w { todo = todo; stage = stage; path = path })

@@ -15,7 +15,7 @@ use Rattle.fabric_map.proofs.Lists.{Contains-first}
 use Rattle.host_enumerate.specs.declared.maint.Access.TheVariants.{Write}
 use Rattle.host_enumerate.specs.Accesses.{after_access}
 use Rattle.host_enumerate.specs.Underway.{id_after}
-use Rattle.contest_machine.specs.declared.stages.Pending.{Pending}
+use Rattle.contest_machine.specs.declared.stages.PendingWrite.{PendingWrite}
 use Rattle.contest_machine.specs.declared.stages.Tried.{Tried}
 use Rattle.contest_machine.specs.declared.stages.Stage.{Stage}
 use Rattle.contest_machine.specs.declared.stages.Stage.TheVariants.{Ask, Claim, Check, Test, Features, Information, Status, Free, Done, Lost}
@@ -123,7 +123,7 @@ small_at w now within mine led (inr (inr along)) =
 -- ---- one access
 
 module _ (dest : ℕ) (far : 62 < dest) (not_all : dest ≢ 255) where
-  write_keeping : (w : Walker) (p : Pending) (rest : List Pending) (old : AllRegisters)
+  write_keeping : (w : Walker) (p : PendingWrite) (rest : List PendingWrite) (old : AllRegisters)
       (at : PortRef) (stage : Stage) (path : List ℕ) → entered w.view p.path ≡ Some at
       → IsCareful dest far not_all (record w { todo = p ∷ rest; stage = stage; path = path }) old
       → IsKeeping dest far not_all w old
@@ -135,7 +135,7 @@ module _ (dest : ℕ) (far : 62 < dest) (not_all : dest ≢ 255) where
         (λ e switch. careful.1 e at enters switch);
   }
     where
-      one : (rest : List Pending) → AreLinked dest (p ∷ rest)
+      one : (rest : List PendingWrite) → AreLinked dest (p ∷ rest)
           → AreLinked dest rest
           × HeadOk dest w.view (after_access old at (Write p.offset p.value)) rest
       one rest linked = (
@@ -143,7 +143,7 @@ module _ (dest : ℕ) (far : 62 < dest) (not_all : dest ≢ 255) where
         head_after dest far not_all w.view old p rest at enters linked,
       )
 
-      go : (rest : List Pending) (stage : Stage) (path : List ℕ)
+      go : (rest : List PendingWrite) (stage : Stage) (path : List ℕ)
           → IsCareful dest far not_all
           (record w { todo = p ∷ rest; stage = stage; path = path }) old
           → IsCareful dest far not_all
@@ -169,7 +169,7 @@ module _ (dest : ℕ) (far : 62 < dest) (not_all : dest ≢ 255) where
   step_keeping w old fits own within mine led coming careful =
       go w.todo w.stage w.path within mine led coming careful
     where
-      go : (todo : List Pending) (stage : Stage) (path : List ℕ)
+      go : (todo : List PendingWrite) (stage : Stage) (path : List ℕ)
           → WalkerIsWithin (record w { todo = todo; stage = stage; path = path })
           → IsMine (record w { todo = todo; stage = stage; path = path }) old
           → IsLed (record w { todo = todo; stage = stage; path = path })

@@ -10,7 +10,7 @@ use Rattle.fabric_map.specs.Fitting.{Fits}
 use Rattle.host_enumerate.specs.declared.maint.Access.TheVariants.{Write}
 use Rattle.host_enumerate.specs.Accesses.{answered, after_access}
 use Rattle.host_enumerate.specs.Holding.{IsTakable}
-use Rattle.contest_machine.specs.declared.stages.Pending.{Pending}
+use Rattle.contest_machine.specs.declared.stages.PendingWrite.{PendingWrite}
 use Rattle.contest_machine.specs.declared.stages.Stage.{Stage}
 use Rattle.contest_machine.specs.declared.stages.Stage.TheVariants.{Ask, Claim, Check, Test, Features, Information, Status, Free, Done, Lost}
 use Rattle.contest_machine.specs.Machine.{Walker, gone_on, taken}
@@ -38,7 +38,8 @@ over_at : (w : Walker) (old : AllRegisters) (o : Option PortRef) (ask : Asked)
 over_at w old None ask over some = over
 over_at w old (Some at) ask over some = some at
 
-settled_over : (w : Walker) (rest : List Pending) (stage : Stage) (path : List ℕ) → IsOver stage
+settled_over : (w : Walker) (rest : List PendingWrite) (stage : Stage) (path : List ℕ)
+    → IsOver stage
     → IsOver (settled (record w { stage = stage }) rest stage path).stage
 settled_over w [] Free path over = tt
 settled_over w [] Lost path over = tt
@@ -72,7 +73,7 @@ step_over w old over = go w.todo w.stage over
     stages Status over = absurd over
     stages Done over = absurd over
 
-    go : (todo : List Pending) (stage : Stage) → IsOver stage
+    go : (todo : List PendingWrite) (stage : Stage) → IsOver stage
         → IsOver (stepped (record w { todo = todo; stage = stage }) old).walker.stage
     go [] stage over = stages stage over
     go (p ∷ rest) stage over =
@@ -90,7 +91,7 @@ module _ (view : Topology) (id : ℕ) (begun : Bool) (old : AllRegisters) (fits 
   abbrev at : PortRef
   at = port_at view.host 0
 
-  starts : (stage : Stage) (todo : List Pending)
+  starts : (stage : Stage) (todo : List PendingWrite)
       → StartKnows (starter view id begun stage todo) old stage
       → IsComing (starter view id begun stage todo) old
   starts stage todo knows = inr (inl (record { is = refl; knows = knows }))
@@ -170,21 +171,22 @@ module _ (view : Topology) (id : ℕ) (begun : Bool) (old : AllRegisters) (fits 
           ∙ untagged node inside (ap (λ (d : Registers). d.lock) (sym same) ∙ own)
 
   -- a write of its marks
-  mark_first : (p : Pending) (rest : List Pending) (to : PortRef) → entered view p.path ≡ Some to
+  mark_first : (p : PendingWrite) (rest : List PendingWrite) (to : PortRef)
+      → entered view p.path ≡ Some to
       → IsMine (starter view id begun Features (p ∷ rest)) old
       → IsOnWay (starter view id begun Features (p ∷ rest)) old
       → IsComing (settled (starter view id begun Features (p ∷ rest)) rest Features [])
       (after_access old to (Write p.offset p.value))
   mark_first p rest to enters mine way = go rest mine way
     where
-      one : (rest : List Pending) → IsMine (starter view id begun Features (p ∷ rest)) old
+      one : (rest : List PendingWrite) → IsMine (starter view id begun Features (p ∷ rest)) old
           → IsOnWay (starter view id begun Features (p ∷ rest)) old
           → IsOnWay (starter view id begun Features rest)
           (after_access old to (Write p.offset p.value))
       one rest mine way =
           write_on_way (starter view id begun Features []) p rest old to mine enters way
 
-      go : (rest : List Pending) → IsMine (starter view id begun Features (p ∷ rest)) old
+      go : (rest : List PendingWrite) → IsMine (starter view id begun Features (p ∷ rest)) old
           → IsOnWay (starter view id begun Features (p ∷ rest)) old
           → IsComing (settled (starter view id begun Features (p ∷ rest)) rest Features [])
           (after_access old to (Write p.offset p.value))
@@ -195,7 +197,7 @@ module _ (view : Topology) (id : ℕ) (begun : Bool) (old : AllRegisters) (fits 
           (fits_after view old to (Write p.offset p.value)
           shown) fits (one [] mine way)))
 
-  step_first : (stage : Stage) (todo : List Pending)
+  step_first : (stage : Stage) (todo : List PendingWrite)
       → StartKnows (starter view id begun stage todo) old stage
       → IsMine (starter view id begun stage todo) old
       → IsLed (starter view id begun stage todo)
@@ -242,7 +244,7 @@ step_starting w old fits proper shown mine led starting =
     (λ done. subst (λ v. IsComing (stepped v old).walker (stepped v old).registers)
     (sym starting.is) done)
   where
-    go : (stage : Stage) (todo : List Pending)
+    go : (stage : Stage) (todo : List PendingWrite)
         → StartKnows (starter w.view w.id w.begun stage todo) old stage
         → IsMine (starter w.view w.id w.begun stage todo) old
         → IsLed (starter w.view w.id w.begun stage todo)

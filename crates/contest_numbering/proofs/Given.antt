@@ -21,7 +21,7 @@ use Rattle.host_enumerate.proofs.Frames.{with_device-at, with_device-other}
 use Rattle.host_enumerate.proofs.Stepping.{followed-none, underway-closed}
 use Rattle.host_enumerate.proofs.TakingSwitch.{IsTaken}
 use Rattle.host_enumerate.proofs.TakingEndpoint.{underway-endpoint}
-use Rattle.contest_machine.specs.declared.stages.Pending.{Pending}
+use Rattle.contest_machine.specs.declared.stages.PendingWrite.{PendingWrite}
 use Rattle.contest_machine.specs.declared.stages.Stage.TheVariants.{Features}
 use Rattle.contest_machine.specs.Machine.{Walker, write, routes_to}
 use Rattle.contest_machine.specs.Contest.{AreOnce}
@@ -47,7 +47,7 @@ module _ (w : Walker) (now : AllRegisters) (at : PortRef) (first : ℕ) (rest : 
   abbrev id : ℕ
   id = id_after w.id w.next
 
-  abbrev todo : List Pending
+  abbrev todo : List PendingWrite
   todo = write (first ∷ rest) 0x60 (id * 0x10000) ∷ routes_to w.devices (first ∷ rest) id
 
   abbrev mid : AllRegisters

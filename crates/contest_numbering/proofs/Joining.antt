@@ -23,14 +23,15 @@ use Rattle.std.proofs.lemmas.Option.{same_Some}
 use Rattle.host_enumerate.proofs.Frames.{with_device-at, with_device-other}
 use Rattle.host_enumerate.proofs.Stepping.{underway-entry}
 use Rattle.host_enumerate.proofs.TakingSwitch.{IsTaken, underway-switch}
-use Rattle.contest_machine.specs.declared.stages.Pending.{Pending}
+use Rattle.contest_machine.specs.declared.stages.PendingWrite.{PendingWrite}
 use Rattle.contest_machine.specs.declared.stages.Stage.TheVariants.{Information}
 use Rattle.contest_machine.specs.Machine.{Walker, home_set, entry_set, cleared_below, switch_set_up}
 use Rattle.contest_numbering.proofs.OnWay.{performed, taken_as, IsListed, IsApart, IsOnWay, not_foreign}
 use Rattle.contest_machine.proofs.Stepped.{at_stage}
 use Rattle.contest_numbering.proofs.Settling.{AreAt, performed-one, after-home, device_after}
 
-at-append : (path : List ℕ) (first second : List Pending) → AreAt path first → AreAt path second
+at-append : (path : List ℕ) (first second : List PendingWrite) → AreAt path first
+    → AreAt path second
     → AreAt path (first ++ second)
 at-append path [] second are more = more
 at-append path (p ∷ rest) second are more = (are.0, at-append path rest second are.1 more)

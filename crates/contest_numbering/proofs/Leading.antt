@@ -12,7 +12,7 @@ use Rattle.fabric_map.proofs.Lists.{Contains-first, Contains-cases}
 use Rattle.maint_registers.specs.Routes.{next_port}
 use Rattle.host_enumerate.specs.Setting.{with_entry}
 use Rattle.host_enumerate.proofs.Frames.{with_device-at}
-use Rattle.contest_machine.specs.declared.stages.Pending.{Pending}
+use Rattle.contest_machine.specs.declared.stages.PendingWrite.{PendingWrite}
 use Rattle.contest_machine.specs.Machine.{entry_set, route_pending, routes_to}
 use Rattle.contest_machine.specs.Contest.{AreOnce}
 use Rattle.contest_numbering.proofs.OnWay.{one_performed, performed}
@@ -37,7 +37,7 @@ opened-stays view old new host_id path stays opened = record {
   not_host = opened.not_host;
 }
 
-pub performed-append : (view : Topology) (now : AllRegisters) (first second : List Pending)
+pub performed-append : (view : Topology) (now : AllRegisters) (first second : List PendingWrite)
     → performed view now (first ++ second) ≡ performed view (performed view now first) second
 performed-append view now [] second = refl
 performed-append view now (p ∷ rest) second =

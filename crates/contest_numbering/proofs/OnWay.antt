@@ -12,7 +12,7 @@ use Rattle.host_enumerate.specs.declared.maint.Access.TheVariants.{Write}
 use Rattle.host_enumerate.specs.Accesses.{after_access}
 use Rattle.host_enumerate.specs.Holding.{IsTakable}
 use Rattle.host_enumerate.specs.Underway.{IsUnmet, IsUnderway}
-use Rattle.contest_machine.specs.declared.stages.Pending.{Pending}
+use Rattle.contest_machine.specs.declared.stages.PendingWrite.{PendingWrite}
 use Rattle.contest_machine.specs.declared.stages.Tried.{Tried}
 use Rattle.contest_machine.specs.declared.stages.Stage.{Stage}
 use Rattle.contest_machine.specs.declared.stages.Stage.TheVariants.{Ask, Claim, Check, Test, Features, Information, Status, Free, Done, Lost}
@@ -26,12 +26,12 @@ not_foreign id device (inl free) foreign = foreign.0 free
 not_foreign id device (inr own) foreign = foreign.1 own.0
 
 -- the registers after one write to the device that a path enters
-abbrev pub one_performed : AllRegisters → Pending → Option PortRef → AllRegisters
+abbrev pub one_performed : AllRegisters → PendingWrite → Option PortRef → AllRegisters
 one_performed now p None = now
 one_performed now p (Some at) = after_access now at (Write p.offset p.value)
 
 -- and after all
-abbrev pub performed : Topology → AllRegisters → List Pending → AllRegisters
+abbrev pub performed : Topology → AllRegisters → List PendingWrite → AllRegisters
 performed view now [] = now
 performed view now (p ∷ rest) =
     performed view (one_performed now p (entered view p.path)) rest

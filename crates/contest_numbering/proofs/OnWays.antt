@@ -16,7 +16,7 @@ use Rattle.host_enumerate.specs.Holding.{IsTakable}
 use Rattle.host_enumerate.specs.Underway.{IsUnmet, IsUnderway}
 use Rattle.host_enumerate.proofs.Meeting.{IsMember, member_or_unmet}
 use Rattle.host_enumerate.proofs.Keeping.{underway-elsewhere}
-use Rattle.contest_machine.specs.declared.stages.Pending.{Pending}
+use Rattle.contest_machine.specs.declared.stages.PendingWrite.{PendingWrite}
 use Rattle.contest_machine.specs.declared.stages.Stage.{Stage}
 use Rattle.contest_machine.specs.declared.stages.Stage.TheVariants.{Ask, Claim, Check, Test, Features, Information, Status, Free, Done, Lost}
 use Rattle.contest_machine.specs.Machine.{Walker, kept, fresh}
@@ -255,7 +255,7 @@ theirs_on_way w o after old new turn theirs mine differ fits way = record {
     at_path Lost node apart = absurd apart
 
 -- The walker makes a write that is left: it is as far as before, too.
-pub write_on_way : (w : Walker) (p : Pending) (rest : List Pending) (old : AllRegisters)
+pub write_on_way : (w : Walker) (p : PendingWrite) (rest : List PendingWrite) (old : AllRegisters)
     (at : PortRef)
     → IsMine (record w { todo = p ∷ rest }) old → entered w.view p.path ≡ Some at
     → IsOnWay (record w { todo = p ∷ rest }) old

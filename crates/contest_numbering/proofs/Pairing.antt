@@ -8,57 +8,57 @@ use Rattle.fabric_map.specs.declared.map.Device.{Device}
 use Rattle.fabric_map.specs.Topology.{Topology, entered}
 use Rattle.fabric_map.specs.Routes.{AllRegisters}
 use Rattle.fabric_map.specs.Numbered.{toward}
-use Rattle.contest_machine.specs.declared.stages.Pending.{Pending}
+use Rattle.contest_machine.specs.declared.stages.PendingWrite.{PendingWrite}
 use Rattle.contest_machine.specs.Machine.{Walker, write, entry_set, route_of, route_pending, routes_to, cleared_below, home_set, own_id, taken}
 
 -- the first write is not that of an entry
-abbrev pub StartsOk : List Pending → Type 0
+abbrev pub StartsOk : List PendingWrite → Type 0
 StartsOk [] = Unit {0}
 StartsOk (p ∷ rest) = p.offset ≢ 0x74
 
 -- an entry is written behind its selection
-abbrev pub Follows : Pending → List Pending → Type 0
+abbrev pub Follows : PendingWrite → List PendingWrite → Type 0
 Follows p [] = Unit {0}
 Follows p (q ∷ rest) = q.offset ≡ 0x74 → (p.offset ≡ 0x70) × (p.path ≡ q.path)
 
 -- and no entry of this destination is selected
-abbrev pub AreLinked : ℕ → List Pending → Type 0
+abbrev pub AreLinked : ℕ → List PendingWrite → Type 0
 AreLinked dest [] = Unit {0}
 AreLinked dest (p ∷ rest) =
     (p.offset ≡ 0x70 → dest ≢ p.value % 0x400) × Follows p rest × AreLinked dest rest
 
 -- the entry that is written first is another
-abbrev pub HeadOk : ℕ → Topology → AllRegisters → List Pending → Type 0
+abbrev pub HeadOk : ℕ → Topology → AllRegisters → List PendingWrite → Type 0
 HeadOk dest view now [] = Unit {0}
 HeadOk dest view now (p ∷ rest) = p.offset ≡ 0x74 → (at : PortRef) → entered view p.path ≡ Some at
     → is_switch (now at.node) ≡ true → dest ≢ (now at.node).select
 
-pub starts_head : (dest : ℕ) (view : Topology) (now : AllRegisters) (todo : List Pending)
+pub starts_head : (dest : ℕ) (view : Topology) (now : AllRegisters) (todo : List PendingWrite)
     → StartsOk todo → HeadOk dest view now todo
 starts_head dest view now [] ok = tt
 starts_head dest view now (p ∷ rest) ok = λ is. absurd (ok is)
 
-starts_append : (first second : List Pending) → StartsOk first → StartsOk second
+starts_append : (first second : List PendingWrite) → StartsOk first → StartsOk second
     → StartsOk (first ++ second)
 starts_append [] second ok also = also
 starts_append (p ∷ rest) second ok also = ok
 
-linked_append : (dest : ℕ) (first second : List Pending) → AreLinked dest first
+linked_append : (dest : ℕ) (first second : List PendingWrite) → AreLinked dest first
     → AreLinked dest second → StartsOk second → AreLinked dest (first ++ second)
 linked_append dest [] second linked more ok = more
 linked_append dest (p ∷ []) second linked more ok = (linked.0, follows second ok, more)
   where
-    follows : (second : List Pending) → StartsOk second → Follows p second
+    follows : (second : List PendingWrite) → StartsOk second → Follows p second
     follows [] ok = tt
     follows (q ∷ rest) ok = λ is. absurd (ok is)
 linked_append dest (p ∷ q ∷ rest) second linked more ok =
     (linked.0, linked.1, linked_append dest (q ∷ rest) second linked.2 more ok)
 
 -- a list that starts so and is linked
-abbrev pub IsOrderly : ℕ → List Pending → Type 0
+abbrev pub IsOrderly : ℕ → List PendingWrite → Type 0
 IsOrderly dest todo = AreLinked dest todo × StartsOk todo
 
-pub orderly_append : (dest : ℕ) (first second : List Pending) → IsOrderly dest first
+pub orderly_append : (dest : ℕ) (first second : List PendingWrite) → IsOrderly dest first
     → IsOrderly dest second → IsOrderly dest (first ++ second)
 orderly_append dest first second one two = (
   linked_append dest first second one.0 two.0 two.1,

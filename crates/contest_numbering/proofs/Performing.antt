@@ -8,13 +8,13 @@ use Rattle.fabric_map.proofs.Growing.{node_at-entered}
 use Rattle.host_enumerate.specs.declared.maint.Access.TheVariants.{Write}
 use Rattle.host_enumerate.specs.Accesses.{answered, after_access}
 use Rattle.host_enumerate.proofs.Frames.{with_device-at, with_device-other}
-use Rattle.contest_machine.specs.declared.stages.Pending.{Pending}
+use Rattle.contest_machine.specs.declared.stages.PendingWrite.{PendingWrite}
 use Rattle.contest_machine.specs.Contest.{AreOwnWrites}
 use Rattle.contest_numbering.proofs.OnWay.{one_performed, performed}
 use Rattle.contest_machine.proofs.Lists.{Leads}
 
 -- writes to devices on which two fabrics agree leave them agreeing
-pub performed-agree : (view : Topology) (paths : List (List ℕ)) (todo : List Pending)
+pub performed-agree : (view : Topology) (paths : List (List ℕ)) (todo : List PendingWrite)
     (old new : AllRegisters) → AreOwnWrites paths todo
     → ((node : ℕ) → Leads view paths node → new node ≡ old node)
     → (node : ℕ) → new node ≡ old node
@@ -54,7 +54,7 @@ performed-agree view paths (p ∷ rest) old new own agree node same =
             ∙ (agrees ∙ sym (with_device-other old at.node place _ apart))
 
 -- and do not change others
-pub performed-beside : (view : Topology) (paths : List (List ℕ)) (todo : List Pending)
+pub performed-beside : (view : Topology) (paths : List (List ℕ)) (todo : List PendingWrite)
     (now : AllRegisters) → AreOwnWrites paths todo → (node : ℕ) → ¬ Leads view paths node
     → performed view now todo node ≡ now node
 performed-beside view paths [] now own node none = refl

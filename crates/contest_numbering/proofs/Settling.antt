@@ -12,21 +12,21 @@ use Rattle.host_enumerate.specs.Accesses.{after_write, answered, registers_with,
 use Rattle.host_enumerate.specs.Setting.{with_entry, IsCleared, SwitchIsSetUp}
 use Rattle.host_enumerate.proofs.Frames.{with_device-at, with_device-other, with_device-itself}
 use Rattle.host_enumerate.proofs.Clearing.{same_but-entry, cleared-none, cleared-next, cleared-past, is_switch-kind}
-use Rattle.contest_machine.specs.declared.stages.Pending.{Pending}
+use Rattle.contest_machine.specs.declared.stages.PendingWrite.{PendingWrite}
 use Rattle.contest_machine.specs.Machine.{entry_set, cleared_below, home_set}
 use Rattle.contest_numbering.proofs.OnWay.{one_performed, performed}
 
 -- one device after writes to it
-abbrev pub device_after : Registers → ℕ → List Pending → Registers
+abbrev pub device_after : Registers → ℕ → List PendingWrite → Registers
 device_after device port [] = device
 device_after device port (p ∷ rest) =
     device_after (answered device port (Write p.offset p.value)).device port rest
 
-abbrev pub AreAt : List ℕ → List Pending → Type 0
+abbrev pub AreAt : List ℕ → List PendingWrite → Type 0
 AreAt path [] = Unit {0}
 AreAt path (p ∷ rest) = (p.path ≡ path) × AreAt path rest
 
-pub performed-one : (view : Topology) (path : List ℕ) (at : PortRef) (todo : List Pending)
+pub performed-one : (view : Topology) (path : List ℕ) (at : PortRef) (todo : List PendingWrite)
     (now : AllRegisters) → entered view path ≡ Some at → AreAt path todo
     → (node : ℕ) → performed view now todo node
     ≡ registers_with now at.node (device_after (now at.node) at.port todo) node
@@ -59,7 +59,7 @@ performed-one view path at (p ∷ rest) now enters are node =
         ∙ (with_device-other now at.node node _ apart
         ∙ sym (with_device-other now at.node node _ apart))
 
-after-append : (device : Registers) (port : ℕ) (first second : List Pending)
+after-append : (device : Registers) (port : ℕ) (first second : List PendingWrite)
     → device_after device port (first ++ second)
     ≡ device_after (device_after device port first) port second
 after-append device port [] second = refl

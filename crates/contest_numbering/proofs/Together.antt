@@ -8,7 +8,7 @@ use Rattle.fabric_map.proofs.Lists.{Contains-first, Contains-rest}
 use Rattle.host_enumerate.specs.Underway.{AreOwnUntagged}
 use Rattle.link_watch.specs.declared.side.Side.{Side}
 use Rattle.link_watch.specs.declared.side.Side.TheVariants.{A, B}
-use Rattle.contest_machine.specs.declared.stages.Pending.{Pending}
+use Rattle.contest_machine.specs.declared.stages.PendingWrite.{PendingWrite}
 use Rattle.contest_machine.specs.Machine.{Walker, State, kept, stepped}
 use Rattle.contest_machine.specs.Turns.{is_locking, locked_on, walker_turned, Both, turn_of, after_turns}
 use Rattle.contest_machine.specs.Contest.{AreOwnWrites, IsMine}
@@ -35,7 +35,7 @@ module _ (dest : ℕ) (far : 62 < dest) (not_all : dest ≢ 255) (before : AllRe
   head_stays w after o old new turn mine theirs differ small careful =
       (careful.0, go o.todo theirs.own careful.1)
     where
-      go : (todo : List Pending) → AreOwnWrites (kept o) todo → HeadOk dest o.view old todo
+      go : (todo : List PendingWrite) → AreOwnWrites (kept o) todo → HeadOk dest o.view old todo
           → HeadOk dest o.view new todo
       go [] own head = tt
       go (p ∷ rest) own head = λ is at enters switch.
@@ -147,7 +147,7 @@ module _ (dest : ℕ) (far : 62 < dest) (not_all : dest ≢ 255) (before : AllRe
 
   new_careful : (w : Walker) (now : AllRegisters) → IsNew w → Careful w now
   new_careful w now new =
-      subst (λ (t : List Pending). Careful (record w { todo = t }) now) (sym new.todo) (tt, tt)
+      subst (λ (t : List PendingWrite). Careful (record w { todo = t }) now) (sym new.todo) (tt, tt)
 
 -- an entry that neither may change
 entry_stays : (both : Both) (turns : List Side) (dest : ℕ) → AreBegun both

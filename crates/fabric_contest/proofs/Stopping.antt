@@ -5,7 +5,7 @@ use Rattle.fabric_map.specs.Routes.{AllRegisters}
 use Rattle.link_watch.specs.declared.side.Side.{Side}
 use Rattle.link_watch.specs.declared.side.Side.TheVariants.{A, B}
 use Rattle.fabric_script.specs.Soak.{next_number, numbers_behind}
-use Rattle.contest_machine.specs.declared.stages.Pending.{Pending}
+use Rattle.contest_machine.specs.declared.stages.PendingWrite.{PendingWrite}
 use Rattle.contest_machine.specs.declared.stages.Stage.{Stage}
 use Rattle.contest_machine.specs.declared.stages.Stage.TheVariants.{Ask, Claim, Check, Test, Features, Information, Status, Free, Done, Lost}
 use Rattle.contest_machine.specs.Machine.{Walker, State, wants_at, wants_with, wants}
@@ -68,7 +68,7 @@ ended_wants w Lost is = refl
 no_wants : (w : Walker) → is_last_stage w.stage ≡ true → is_clear w.todo ≡ true → None ≡ wants w
 no_wants w last clear = go w.todo clear
   where
-    go : (todo : List Pending) → is_clear todo ≡ true → None ≡ wants_with w todo
+    go : (todo : List PendingWrite) → is_clear todo ≡ true → None ≡ wants_with w todo
     go [] is = ended_wants w w.stage last
     go (p ∷ rest) is = absurd (cc)
 

@@ -25,7 +25,7 @@ use Rattle.fabric_ports.specs.Places.{place_of}
 use Rattle.fabric_ports.specs.Ran.{Kind, Ran, Blocks}
 use Rattle.fabric_ports.specs.Standing.{Stands}
 use Rattle.fabric_ports.specs.declared.actions.Acted.{Acted}
-use Rattle.fabric_ports.specs.declared.answers.EventEnd.{EventEnd}
+use Rattle.fabric_ports.specs.declared.answers.FabricEnd.{FabricEnd}
 use Rattle.fabric_ports.specs.declared.ends.LinkPlace.{LinkPlace}
 use Rattle.fabric_ports.specs.declared.fabric.Cable.{Cable}
 use Rattle.fabric_ports.specs.declared.fabric.Fabric.{Fabric}
@@ -176,7 +176,7 @@ module _ {K : Type 0} (written : K → Option (List ℕ)) (faults : K → ℕ) (
 
 pub ended_by : {K : Type 0} (written : K → Option (List ℕ)) (faults : K → ℕ) (Is : Kind)
     (names : List (List ℕ)) (old new next : Outbox K) (from : Seen) (lines : List TraceLine)
-    (end why : EventEnd) → next ≡ new → why ≡ end
+    (end why : FabricEnd) → next ≡ new → why ≡ end
     → Ran Is names written faults old new from lines (Err end)
     → Ran Is names written faults old next from lines (Err why)
 ended_by written faults Is names old new next from lines end why same is ran =

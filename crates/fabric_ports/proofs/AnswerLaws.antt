@@ -37,8 +37,8 @@ use Rattle.fabric_ask.proofs.Uncollected.{nothing_answers, answers-append}
 use Rattle.fabric_ports.specs.Asking.{CanAsk, Returns, Replied, AskEnds, Unwritten}
 use Rattle.fabric_ports.specs.Fetching.{NoneLeaves, AskLeaves, response_or_end, response_in, ask_answer}
 use Rattle.fabric_ports.specs.Ran.{WritesFront, Ran}
-use Rattle.fabric_ports.specs.declared.answers.EventEnd.{EventEnd}
-use Rattle.fabric_ports.specs.declared.answers.EventEnd.TheVariants as Ends
+use Rattle.fabric_ports.specs.declared.answers.FabricEnd.{FabricEnd}
+use Rattle.fabric_ports.specs.declared.answers.FabricEnd.TheVariants as Ends
 use Rattle.fabric_ports.specs.declared.asking.AskEnd.{AskEnd}
 use Rattle.fabric_ports.specs.declared.fabric.Fabric.{Fabric}
 use Rattle.fabric_ports.proofs.AskLaws.{ask_before, ask_found, ask_quiet}
@@ -64,7 +64,7 @@ low_hop request packet sendable form =
 -- what was told of an ask, by what left at the host or why it ended
 abbrev pub IsTold : List (List ℕ) → {K : Type 0} → (K → Option (List ℕ)) → (K → ℕ) → Outbox K
     → Outbox K → ℕ → Request → List Edit → Seen → List TraceLine → Fabric
-    → Result (Option (List ℕ)) EventEnd → Type 0
+    → Result (Option (List ℕ)) FabricEnd → Type 0
 IsTold names written faults a b host request noise from lines new (Ok left) =
     Ran (AskLeaves host request noise left) names written faults a b from lines (Ok new)
 IsTold names written faults a b host request noise from lines new (Err end) =
@@ -72,7 +72,7 @@ IsTold names written faults a b host request noise from lines new (Err end) =
 
 module _ (names : List (List ℕ)) {K : Type 0} (written : K → Option (List ℕ)) (faults : K → ℕ)
     (a b : Outbox K) (host : ℕ) (request : Request) (noise : List Edit) (old new : Fabric) where
-  pub is_told : (told : Result (Option (List ℕ)) EventEnd)
+  pub is_told : (told : Result (Option (List ℕ)) FabricEnd)
       → IfOk told (λ left. (from : Seen) (lines : List TraceLine) → CanAsk host from lines old
       → Ran (AskLeaves host request noise left) names written faults a b from lines (Ok new))
       → IfErr told (λ end. (from : Seen) (lines : List TraceLine) → CanAsk host from lines old
@@ -83,7 +83,7 @@ module _ (names : List (List ℕ)) {K : Type 0} (written : K → Option (List �
   is_told (Err end) done ended from lines can = ended from lines can
 
   -- some text was told
-  pub told_text : (told : Result (Option (List ℕ)) EventEnd) (from : Seen)
+  pub told_text : (told : Result (Option (List ℕ)) FabricEnd) (from : Seen)
       (lines : List TraceLine)
       → IsTold names written faults a b host request noise from lines new told
       → (text : List ℕ) × Writes written faults a b text
@@ -258,7 +258,7 @@ module _ (names : List (List ℕ)) (before after : Option (List ℕ)) (host : �
     }
 
     -- all that was told was written
-    pub told_answers : (told : Result (Option (List ℕ)) EventEnd)
+    pub told_answers : (told : Result (Option (List ℕ)) FabricEnd)
         → IsTold names written faults a b host request noise from lines new told
         → ((text : List ℕ) → Writes written faults a b text → Appends before after text)
         → IsAnswered (ask_answer told)
@@ -296,7 +296,7 @@ module _ (names : List (List ℕ)) (before after : Option (List ℕ)) (host : �
     }
 
     -- a write failed
-    pub told_fails : (told : Result (Option (List ℕ)) EventEnd)
+    pub told_fails : (told : Result (Option (List ℕ)) FabricEnd)
         → IsTold names written faults a b host request noise from lines new told
         → ((text : List ℕ) → Writes written faults a b text → AppendsFront before after text)
         → Unwritten names before after host request noise from lines

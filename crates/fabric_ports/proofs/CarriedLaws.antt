@@ -15,7 +15,7 @@ use Rattle.fabric_ports.specs.Carrying.{AreLinked, WithLeft, Turns, BothTurn, St
 use Rattle.fabric_ports.specs.Ends.{PortIsLinked}
 use Rattle.fabric_ports.specs.Ran.{Kind, Blocks, Ran}
 use Rattle.fabric_ports.specs.Standing.{Stands}
-use Rattle.fabric_ports.specs.declared.answers.EventEnd.{EventEnd}
+use Rattle.fabric_ports.specs.declared.answers.FabricEnd.{FabricEnd}
 use Rattle.fabric_ports.specs.declared.fabric.Fabric.{Fabric}
 use Rattle.fabric_ports.proofs.EndLaws.{links_stand}
 use Rattle.fabric_ports.proofs.RanLaws.{Both, GoesOn, ran_both, ran_as, ends_first}
@@ -65,7 +65,7 @@ turn_is s p q block is_open own =
     subst (λ o. WithPeer o (pumps s p 1) block) is_open.peers.there own
 
 module _ {K : Type 0} (written : K → Option (List ℕ)) (faults : K → ℕ) (names : List (List ℕ)) where
-  turn_ran : (a b : Outbox K) (from : Seen) (lines : List TraceLine) (end : Result Fabric EventEnd)
+  turn_ran : (a b : Outbox K) (from : Seen) (lines : List TraceLine) (end : Result Fabric FabricEnd)
       (p q : PortRef) → IsOpen (seen from lines) p q
       → Ran (Blocks (Pump p 1)) names written faults a b from lines end
       → Ran (Turns p q) names written faults a b from lines end
@@ -75,13 +75,13 @@ module _ {K : Type 0} (written : K → Option (List ℕ)) (faults : K → ℕ) (
 
   -- whichever edits are left, there are some
   pub ran_left : (P : List Edit → Kind) (a b : Outbox K) (from : Seen) (lines : List TraceLine)
-      (end : Result Fabric EventEnd) → Ran (WithLeft P) names written faults a b from lines end
+      (end : Result Fabric FabricEnd) → Ran (WithLeft P) names written faults a b from lines end
       → (left : List Edit) × Ran (P left) names written faults a b from lines end
   ran_left P a b from lines end ran =
       (ran.is.0, record { block = ran.block; is = ran.is.1; ends = ran.ends })
 
   pub with_left : (P : List Edit → Kind) (left : List Edit) (a b : Outbox K) (from : Seen)
-      (lines : List TraceLine) (end : Result Fabric EventEnd)
+      (lines : List TraceLine) (end : Result Fabric FabricEnd)
       → Ran (P left) names written faults a b from lines end
       → Ran (WithLeft P) names written faults a b from lines end
   with_left P left a b from lines end ran =
@@ -104,7 +104,7 @@ module _ {K : Type 0} (written : K → Option (List ℕ)) (faults : K → ℕ) (
     second_open behind = open_round (open_behind ends stands.ready found behind.made behind.sent)
 
     -- the first has taken it
-    pub both_turned : (a b c : Outbox K) (mid : Fabric) (end : Result Fabric EventEnd)
+    pub both_turned : (a b c : Outbox K) (mid : Fabric) (end : Result Fabric FabricEnd)
         → (first : Ran (Blocks (Pump ends.0 1)) names written faults a b from lines (Ok mid))
         → Ran (Blocks (Pump ends.1 1)) names written faults b c from (lines ++ first.block) end
         → Ran (BothTurn ends) names written faults a c from lines end
@@ -121,7 +121,7 @@ module _ {K : Type 0} (written : K → Option (List ℕ)) (faults : K → ℕ) (
         second)
 
     -- it did not come to its end
-    pub first_unturned : (a b : Outbox K) (end : EventEnd)
+    pub first_unturned : (a b : Outbox K) (end : FabricEnd)
         → Ran (Blocks (Pump ends.0 1)) names written faults a b from lines (Err end)
         → Ran (BothTurn ends) names written faults a b from lines (Err end)
     first_unturned a b end first =
@@ -132,7 +132,7 @@ module _ {K : Type 0} (written : K → Option (List ℕ)) (faults : K → ℕ) (
 
     -- ---- both wires of a link are stirred
 
-    pub both_stirred : (a b c : Outbox K) (mid : Fabric) (end : Result Fabric EventEnd)
+    pub both_stirred : (a b c : Outbox K) (mid : Fabric) (end : Result Fabric FabricEnd)
         (noise middle left : List Edit)
         → (first : Ran (Stirs ends.0 noise middle) names written faults a b from lines (Ok mid))
         → Ran (Stirs ends.1 middle left) names written faults b c from (lines ++ first.block) end
@@ -143,7 +143,7 @@ module _ {K : Type 0} (written : K → Option (List ℕ)) (faults : K → ℕ) (
         (ran_both written faults names (Stirs ends.0 noise middle) (Stirs ends.1 middle left) a b c
         from lines mid end first second)
 
-    pub first_unstirred : (a b : Outbox K) (end : EventEnd) (noise : List Edit)
+    pub first_unstirred : (a b : Outbox K) (end : FabricEnd) (noise : List Edit)
         → Ran (WithLeft (Stirs ends.0 noise)) names written faults a b from lines (Err end)
         → Ran (WithLeft (BothStir ends noise)) names written faults a b from lines (Err end)
     first_unstirred a b end noise ended =
@@ -160,7 +160,7 @@ module _ {K : Type 0} (written : K → Option (List ℕ)) (faults : K → ℕ) (
         (WithLeft (Stirs ends.1 middle)) a b from lines old end
         (stirs_made ends stands.ready found noise middle) more stands own.1)
 
-    pub second_unstirred : (a b c : Outbox K) (mid : Fabric) (end : EventEnd)
+    pub second_unstirred : (a b c : Outbox K) (mid : Fabric) (end : FabricEnd)
         (noise middle : List Edit)
         → (first : Ran (Stirs ends.0 noise middle) names written faults a b from lines (Ok mid))
         → Ran (WithLeft (Stirs ends.1 middle)) names written faults b c from
@@ -177,7 +177,7 @@ module _ {K : Type 0} (written : K → Option (List ℕ)) (faults : K → ℕ) (
     abbrev Last : List Edit → List Edit → Kind
     Last noise left = Both (BothStir ends noise left) (Settles ends)
 
-    carry_ran : (a b : Outbox K) (end : Result Fabric EventEnd) (noise left : List Edit)
+    carry_ran : (a b : Outbox K) (end : Result Fabric FabricEnd) (noise left : List Edit)
         → Ran (Both (BothTurn ends) (Last noise left)) names written faults a b from lines end
         → Ran (LinkCarries ends noise left) names written faults a b from lines end
     carry_ran a b end noise left ran =
@@ -186,7 +186,7 @@ module _ {K : Type 0} (written : K → Option (List ℕ)) (faults : K → ℕ) (
         (λ block own. carry_is ends noise left (seen from lines) block is_open own) ran
 
     pub carried : (a b c d : Outbox K) (turned stirred_fabric : Fabric)
-        (end : Result Fabric EventEnd) (noise left : List Edit)
+        (end : Result Fabric FabricEnd) (noise left : List Edit)
         → (first : Ran (BothTurn ends) names written faults a b from lines (Ok turned))
         → (second : Ran (BothStir ends noise left) names written faults b c from
         (lines ++ first.block) (Ok stirred_fabric))
@@ -202,7 +202,7 @@ module _ {K : Type 0} (written : K → Option (List ℕ)) (faults : K → ℕ) (
         (settle_ran written faults names c d from ((lines ++ first.block) ++ second.block) ends end
         found settles)))
 
-    pub carry_unturned : (a b : Outbox K) (end : EventEnd) (noise : List Edit)
+    pub carry_unturned : (a b : Outbox K) (end : FabricEnd) (noise : List Edit)
         → Ran (BothTurn ends) names written faults a b from lines (Err end)
         → Ran (WithLeft (LinkCarries ends noise)) names written faults a b from lines (Err end)
     carry_unturned a b end noise ended =
@@ -215,7 +215,7 @@ module _ {K : Type 0} (written : K → Option (List ℕ)) (faults : K → ℕ) (
         end (both_turn_made ends stands.ready found)
         (stirs_go_on ends stands.ready found noise) stands ended)
 
-    pub carry_unstirred : (a b c : Outbox K) (turned : Fabric) (end : EventEnd) (noise : List Edit)
+    pub carry_unstirred : (a b c : Outbox K) (turned : Fabric) (end : FabricEnd) (noise : List Edit)
         → (first : Ran (BothTurn ends) names written faults a b from lines (Ok turned))
         → Ran (WithLeft (BothStir ends noise)) names written faults b c from
         (lines ++ first.block) (Err end)

@@ -20,7 +20,7 @@ use Rattle.fabric_ask.proofs.Carrying.{has_carried}
 use Rattle.fabric_ports.specs.Carrying.{AreLinked, WithLeft, LinkCarries, LinksCarry}
 use Rattle.fabric_ports.specs.Ran.{Ran}
 use Rattle.fabric_ports.specs.Standing.{Stands}
-use Rattle.fabric_ports.specs.declared.answers.EventEnd.{EventEnd}
+use Rattle.fabric_ports.specs.declared.answers.FabricEnd.{FabricEnd}
 use Rattle.fabric_ports.specs.declared.fabric.Fabric.{Fabric}
 use Rattle.fabric_ports.proofs.Cables.{seen_links}
 use Rattle.fabric_ports.proofs.EndLaws.{links_stand}
@@ -158,7 +158,7 @@ module _ {K : Type 0} (written : K → Option (List ℕ)) (faults : K → ℕ) (
   -- a link did not come to its end
   pub carried_short : (a b c : Outbox K) (from : Seen) (lines : List TraceLine)
       (old mid : Fabric) (k : ℕ) (link : PortRef × PortRef) (noise middle : List Edit)
-      (end : EventEnd) → Stands from lines old → IsNext from k link
+      (end : FabricEnd) → Stands from lines old → IsNext from k link
       → (first : Ran (CarryAll (take k from.network.links) noise middle) names written faults a b
       from lines (Ok mid))
       → Ran (WithLeft (LinkCarries link middle)) names written faults b c from

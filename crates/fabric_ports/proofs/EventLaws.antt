@@ -29,8 +29,8 @@ use Rattle.trace_lines.specs.Lines.{TraceLine, Begun}
 use Rattle.trace_lines.specs.Text.{trace_line_text, trace_text}
 use Rattle.fabric_trace.proofs.Parts.Folding.{seen-append}
 use Rattle.fabric_script.specs.declared.ports.PortRef.{PortRef}
-use Rattle.fabric_ports.specs.declared.answers.EventEnd.{EventEnd}
-use Rattle.fabric_ports.specs.declared.answers.EventEnd.TheVariants.{NoMemory}
+use Rattle.fabric_ports.specs.declared.answers.FabricEnd.{FabricEnd}
+use Rattle.fabric_ports.specs.declared.answers.FabricEnd.TheVariants.{NoMemory}
 use Rattle.fabric_ports.specs.declared.answers.Happened.{Happened}
 use Rattle.fabric_ports.specs.declared.answers.Happened.TheVariants.{Other}
 use Rattle.fabric_ports.specs.Acting.{AsksForSome, edit_asked}
@@ -152,7 +152,7 @@ evented line names written faults b b2 b3 from lines begins old new told Is same
 -- an event that edits no wire, by what ran behind the line with which it begins
 pub ran_evented : (line asked : Line) (Q : Kind) (names : List (List ℕ)) {K : Type 0}
     (written : K → Option (List ℕ)) (faults : K → ℕ) (b b2 b3 : Outbox K)
-    (from : Seen) (lines : List TraceLine) (old : Fabric) (end : Result Fabric EventEnd)
+    (from : Seen) (lines : List TraceLine) (old : Fabric) (end : Result Fabric FabricEnd)
     → line ≡ asked → edited_by (seen from lines) (edit_of asked) ≡ seen from lines
     → ((block : List TraceLine) → IsOwnBlock line (seen from lines) block → Q
     (seen from lines) block)
@@ -296,7 +296,7 @@ edit_answers port (Edit.Erase place count) block = refl
 -- no line of an edit was written but that with which it begins
 pub edit_unmade : (line : Line) (port : PortRef) (edit : WireEdit) (names : List (List ℕ))
     {K : Type 0} (written : K → Option (List ℕ)) (faults : K → ℕ) (b b2 b3 : Outbox K) (from : Seen)
-    (lines : List TraceLine) (end : EventEnd) → line ≡ line_editing port edit
+    (lines : List TraceLine) (end : FabricEnd) → line ≡ line_editing port edit
     → Writes written faults b b2 (trace_line_text names (Begun line) ++ 10 ∷ [])
     → (end ≡ NoMemory) × (b3 ≡ b2)
     → Evented line (IsOwnBlock line) names written faults b b3 from lines (Err end)

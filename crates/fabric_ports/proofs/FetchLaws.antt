@@ -23,8 +23,8 @@ use Rattle.fabric_ports.specs.Events.{Did, answer_collected}
 use Rattle.fabric_ports.specs.Fetching.{left_of, RoundsLeave}
 use Rattle.fabric_ports.specs.Ran.{Kind, Ran}
 use Rattle.fabric_ports.specs.Standing.{Stands}
-use Rattle.fabric_ports.specs.declared.answers.EventEnd.{EventEnd}
-use Rattle.fabric_ports.specs.declared.answers.EventEnd.TheVariants.{Undetected, Failed, NoMemory}
+use Rattle.fabric_ports.specs.declared.answers.FabricEnd.{FabricEnd}
+use Rattle.fabric_ports.specs.declared.answers.FabricEnd.TheVariants.{Undetected, Failed, NoMemory}
 use Rattle.fabric_ports.specs.declared.answers.Happened.{Happened}
 use Rattle.fabric_ports.specs.declared.fabric.Fabric.{Fabric}
 use Rattle.fabric_ports.proofs.LeaveLaws.{leaves_behind, nothing_leaves, left_leaves, did_stands, still_behind}
@@ -290,7 +290,7 @@ module _ {K : Type 0} (written : K → Option (List ℕ)) (faults : K → ℕ) (
       (more.0, (round.0, (block, more.0, refl, round.1, more.1)))
 
   round_ends : (b c : Outbox K) (from : Seen) (lines : List TraceLine) (mid : Fabric) (m : ℕ)
-      (noise : List Edit) (end : EventEnd) → Stands from lines mid
+      (noise : List Edit) (end : FabricEnd) → Stands from lines mid
       → IsEndpoint (seen from lines).network host
       → Ran (WithLeft (AskRound host noise)) names written faults b c from lines (Err end)
       → Ran (AskRounds host (suc m) noise) names written faults b c from lines (Err end)
@@ -330,7 +330,7 @@ module _ {K : Type 0} (written : K → Option (List ℕ)) (faults : K → ℕ) (
 
   -- a round did not come to its end
   pub fetch_ends : (a b c : Outbox K) (from : Seen) (lines : List TraceLine) (old mid : Fabric)
-      (k n : ℕ) (noise left : List Edit) (end : EventEnd) → k < n → Stands from lines old
+      (k n : ℕ) (noise left : List Edit) (end : FabricEnd) → k < n → Stands from lines old
       → IsEndpoint (seen from lines).network host
       → (first : Ran (Unheld host k noise left) names written faults a b from lines (Ok mid))
       → Ran (WithLeft (AskRound host left)) names written faults b c from

@@ -19,8 +19,8 @@ use Rattle.fabric_ask.proofs.Beginning.{ask_exists}
 use Rattle.fabric_ports.specs.Asking.{CanAsk, Replied, AskEnds, Unwritten}
 use Rattle.fabric_ports.specs.Fetching.{AskLeaves, response_or_end, response_in, ask_answer}
 use Rattle.fabric_ports.specs.Ran.{Ran}
-use Rattle.fabric_ports.specs.declared.answers.EventEnd.{EventEnd}
-use Rattle.fabric_ports.specs.declared.answers.EventEnd.TheVariants as Ends
+use Rattle.fabric_ports.specs.declared.answers.FabricEnd.{FabricEnd}
+use Rattle.fabric_ports.specs.declared.answers.FabricEnd.TheVariants as Ends
 use Rattle.fabric_ports.specs.declared.asking.AskEnd.{AskEnd}
 use Rattle.fabric_ports.specs.declared.fabric.Fabric.{Fabric}
 use Rattle.fabric_ports.proofs.AnswerLaws.{IsSendable, IsTold, is_told, told_text, IsAnswered, told_answers, told_fails}
@@ -29,7 +29,7 @@ use Rattle.fabric_ports.proofs.AnswerLaws.{IsSendable, IsTold, is_told, told_tex
 
 module _ (names : List (List ℕ)) {K : Type 0} (written : K → Option (List ℕ)) (faults : K → ℕ)
     (a b c : Outbox K) (host : ℕ) (request : Request) (noise : List Edit) (old new : Fabric)
-    (told : Result (Option (List ℕ)) EventEnd)
+    (told : Result (Option (List ℕ)) FabricEnd)
     (done : IfOk told (λ left. (from : Seen) (lines : List TraceLine) → CanAsk host from lines old
     → Ran (AskLeaves host request noise left) names written faults a b from lines (Ok new)))
     (ended : IfErr told (λ end. (from : Seen) (lines : List TraceLine) → CanAsk host from lines old
@@ -79,7 +79,7 @@ module _ (names : List (List ℕ)) {K : Type 0} (written : K → Option (List �
       by_response (Some response) same =
           let bad : Ok response ≡ Err AskEnd.WriteFault = same in absurd cc
 
-      by_told : (t : Result (Option (List ℕ)) EventEnd)
+      by_told : (t : Result (Option (List ℕ)) FabricEnd)
           → IsTold names written faults a b host request noise from lines new t
           → IsErrOf (ask_answer t) AskEnd.WriteFault → ⊥
       by_told (Ok left) ran same = by_response (response_in left) same

@@ -13,7 +13,7 @@ use Rattle.fabric_ports.specs.Carrying.{WithLeft, LinksCarry}
 use Rattle.fabric_ports.specs.Gathering.{Collects, OthersCollect}
 use Rattle.fabric_ports.specs.Ran.{Ran, SwitchesServe}
 use Rattle.fabric_ports.specs.Standing.{Stands}
-use Rattle.fabric_ports.specs.declared.answers.EventEnd.{EventEnd}
+use Rattle.fabric_ports.specs.declared.answers.FabricEnd.{FabricEnd}
 use Rattle.fabric_ports.specs.declared.fabric.Fabric.{Fabric}
 use Rattle.fabric_ports.proofs.RanLaws.{Both, Nothing, both_as, both_nothing, nothing_both, both_assoc, GoesOn, ran_both, ends_first}
 use Rattle.fabric_ports.proofs.RoundLaws.{nodes_more}
@@ -77,7 +77,7 @@ module _ {K : Type 0} (written : K → Option (List ℕ)) (faults : K → ℕ) (
 
   -- a link did not come to its end
   pub round_short : (a b : Outbox K) (from : Seen) (lines : List TraceLine) (old : Fabric)
-      (host : ℕ) (noise : List Edit) (end : EventEnd) → Stands from lines old
+      (host : ℕ) (noise : List Edit) (end : FabricEnd) → Stands from lines old
       → Ran (WithLeft (LinksCarry noise)) names written faults a b from lines (Err end)
       → Ran (WithLeft (AskRound host noise)) names written faults a b from lines (Err end)
   round_short a b from lines old host noise end stands ended =

@@ -13,8 +13,8 @@ use Rattle.trace_lines.specs.Text.{trace_line_text, trace_text}
 use Rattle.fabric_trace.proofs.Parts.Folding.{seen-append}
 use Rattle.fabric_ports.specs.Ran.{Kind, WritesFront, WritesTo, RanBehind, Ran}
 use Rattle.fabric_ports.specs.Standing.{Stands}
-use Rattle.fabric_ports.specs.declared.answers.EventEnd.{EventEnd}
-use Rattle.fabric_ports.specs.declared.answers.EventEnd.TheVariants.{Undetected, Failed, NoMemory}
+use Rattle.fabric_ports.specs.declared.answers.FabricEnd.{FabricEnd}
+use Rattle.fabric_ports.specs.declared.answers.FabricEnd.TheVariants.{Undetected, Failed, NoMemory}
 use Rattle.fabric_ports.specs.declared.fabric.Fabric.{Fabric}
 
 -- ---- kinds of lines
@@ -140,22 +140,22 @@ more_exists Q from lines block (Some found) on made is = ([], refl)
 
 -- ---- what an answer says
 
-pub on_ok : {T X Y : Type 0} (r : Result T EventEnd) → (X → Y) → OnOk r X → OnOk r Y
+pub on_ok : {T X Y : Type 0} (r : Result T FabricEnd) → (X → Y) → OnOk r X → OnOk r Y
 on_ok (Ok x) turns own = turns own
 on_ok (Err end) turns own = own
 
-pub if_ok : {T : Type 0} {P Q : T → Type 0} (r : Result T EventEnd) → ((x : T) → P x → Q x)
+pub if_ok : {T : Type 0} {P Q : T → Type 0} (r : Result T FabricEnd) → ((x : T) → P x → Q x)
     → IfOk r P → IfOk r Q
 if_ok (Ok x) turns own = turns x own
 if_ok (Err end) turns own = own
 
-pub if_err : {T : Type 0} {P Q : EventEnd → Type 0} (r : Result T EventEnd)
-    → ((end : EventEnd) → P end → Q end) → IfErr r P → IfErr r Q
+pub if_err : {T : Type 0} {P Q : FabricEnd → Type 0} (r : Result T FabricEnd)
+    → ((end : FabricEnd) → P end → Q end) → IfErr r P → IfErr r Q
 if_err (Ok x) turns own = own
 if_err (Err end) turns own = turns end own
 
 -- a call ended as the one in it
-pub handed_on : {T : Type 0} (r : Result T EventEnd) (end : EventEnd) (P : EventEnd → Type 0)
+pub handed_on : {T : Type 0} (r : Result T FabricEnd) (end : FabricEnd) (P : FabricEnd → Type 0)
     → IsErrAnd r (λ y. y ≡ end) → P end → IfErr r P
 handed_on {T} (Ok x) end P gives holds = absurd gives
 handed_on {T} (Err y) end P gives holds = subst P (sym gives) holds
@@ -213,7 +213,7 @@ module _ {K : Type 0} (written : K → Option (List ℕ)) (faults : K → ℕ) (
 
   -- how a call ended, by the lines that were told before it with its own
   writes_behind : (a b c : Outbox K) (from : Seen) (lines first told : List TraceLine)
-      (end : Result Fabric EventEnd) → Writes written faults a b (trace_text names first)
+      (end : Result Fabric FabricEnd) → Writes written faults a b (trace_text names first)
       → WritesTo names written faults b c from (lines ++ first) told end
       → WritesTo names written faults a c from lines (first ++ told) end
   writes_behind a b c from lines first told (Ok fabric) before own = (
@@ -243,7 +243,7 @@ module _ {K : Type 0} (written : K → Option (List ℕ)) (faults : K → ℕ) (
 
   -- one behind the other
   pub ran_joined : (P Q R : Kind) (a b c : Outbox K) (from : Seen) (lines : List TraceLine)
-      (mid : Fabric) (end : Result Fabric EventEnd)
+      (mid : Fabric) (end : Result Fabric FabricEnd)
       → ((first second : List TraceLine) → P (seen from lines) first
       → (seen (seen from lines) first).unfaithful ≡ None
       → Q (seen (seen from lines) first) second
@@ -262,7 +262,7 @@ module _ {K : Type 0} (written : K → Option (List ℕ)) (faults : K → ℕ) (
       }
 
   pub ran_both : (P Q : Kind) (a b c : Outbox K) (from : Seen) (lines : List TraceLine)
-      (mid : Fabric) (end : Result Fabric EventEnd)
+      (mid : Fabric) (end : Result Fabric FabricEnd)
       → (first : Ran P names written faults a b from lines (Ok mid))
       → Ran Q names written faults b c from (lines ++ first.block) end
       → Ran (Both P Q) names written faults a c from lines end
@@ -272,7 +272,7 @@ module _ {K : Type 0} (written : K → Option (List ℕ)) (faults : K → ℕ) (
 
   -- what is known before the lines may say that they are of another kind
   pub ran_as : (P Q : Kind) (a b : Outbox K) (from : Seen) (lines : List TraceLine)
-      (end : Result Fabric EventEnd)
+      (end : Result Fabric FabricEnd)
       → ((block : List TraceLine) → P (seen from lines) block
       → Q (seen from lines) block)
       → Ran P names written faults a b from lines end
@@ -292,7 +292,7 @@ module _ {K : Type 0} (written : K → Option (List ℕ)) (faults : K → ℕ) (
 
   -- a line was told before the call
   pub ran_behind : (P Q : Kind) (line : TraceLine) (a b c : Outbox K) (from : Seen)
-      (lines : List TraceLine) (end : Result Fabric EventEnd)
+      (lines : List TraceLine) (end : Result Fabric FabricEnd)
       → ((block : List TraceLine) → P (seen from (lines ++ line ∷ [])) block
       → Q (seen from lines) block)
       → Writes written faults a b (trace_line_text names line ++ 10 ∷ [])
@@ -315,7 +315,7 @@ module _ {K : Type 0} (written : K → Option (List ℕ)) (faults : K → ℕ) (
       (more.0, (block, more.0, refl, is, more.1))
 
   pub ends_first : (P Q : Kind) (a b : Outbox K) (from : Seen) (lines : List TraceLine)
-      (old : Fabric) (end : EventEnd) → IsMade from P → GoesOn from Q → Stands from lines old
+      (old : Fabric) (end : FabricEnd) → IsMade from P → GoesOn from Q → Stands from lines old
       → Ran P names written faults a b from lines (Err end)
       → Ran (Both P Q) names written faults a b from lines (Err end)
   ends_first P Q a b from lines old (Undetected port event) made on stands ran =

@@ -19,7 +19,7 @@ use Rattle.fabric_trace.proofs.Rounds.Blocks.{all_found, settle_all_come, round_
 use Rattle.fabric_trace.proofs.Rounds.Running.{link_made, move_made}
 use Rattle.fabric_ports.specs.Ran.{Kind, Ran, LinksSettle, SwitchesServe, Serves}
 use Rattle.fabric_ports.specs.Standing.{Stands}
-use Rattle.fabric_ports.specs.declared.answers.EventEnd.{EventEnd}
+use Rattle.fabric_ports.specs.declared.answers.FabricEnd.{FabricEnd}
 use Rattle.fabric_ports.specs.declared.fabric.Fabric.{Fabric}
 use Rattle.fabric_ports.proofs.RanLaws.{Both, Nothing, both_as, both_nothing, nothing_both, both_assoc, GoesOn, IsMade, joined_both, ran_nothing, ran_joined, ran_both, ran_as, ends_first}
 use Rattle.fabric_ports.proofs.SettlingLaws.{good_behind, kinds_stay}
@@ -225,7 +225,7 @@ module _ {K : Type 0} (written : K → Option (List ℕ)) (faults : K → ℕ) (
 
   -- the links of a round did not all settle
   pub ran_short : (a b c : Outbox K) (from : Seen) (lines : List TraceLine) (old mid : Fabric)
-      (k n : ℕ) (end : EventEnd) → k < n → Stands from lines old
+      (k n : ℕ) (end : FabricEnd) → k < n → Stands from lines old
       → Ran (Rounds IsSettle k) names written faults a b from lines (Ok mid)
       → ((more : List TraceLine) → Stands from more mid
       → Ran LinksSettle names written faults b c from more (Err end))

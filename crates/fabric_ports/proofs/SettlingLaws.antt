@@ -27,7 +27,7 @@ use Rattle.fabric_ports.specs.Places.{IsSwitchAt}
 use Rattle.fabric_ports.specs.Ran.{Kind, Blocks, Ran, LinksSettle}
 use Rattle.fabric_ports.specs.Showing.{ends_of}
 use Rattle.fabric_ports.specs.Standing.{Stands}
-use Rattle.fabric_ports.specs.declared.answers.EventEnd.{EventEnd}
+use Rattle.fabric_ports.specs.declared.answers.FabricEnd.{FabricEnd}
 use Rattle.fabric_ports.specs.declared.fabric.Cable.{Cable}
 use Rattle.fabric_ports.specs.declared.fabric.Fabric.{Fabric}
 use Rattle.fabric_ports.proofs.Cables.{seen_links}
@@ -221,7 +221,7 @@ settles_made from link ready found lines block made sent own =
 
 module _ {K : Type 0} (written : K → Option (List ℕ)) (faults : K → ℕ) (names : List (List ℕ)) where
   pub settle_ran : (a b : Outbox K) (from : Seen) (lines : List TraceLine)
-      (link : PortRef × PortRef) (end : Result Fabric EventEnd)
+      (link : PortRef × PortRef) (end : Result Fabric FabricEnd)
       → link_in from.network.links link.0 ≡ Some link
       → Ran (Blocks (Settle link.0)) names written faults a b from lines end
       → Ran (Settles link) names written faults a b from lines end
@@ -281,7 +281,7 @@ module _ {K : Type 0} (written : K → Option (List ℕ)) (faults : K → ℕ) (
 
   -- a link did not come to its end
   pub settled_short : (a b c : Outbox K) (from : Seen) (lines : List TraceLine)
-      (old mid : Fabric) (k : ℕ) (link : PortRef × PortRef) (end : EventEnd)
+      (old mid : Fabric) (k : ℕ) (link : PortRef × PortRef) (end : FabricEnd)
       → Stands from lines old → IsNext from k link
       → (first : Ran (SettleAll IsSettle (take k from.network.links)) names written faults a b from
       lines (Ok mid))

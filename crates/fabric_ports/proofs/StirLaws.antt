@@ -27,8 +27,8 @@ use Rattle.fabric_ports.specs.Ends.{IsPlaceOf}
 use Rattle.fabric_ports.specs.Ran.{Ran}
 use Rattle.fabric_ports.specs.Showing.{ShowsFabric}
 use Rattle.fabric_ports.specs.Standing.{Stands}
-use Rattle.fabric_ports.specs.declared.answers.EventEnd.{EventEnd}
-use Rattle.fabric_ports.specs.declared.answers.EventEnd.TheVariants.{NoMemory}
+use Rattle.fabric_ports.specs.declared.answers.FabricEnd.{FabricEnd}
+use Rattle.fabric_ports.specs.declared.answers.FabricEnd.TheVariants.{NoMemory}
 use Rattle.fabric_ports.specs.declared.ends.LinkPlace.{LinkPlace}
 use Rattle.fabric_ports.specs.declared.fabric.Cable.{Cable}
 use Rattle.fabric_ports.specs.declared.fabric.Fabric.{Fabric}
@@ -200,7 +200,7 @@ module _ {K : Type 0} (written : K → Option (List ℕ)) (faults : K → ℕ) (
       gives is) ran
 
   pub stir_ends : (a b : Outbox K) (from : Seen) (lines : List TraceLine) (edit : Edit)
-      (end : EventEnd) → Gives noise (Some edit) left
+      (end : FabricEnd) → Gives noise (Some edit) left
       → 0 < length ((seen from lines).wires port).chars
       → Ran (EditsWire port edit) names written faults a b from lines (Err end)
       → Ran (WithLeft (Stirs port noise)) names written faults a b from lines (Err end)

@@ -23,8 +23,8 @@ use Rattle.fabric_script.specs.declared.ports.PortRef.{PortRef}
 use Rattle.fabric_ports.specs.declared.actions.Acted.{Acted}
 use Rattle.fabric_ports.specs.declared.actions.Acted.TheVariants.{Done, Short, Early}
 use Rattle.fabric_script.specs.declared.operations.Action.{Action}
-use Rattle.fabric_ports.specs.declared.answers.EventEnd.{EventEnd}
-use Rattle.fabric_ports.specs.declared.answers.EventEnd.TheVariants as EventEnds
+use Rattle.fabric_ports.specs.declared.answers.FabricEnd.{FabricEnd}
+use Rattle.fabric_ports.specs.declared.answers.FabricEnd.TheVariants as EventEnds
 use Rattle.fabric_script.specs.declared.operations.Action.TheVariants.{Pump, Deliver, TimeOut, Settle}
 
 -- a delivery is of one character at least
@@ -66,7 +66,7 @@ edit_acted Edits.Done = Done
 edit_acted Edits.Short = Short
 
 -- why an event at the link of two ports ended
-abbrev pub event_end : PortRef → PortRef → LinkEnd → EventEnd
+abbrev pub event_end : PortRef → PortRef → LinkEnd → FabricEnd
 event_end a b (Undetected side event) =
     EventEnds.Undetected (port_at_side a b side) event
 event_end a b Failed = EventEnds.NoMemory

@@ -19,7 +19,7 @@ use Rattle.fabric_trace.specs.Known.{Seen}
 use Rattle.trace_lines.specs.Lines.{Full as NoRoom, NoStep, TraceLine, Begun, Stepped, Lacked}
 use Rattle.fabric_trace.specs.Served.{IsMove}
 use Rattle.trace_lines.specs.Text.{trace_text}
-use Rattle.fabric_ports.specs.declared.answers.EventEnd.{EventEnd}
+use Rattle.fabric_ports.specs.declared.answers.FabricEnd.{FabricEnd}
 use Rattle.fabric_ports.specs.declared.answers.Happened.{Happened}
 use Rattle.fabric_ports.specs.declared.answers.Happened.TheVariants.{Took, Full, Left, Answered, Empty, Other}
 use Rattle.fabric_ports.specs.declared.fabric.Fabric.{Fabric}
@@ -134,6 +134,6 @@ IsAnsweredBlock line answer s block =
 
 -- behind these lines an event told the line with which it begins, and lines of a kind behind it
 abbrev pub Evented : Line → Kind → List (List ℕ) → {K : Type 0} → (K → Option (List ℕ)) → (K → ℕ)
-    → Outbox K → Outbox K → Seen → List TraceLine → Result Fabric EventEnd → Type 0
+    → Outbox K → Outbox K → Seen → List TraceLine → Result Fabric FabricEnd → Type 0
 Evented line Is names written faults old new from lines end =
     RanBehind (Begun line ∷ []) Is names written faults old new from lines end

@@ -7,8 +7,8 @@ use Rattle.link_wires.specs.declared.edits.Edit.{Edit}
 use Rattle.fabric_model.specs.Steps.{Leave, AtNode}
 use Rattle.trace_lines.specs.Lines.{TraceLine, Stepped}
 use Rattle.fabric_ask.specs.Asks.{AskRounds, IsAsk}
-use Rattle.fabric_ports.specs.declared.answers.EventEnd.{EventEnd}
-use Rattle.fabric_ports.specs.declared.answers.EventEnd.TheVariants as Ends
+use Rattle.fabric_ports.specs.declared.answers.FabricEnd.{FabricEnd}
+use Rattle.fabric_ports.specs.declared.answers.FabricEnd.TheVariants as Ends
 use Rattle.fabric_ports.specs.declared.answers.Happened.{Happened}
 use Rattle.fabric_ports.specs.declared.answers.Happened.TheVariants.{Left}
 use Rattle.fabric_ports.specs.declared.asking.AskEnd.{AskEnd}
@@ -59,7 +59,7 @@ response_in None = None
 response_in (Some packet) = response_of packet
 
 -- by what left at the host, or why its lines have ended
-abbrev pub ask_answer : Result (Option (List ℕ)) EventEnd → Result Response AskEnd
+abbrev pub ask_answer : Result (Option (List ℕ)) FabricEnd → Result Response AskEnd
 ask_answer (Ok left) = response_or_end (response_in left)
 ask_answer (Err (Ends.Undetected port event)) = Err (Undetected port event)
 ask_answer (Err Ends.Failed) = Err WriteFault

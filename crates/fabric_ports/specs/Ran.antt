@@ -10,8 +10,8 @@ use Rattle.fabric_trace.specs.Known.{Seen}
 use Rattle.trace_lines.specs.Lines.{TraceLine}
 use Rattle.fabric_trace.specs.Rounds.{SettleAll, ServesAll, ServeNodes}
 use Rattle.trace_lines.specs.Text.{trace_text}
-use Rattle.fabric_ports.specs.declared.answers.EventEnd.{EventEnd}
-use Rattle.fabric_ports.specs.declared.answers.EventEnd.TheVariants.{Undetected, Failed, NoMemory}
+use Rattle.fabric_ports.specs.declared.answers.FabricEnd.{FabricEnd}
+use Rattle.fabric_ports.specs.declared.answers.FabricEnd.TheVariants.{Undetected, Failed, NoMemory}
 use Rattle.fabric_ports.specs.declared.fabric.Fabric.{Fabric}
 use Rattle.fabric_ports.specs.Standing.{Stands}
 
@@ -47,7 +47,8 @@ pub record WritesFront (names : List (List ℕ)) {K : Type 0} (written : K → O
 -- the fabric stands for those before with these; all of them, up to an event that was acted on and
 -- not sent, which is this one; or a front. The outbox has failed if the call ended for that.
 abbrev pub WritesTo : List (List ℕ) → {K : Type 0} → (K → Option (List ℕ)) → (K → ℕ)
-    → Outbox K → Outbox K → Seen → List TraceLine → List TraceLine → Result Fabric EventEnd → Type 0
+    → Outbox K → Outbox K → Seen → List TraceLine → List TraceLine → Result Fabric FabricEnd
+    → Type 0
 WritesTo names written faults old new from lines told (Ok fabric) =
     Writes written faults old new (trace_text names told) × Stands from (lines ++ told) fabric
 WritesTo names written faults old new from lines told (Err (Undetected port event)) =
@@ -61,13 +62,13 @@ WritesTo names written faults old new from lines told (Err NoMemory) =
 -- Behind these lines a call told its first lines, and lines of a kind behind them.
 pub record RanBehind (first : List TraceLine) (Is : Kind) (names : List (List ℕ)) {K : Type 0}
     (written : K → Option (List ℕ)) (faults : K → ℕ) (old new : Outbox K) (from : Seen)
-    (lines : List TraceLine) (end : Result Fabric EventEnd) : Type 0 where
+    (lines : List TraceLine) (end : Result Fabric FabricEnd) : Type 0 where
   pub block : List TraceLine
   pub is : Is (seen from lines) block
   pub ends : WritesTo names written faults old new from lines (first ++ block) end
 
 -- it told no lines but those of the kind
 abbrev pub Ran : Kind → List (List ℕ) → {K : Type 0} → (K → Option (List ℕ)) → (K → ℕ)
-    → Outbox K → Outbox K → Seen → List TraceLine → Result Fabric EventEnd → Type 0
+    → Outbox K → Outbox K → Seen → List TraceLine → Result Fabric FabricEnd → Type 0
 Ran Is names written faults old new from lines end =
     RanBehind [] Is names written faults old new from lines end

@@ -14,7 +14,7 @@ ghost use Rattle.fabric_ports.specs.Ends.{PortIsLinked};
 ghost use Rattle.fabric_ports.specs.Ran.{Ran, Blocks};
 ghost use Rattle.fabric_ports.specs.Standing.{Stands};
 
-use crate::answers::EventEnd;
+use crate::answers::FabricEnd;
 use crate::ends::{LinkPlace, two};
 use crate::fabric::Fabric;
 use fabric_script::{Action, Name, PortRef};
@@ -45,7 +45,7 @@ impl Fabric {
         port: PortRef,
         action: Action,
         outbox: &mut Outbox<K>,
-    ) -> Result<(), EventEnd>
+    ) -> Result<(), FabricEnd>
         requires linked { PortIsLinked self.old port }
         requires named { length self.old.devices.items ≤ length names.now }
         requires some { AsksForSome action }
@@ -156,14 +156,14 @@ pub(crate) fn write_lack<K: Sink>(outbox: &mut Outbox<K>, answer: Acted)
 }
 
 /// Why an event at the link of two ports ended. The watch that writes lines never fails.
-fn ended(a: PortRef, b: PortRef, end: LinkEnd) -> EventEnd
+fn ended(a: PortRef, b: PortRef, end: LinkEnd) -> FabricEnd
     ensures { result ≡ event_end a b end }
 {
     match end {
-        LinkEnd::Undetected(side, event) => EventEnd::Undetected {
+        LinkEnd::Undetected(side, event) => FabricEnd::Undetected {
             port: port_at_side(a, b, side),
             event,
         },
-        LinkEnd::Failed | LinkEnd::NoMemory => EventEnd::NoMemory,
+        LinkEnd::Failed | LinkEnd::NoMemory => FabricEnd::NoMemory,
     }
 }

@@ -23,7 +23,7 @@ pub enum Happened {
 
 /// Why an event was not carried out to its end. The fabric is of no use then.
 #[derive(Debug, Drop)]
-pub enum EventEnd {
+pub enum FabricEnd {
     /// The port acted on an event that was not sent: a corruption that no check has found.
     Undetected { port: PortRef, event: Unsent },
     /// The sink failed: what is behind the failure was not written, and the event was not carried

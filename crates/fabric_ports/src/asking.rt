@@ -13,7 +13,7 @@ ghost use Rattle.fabric_ports.specs.Ran.{Ran};
 ghost use Rattle.fabric_ports.specs.Standing.{Stands};
 ghost use Rattle.fabric_ports.specs.declared.asking.AskEnd.TheVariants.{NoMemory};
 
-use crate::answers::{EventEnd, Happened};
+use crate::answers::{FabricEnd, Happened};
 use crate::fabric::Fabric;
 use crate::noise::Noise;
 use fabric_script::{Name, PortRef};
@@ -152,7 +152,7 @@ impl Fabric {
         request: &Request,
         noise: &mut N,
         outbox: &mut Outbox<K>,
-    ) -> Result<Option<Packet>, EventEnd>
+    ) -> Result<Option<Packet>, FabricEnd>
         requires can { (from : Seen) × (lines : List TraceLine) × CanAsk host from lines self.old }
         requires named { length self.old.devices.items ≤ length names.now }
         requires few { length names.now ≤ 256 }
@@ -184,7 +184,7 @@ impl Fabric {
         host: u8,
         noise: &mut N,
         outbox: &mut Outbox<K>,
-    ) -> Result<Option<Packet>, EventEnd>
+    ) -> Result<Option<Packet>, FabricEnd>
         requires stands { (from : Seen) × (lines : List TraceLine) × Stands from lines self.old }
         requires named { length self.old.devices.items ≤ length names.now }
         requires few { length names.now ≤ 256 }
@@ -232,17 +232,17 @@ fn left_of(happened: Happened) -> Option<Packet>
 
 /// What is answered: the response that left at the host. Its own registers answer a request that
 /// came home, and then none left.
-fn answer(told: Result<Option<Packet>, EventEnd>) -> Result<Response, AskEnd>
+fn answer(told: Result<Option<Packet>, FabricEnd>) -> Result<Response, AskEnd>
     ensures { result ≡ ask_answer told }
 {
     match told {
         Ok(left) => response_in(left).ok_or(AskEnd::Unanswered),
-        Err(EventEnd::Undetected { port, event }) => {
+        Err(FabricEnd::Undetected { port, event }) => {
             let event = event.event().copy();
             Err(AskEnd::Undetected { port, event })
         }
-        Err(EventEnd::Failed) => Err(AskEnd::WriteFault),
-        Err(EventEnd::NoMemory) => Err(AskEnd::NoMemory),
+        Err(FabricEnd::Failed) => Err(AskEnd::WriteFault),
+        Err(FabricEnd::NoMemory) => Err(AskEnd::NoMemory),
     }
 }
 

@@ -14,7 +14,7 @@ ghost use Rattle.fabric_ports.specs.Ran.{Ran};
 ghost use Rattle.fabric_ports.specs.Showing.{ends_of};
 ghost use Rattle.fabric_ports.specs.Standing.{Stands};
 
-use crate::answers::EventEnd;
+use crate::answers::FabricEnd;
 use crate::fabric::Fabric;
 use crate::noise::Noise;
 use fabric_script::{Action, Line, Name, PortRef};
@@ -31,7 +31,7 @@ impl Fabric {
         names: &[Name],
         noise: &mut N,
         outbox: &mut Outbox<K>,
-    ) -> Result<(), EventEnd>
+    ) -> Result<(), FabricEnd>
         requires stands { (from : Seen) × (lines : List TraceLine) × Stands from lines self.old }
         requires named { length self.old.devices.items ≤ length names.now }
         ensures done { OnOk result ((from : Seen) (lines : List TraceLine)
@@ -60,7 +60,7 @@ impl Fabric {
         ends: (PortRef, PortRef),
         noise: &mut N,
         outbox: &mut Outbox<K>,
-    ) -> Result<(), EventEnd>
+    ) -> Result<(), FabricEnd>
         requires at { slice_get (map ends_of self.old.cables.items) place ≡ Some ends }
         requires linked { AreLinked self.old ends }
         requires named { length self.old.devices.items ≤ length names.now }
@@ -88,7 +88,7 @@ impl Fabric {
         ends: (PortRef, PortRef),
         noise: &mut N,
         outbox: &mut Outbox<K>,
-    ) -> Result<(), EventEnd>
+    ) -> Result<(), FabricEnd>
         requires linked { AreLinked self.old ends }
         requires named { length self.old.devices.items ≤ length names.now }
         ensures done { OnOk result ((from : Seen) (lines : List TraceLine)
@@ -112,7 +112,7 @@ impl Fabric {
         names: &[Name],
         ends: (PortRef, PortRef),
         outbox: &mut Outbox<K>,
-    ) -> Result<(), EventEnd>
+    ) -> Result<(), FabricEnd>
         requires linked { AreLinked self.old ends }
         requires named { length self.old.devices.items ≤ length names.now }
         ensures done { OnOk result ((from : Seen) (lines : List TraceLine)
@@ -134,7 +134,7 @@ impl Fabric {
         ends: (PortRef, PortRef),
         noise: &mut N,
         outbox: &mut Outbox<K>,
-    ) -> Result<(), EventEnd>
+    ) -> Result<(), FabricEnd>
         requires linked { AreLinked self.old ends }
         requires named { length self.old.devices.items ≤ length names.now }
         ensures done { OnOk result ((from : Seen) (lines : List TraceLine)
@@ -158,7 +158,7 @@ impl Fabric {
         port: PortRef,
         noise: &mut N,
         outbox: &mut Outbox<K>,
-    ) -> Result<(), EventEnd>
+    ) -> Result<(), FabricEnd>
         requires linked { PortIsLinked self.old port }
         requires named { length self.old.devices.items ≤ length names.now }
         ensures done { OnOk result ((from : Seen) (lines : List TraceLine)
@@ -199,7 +199,7 @@ impl Fabric {
         port: PortRef,
         edit: &Edit,
         outbox: &mut Outbox<K>,
-    ) -> Result<(), EventEnd>
+    ) -> Result<(), FabricEnd>
         requires linked { PortIsLinked self.old port }
         requires named { length self.old.devices.items ≤ length names.now }
         ensures done { OnOk result ((from : Seen) (lines : List TraceLine)
@@ -216,7 +216,7 @@ impl Fabric {
                 write_edit(outbox, names, port, edit, edited);
                 Ok(())
             }
-            Err(_) => Err(EventEnd::NoMemory),
+            Err(_) => Err(FabricEnd::NoMemory),
         }
     }
 }

@@ -10,10 +10,10 @@ ghost use Rattle.fabric_ports.specs.Ends.{PortIsLinked};
 ghost use Rattle.fabric_ports.specs.Events.{Did};
 ghost use Rattle.fabric_ports.specs.Ran.{Blocks};
 ghost use Rattle.fabric_ports.specs.Standing.{Stands};
-ghost use Rattle.fabric_ports.specs.declared.answers.EventEnd.TheVariants.{NoMemory};
+ghost use Rattle.fabric_ports.specs.declared.answers.FabricEnd.TheVariants.{NoMemory};
 
 use crate::actions::{Acted, write_lack};
-use crate::answers::EventEnd;
+use crate::answers::FabricEnd;
 use crate::fabric::Fabric;
 use fabric_script::{PortRef, WireEdit};
 use link_wires::{Edit, Edited};
@@ -29,7 +29,7 @@ impl Fabric {
         port: PortRef,
         edit: WireEdit,
         outbox: &mut Outbox<K>,
-    ) -> Result<(), EventEnd>
+    ) -> Result<(), FabricEnd>
         requires { PortIsLinked self.old port }
         ensures done { OnOk result ((names : List (List ℕ)) (from : Seen) (lines : List TraceLine)
             → Stands from lines self.old
@@ -45,7 +45,7 @@ impl Fabric {
                 write_lack(outbox, as_acted(edited));
                 Ok(())
             }
-            Err(_) => Err(EventEnd::NoMemory),
+            Err(_) => Err(FabricEnd::NoMemory),
         }
     }
 }

@@ -11,7 +11,7 @@ ghost use Rattle.trace_lines.specs.Lines.{TraceLine};
 ghost use Rattle.fabric_ports.specs.Events.{MayFollow, Evented, IsAnsweredBlock, IsOwnBlock, request_by, body_in};
 ghost use Rattle.fabric_ports.specs.Standing.{Stands};
 
-use crate::answers::{EventEnd, Happened};
+use crate::answers::{FabricEnd, Happened};
 use crate::fabric::Fabric;
 use fabric_script::{Contents, GivenPacket, Line, Name, Operation, RequestHead};
 use maint_packets::{Op, Request, write_request};
@@ -38,7 +38,7 @@ impl Fabric {
         names: &[Name],
         line: &Line,
         outbox: &mut Outbox<K>,
-    ) -> Result<Happened, EventEnd>
+    ) -> Result<Happened, FabricEnd>
         requires may { MayFollow self.old names.now line.now }
         ensures done { IfOk result (λ answer. (from : Seen) (lines : List TraceLine)
             → Stands from lines self.old → Evented line.now (IsAnsweredBlock line.now answer)

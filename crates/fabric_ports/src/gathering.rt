@@ -12,7 +12,7 @@ ghost use Rattle.fabric_ports.specs.Ran.{Ran};
 ghost use Rattle.fabric_ports.specs.Showing.{ShowsFabric};
 ghost use Rattle.fabric_ports.specs.Standing.{Stands};
 
-use crate::answers::{EventEnd, Happened};
+use crate::answers::{FabricEnd, Happened};
 use crate::fabric::Fabric;
 use crate::noise::Noise;
 use fabric_script::{Name, PortRef};
@@ -30,7 +30,7 @@ impl Fabric {
         host: u8,
         noise: &mut N,
         outbox: &mut Outbox<K>,
-    ) -> Result<(), EventEnd>
+    ) -> Result<(), FabricEnd>
         requires stands { (from : Seen) × (lines : List TraceLine) × Stands from lines self.old }
         requires named { length self.old.devices.items ≤ length names.now }
         requires few { length names.now ≤ 256 }

@@ -9,7 +9,7 @@
 //! when the fabric is made.
 //!
 //! - [`Fabric`]: its devices, ports and links
-//! - [`Happened`] and [`EventEnd`]: what an event answers
+//! - [`Happened`] and [`FabricEnd`]: what an event answers
 //! - [`AskEnd`]: why an ask has no answer
 //! - [`Noise`] and [`Quiet`]: who changes what is on the wires while a host asks
 #![tactic(auto)]
@@ -30,7 +30,7 @@ mod plans;
 mod rounds;
 mod switches;
 
-pub use answers::{EventEnd, Happened};
+pub use answers::{FabricEnd, Happened};
 pub use asking::AskEnd;
 pub use fabric::Fabric;
 pub use noise::{Noise, Quiet};

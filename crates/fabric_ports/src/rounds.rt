@@ -11,7 +11,7 @@ ghost use Rattle.fabric_ports.specs.Places.{IsSwitchAt};
 ghost use Rattle.fabric_ports.specs.Ran.{Ran, Blocks, LinksSettle, SwitchesServe, Serves};
 ghost use Rattle.fabric_ports.specs.Standing.{Stands};
 
-use crate::answers::EventEnd;
+use crate::answers::FabricEnd;
 use crate::fabric::Fabric;
 use fabric_script::{Action, Name, PortRef};
 use rio_chars::{Outbox, Sink};
@@ -27,7 +27,7 @@ impl Fabric {
         names: &[Name],
         rounds: u32,
         outbox: &mut Outbox<K>,
-    ) -> Result<(), EventEnd>
+    ) -> Result<(), FabricEnd>
         requires stands { (from : Seen) × (lines : List TraceLine) × Stands from lines self.old }
         requires named { length self.old.devices.items ≤ length names.now }
         requires few { length names.now ≤ 256 }
@@ -51,7 +51,7 @@ impl Fabric {
         alloc: Global,
         names: &[Name],
         outbox: &mut Outbox<K>,
-    ) -> Result<(), EventEnd>
+    ) -> Result<(), FabricEnd>
         requires stands { (from : Seen) × (lines : List TraceLine) × Stands from lines self.old }
         requires named { length self.old.devices.items ≤ length names.now }
         ensures done { OnOk result ((from : Seen) (lines : List TraceLine)
@@ -79,7 +79,7 @@ impl Fabric {
         names: &[Name],
         port: PortRef,
         outbox: &mut Outbox<K>,
-    ) -> Result<(), EventEnd>
+    ) -> Result<(), FabricEnd>
         requires linked { PortIsLinked self.old port }
         requires named { length self.old.devices.items ≤ length names.now }
         ensures done { OnOk result ((from : Seen) (lines : List TraceLine)
@@ -91,7 +91,7 @@ impl Fabric {
     {
         self.act(alloc, names, port, Action::Settle, outbox)?;
         if outbox.failed() {
-            return Err(EventEnd::Failed);
+            return Err(FabricEnd::Failed);
         }
         Ok(())
     }

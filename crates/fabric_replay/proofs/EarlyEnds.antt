@@ -13,8 +13,8 @@ use Rattle.fabric_trace.specs.Runs.{start}
 use Rattle.trace_lines.specs.Text.{trace_line_text}
 use Rattle.fabric_ports.specs.Events.{IsOwnBlock, Evented}
 use Rattle.fabric_ports.specs.Standing.{Stands}
-use Rattle.fabric_ports.specs.declared.answers.EventEnd.{EventEnd}
-use Rattle.fabric_ports.specs.declared.answers.EventEnd.TheVariants as Early
+use Rattle.fabric_ports.specs.declared.answers.FabricEnd.{FabricEnd}
+use Rattle.fabric_ports.specs.declared.answers.FabricEnd.TheVariants as Early
 use Rattle.fabric_ports.specs.declared.fabric.Fabric.{Fabric}
 use Rattle.fabric_replay.specs.Ending.{EndIsNamed, EndsBy}
 use Rattle.fabric_replay.specs.declared.replaying.ReplayEnd.{ReplayEnd}
@@ -25,7 +25,7 @@ use Rattle.fabric_replay.proofs.Telling.{IsItem, Going-broken, Going-short, Goin
 
 pub end_named : (names read : List (List ℕ)) (script : List Numbered) {K : Type 0}
     (written : K → Option (List ℕ)) (faults : K → ℕ) (out out2 : Outbox K) (lines : List TraceLine)
-    (line : Line) (fabric : Fabric) (end : EventEnd) → ScriptPasses names script → read ≡ names
+    (line : Line) (fabric : Fabric) (end : FabricEnd) → ScriptPasses names script → read ≡ names
     → Stands (start script) lines fabric
     → Evented line (IsOwnBlock line) names written faults out out2 (start script) lines (Err end)
     → EndIsNamed read end
@@ -53,7 +53,7 @@ module _ {K : Type 0} (written : K → Option (List ℕ)) (faults : K → ℕ) (
   ended_by out result end is ended = subst (IsEnded out) (sym is) ended
 
   pub Going-ended : (read : List (List ℕ)) (i : ℕ) (item : Numbered) (out out2 out3 : Outbox K)
-      (fabric : Fabric) (end : EventEnd) (result : ReplayEnd) → read ≡ names → IsItem script i item
+      (fabric : Fabric) (end : FabricEnd) (result : ReplayEnd) → read ≡ names → IsItem script i item
       → is_event item.line ≡ true → (h : Going written faults begun out names script i fabric)
       → Evented item.line (IsOwnBlock item.line) names written faults out out2 (start script)
       h.lines (Err end)

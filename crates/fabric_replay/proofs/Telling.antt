@@ -23,8 +23,8 @@ use Rattle.fabric_trace.proofs.SetUps.Happening.{may_happen}
 use Rattle.fabric_ports.specs.Events.{MayFollow, IsOwnBlock, IsAnsweredBlock, Evented}
 use Rattle.fabric_ports.specs.Ran.{Kind}
 use Rattle.fabric_ports.specs.Standing.{Stands}
-use Rattle.fabric_ports.specs.declared.answers.EventEnd.{EventEnd}
-use Rattle.fabric_ports.specs.declared.answers.EventEnd.TheVariants.{Undetected as Unsent, Failed, NoMemory}
+use Rattle.fabric_ports.specs.declared.answers.FabricEnd.{FabricEnd}
+use Rattle.fabric_ports.specs.declared.answers.FabricEnd.TheVariants.{Undetected as Unsent, Failed, NoMemory}
 use Rattle.fabric_ports.specs.declared.answers.Happened.{Happened}
 use Rattle.fabric_ports.specs.declared.fabric.Fabric.{Fabric}
 use Rattle.fabric_ports.proofs.RanLaws.{lines_written, line_written, front_whole}
@@ -312,7 +312,7 @@ module _ {K : Type 0} (written : K → Option (List ℕ)) (faults : K → ℕ) (
 -- the names were read from where they stand
 pub Evented-names : (line : Line) (Is : Kind) (read names : List (List ℕ)) {K : Type 0}
     {written : K → Option (List ℕ)} {faults : K → ℕ} {out out2 : Outbox K} {from : Seen}
-    {lines : List TraceLine} {end : Result Fabric EventEnd} → read ≡ names
+    {lines : List TraceLine} {end : Result Fabric FabricEnd} → read ≡ names
     → Evented line Is read written faults out out2 from lines end
     → Evented line Is names written faults out out2 from lines end
 Evented-names line Is read names {K} {written} {faults} {out} {out2} {from} {lines} {end} same e =

@@ -12,7 +12,7 @@ ghost use Rattle.fabric_replay.specs.Going.{ToldFront, ToldUntil, ToldWhole};
 ghost use Rattle.fabric_replay.specs.Ending.{EndIsNamed, EndsBy};
 ghost use Rattle.fabric_replay.specs.declared.replaying.ReplayEnd.TheVariants.{NoMemory};
 
-use fabric_ports::{EventEnd, Fabric};
+use fabric_ports::{Fabric, FabricEnd};
 use fabric_script::{Name, PortRef, Script};
 use link_model::Event;
 use rio_chars::{Outbox, Sink, TextBuffer};
@@ -153,17 +153,17 @@ fn tell_trace<K: Sink>(
 }
 
 /// Tells the last line of a trace that ends early, if it has one, and answers why it ends.
-fn tell_end<K: Sink>(names: &[Name], line: u32, end: EventEnd, outbox: &mut Outbox<K>) -> ReplayEnd
+fn tell_end<K: Sink>(names: &[Name], line: u32, end: FabricEnd, outbox: &mut Outbox<K>) -> ReplayEnd
     requires { EndIsNamed names.now end }
     ensures { EndsBy end line names.now K.written K.faults outbox.old outbox.new result }
 {
     match end {
-        EventEnd::Undetected { port, event } => {
+        FabricEnd::Undetected { port, event } => {
             write_undetected(outbox, names, line, port, event.event());
             let event = event.event().copy();
             ReplayEnd::Undetected { line, port, event }
         }
-        EventEnd::Failed => ReplayEnd::WriteFault,
-        EventEnd::NoMemory => ReplayEnd::NoMemory,
+        FabricEnd::Failed => ReplayEnd::WriteFault,
+        FabricEnd::NoMemory => ReplayEnd::NoMemory,
     }
 }

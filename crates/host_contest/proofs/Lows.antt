@@ -12,7 +12,7 @@ use Rattle.host_enumerate.specs.declared.maint.Access.TheVariants.{Read, Write}
 use Rattle.host_enumerate.specs.Accesses.{answered}
 use Rattle.host_enumerate.specs.Underway.{id_after, met_as}
 use Rattle.contest_machine.specs.declared.stages.Asked.{Asked}
-use Rattle.contest_machine.specs.declared.stages.Pending.{Pending}
+use Rattle.contest_machine.specs.declared.stages.PendingWrite.{PendingWrite}
 use Rattle.contest_machine.specs.declared.stages.Tried.{Tried}
 use Rattle.contest_machine.specs.declared.stages.Stage.{Stage}
 use Rattle.contest_machine.specs.declared.stages.Stage.TheVariants.{Ask, Claim, Check, Test, Features, Information, Status, Free, Done, Lost}
@@ -20,7 +20,7 @@ use Rattle.contest_machine.specs.Machine.{Walker, write, entry_set, route_of, ro
 use Rattle.contest_machine.specs.Turns.{is_locking}
 use Rattle.host_contest.specs.Reaching.{PathIsReached, CanReach, IsOfLock, IsAtHost, AreLow}
 
-low-append : (first second : List Pending) → AreLow first → AreLow second
+low-append : (first second : List PendingWrite) → AreLow first → AreLow second
     → AreLow (first ++ second)
 low-append [] second one two = two
 low-append (p ∷ rest) second one two = (one.0, low-append rest second one.1 two)
@@ -137,7 +137,7 @@ low-told_at w value Free low = low-freeing w (but_last w.devices)
 low-told_at w value Done low = low
 low-told_at w value Lost low = low
 
-low-settled : (w : Walker) (rest : List Pending) (stage : Stage) (path : List ℕ) → AreLow rest
+low-settled : (w : Walker) (rest : List PendingWrite) (stage : Stage) (path : List ℕ) → AreLow rest
     → IsLow (settled w rest stage path)
 low-settled w (q ∷ rest) stage path low = low
 low-settled w [] Ask path low = low
@@ -155,7 +155,8 @@ low-settled w [] Lost path low = low
 low-told : (w : Walker) (value : ℕ) → IsLow w → IsLow (walker_told w value)
 low-told w value low = go w.todo low
   where
-    go : (todo : List Pending) → AreLow todo → IsLow (walker_told (record w { todo = todo }) value)
+    go : (todo : List PendingWrite) → AreLow todo
+        → IsLow (walker_told (record w { todo = todo }) value)
     go [] low = low-told_at (record w { todo = [] }) value w.stage low
     go (p ∷ rest) low = low-settled (record w { todo = p ∷ rest }) rest w.stage w.path low.1
 
@@ -254,7 +255,7 @@ stays_at_host w r at = go w.todo at.clear
             stays-told w at.path stage locks
             (answered (r port.node) port.port ask.access).answer.value
 
-    go : (todo : List Pending) → todo ≡ []
+    go : (todo : List PendingWrite) → todo ≡ []
         → StaysAtHost (stepped (record w { todo = todo }) r).walker
     go [] clear = asks w.stage at.stage (wants (record w { todo = [] }))
     go (p ∷ rest) clear = absurd (let none : p ∷ rest ≡ [] = clear in cc)
@@ -276,7 +277,7 @@ host_reached w r at ask wanted = go w.todo at.clear w.stage at.stage w.path at.p
           },
         )
 
-    go : (todo : List Pending) → todo ≡ [] → (stage : Stage) → IsOfLock stage → (path : List ℕ)
+    go : (todo : List PendingWrite) → todo ≡ [] → (stage : Stage) → IsOfLock stage → (path : List ℕ)
         → path ≡ []
         → wants (record w { todo = todo; stage = stage; path = path }) ≡ Some ask
         → (port : PortRef) × PathIsReached w.view r ask.path ask.access port

@@ -5,7 +5,7 @@ use Rattle.fabric_map.specs.declared.map.Device.{Device}
 use Rattle.fabric_map.specs.declared.map.Kind.TheVariants.{Endpoint, Switch}
 use Rattle.fabric_map.specs.Topology.{Topology}
 use Rattle.host_enumerate.specs.Underway.{id_after}
-use Rattle.contest_machine.specs.declared.stages.Pending.{Pending}
+use Rattle.contest_machine.specs.declared.stages.PendingWrite.{PendingWrite}
 use Rattle.contest_machine.specs.declared.stages.Tried.{Tried}
 use Rattle.contest_machine.specs.declared.stages.Stage.{Stage}
 use Rattle.contest_machine.specs.declared.stages.Stage.TheVariants.{Ask, Claim, Check, Test, Features, Information, Status, Free, Done, Lost}
@@ -53,7 +53,7 @@ gone_over w before (top ∷ rest) =
     go false same = same
 
 -- the host is taken in once it has its marks
-abbrev with_todo : Walker → List Pending → Walker
+abbrev with_todo : Walker → List PendingWrite → Walker
 with_todo w todo = record w { todo = todo }
 
 abbrev host_numbered : Walker → Walker
@@ -88,7 +88,7 @@ on_ok (Ok value) f p = f p
 on_ok (Err end) f p = p
 
 -- what is written home, in three parts
-pub home_joined : (todo cleared home : List Pending) (first : Pending)
+pub home_joined : (todo cleared home : List PendingWrite) (first : PendingWrite)
     → ((todo ++ first ∷ []) ++ cleared) ++ home ≡ todo ++ (first ∷ (cleared ++ home))
 home_joined [] cleared home first = refl
 home_joined (p ∷ todo) cleared home first = ap (λ l. p ∷ l) (home_joined todo cleared home first)
@@ -125,7 +125,7 @@ all_but_last (device ∷ second ∷ rest) =
     ∙ ap (λ l. device ∷ l) (all_but_last (second ∷ rest))
 
 -- what is written last does not matter once the next walker is told
-settled_over : (w : Walker) (before rest : List Pending) (stage : Stage) (path : List ℕ)
+settled_over : (w : Walker) (before rest : List PendingWrite) (stage : Stage) (path : List ℕ)
     → settled (record w { todo = before }) rest stage path ≡ settled w rest stage path
 settled_over w before (q ∷ rest) stage path = refl
 settled_over w before [] Ask path = refl
@@ -140,7 +140,8 @@ settled_over w before [] Free path = refl
 settled_over w before [] Done path = refl
 settled_over w before [] Lost path = refl
 
-pub told_write : (w : Walker) (value : ℕ) (p : Pending) (rest : List Pending) → w.todo ≡ p ∷ rest
+pub told_write : (w : Walker) (value : ℕ) (p : PendingWrite) (rest : List PendingWrite)
+    → w.todo ≡ p ∷ rest
     → settled (record w { todo = rest }) rest w.stage w.path ≡ walker_told w value
 told_write w value p rest is =
     settled_over w rest rest w.stage w.path ∙ ap (told_with w value) (sym is)
@@ -174,7 +175,7 @@ noted next w = record w { next = next }
 abbrev gone_with : ℕ → Walker → Walker
 gone_with next w = gone_on (noted next w) w.tried
 
-abbrev with_writes : Walker → List Pending → Walker
+abbrev with_writes : Walker → List PendingWrite → Walker
 with_writes w todo = record w { todo = todo }
 
 abbrev numbered_as : Walker → ℕ → Walker
@@ -183,7 +184,7 @@ numbered_as w id =
     (with_writes w (write w.path 0x60 (id * 0x10000) ∷ routes_to w.devices w.path id))
     (Endpoint id))
 
-pub number_so : (w pushed after : Walker) (todo : List Pending) (id first : ℕ) (rest : List ℕ)
+pub number_so : (w pushed after : Walker) (todo : List PendingWrite) (id first : ℕ) (rest : List ℕ)
     → w.path ≡ first ∷ rest → id ≡ id_after w.id w.next
     → todo ≡ write w.path 0x60 (id * 0x10000) ∷ routes_to w.devices w.path id
     → pushed ≡ device_added (with_writes w todo) (Endpoint id)
@@ -224,6 +225,6 @@ pub new_is_not_done : (machine : Machine) (id : ℕ)
 new_is_not_done machine id is =
     ap (λ (w : Walker). is_numbered w.stage && is_clear w.todo) is
 
-pub clear_is : (todo : List Pending) → (length todo == 0) ≡ is_clear todo
+pub clear_is : (todo : List PendingWrite) → (length todo == 0) ≡ is_clear todo
 clear_is [] = refl
 clear_is (p ∷ todo) = ne_eqb (length (p ∷ todo)) 0 (λ e. omega (arith, e))

@@ -3,7 +3,7 @@ use Rattle.std.specs.Prelude.{ℕ, ◌++◌, ◌==◌, [], ◌∷◌, ◌&&◌, 
 use Rattle.fabric_map.specs.declared.map.Kind.{Kind}
 use Rattle.fabric_map.specs.Topology.{Topology}
 use Rattle.host_enumerate.specs.Underway.{met_as}
-use Rattle.contest_machine.specs.declared.stages.Pending.{Pending}
+use Rattle.contest_machine.specs.declared.stages.PendingWrite.{PendingWrite}
 use Rattle.contest_machine.specs.declared.stages.Tried.{Tried}
 use Rattle.contest_machine.specs.declared.stages.Stage.{Stage}
 use Rattle.contest_machine.specs.declared.stages.Stage.TheVariants.{Ask, Claim, Check, Test, Features, Information, Status, Free, Done, Lost}
@@ -51,7 +51,7 @@ port_left top =
     else None
 
 -- nothing is left to be written
-abbrev pub is_clear : List Pending → Bool
+abbrev pub is_clear : List PendingWrite → Bool
 is_clear [] = true
 is_clear (p ∷ rest) = false
 

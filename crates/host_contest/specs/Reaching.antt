@@ -6,7 +6,7 @@ use Rattle.fabric_map.specs.Routes.{AllRegisters}
 use Rattle.host_enumerate.specs.declared.maint.Access.{Access}
 use Rattle.host_enumerate.specs.Accesses.{IsAnswered}
 use Rattle.contest_machine.specs.declared.stages.Asked.{Asked}
-use Rattle.contest_machine.specs.declared.stages.Pending.{Pending}
+use Rattle.contest_machine.specs.declared.stages.PendingWrite.{PendingWrite}
 use Rattle.contest_machine.specs.declared.stages.Stage.{Stage}
 use Rattle.contest_machine.specs.declared.stages.Stage.TheVariants.{Ask, Claim, Check, Test, Features, Information, Status, Free, Done, Lost}
 use Rattle.contest_machine.specs.Machine.{Walker, wants}
@@ -51,6 +51,6 @@ pub record CanReachOn (w : Walker) (registers : AllRegisters) : Type 0 where
   pub first : w.begun ≡ false → IsAtHost w
 
 -- the offsets of what is to be written fit a request
-abbrev pub AreLow : List Pending → Type 0
+abbrev pub AreLow : List PendingWrite → Type 0
 AreLow [] = Unit {0}
 AreLow (p ∷ rest) = (p.offset < 2 ^ 24) × AreLow rest

@@ -10,7 +10,7 @@ ghost use Rattle.host_enumerate.specs.Accesses.{access_offset};
 ghost use Rattle.host_contest.specs.Machines.{machine_of, new_walker};
 ghost use Rattle.host_contest.specs.Reaching.{AreLow};
 
-use contest_machine::{Asked, Pending, Stage, Tried};
+use contest_machine::{Asked, PendingWrite, Stage, Tried};
 use fabric_map::{Device, Map, Path};
 use host_enumerate::Access;
 use host_enumerate::offsets::{
@@ -35,7 +35,7 @@ pub(crate) struct Machine {
     /// The switches whose ports are tried, the last first.
     pub(crate) tried: LinkedList<Tried>,
     /// What is still to be written, in order.
-    pub(crate) todo: LinkedList<Pending>,
+    pub(crate) todo: LinkedList<PendingWrite>,
     pub(crate) stage: Stage,
 }
 

@@ -3,7 +3,7 @@ ghost use Rattle.std.specs.Prelude.{◌≡◌, ◌≤◌, ◌++◌, ◌∷◌, [
 ghost use Rattle.contest_machine.specs.Machine.{write, entry_set, route_pending, routes_to, cleared_below, home_set};
 
 use crate::values::CLEARED;
-use contest_machine::Pending;
+use contest_machine::PendingWrite;
 use fabric_map::{Device, Kind, Path, toward};
 use host_enumerate::offsets::{DEFAULT_PORT, ROUTE_ENTRY, ROUTE_SELECT};
 use std::alloc::AllocError;
@@ -11,7 +11,7 @@ use std::collections::LinkedList;
 
 /// A write to a register of the device on a path.
 pub(crate) fn push_write(
-    todo: &mut LinkedList<Pending>,
+    todo: &mut LinkedList<PendingWrite>,
     path: &Path,
     offset: u32,
     value: u32,
@@ -19,7 +19,7 @@ pub(crate) fn push_write(
     ensures { OnOk result (todo.new ≡ todo.old ++ write path.now offset value ∷ []) }
 {
     let path = path.copied();
-    todo.push_back(Pending {
+    todo.push_back(PendingWrite {
         path,
         offset,
         value,
@@ -29,7 +29,7 @@ pub(crate) fn push_write(
 
 /// The two writes that set an entry of a switch.
 pub(crate) fn push_entry(
-    todo: &mut LinkedList<Pending>,
+    todo: &mut LinkedList<PendingWrite>,
     path: &Path,
     id: u8,
     port: u8,
@@ -42,7 +42,7 @@ pub(crate) fn push_entry(
 
 /// The entry of an ID in each switch that a path passes is that by which the path goes on.
 pub(crate) fn push_routes(
-    todo: &mut LinkedList<Pending>,
+    todo: &mut LinkedList<PendingWrite>,
     devices: &[Device],
     path: &Path,
     id: u8,
@@ -57,7 +57,7 @@ pub(crate) fn push_routes(
 
 /// The entry of an ID in one device, if it is a switch that a path passes.
 fn push_route(
-    todo: &mut LinkedList<Pending>,
+    todo: &mut LinkedList<PendingWrite>,
     device: &Device,
     path: &Path,
     id: u8,
@@ -76,7 +76,7 @@ fn push_route(
 /// What a new switch gets: its port of entry for all destinations, and then the entries of the IDs
 /// from 0 to 62, but the host's, are cleared and the host's is the port of entry.
 pub(crate) fn push_home(
-    todo: &mut LinkedList<Pending>,
+    todo: &mut LinkedList<PendingWrite>,
     path: &Path,
     host_id: u8,
     entry: u8,
@@ -90,7 +90,7 @@ pub(crate) fn push_home(
 
 /// The entries of the IDs below a number, but the host's, are cleared.
 fn push_cleared(
-    todo: &mut LinkedList<Pending>,
+    todo: &mut LinkedList<PendingWrite>,
     path: &Path,
     host_id: u8,
     below: u8,

@@ -157,7 +157,8 @@ module _ {topology one : Topology} {now met : AllRegisters} {host_id one_id next
           record { path = path; ports = ports; entry = entry }
       switch_known =
           let known = subst (λ a. IsTried topology first.some.0 after host_id devices
-          devices_after next next_after (0 ∷ []) a) third.is (tried_here first.some.0 first.some.1) in
+          devices_after next next_after
+          (0 ∷ []) a) third.is (tried_here first.some.0 first.some.1) in
           found-as topology two after host_id two_id devices_after
           record { path = path; ports = ports; entry = entry } third.is_two third.is_two_id
           (subst (λ l. IsFound topology after host_id devices_after

@@ -24,8 +24,8 @@ use Rattle.fabric_trace.proofs.Network.Boards.{happens_still}
 use Rattle.fabric_trace.proofs.Parts.Folding.{seen-append}
 use Rattle.fabric_ask.proofs.Gathering.{stays_endpoint, collected_fewer}
 use Rattle.fabric_ports.specs.Events.{MayFollow, IsOwnBlock, IsAnsweredBlock, Evented, answer_collected}
-use Rattle.fabric_ports.specs.declared.answers.EventEnd.{EventEnd}
-use Rattle.fabric_ports.specs.declared.answers.EventEnd.TheVariants as Ends
+use Rattle.fabric_ports.specs.declared.answers.FabricEnd.{FabricEnd}
+use Rattle.fabric_ports.specs.declared.answers.FabricEnd.TheVariants as Ends
 use Rattle.fabric_ports.specs.declared.answers.Happened.{Happened}
 use Rattle.fabric_ports.specs.declared.answers.Happened.TheVariants as Answers
 use Rattle.fabric_ports.proofs.GatherLaws.{held_at}
@@ -100,7 +100,7 @@ nothing_unsent names course line written faults old new port event may exposed =
 
 -- so memory can be wanting, or a write fail
 pub only_wanting : (names : List (List ℕ)) (course : Course) (line : Line) {K : Type 0}
-    (written : K → Option (List ℕ)) (faults : K → ℕ) (old new : Outbox K) (end : EventEnd)
+    (written : K → Option (List ℕ)) (faults : K → ℕ) (old new : Outbox K) (end : FabricEnd)
     (may : MayAct names course line)
     → Evented line (IsOwnBlock line) names written faults old new (start may.script) may.trace
     (Err end)

@@ -11,7 +11,7 @@ ghost use Rattle.io_rounds.specs.Stations.{new_station};
 ghost use Rattle.io_rounds.specs.Course.{CourseHolds, MayAct, EventActed, kinds_of};
 
 use crate::stations::{Station, new_stations};
-use fabric_ports::{EventEnd, Fabric, Happened};
+use fabric_ports::{Fabric, FabricEnd, Happened};
 use fabric_script::{Line, Name, Numbered, Script};
 use rio_chars::{NoMemory, Outbox, PlainSink};
 use std::alloc::{AllocError, Global};
@@ -72,12 +72,12 @@ impl<'a> Course<'a> {
 }
 
 /// What was wanting to an event that sent all that was acted on. The sink of the trace never fails.
-fn want_of(end: EventEnd) -> NoMemory
-    requires { (end ≡ EventEnd.Failed) ⊎ (end ≡ EventEnd.NoMemory) }
+fn want_of(end: FabricEnd) -> NoMemory
+    requires { (end ≡ FabricEnd.Failed) ⊎ (end ≡ FabricEnd.NoMemory) }
 {
     match end {
-        EventEnd::Failed | EventEnd::NoMemory => NoMemory,
-        EventEnd::Undetected { .. } => unreachable!(),
+        FabricEnd::Failed | FabricEnd::NoMemory => NoMemory,
+        FabricEnd::Undetected { .. } => unreachable!(),
     }
 }
 

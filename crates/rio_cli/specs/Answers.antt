@@ -4,7 +4,7 @@ use Rattle.std.specs.Io.KnownBytes.{Appends, Keeps}
 use Rattle.rio_chars.specs.Faults.{Rose}
 use Rattle.rio_chars.specs.Fronts.{AppendsFront}
 use Rattle.rio_chars.specs.Takings.{ConsumesJust, ConsumesUpTo}
-use Rattle.rio_cli.specs.declared.answer.Answer.{Answer}
+use Rattle.rio_cli.specs.declared.answer.CommandAnswer.{CommandAnswer}
 use Rattle.rio_cli.specs.declared.refusal.Refusal.{Refusal}
 use Rattle.rio_cli.specs.declared.command.Command.{Command}
 use Rattle.rio_cli.specs.declared.status.Status.{Status}
@@ -121,7 +121,8 @@ IsOther status = (status ≢ Script) × (status ≢ Unlawful)
 
 -- a refusal is answered exactly with the statuses Script and Unlawful, and it is that of the
 -- command's input
-abbrev pub Refuses : List (List ℕ) → Answer → Option (List ℕ) → Option (List ℕ) → Option (List ℕ)
+abbrev pub Refuses : List (List ℕ) → CommandAnswer → Option (List ℕ) → Option (List ℕ)
+    → Option (List ℕ)
     → Option (List ℕ) → Type 0
 Refuses asked answer left left_after written written_after = MatchOption answer.refusal
     (IsOther answer.status)
@@ -159,7 +160,7 @@ SaysOfBytes command Unlawful bytes written faults written_after faults_after =
     Declines Unlawful command bytes written written_after
 
 -- a refusal of this line for this reason is answered exactly with this status
-abbrev pub TellsRefusal : Status → Command → List ℕ → ℕ → ℕ → Answer → Option (List ℕ)
+abbrev pub TellsRefusal : Status → Command → List ℕ → ℕ → ℕ → CommandAnswer → Option (List ℕ)
     → Option (List ℕ) → Type 0
 TellsRefusal status command bytes line reason answer written written_after =
     MatchOption answer.refusal (IsOther answer.status)
@@ -168,7 +169,8 @@ TellsRefusal status command bytes line reason answer written written_after =
     × Explains command bytes line reason refusal.message.items)
 
 -- a refusal of the bytes is answered exactly with the statuses Script and Unlawful
-abbrev pub RefusesBytes : Command → Answer → List ℕ → Option (List ℕ) → Option (List ℕ) → Type 0
+abbrev pub RefusesBytes : Command → CommandAnswer → List ℕ → Option (List ℕ) → Option (List ℕ)
+    → Type 0
 RefusesBytes command answer bytes written written_after = MatchOption answer.refusal
     (IsOther answer.status)
     (λ refusal. (refusal.command ≡ command)
@@ -208,7 +210,8 @@ SaysOfInput command Unlawful left left_after read read_after written faults writ
     OfInput left left_after (λ bytes. Declines Unlawful command bytes written written_after)
 
 -- a refusal of what the source gave is answered exactly with the statuses Script and Unlawful
-abbrev pub RefusesInput : Command → Answer → Option (List ℕ) → Option (List ℕ) → Option (List ℕ)
+abbrev pub RefusesInput : Command → CommandAnswer → Option (List ℕ) → Option (List ℕ)
+    → Option (List ℕ)
     → Option (List ℕ) → Type 0
 RefusesInput command answer left left_after written written_after = MatchOption answer.refusal
     (IsOther answer.status)

@@ -7,7 +7,7 @@ use Rattle.fabric_script.specs.declared.advice.Advice.{Advice}
 use Rattle.trace_check.specs.declared.expecting.Expected.{Expected}
 use Rattle.trace_check.specs.Expecting.{HasExpected, IsExplained}
 use Rattle.trace_check.specs.Outcomes.{HasUnlawful}
-use Rattle.rio_cli.specs.declared.answer.Answer.{Answer}
+use Rattle.rio_cli.specs.declared.answer.CommandAnswer.{CommandAnswer}
 use Rattle.rio_cli.specs.declared.refusal.Refusal.{Refusal}
 use Rattle.rio_cli.specs.declared.command.Command.{Command}
 use Rattle.rio_cli.specs.declared.command.Command.TheVariants.{Check, Enumerate, Contest}
@@ -82,5 +82,5 @@ message_text status None = status_text status
 message_text status (Some refusal) = refusal.message.items
 
 -- the line that is said of an answer
-abbrev pub answer_message : Answer → List ℕ
+abbrev pub answer_message : CommandAnswer → List ℕ
 answer_message answer = message_text answer.status answer.refusal

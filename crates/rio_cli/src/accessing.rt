@@ -4,7 +4,7 @@ ghost use Rattle.rio_cli.specs.Answers.{RefusesBytes, SaysOfBytes};
 ghost use Rattle.rio_cli.specs.Inputs.{most_input};
 ghost use Rattle.rio_cli.specs.declared.command.Command.TheVariants.{Io};
 
-use crate::answer::Answer;
+use crate::answer::CommandAnswer;
 use crate::command::Command;
 use crate::status::Status;
 use crate::top::refuse_line;
@@ -15,7 +15,7 @@ use rio_chars::Sink;
 use std::alloc::Global;
 
 /// Carries out the reads and writes of memory that the bytes spell, and writes what became of them.
-pub(crate) fn io_bytes<K: Sink>(alloc: Global, bytes: &[u8], sink: &mut K) -> Answer
+pub(crate) fn io_bytes<K: Sink>(alloc: Global, bytes: &[u8], sink: &mut K) -> CommandAnswer
     requires { length bytes.now ≤ most_input }
     ensures says { SaysOfBytes Io result.status bytes.now
         (K.written sink.old) (K.faults sink.old) (K.written sink.new) (K.faults sink.new) }
@@ -36,11 +36,11 @@ pub(crate) fn io_bytes<K: Sink>(alloc: Global, bytes: &[u8], sink: &mut K) -> An
                 sink,
             );
         }
-        Err(ScriptEnd::NoMemory) => return Answer::ended(Status::NoMemory),
+        Err(ScriptEnd::NoMemory) => return CommandAnswer::ended(Status::NoMemory),
     };
     match carry_out(alloc, &script, sink) {
-        Ok(()) => Answer::ended(Status::Done),
-        Err(IoEnd::WriteFault) => Answer::ended(Status::WriteFault),
-        Err(IoEnd::NoMemory) => Answer::ended(Status::NoMemory),
+        Ok(()) => CommandAnswer::ended(Status::Done),
+        Err(IoEnd::WriteFault) => CommandAnswer::ended(Status::WriteFault),
+        Err(IoEnd::NoMemory) => CommandAnswer::ended(Status::NoMemory),
     }
 }

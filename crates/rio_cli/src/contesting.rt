@@ -10,7 +10,7 @@ ghost use Rattle.rio_cli.specs.Contesting.{FindsHosts};
 ghost use Rattle.rio_cli.specs.Inputs.{most_input};
 ghost use Rattle.rio_cli.specs.declared.command.Command.TheVariants.{Contest};
 
-use crate::answer::Answer;
+use crate::answer::CommandAnswer;
 use crate::command::Command;
 use crate::status::Status;
 use crate::top::refuse_line;
@@ -32,7 +32,7 @@ pub(crate) fn contest_bytes<K: Sink>(
     seed: u32,
     bytes: &[u8],
     sink: &mut K,
-) -> Answer
+) -> CommandAnswer
     requires { length bytes.now ≤ most_input }
     ensures says { SaysOfBytes (Contest first second seed) result.status bytes.now
         (K.written sink.old) (K.faults sink.old) (K.written sink.new) (K.faults sink.new) }
@@ -51,10 +51,10 @@ pub(crate) fn contest_bytes<K: Sink>(
             };
             return refuse_line(alloc, command, bytes, refusal.line, refusal.reason, sink);
         }
-        Err(ScriptEnd::NoMemory) => return Answer::ended(Status::NoMemory),
+        Err(ScriptEnd::NoMemory) => return CommandAnswer::ended(Status::NoMemory),
     };
     match find_hosts(alloc, &script, first.as_slice(), second.as_slice()) {
-        Ok(Ok(hosts)) => Answer::ended(contest(alloc, &script, hosts, seed, sink)),
+        Ok(Ok(hosts)) => CommandAnswer::ended(contest(alloc, &script, hosts, seed, sink)),
         Ok(Err(reason)) => {
             let command = Command::Contest {
                 first,
@@ -63,7 +63,7 @@ pub(crate) fn contest_bytes<K: Sink>(
             };
             refuse_line(alloc, command, bytes, count_lines(bytes) + 1, reason, sink)
         }
-        Err(NoMemory) => Answer::ended(Status::NoMemory),
+        Err(NoMemory) => CommandAnswer::ended(Status::NoMemory),
     }
 }
 

@@ -9,7 +9,7 @@
 //!
 //! - `run`: the whole program, over any source, sink and sink of messages; `main` gives it the
 //!   arguments and the standard streams, and does nothing more.
-//! - `answer` and `rio`: what the words ask for is done; `Answer`, `Status`, `Refusal` and
+//! - `answer` and `rio`: what the words ask for is done; `CommandAnswer`, `Status`, `Refusal` and
 //!   `Command`.
 //! - `inputs_are_judged_once`: a law of inputs.
 //!
@@ -35,7 +35,7 @@ mod texts;
 mod top;
 mod words;
 
-pub use answer::Answer;
+pub use answer::CommandAnswer;
 pub use command::Command;
 pub use laws::inputs_are_judged_once;
 pub use program::run;

@@ -3,13 +3,13 @@ ghost use Rattle.std.specs.Prelude.{◌≡◌, false};
 ghost use Rattle.rio_chars.specs.Unless.{WritesUnless};
 ghost use Rattle.rio_cli.specs.Messages.{status_text as status_text_of, answer_message};
 
-use crate::answer::Answer;
+use crate::answer::CommandAnswer;
 use crate::status::Status;
 use rio_chars::{Sink, write_unless};
 
 /// Says of an answer what there is to say, on one line and in one piece, and answers whether a
 /// write failed. It takes no memory.
-pub(crate) fn write_message<M: Sink>(messages: &mut M, answer: &Answer) -> bool
+pub(crate) fn write_message<M: Sink>(messages: &mut M, answer: &CommandAnswer) -> bool
     ensures { WritesUnless false (M.written messages.old) (M.faults messages.old)
         result (M.written messages.new) (M.faults messages.new) (answer_message answer.now) }
 {

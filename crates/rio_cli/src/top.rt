@@ -11,7 +11,7 @@ ghost use Rattle.rio_cli.specs.Outputs.{verdict_text};
 ghost use Rattle.rio_cli.specs.Answers.{ProgramEnded, Refuses, Answers, SaysOfBytes, SaysOfInput, TellsRefusal, RefusesBytes, RefusesInput};
 
 use crate::accessing::io_bytes;
-use crate::answer::Answer;
+use crate::answer::CommandAnswer;
 use crate::command::{Asked, Command, asked_by};
 use crate::contesting::contest_bytes;
 use crate::decode::{DecodeEnd, decode_chars};
@@ -67,7 +67,7 @@ pub fn answer<S: Source, K: Sink>(
     words: &[String],
     source: &mut S,
     sink: &mut K,
-) -> Answer
+) -> CommandAnswer
     ensures ended { ProgramEnded (map string_bytes words.now) result.status
         S.left S.faults source.old source.new K.written K.faults sink.old sink.new }
     ensures refuses { Refuses (map string_bytes words.now) result
@@ -75,8 +75,8 @@ pub fn answer<S: Source, K: Sink>(
 {
     match asked_by(words) {
         Some(Asked::Input(command)) => run_input(alloc, command, source, sink),
-        Some(Asked::Soak(seed)) => Answer::ended(soak(alloc, seed, sink)),
-        None => Answer::ended(write_answer(sink, b"refused words\n", Status::Words)),
+        Some(Asked::Soak(seed)) => CommandAnswer::ended(soak(alloc, seed, sink)),
+        None => CommandAnswer::ended(write_answer(sink, b"refused words\n", Status::Words)),
     }
 }
 
@@ -86,7 +86,7 @@ fn run_input<S: Source, K: Sink>(
     command: Command,
     source: &mut S,
     sink: &mut K,
-) -> Answer
+) -> CommandAnswer
     ensures says { SaysOfInput command result.status
         (S.left source.old) (S.left source.new) (S.faults source.old) (S.faults source.new)
         (K.written sink.old) (K.faults sink.old) (K.written sink.new) (K.faults sink.new) }
@@ -100,16 +100,16 @@ fn run_input<S: Source, K: Sink>(
 {
     match read_all(alloc, source, MOST_INPUT) {
         Ok(bytes) => run_bytes(alloc, command, bytes.as_slice(), sink),
-        Err(ReadEnd::Fault) => Answer::ended(Status::ReadFault),
+        Err(ReadEnd::Fault) => CommandAnswer::ended(Status::ReadFault),
         Err(ReadEnd::TooLong) => {
-            Answer::ended(write_answer(sink, b"refused length\n", Status::TooLong))
+            CommandAnswer::ended(write_answer(sink, b"refused length\n", Status::TooLong))
         }
-        Err(ReadEnd::NoMemory) => Answer::ended(Status::NoMemory),
+        Err(ReadEnd::NoMemory) => CommandAnswer::ended(Status::NoMemory),
     }
 }
 
 /// Does with the bytes what is asked.
-fn run_bytes<K: Sink>(alloc: Global, command: Command, bytes: &[u8], sink: &mut K) -> Answer
+fn run_bytes<K: Sink>(alloc: Global, command: Command, bytes: &[u8], sink: &mut K) -> CommandAnswer
     requires { length bytes.now ≤ most_input }
     ensures says { SaysOfBytes command result.status bytes.now
         (K.written sink.old) (K.faults sink.old) (K.written sink.new) (K.faults sink.new) }
@@ -133,7 +133,7 @@ fn run_bytes<K: Sink>(alloc: Global, command: Command, bytes: &[u8], sink: &mut 
 }
 
 /// Replays the script that the bytes spell.
-fn replay_bytes<K: Sink>(alloc: Global, bytes: &[u8], sink: &mut K) -> Answer
+fn replay_bytes<K: Sink>(alloc: Global, bytes: &[u8], sink: &mut K) -> CommandAnswer
     requires { length bytes.now ≤ most_input }
     ensures says { SaysOfBytes Replay result.status bytes.now
         (K.written sink.old) (K.faults sink.old) (K.written sink.new) (K.faults sink.new) }
@@ -148,18 +148,18 @@ fn replay_bytes<K: Sink>(alloc: Global, bytes: &[u8], sink: &mut K) -> Answer
             let command = Command::Replay;
             return refuse_line(alloc, command, bytes, refusal.line, refusal.reason, sink);
         }
-        Err(ScriptEnd::NoMemory) => return Answer::ended(Status::NoMemory),
+        Err(ScriptEnd::NoMemory) => return CommandAnswer::ended(Status::NoMemory),
     };
     match replay(alloc, &script, sink) {
-        Ok(()) => Answer::ended(Status::Done),
-        Err(ReplayEnd::Undetected { .. }) => Answer::ended(Status::Undetected),
-        Err(ReplayEnd::WriteFault) => Answer::ended(Status::WriteFault),
-        Err(ReplayEnd::NoMemory) => Answer::ended(Status::NoMemory),
+        Ok(()) => CommandAnswer::ended(Status::Done),
+        Err(ReplayEnd::Undetected { .. }) => CommandAnswer::ended(Status::Undetected),
+        Err(ReplayEnd::WriteFault) => CommandAnswer::ended(Status::WriteFault),
+        Err(ReplayEnd::NoMemory) => CommandAnswer::ended(Status::NoMemory),
     }
 }
 
 /// Reads the characters that the words of the bytes are, and writes the lines of their reading.
-fn decode_bytes<K: Sink>(alloc: Global, bytes: &[u8], sink: &mut K) -> Answer
+fn decode_bytes<K: Sink>(alloc: Global, bytes: &[u8], sink: &mut K) -> CommandAnswer
     requires { length bytes.now ≤ most_input }
     ensures says { SaysOfBytes Decode result.status bytes.now
         (K.written sink.old) (K.faults sink.old) (K.written sink.new) (K.faults sink.new) }
@@ -170,19 +170,19 @@ fn decode_bytes<K: Sink>(alloc: Global, bytes: &[u8], sink: &mut K) -> Answer
 {
     match read_chars(alloc, bytes) {
         Ok(chars) => match decode_chars(alloc, chars.as_slice(), sink) {
-            Ok(()) => Answer::ended(Status::Done),
-            Err(DecodeEnd::WriteFault) => Answer::ended(Status::WriteFault),
-            Err(DecodeEnd::NoMemory) => Answer::ended(Status::NoMemory),
+            Ok(()) => CommandAnswer::ended(Status::Done),
+            Err(DecodeEnd::WriteFault) => CommandAnswer::ended(Status::WriteFault),
+            Err(DecodeEnd::NoMemory) => CommandAnswer::ended(Status::NoMemory),
         },
         Err(CharsEnd::BadWord(line)) => {
             refuse_line(alloc, Command::Decode, bytes, line, 1, sink)
         }
-        Err(CharsEnd::NoMemory) => Answer::ended(Status::NoMemory),
+        Err(CharsEnd::NoMemory) => CommandAnswer::ended(Status::NoMemory),
     }
 }
 
 /// Checks the trace that the bytes are, behind its set-up lines.
-fn check_bytes<K: Sink>(alloc: Global, bytes: &[u8], sink: &mut K) -> Answer
+fn check_bytes<K: Sink>(alloc: Global, bytes: &[u8], sink: &mut K) -> CommandAnswer
     requires { length bytes.now ≤ most_input }
     ensures says { SaysOfBytes Check result.status bytes.now
         (K.written sink.old) (K.faults sink.old) (K.written sink.new) (K.faults sink.new) }
@@ -200,12 +200,12 @@ fn check_bytes<K: Sink>(alloc: Global, bytes: &[u8], sink: &mut K) -> Answer
         Err(CheckEnd::Unlawful(unlawful)) => {
             condemn_line(alloc, command, bytes, unlawful.line, unlawful.reason, sink)
         }
-        Err(CheckEnd::NoMemory) => Answer::ended(Status::NoMemory),
+        Err(CheckEnd::NoMemory) => CommandAnswer::ended(Status::NoMemory),
     }
 }
 
 /// Lets the node of a name number the fabric of the set-up lines that the bytes spell.
-fn enumerate_bytes<K: Sink>(alloc: Global, node: Name, bytes: &[u8], sink: &mut K) -> Answer
+fn enumerate_bytes<K: Sink>(alloc: Global, node: Name, bytes: &[u8], sink: &mut K) -> CommandAnswer
     requires { length bytes.now ≤ most_input }
     ensures says { SaysOfBytes (Enumerate node) result.status bytes.now
         (K.written sink.old) (K.faults sink.old) (K.written sink.new) (K.faults sink.new) }
@@ -220,21 +220,21 @@ fn enumerate_bytes<K: Sink>(alloc: Global, node: Name, bytes: &[u8], sink: &mut 
             let command = Command::Enumerate(node);
             return refuse_line(alloc, command, bytes, refusal.line, refusal.reason, sink);
         }
-        Err(ScriptEnd::NoMemory) => return Answer::ended(Status::NoMemory),
+        Err(ScriptEnd::NoMemory) => return CommandAnswer::ended(Status::NoMemory),
     };
     match find_host(alloc, &script, node.as_slice()) {
-        Ok(Ok(host)) => Answer::ended(number(alloc, &script, host, sink)),
+        Ok(Ok(host)) => CommandAnswer::ended(number(alloc, &script, host, sink)),
         Ok(Err(end)) => {
             let command = Command::Enumerate(node);
             let line = count_lines(bytes) + 1;
             refuse_line(alloc, command, bytes, line, end.reason().number(), sink)
         }
-        Err(NoMemory) => Answer::ended(Status::NoMemory),
+        Err(NoMemory) => CommandAnswer::ended(Status::NoMemory),
     }
 }
 
 /// Writes how many steps a lawful trace has.
-fn tell_lawful<K: Sink>(alloc: Global, steps: u32, sink: &mut K) -> Answer
+fn tell_lawful<K: Sink>(alloc: Global, steps: u32, sink: &mut K) -> CommandAnswer
     ensures lawful { Answers result.status Status.Done (lawful_text steps)
         (K.written sink.old) (K.faults sink.old) (K.written sink.new) (K.faults sink.new)
         ⊎ ((result.status ≡ Status.NoMemory) × Keeps (K.written sink.old) (K.written sink.new)) }
@@ -243,9 +243,9 @@ fn tell_lawful<K: Sink>(alloc: Global, steps: u32, sink: &mut K) -> Answer
     ensures no_refusal { result.refusal ≡ None }
 {
     let Ok(text) = format!(in alloc; "lawful {steps}\n") else {
-        return Answer::ended(Status::NoMemory);
+        return CommandAnswer::ended(Status::NoMemory);
     };
-    Answer::ended(write_answer(sink, text.as_bytes(), Status::Done))
+    CommandAnswer::ended(write_answer(sink, text.as_bytes(), Status::Done))
 }
 
 /// Writes the line of a trace that is not lawful and answers it.
@@ -256,7 +256,7 @@ fn condemn_line<K: Sink>(
     line: u32,
     reason: u8,
     sink: &mut K,
-) -> Answer
+) -> CommandAnswer
     requires { length bytes.now ≤ most_input }
     ensures unlawful { Answers result.status Status.Unlawful (verdict_text Unlawful line reason)
         (K.written sink.old) (K.faults sink.old) (K.written sink.new) (K.faults sink.new)
@@ -267,10 +267,10 @@ fn condemn_line<K: Sink>(
         (K.written sink.old) (K.written sink.new) }
 {
     let Ok(refusal) = Refusal::new(alloc, command, bytes, line, reason) else {
-        return Answer::ended(Status::NoMemory);
+        return CommandAnswer::ended(Status::NoMemory);
     };
     let Ok(text) = format!(in alloc; "unlawful {line} {reason}\n") else {
-        return Answer::ended(Status::NoMemory);
+        return CommandAnswer::ended(Status::NoMemory);
     };
     tell_refusal(refusal, Status::Unlawful, text.as_bytes(), sink)
 }
@@ -283,7 +283,7 @@ pub(crate) fn refuse_line<K: Sink>(
     line: u32,
     reason: u8,
     sink: &mut K,
-) -> Answer
+) -> CommandAnswer
     requires { length bytes.now ≤ most_input }
     ensures refused { Answers result.status Status.Script (verdict_text Script line reason)
         (K.written sink.old) (K.faults sink.old) (K.written sink.new) (K.faults sink.new)
@@ -294,16 +294,21 @@ pub(crate) fn refuse_line<K: Sink>(
         (K.written sink.old) (K.written sink.new) }
 {
     let Ok(refusal) = Refusal::new(alloc, command, bytes, line, reason) else {
-        return Answer::ended(Status::NoMemory);
+        return CommandAnswer::ended(Status::NoMemory);
     };
     let Ok(text) = format!(in alloc; "refused {line} {reason}\n") else {
-        return Answer::ended(Status::NoMemory);
+        return CommandAnswer::ended(Status::NoMemory);
     };
     tell_refusal(refusal, Status::Script, text.as_bytes(), sink)
 }
 
 /// Writes the line of a refusal and answers it with this status.
-fn tell_refusal<K: Sink>(refusal: Refusal, status: Status, text: &[u8], sink: &mut K) -> Answer
+fn tell_refusal<K: Sink>(
+    refusal: Refusal,
+    status: Status,
+    text: &[u8],
+    sink: &mut K,
+) -> CommandAnswer
     ensures answers { Answers result.status status text.now
         (K.written sink.old) (K.faults sink.old) (K.written sink.new) (K.faults sink.new) }
     ensures sink { K.faults sink.old ≤ K.faults sink.new }
@@ -313,11 +318,11 @@ fn tell_refusal<K: Sink>(refusal: Refusal, status: Status, text: &[u8], sink: &m
         × Appends (K.written sink.old) (K.written sink.new) text.now) }
 {
     match write_all(sink, text) {
-        Ok(()) => Answer {
+        Ok(()) => CommandAnswer {
             status,
             refusal: Some(refusal),
         },
-        Err(_) => Answer::ended(Status::WriteFault),
+        Err(_) => CommandAnswer::ended(Status::WriteFault),
     }
 }
 

@@ -18,7 +18,7 @@ use Rattle.trace_lines.specs.Text.{trace_line_text, trace_text}
 use Rattle.fabric_ports.specs.Events.{IsOwnBlock, IsAnsweredBlock, Evented}
 use Rattle.fabric_ports.specs.Ran.{WritesFront}
 use Rattle.fabric_ports.specs.Standing.{Stands}
-use Rattle.fabric_ports.specs.declared.answers.EventEnd.TheVariants.{Undetected as Unsent}
+use Rattle.fabric_ports.specs.declared.answers.FabricEnd.TheVariants.{Undetected as Unsent}
 use Rattle.fabric_ports.specs.declared.answers.Happened.{Happened as Did}
 use Rattle.fabric_ports.specs.declared.fabric.Fabric.{Fabric}
 use Rattle.rio_live.specs.declared.live.Asked.TheVariants.{Quiet, Event, Refused}

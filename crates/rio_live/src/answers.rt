@@ -9,7 +9,7 @@ ghost use Rattle.rio_live.specs.Holding.{LiveHolds};
 ghost use Rattle.rio_live.specs.Answers.{Happens, FallsShort, LineAnswered, BreaksOff};
 
 use crate::live::{Asked, Live};
-use fabric_ports::EventEnd;
+use fabric_ports::FabricEnd;
 use fabric_script::Line;
 use rio_chars::{NoMemory, Outbox, Sink};
 use std::alloc::Global;
@@ -88,12 +88,12 @@ fn happen<K: Sink>(
             live.put_fabric(fabric);
             Ok(Going::On)
         }
-        Err(EventEnd::Undetected { port, event }) => {
+        Err(FabricEnd::Undetected { port, event }) => {
             write_undetected(outbox, names, number, port, event.event());
             Ok(Going::Undetected)
         }
-        Err(EventEnd::Failed) => Err(BrokenOff),
-        Err(EventEnd::NoMemory) => Err(BrokenOff),
+        Err(FabricEnd::Failed) => Err(BrokenOff),
+        Err(FabricEnd::NoMemory) => Err(BrokenOff),
     }
 }
 

@@ -15,8 +15,8 @@ use Rattle.rio_packets.specs.declared.making.Header.{Header}
 use Rattle.fabric_script.specs.Words.{words_left}
 use Rattle.fabric_script.specs.Texts.{hex_text}
 use Rattle.rio_port.specs.Requests.{SpellsGot, SpellsTurns, SpellsHeader, SpellsPacket, AsksRequest, send_word, most_id}
-use Rattle.rio_port.specs.declared.requests.Request.{Request}
-use Rattle.rio_port.specs.declared.requests.Request.TheVariants.{Got, Turn, TimeOut, Send, Take, State}
+use Rattle.rio_port.specs.declared.requests.PortRequest.{PortRequest}
+use Rattle.rio_port.specs.declared.requests.PortRequest.TheVariants.{Got, Turn, TimeOut, Send, Take, State}
 
 -- no word is left exactly if no text is left
 pub none_left : (rest : Option (Bor (List ℕ))) → words_left rest ≡ [] → is_some rest ≡ true → ⊥
@@ -73,7 +73,7 @@ behind_same : (word : List ℕ) (xs ys : List (List ℕ)) → word ∷ xs ≡ wo
 behind_same word xs ys e = sym (ap (drop 1) e)
 
 pub asks_got : (behind : List (List ℕ)) → ((chars : List Char) → ¬ SpellsGot behind chars)
-    → (request : Request) → ¬ AsksRequest request (codes "got" ∷ behind)
+    → (request : PortRequest) → ¬ AsksRequest request (codes "got" ∷ behind)
 asks_got behind none (Got chars) h =
     none chars (subst (λ ws. SpellsGot ws chars) (behind_same (codes "got") behind h.0 h.1) h.2)
 asks_got behind none (Turn count) h =
@@ -93,7 +93,7 @@ asks_got behind none State h =
     omega (arith, n)
 
 pub asks_turn : (behind : List (List ℕ)) → ((count : ℕ) → ¬ SpellsTurns behind count)
-    → (request : Request) → ¬ AsksRequest request (codes "turn" ∷ behind)
+    → (request : PortRequest) → ¬ AsksRequest request (codes "turn" ∷ behind)
 asks_turn behind none (Got chars) h =
     let n : 29813 ≡ 26479 = ap letters h.1 in
     omega (arith, n)
@@ -121,7 +121,7 @@ rest_same word other xs ys e = ap (drop 1) e
 
 pub asks_send : (large : Bool) (behind : List (List ℕ))
     → ((packet : List ℕ) → ¬ SpellsPacket large behind packet)
-    → (request : Request) → ¬ AsksRequest request (send_word large ∷ behind)
+    → (request : PortRequest) → ¬ AsksRequest request (send_word large ∷ behind)
 asks_send large behind none (Got chars) h =
     let n : 29541 ≡ 26479 = sym (send_letters large behind) ∙ ap letters h.1 in
     omega (arith, n)
@@ -154,7 +154,7 @@ no_send_word word send send16 true = send16
 -- a line whose first word is another
 pub asks_other : (word : List ℕ) (behind : List (List ℕ)) → word ≢ codes "got"
     → word ≢ codes "turn" → ((large : Bool) → word ≢ send_word large) → behind ≢ []
-    → (request : Request) → ¬ AsksRequest request (word ∷ behind)
+    → (request : PortRequest) → ¬ AsksRequest request (word ∷ behind)
 asks_other word behind got turn send some (Got chars) h = got (first_same word _ behind h.0 h.1)
 asks_other word behind got turn send some (Turn count) h = turn (first_same word _ behind h.0 h.1)
 asks_other word behind got turn send some (Send packet) h =

@@ -5,8 +5,8 @@ use Rattle.rio_packets.specs.Fields.{prio_of}
 use Rattle.link_buffers.specs.Prelude.{list_at, appended, popped, highest}
 use Rattle.link_port.specs.Prelude.{PortState, turns_to, turn_sends, timed_out}
 use Rattle.link_port.specs.Steps.{takes}
-use Rattle.rio_port.specs.declared.requests.Request.{Request}
-use Rattle.rio_port.specs.declared.requests.Request.TheVariants.{Got, Turn, TimeOut, Send, Take, State}
+use Rattle.rio_port.specs.declared.requests.PortRequest.{PortRequest}
+use Rattle.rio_port.specs.declared.requests.PortRequest.TheVariants.{Got, Turn, TimeOut, Send, Take, State}
 use Rattle.rio_port.specs.Texts.{acted_text, burst_text, packet_text, state_text}
 
 -- the port after a line, and the lines that answer it
@@ -61,7 +61,7 @@ answers_held port (Some prio) =
     answers_first port prio (slice_get (list_at port.received.lists prio) 0)
 
 -- a row for each kind of line
-abbrev pub request_answer : PortState → Request → PortAnswer
+abbrev pub request_answer : PortState → PortRequest → PortAnswer
 request_answer port (Got chars) = answers_chars port chars
 request_answer port (Turn count) = answers_turns port count
 request_answer port TimeOut = saying (timed_out port) []

@@ -8,8 +8,8 @@ use Rattle.rio_packets.specs.LinkForm.{LinkForm}
 use Rattle.rio_packets.specs.declared.making.Header.{Header}
 use Rattle.fabric_script.specs.Texts.{hex_text}
 use Rattle.rio_port.specs.declared.requests.Reason.{Reason}
-use Rattle.rio_port.specs.declared.requests.Request.{Request}
-use Rattle.rio_port.specs.declared.requests.Request.TheVariants.{Got, Turn, TimeOut, Send, Take, State}
+use Rattle.rio_port.specs.declared.requests.PortRequest.{PortRequest}
+use Rattle.rio_port.specs.declared.requests.PortRequest.TheVariants.{Got, Turn, TimeOut, Send, Take, State}
 
 -- the first word of a line with a packet, by whether its IDs have 16 bits
 abbrev pub send_word : Bool → List ℕ
@@ -51,7 +51,7 @@ abbrev pub SpellsTurns : List (List ℕ) → ℕ → Type 0
 SpellsTurns words count = (1 ≤ count) × (count ≤ 100000) × (words ≡ decimal count ∷ [])
 
 -- words that ask for this: a row for each kind of line
-abbrev pub AsksRequest : Request → List (List ℕ) → Type 0
+abbrev pub AsksRequest : PortRequest → List (List ℕ) → Type 0
 AsksRequest (Got chars) words =
     (behind : List (List ℕ)) × (words ≡ codes "got" ∷ behind) × SpellsGot behind chars
 AsksRequest (Turn count) words =
@@ -63,6 +63,6 @@ AsksRequest Take words = words ≡ codes "take" ∷ []
 AsksRequest State words = words ≡ codes "state" ∷ []
 
 -- what was read of words: what they ask for, or that they ask for nothing
-abbrev pub ReadsWords : List (List ℕ) → Result Request Reason → Type 0
+abbrev pub ReadsWords : List (List ℕ) → Result PortRequest Reason → Type 0
 ReadsWords words (Ok request) = AsksRequest request words
-ReadsWords words (Err reason) = (request : Request) → ¬ AsksRequest request words
+ReadsWords words (Err reason) = (request : PortRequest) → ¬ AsksRequest request words

@@ -9,7 +9,7 @@ ghost use Rattle.rio_port.specs.Texts.{acted_text, freed_text, burst_text};
 ghost use Rattle.rio_port.specs.Answers.{answers_chars, answers_turns, answers_packet, answers_held, request_answer, port_has_room};
 ghost use Rattle.rio_port.specs.Lines.{asked_answer};
 
-use crate::requests::{Reason, Request};
+use crate::requests::{PortRequest, Reason};
 use crate::texts::{write_packet, write_refused, write_sent, write_state};
 use arrayvec::ArrayVec;
 use link_port::{Port, PortFace};
@@ -20,7 +20,7 @@ use rio_packets::Packet;
 /// Does what a line asks for, and tells its answer; or tells why it is refused.
 pub(crate) fn answer<K: Sink>(
     port: &mut Port,
-    asked: Result<Request, Reason>,
+    asked: Result<PortRequest, Reason>,
     outbox: &mut Outbox<K>,
 )
     ensures port { port.new ≡ (asked_answer port.old asked).port }
@@ -35,18 +35,18 @@ pub(crate) fn answer<K: Sink>(
 }
 
 /// Does what is asked for, and tells what came of it.
-fn answer_request<K: Sink>(port: &mut Port, request: Request, outbox: &mut Outbox<K>)
+fn answer_request<K: Sink>(port: &mut Port, request: PortRequest, outbox: &mut Outbox<K>)
     ensures port { port.new ≡ (request_answer port.old request).port }
     ensures text { Writes K.written K.faults outbox.old outbox.new
         (request_answer port.old request).text }
 {
     match request {
-        Request::Got(chars) => take_chars(port, chars.as_slice(), outbox),
-        Request::Turn(count) => take_turns(port, count, outbox),
-        Request::TimeOut => port.time_out(),
-        Request::Send(packet) => send(port, packet, outbox),
-        Request::Take => take_held(port, outbox),
-        Request::State => write_state(outbox, port),
+        PortRequest::Got(chars) => take_chars(port, chars.as_slice(), outbox),
+        PortRequest::Turn(count) => take_turns(port, count, outbox),
+        PortRequest::TimeOut => port.time_out(),
+        PortRequest::Send(packet) => send(port, packet, outbox),
+        PortRequest::Take => take_held(port, outbox),
+        PortRequest::State => write_state(outbox, port),
     }
 }
 

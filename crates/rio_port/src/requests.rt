@@ -16,7 +16,7 @@ const MOST_TURNS: u32 = 100_000;
 
 /// What a line asks for.
 #[derive(Drop)]
-pub enum Request {
+pub enum PortRequest {
     /// These characters came from the wire.
     Got(Chars),
     /// So many turns to send.
@@ -47,7 +47,7 @@ pub enum Reason {
 }
 
 /// What a line asks for, or why it is refused: exactly if it asks for nothing.
-pub fn read_request(alloc: Global, line: &[u8]) -> Result<Result<Request, Reason>, AllocError>
+pub fn read_request(alloc: Global, line: &[u8]) -> Result<Result<PortRequest, Reason>, AllocError>
     ensures { IfOk result (λ asked. ReadsLine line.now asked) }
 {
     let (keyword, words) = split_word(line);
@@ -67,7 +67,7 @@ pub fn read_request(alloc: Global, line: &[u8]) -> Result<Result<Request, Reason
 }
 
 /// A line of one word.
-fn read_single(keyword: &[u8], words: Option<&[u8]>) -> Result<Request, Reason>
+fn read_single(keyword: &[u8], words: Option<&[u8]>) -> Result<PortRequest, Reason>
     requires got { keyword.now ≢ codes "got" }
     requires turn { keyword.now ≢ codes "turn" }
     requires send { keyword.now ≢ codes "send" }
@@ -78,29 +78,29 @@ fn read_single(keyword: &[u8], words: Option<&[u8]>) -> Result<Request, Reason>
         return Err(Reason::Words);
     }
     if keyword == b"timeout".as_slice() {
-        Ok(Request::TimeOut)
+        Ok(PortRequest::TimeOut)
     } else if keyword == b"take".as_slice() {
-        Ok(Request::Take)
+        Ok(PortRequest::Take)
     } else if keyword == b"state".as_slice() {
-        Ok(Request::State)
+        Ok(PortRequest::State)
     } else {
         Err(Reason::Words)
     }
 }
 
 /// The words behind `got`.
-fn read_got(alloc: Global, words: Option<&[u8]>) -> Result<Result<Request, Reason>, AllocError>
+fn read_got(alloc: Global, words: Option<&[u8]>) -> Result<Result<PortRequest, Reason>, AllocError>
     ensures { IfOk result (λ asked.
         ReadsWords (codes "got" ∷ words_left words.entry) asked) }
 {
     match read_chars(alloc, words)? {
-        Some(chars) => Ok(Ok(Request::Got(chars))),
+        Some(chars) => Ok(Ok(PortRequest::Got(chars))),
         None => Ok(Err(Reason::Character)),
     }
 }
 
 /// The words behind `turn`.
-fn read_turn(words: Option<&[u8]>) -> Result<Request, Reason>
+fn read_turn(words: Option<&[u8]>) -> Result<PortRequest, Reason>
     ensures { ReadsWords (codes "turn" ∷ words_left words.entry) result }
 {
     let (number, rest) = take_number(words, MOST_TURNS)?;
@@ -110,7 +110,7 @@ fn read_turn(words: Option<&[u8]>) -> Result<Request, Reason>
     if number == 0 {
         return Err(Reason::Number);
     }
-    Ok(Request::Turn(number))
+    Ok(PortRequest::Turn(number))
 }
 
 /// The words behind `send`, or behind `send16` if the IDs have 16 bits.
@@ -118,7 +118,7 @@ fn read_send(
     alloc: Global,
     large: bool,
     words: Option<&[u8]>,
-) -> Result<Result<Request, Reason>, AllocError>
+) -> Result<Result<PortRequest, Reason>, AllocError>
     ensures { IfOk result (λ asked.
         ReadsWords (send_word large ∷ words_left words.entry) asked) }
 {
@@ -130,7 +130,7 @@ fn read_send(
         return Ok(Err(Reason::Bytes));
     };
     match build(&header, bytes.as_slice()) {
-        Ok(packet) => Ok(Ok(Request::Send(packet))),
+        Ok(packet) => Ok(Ok(PortRequest::Send(packet))),
         Err(_) => Ok(Err(Reason::Length)),
     }
 }

@@ -4,8 +4,8 @@ use Rattle.rio_packets.specs.LinkForm.{Passes}
 use Rattle.fabric_script.specs.declared.ports.PortRef.{PortRef}
 use Rattle.trace_lines.specs.declared.lines.TraceLine.{TraceLine}
 use Rattle.trace_lines.specs.declared.lines.TraceLine.TheVariants as L
-use Rattle.trace_lines.specs.declared.lines.Step.{Step}
-use Rattle.trace_lines.specs.declared.lines.Step.TheVariants as S
+use Rattle.trace_lines.specs.declared.lines.NetworkStep.{NetworkStep}
+use Rattle.trace_lines.specs.declared.lines.NetworkStep.TheVariants as S
 use Rattle.rio_view.specs.declared.sums.LineKind.{LineKind}
 use Rattle.rio_view.specs.declared.sums.LineKind.TheVariants as K
 use Rattle.rio_view.specs.Sums.{PortCounts, sent, kind_raised, nothing_done}
@@ -29,7 +29,7 @@ abbrev pub endpoint_port : ℕ → PortRef
 endpoint_port node = record { node = node; port = 0 }
 
 -- a step of a packet
-abbrev pub with_step : List PortCounts → Step → List PortCounts
+abbrev pub with_step : List PortCounts → NetworkStep → List PortCounts
 with_step all (S.Hold p packet) = at_port all p (with_line_kind K.Hold)
 with_step all (S.Free p packet) = at_port all p (with_line_kind K.Free)
 with_step all (S.Take n packet) = at_port all (endpoint_port n) (with_line_kind K.Take)

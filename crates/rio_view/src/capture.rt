@@ -7,7 +7,7 @@ use crate::view::{Seen, View};
 use fabric_script::{Line, PortRef, SetUp};
 use rio_packets::Packet;
 use std::alloc::Global;
-use trace_lines::{Step, TraceLine};
+use trace_lines::{NetworkStep, TraceLine};
 
 /// The head of a section: its bytes are in the order of this number, the version is 1.0, and its
 /// length is not told.
@@ -117,18 +117,20 @@ impl Capture {
     }
 
     /// The packets of a step.
-    fn put_step(&mut self, seen: &Seen<'_>, step: &Step, out: &mut Text) {
+    fn put_step(&mut self, seen: &Seen<'_>, step: &NetworkStep, out: &mut Text) {
         match step {
-            Step::Take(node, packet) => self.put_at_node(seen, b"take ", *node, packet, out),
-            Step::Leave(node, packet) => self.put_at_node(seen, b"leave ", *node, packet, out),
-            Step::Hold(port, packet) => self.put_at(seen, b"hold ", *port, packet, out),
-            Step::Drop(port, packet) => self.put_at(seen, b"drop ", *port, packet, out),
-            Step::Answer(port, request, response) => {
+            NetworkStep::Take(node, packet) => self.put_at_node(seen, b"take ", *node, packet, out),
+            NetworkStep::Leave(node, packet) => self.put_at_node(
+                seen, b"leave ", *node, packet, out,
+            ),
+            NetworkStep::Hold(port, packet) => self.put_at(seen, b"hold ", *port, packet, out),
+            NetworkStep::Drop(port, packet) => self.put_at(seen, b"drop ", *port, packet, out),
+            NetworkStep::Answer(port, request, response) => {
                 self.put_at(seen, b"answer, the request, ", *port, request, out);
                 self.put_at(seen, b"answer, the response, ", *port, response, out);
             }
-            Step::Move(from, to, packet) => self.put_move(seen, *from, *to, packet, out),
-            Step::Free(..) => {}
+            NetworkStep::Move(from, to, packet) => self.put_move(seen, *from, *to, packet, out),
+            NetworkStep::Free(..) => {}
         }
     }
 

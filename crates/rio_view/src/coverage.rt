@@ -13,7 +13,7 @@ use fabric_script::{Line, PortRef, SetUp};
 use link_port::Port;
 use rio_chars::NoMemory;
 use std::alloc::{AllocError, Global};
-use trace_lines::{Step, TraceLine};
+use trace_lines::{NetworkStep, TraceLine};
 
 /// The receive buffers of a port of which no line says another number.
 const BUFFERS: u8 = 8;
@@ -167,12 +167,12 @@ fn came_of(line: &TraceLine) -> Option<(PortRef, Came<'_>)> {
 }
 
 /// The packet that goes on by a step, and the port that held it.
-fn given_by(step: &Step) -> Option<(PortRef, Came<'_>)> {
+fn given_by(step: &NetworkStep) -> Option<(PortRef, Came<'_>)> {
     match step {
-        Step::Leave(node, packet) => Some((port_of(*node), Came::Given(packet))),
-        Step::Move(port, _, packet) | Step::Drop(port, packet) | Step::Answer(port, packet, _) => {
-            Some((*port, Came::Given(packet)))
-        }
-        Step::Hold(..) | Step::Free(..) | Step::Take(..) => None,
+        NetworkStep::Leave(node, packet) => Some((port_of(*node), Came::Given(packet))),
+        NetworkStep::Move(port, _, packet)
+        | NetworkStep::Drop(port, packet)
+        | NetworkStep::Answer(port, packet, _) => { Some((*port, Came::Given(packet))) }
+        NetworkStep::Hold(..) | NetworkStep::Free(..) | NetworkStep::Take(..) => None,
     }
 }

@@ -16,7 +16,7 @@ use link_model::Event;
 use rio_chars::Char;
 use rio_packets::Packet;
 use std::alloc::{AllocError, Global};
-use trace_lines::{Lack, Step, TraceLine};
+use trace_lines::{Lack, NetworkStep, TraceLine};
 
 /// The lifeline of a port, and what stands on its wire.
 #[derive(Drop)]
@@ -287,18 +287,28 @@ impl Ladder {
     }
 
     /// A step of a packet.
-    fn draw_step(&mut self, step: &Step) -> Result<(), AllocError> {
+    fn draw_step(&mut self, step: &NetworkStep) -> Result<(), AllocError> {
         match step {
-            Step::Hold(port, packet) => self.mark(*port, b"hold", false, Some(packet)),
-            Step::Free(port, packet) => self.mark(*port, b"free", false, Some(packet)),
-            Step::Take(node, packet) => self.mark(port_of(*node), b"take", false, Some(packet)),
-            Step::Leave(node, packet) => self.mark(port_of(*node), b"leave", false, Some(packet)),
-            Step::Drop(port, packet) => self.mark(*port, b"drop", true, Some(packet)),
-            Step::Answer(port, request, response) => {
+            NetworkStep::Hold(port, packet) => self.mark(*port, b"hold", false, Some(packet)),
+            NetworkStep::Free(port, packet) => self.mark(*port, b"free", false, Some(packet)),
+            NetworkStep::Take(node, packet) => self.mark(
+                port_of(*node),
+                b"take",
+                false,
+                Some(packet),
+            ),
+            NetworkStep::Leave(node, packet) => self.mark(
+                port_of(*node),
+                b"leave",
+                false,
+                Some(packet),
+            ),
+            NetworkStep::Drop(port, packet) => self.mark(*port, b"drop", true, Some(packet)),
+            NetworkStep::Answer(port, request, response) => {
                 self.asked.note(request);
                 self.mark(*port, b"answer", false, Some(response))
             }
-            Step::Move(from, to, packet) => self.draw_move(*from, *to, packet),
+            NetworkStep::Move(from, to, packet) => self.draw_move(*from, *to, packet),
         }
     }
 

@@ -9,7 +9,7 @@ use crate::view::{Seen, View};
 use fabric_script::{ScriptEnd, SetUp, read_set_up};
 use rio_chars::{Failed, Sink, Source, write_all};
 use std::alloc::{AllocError, AllocFailed, Global};
-use trace_lines::{LineEnd, TraceLine, read_trace_line};
+use trace_lines::{TraceLine, TraceLineEnd, read_trace_line};
 
 /// The line between the set-up lines and the trace.
 const BETWEEN: &[u8] = b"---";
@@ -227,8 +227,8 @@ fn show_line<V: View>(
 {
     let line = match read_trace_line(alloc, set_up, text) {
         Ok(line) => line,
-        Err(LineEnd::NoForm) => return refused(number, Reason::NoForm),
-        Err(LineEnd::NoMemory) => return Err(ViewEnd::Ended(Status::NoMemory)),
+        Err(TraceLineEnd::NoForm) => return refused(number, Reason::NoForm),
+        Err(TraceLineEnd::NoMemory) => return Err(ViewEnd::Ended(Status::NoMemory)),
     };
     let seen = Seen {
         set_up,

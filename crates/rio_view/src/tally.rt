@@ -11,7 +11,7 @@ use rio_chars::Char;
 use rio_framer::Framer;
 use std::alloc::{AllocError, Global};
 use std::marker::Model;
-use trace_lines::{Step, TraceLine};
+use trace_lines::{NetworkStep, TraceLine};
 
 /// What a port did, and where the reading of what it sends is.
 #[derive(Drop)]
@@ -129,17 +129,17 @@ impl Tallies {
     }
 
     /// A step of a packet.
-    fn count_step(&mut self, step: &Step) -> Result<(), TooMany>
+    fn count_step(&mut self, step: &NetworkStep) -> Result<(), TooMany>
         ensures { OnOk result (self.new ≡ with_step self.old step.now) }
     {
         match step {
-            Step::Hold(port, _) => self.raise(*port, LineKind::Hold),
-            Step::Free(port, _) => self.raise(*port, LineKind::Free),
-            Step::Take(node, _) => self.raise(endpoint_port(*node), LineKind::Take),
-            Step::Leave(node, _) => self.raise(endpoint_port(*node), LineKind::Leave),
-            Step::Drop(port, _) => self.raise(*port, LineKind::Drop),
-            Step::Answer(port, _, _) => self.raise(*port, LineKind::Answer),
-            Step::Move(from, to, _) => {
+            NetworkStep::Hold(port, _) => self.raise(*port, LineKind::Hold),
+            NetworkStep::Free(port, _) => self.raise(*port, LineKind::Free),
+            NetworkStep::Take(node, _) => self.raise(endpoint_port(*node), LineKind::Take),
+            NetworkStep::Leave(node, _) => self.raise(endpoint_port(*node), LineKind::Leave),
+            NetworkStep::Drop(port, _) => self.raise(*port, LineKind::Drop),
+            NetworkStep::Answer(port, _, _) => self.raise(*port, LineKind::Answer),
+            NetworkStep::Move(from, to, _) => {
                 self.raise(*from, LineKind::MoveOut)?;
                 self.raise(*to, LineKind::MoveIn)
             }

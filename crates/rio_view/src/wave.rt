@@ -10,7 +10,7 @@ use crate::view::{Seen, View};
 use fabric_script::{PortRef, SetUp};
 use rio_chars::Char;
 use std::alloc::Global;
-use trace_lines::{Step, TraceLine};
+use trace_lines::{NetworkStep, TraceLine};
 
 /// What stands before the signals.
 const HEAD: &[u8] = b"$comment a unit of time is a character $end\n$timescale 1 ns $end\n\
@@ -138,7 +138,7 @@ impl Wave {
     }
 
     /// A step of a packet.
-    fn step(&mut self, step: &Step, out: &mut Text) {
+    fn step(&mut self, step: &NetworkStep, out: &mut Text) {
         let Some((port, change)) = change_of(step) else {
             return;
         };
@@ -156,14 +156,14 @@ impl Wave {
 }
 
 /// What a step changes, and at which port.
-fn change_of(step: &Step) -> Option<(PortRef, Change)> {
+fn change_of(step: &NetworkStep) -> Option<(PortRef, Change)> {
     match step {
-        Step::Hold(port, _) => Some((*port, Change::Hold)),
-        Step::Free(port, _) => Some((*port, Change::Free)),
-        Step::Leave(node, _) => Some((port_of(*node), Change::Give)),
-        Step::Move(port, _, _) | Step::Drop(port, _) | Step::Answer(port, _, _) => {
-            Some((*port, Change::Give))
-        }
-        Step::Take(..) => None,
+        NetworkStep::Hold(port, _) => Some((*port, Change::Hold)),
+        NetworkStep::Free(port, _) => Some((*port, Change::Free)),
+        NetworkStep::Leave(node, _) => Some((port_of(*node), Change::Give)),
+        NetworkStep::Move(port, _, _)
+        | NetworkStep::Drop(port, _)
+        | NetworkStep::Answer(port, _, _) => { Some((*port, Change::Give)) }
+        NetworkStep::Take(..) => None,
     }
 }

@@ -13,7 +13,7 @@ use rio_chars::Char;
 use rio_packets::{Cause, Packet};
 use rio_symbols::Symbol;
 use std::alloc::{AllocError, Global};
-use trace_lines::{Lack, Step, TraceLine};
+use trace_lines::{Lack, NetworkStep, TraceLine};
 
 /// A trace in words.
 #[derive(Drop)]
@@ -99,16 +99,16 @@ impl Words {
     }
 
     /// The words of the packets of a step.
-    fn put_step(&mut self, out: &mut Text, step: &Step) {
+    fn put_step(&mut self, out: &mut Text, step: &NetworkStep) {
         out.put(b"  # ");
         match step {
-            Step::Hold(_, packet)
-            | Step::Free(_, packet)
-            | Step::Take(_, packet)
-            | Step::Leave(_, packet)
-            | Step::Move(_, _, packet)
-            | Step::Drop(_, packet) => put_packet(out, &mut self.asked, packet),
-            Step::Answer(_, request, response) => {
+            NetworkStep::Hold(_, packet)
+            | NetworkStep::Free(_, packet)
+            | NetworkStep::Take(_, packet)
+            | NetworkStep::Leave(_, packet)
+            | NetworkStep::Move(_, _, packet)
+            | NetworkStep::Drop(_, packet) => put_packet(out, &mut self.asked, packet),
+            NetworkStep::Answer(_, request, response) => {
                 put_packet(out, &mut self.asked, request);
                 out.put(b" -> ");
                 put_packet(out, &mut self.asked, response);
@@ -190,25 +190,28 @@ impl Words {
     }
 
     /// A line for a packet that leaves the fabric, or is answered or dropped.
-    fn put_end(&mut self, out: &mut Text, set_up: &SetUp, step: &Step) {
+    fn put_end(&mut self, out: &mut Text, set_up: &SetUp, step: &NetworkStep) {
         match step {
-            Step::Drop(port, packet) => {
+            NetworkStep::Drop(port, packet) => {
                 out.put(b"  drop ");
                 put_port(out, set_up, *port);
                 self.put_last(out, packet);
             }
-            Step::Answer(port, request, response) => {
+            NetworkStep::Answer(port, request, response) => {
                 out.put(b"  answer ");
                 put_port(out, set_up, *port);
                 self.asked.note(request);
                 self.put_last(out, response);
             }
-            Step::Leave(node, packet) => {
+            NetworkStep::Leave(node, packet) => {
                 out.put(b"  leave ");
                 put_node(out, set_up, *node);
                 self.put_last(out, packet);
             }
-            Step::Hold(..) | Step::Free(..) | Step::Take(..) | Step::Move(..) => {}
+            NetworkStep::Hold(..)
+            | NetworkStep::Free(..)
+            | NetworkStep::Take(..)
+            | NetworkStep::Move(..) => {}
         }
     }
 

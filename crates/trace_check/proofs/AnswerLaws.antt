@@ -11,8 +11,8 @@ use Rattle.fabric_model.proofs.Joining.{links_stay}
 use Rattle.fabric_trace.specs.Fold.{changed, edit_of}
 use Rattle.trace_lines.specs.Lines.{Begun, Got, Sent, Signed, Stepped, steps_of, TraceLine}
 use Rattle.fabric_trace.specs.Wires.{edited_chars, IsFrontOf, with_chars}
-use Rattle.trace_lines.specs.declared.lines.Step.{Step as ReadStep}
-use Rattle.trace_lines.specs.declared.lines.Step.TheVariants as S
+use Rattle.trace_lines.specs.declared.lines.NetworkStep.{NetworkStep as ReadStep}
+use Rattle.trace_lines.specs.declared.lines.NetworkStep.TheVariants as S
 use Rattle.trace_check.specs.declared.network.Network.{Network as Kept}
 use Rattle.trace_check.specs.declared.state.Fault.{Fault as ReadFault}
 use Rattle.trace_check.specs.declared.state.Fault.TheVariants as F

@@ -15,7 +15,7 @@ use crate::state::Fault;
 use fabric_script::{Refusal, ScriptEnd, SetUp, read_set_up};
 use script_input::{next_line, split_input, unparted};
 use std::alloc::{AllocError, Global};
-use trace_lines::{LineEnd, read_trace_line};
+use trace_lines::{TraceLineEnd, read_trace_line};
 
 /// The reason if a line is of no form, or the last line does not come.
 const BAD_FORM: u8 = 21;
@@ -163,8 +163,8 @@ impl Checker {
         }
         match read_trace_line(alloc, set_up, text) {
             Ok(line) => Ok(number_of(self.check(line, short)?)),
-            Err(LineEnd::NoForm) => Ok(Some(BAD_FORM)),
-            Err(LineEnd::NoMemory) => Err(AllocError),
+            Err(TraceLineEnd::NoForm) => Ok(Some(BAD_FORM)),
+            Err(TraceLineEnd::NoMemory) => Err(AllocError),
         }
     }
 }

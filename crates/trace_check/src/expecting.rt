@@ -27,7 +27,7 @@ use rio_chars::Char;
 use rio_packets::Packet;
 use script_input::{next_line, split_input};
 use std::alloc::{AllocError, Global};
-use trace_lines::{LineEnd, Step, TraceLine, read_trace_line};
+use trace_lines::{NetworkStep, TraceLine, TraceLineEnd, read_trace_line};
 
 /// What would have been lawful at a line, as far as one sentence can say it.
 #[derive(Debug, Drop)]
@@ -129,8 +129,8 @@ impl Checker {
         }
         match read_trace_line(alloc, set_up, text) {
             Ok(line) => Ok(self.state().expected(&line)),
-            Err(LineEnd::NoForm) => Ok(None),
-            Err(LineEnd::NoMemory) => Err(AllocError),
+            Err(TraceLineEnd::NoForm) => Ok(None),
+            Err(TraceLineEnd::NoMemory) => Err(AllocError),
         }
     }
 }
@@ -157,7 +157,7 @@ impl State {
     }
 
     /// The same, of a step.
-    fn expected_step(&self, step: &Step) -> Option<Expected>
+    fn expected_step(&self, step: &NetworkStep) -> Option<Expected>
         ensures told { IfSome result (λ e. (r : ReachedState) → IsReachedState r self.now
             → IsStepOf r.nodes (step_read step.now) → IsSo r (Stepped (step_read step.now)) e) }
         ensures some { (r : ReachedState) (short : Bool) (fault : Fault) → IsReachedState r self.now
@@ -165,13 +165,13 @@ impl State {
             → (SparesAt r (Stepped (step_read step.now)) short fault → ⊥) → IsSome result }
     {
         match step {
-            Step::Hold(port, _) => self.next_to_hold(*port),
-            Step::Free(port, _) => self.freed(*port),
-            Step::Take(..) => None,
-            Step::Leave(..) => None,
-            Step::Move(..) => None,
-            Step::Drop(..) => None,
-            Step::Answer(..) => None,
+            NetworkStep::Hold(port, _) => self.next_to_hold(*port),
+            NetworkStep::Free(port, _) => self.freed(*port),
+            NetworkStep::Take(..) => None,
+            NetworkStep::Leave(..) => None,
+            NetworkStep::Move(..) => None,
+            NetworkStep::Drop(..) => None,
+            NetworkStep::Answer(..) => None,
         }
     }
 

@@ -21,7 +21,7 @@ use maint_registers::Registers;
 use rio_packets::Packet;
 use std::alloc::AllocError;
 use std::collections::VecDeque;
-use trace_lines::Step;
+use trace_lines::NetworkStep;
 
 /// How many packets of a priority a port may have to be sent, those that are lent among them.
 const PLACES: usize = 16;
@@ -51,19 +51,19 @@ impl Network {
 
     /// Makes a step, and tells whether it can be made. If it cannot, the network is of no use
     /// any more.
-    pub(crate) fn make(&mut self, step: &Step, links: &Links) -> Result<bool, AllocError>
+    pub(crate) fn make(&mut self, step: &NetworkStep, links: &Links) -> Result<bool, AllocError>
         ensures { IfOk result (λ made. (nodes : ℕ) (net : ANetwork) → IsNetwork nodes net self.old
             → AreKeptLinks nodes net.links links.now → IsStepOf nodes (step_read step.now)
             → MakesIt nodes net (step_read step.now) self.new made) }
     {
         match step {
-            Step::Hold(port, packet) => self.hold(*port, packet, links),
-            Step::Free(port, packet) => Ok(self.free(*port, packet)),
-            Step::Take(node, packet) => self.take(*node, packet),
-            Step::Leave(node, packet) => Ok(self.leave(*node, packet)),
-            Step::Move(from, to, packet) => self.move_to(*from, *to, packet),
-            Step::Drop(port, packet) => Ok(self.drop_at(*port, packet)),
-            Step::Answer(port, packet, response) => self.answer(*port, packet, response),
+            NetworkStep::Hold(port, packet) => self.hold(*port, packet, links),
+            NetworkStep::Free(port, packet) => Ok(self.free(*port, packet)),
+            NetworkStep::Take(node, packet) => self.take(*node, packet),
+            NetworkStep::Leave(node, packet) => Ok(self.leave(*node, packet)),
+            NetworkStep::Move(from, to, packet) => self.move_to(*from, *to, packet),
+            NetworkStep::Drop(port, packet) => Ok(self.drop_at(*port, packet)),
+            NetworkStep::Answer(port, packet, response) => self.answer(*port, packet, response),
         }
     }
 

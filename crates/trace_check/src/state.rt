@@ -25,7 +25,7 @@ use link_wires::Edit;
 use rio_chars::Char;
 use rio_packets::Packet;
 use std::alloc::{AllocError, Global};
-use trace_lines::Step;
+use trace_lines::NetworkStep;
 
 /// Why a line is not lawful, apart from its form.
 #[derive(Clone, Copy)]
@@ -190,7 +190,7 @@ impl State {
     }
 
     /// A step is made.
-    pub(crate) fn step(&mut self, step: &Step) -> Result<Option<Fault>, AllocError>
+    pub(crate) fn step(&mut self, step: &NetworkStep) -> Result<Option<Fault>, AllocError>
         ensures { IfOk result (λ fault. (r : ReachedState) (short : Bool)
             → IsReachedState r self.old
             → IsStepOf r.nodes (step_read step.now)
@@ -200,11 +200,11 @@ impl State {
             return Ok(Some(Fault::NoStep));
         }
         match step {
-            Step::Hold(port, packet) => {
+            NetworkStep::Hold(port, packet) => {
                 let came = self.has_come(*port, packet);
                 Ok(if came { None } else { Some(Fault::NotCome) })
             }
-            Step::Free(port, _) => {
+            NetworkStep::Free(port, _) => {
                 let allowed = self.is_allowed(*port);
                 Ok(if allowed {
                     None
@@ -212,11 +212,11 @@ impl State {
                     Some(Fault::NotAllowed)
                 })
             }
-            Step::Take(..) => Ok(None),
-            Step::Leave(..) => Ok(None),
-            Step::Move(..) => Ok(None),
-            Step::Drop(..) => Ok(None),
-            Step::Answer(..) => Ok(None),
+            NetworkStep::Take(..) => Ok(None),
+            NetworkStep::Leave(..) => Ok(None),
+            NetworkStep::Move(..) => Ok(None),
+            NetworkStep::Drop(..) => Ok(None),
+            NetworkStep::Answer(..) => Ok(None),
         }
     }
 

@@ -1,8 +1,8 @@
 -- What the code reads, as lines of a trace.
 use Rattle.fabric_model.specs.Steps.{Hold, Free, Take, Leave, Move, Drop, Answer, Step, Linked, AtNode, ByDevice}
 use Rattle.trace_lines.specs.Lines.{Lack, Full, Empty, Short, Early, NoStep, Sent, Got, Fired, TraceLine, Begun, Stepped, Signed, Lacked, Ended, Undetected}
-use Rattle.trace_lines.specs.declared.lines.Step.{Step as ReadStep}
-use Rattle.trace_lines.specs.declared.lines.Step.TheVariants as S
+use Rattle.trace_lines.specs.declared.lines.NetworkStep.{NetworkStep as ReadStep}
+use Rattle.trace_lines.specs.declared.lines.NetworkStep.TheVariants as S
 use Rattle.trace_lines.specs.declared.lines.Lack.{Lack as ReadLack}
 use Rattle.trace_lines.specs.declared.lines.Lack.TheVariants as L
 use Rattle.trace_lines.specs.declared.lines.TraceLine.{TraceLine as ReadLine}

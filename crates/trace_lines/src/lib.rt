@@ -27,9 +27,9 @@ mod watching;
 mod writing;
 
 pub use begun::write_begun;
-pub use fields::LineEnd;
+pub use fields::TraceLineEnd;
 pub use laws::{one_trace_line, texts_spell_their_lines, words_are_the_text};
-pub use lines::{Lack, Step, TraceLine};
+pub use lines::{Lack, NetworkStep, TraceLine};
 pub use reading::read_trace_line;
 pub use undetected::write_undetected;
 pub use watching::{LinkLines, port_at_side};

@@ -7,7 +7,7 @@ use rio_packets::Packet;
 
 /// A step of the plain network. A packet is in its link form.
 #[derive(Drop)]
-pub enum Step {
+pub enum NetworkStep {
     /// A port holds a packet that its peer sent.
     Hold(PortRef, Packet),
     /// A port frees a packet that its peer holds.
@@ -45,7 +45,7 @@ pub enum TraceLine {
     /// An event of the script begins.
     Begun(Line),
     /// A step of the network.
-    Stepped(Step),
+    Stepped(NetworkStep),
     /// A port put characters on its wire.
     Sent(PortRef, Vec<Char>),
     /// A port took characters from its peer's wire.

@@ -16,14 +16,14 @@ ghost use Rattle.trace_lines.specs.Lines.{TraceLine as ALine};
 ghost use Rattle.trace_lines.specs.Keywords.{SpellsBehind, NoneBehind};
 ghost use Rattle.trace_lines.specs.Reads.{line_read};
 ghost use Rattle.trace_lines.specs.Words.{IsEnd, IsNode, SpellsLine};
-ghost use Rattle.trace_lines.specs.declared.fields.LineEnd.TheVariants.{NoForm};
+ghost use Rattle.trace_lines.specs.declared.fields.TraceLineEnd.TheVariants.{NoForm};
 ghost use Rattle.trace_lines.specs.declared.keywords.Keyword.{Keyword as AKeyword};
 
 use crate::fields::{
-    LineEnd, any_node, any_port, first_word, last_word, linked_port, read_chars, read_form,
+    TraceLineEnd, any_node, any_port, first_word, last_word, linked_port, read_chars, read_form,
 };
 use crate::keywords::{Keyword, keyword_named};
-use crate::lines::{Lack, Step, TraceLine};
+use crate::lines::{Lack, NetworkStep, TraceLine};
 use crate::reading_undetected::read_undetected;
 use fabric_script::{EventEnd, PortRef, SetUp, split_word};
 use rio_chars::Char;
@@ -32,7 +32,11 @@ use std::alloc::Global;
 
 /// The line that a text spells behind set-up lines. NoForm comes exactly if it spells none, unless
 /// memory runs out.
-pub fn read_trace_line(alloc: Global, set_up: &SetUp, text: &[u8]) -> Result<TraceLine, LineEnd>
+pub fn read_trace_line(
+    alloc: Global,
+    set_up: &SetUp,
+    text: &[u8],
+) -> Result<TraceLine, TraceLineEnd>
     requires { KnownIsReady set_up.now.known }
     ensures line { IfOk result (λ line. SpellsLine set_up.now.known text.now (line_read line)) }
     ensures no_form { IsErrOf result NoForm
@@ -40,7 +44,7 @@ pub fn read_trace_line(alloc: Global, set_up: &SetUp, text: &[u8]) -> Result<Tra
 {
     let (word, rest) = split_word(text);
     let Some(keyword) = keyword_named(word) else {
-        return Err(LineEnd::NoForm);
+        return Err(TraceLineEnd::NoForm);
     };
     match rest {
         Some(text) => read_words(alloc, set_up, keyword, text),
@@ -54,7 +58,7 @@ fn read_words(
     set_up: &SetUp,
     keyword: Keyword,
     text: &[u8],
-) -> Result<TraceLine, LineEnd>
+) -> Result<TraceLine, TraceLineEnd>
     requires { KnownIsReady set_up.now.known }
     ensures line { IfOk result (λ line.
         SpellsBehind set_up.now.known keyword (words_of text.now) (line_read line)) }
@@ -74,17 +78,17 @@ fn read_words(
         Keyword::Got => read_got(alloc, set_up, text),
         Keyword::Fire => read_fire(set_up, text),
         Keyword::Undetected => read_undetected(alloc, set_up, text),
-        Keyword::Full => Err(LineEnd::NoForm),
-        Keyword::Empty => Err(LineEnd::NoForm),
-        Keyword::Short => Err(LineEnd::NoForm),
-        Keyword::Early => Err(LineEnd::NoForm),
-        Keyword::NoStep => Err(LineEnd::NoForm),
-        Keyword::End => Err(LineEnd::NoForm),
+        Keyword::Full => Err(TraceLineEnd::NoForm),
+        Keyword::Empty => Err(TraceLineEnd::NoForm),
+        Keyword::Short => Err(TraceLineEnd::NoForm),
+        Keyword::Early => Err(TraceLineEnd::NoForm),
+        Keyword::NoStep => Err(TraceLineEnd::NoForm),
+        Keyword::End => Err(TraceLineEnd::NoForm),
     }
 }
 
 /// A line of one word.
-fn read_alone(keyword: Keyword) -> Result<TraceLine, LineEnd>
+fn read_alone(keyword: Keyword) -> Result<TraceLine, TraceLineEnd>
     ensures line { IfOk result
         (λ line. (known : AKnown) → SpellsBehind known keyword [] (line_read line)) }
     ensures no_form { IsErrOf result NoForm → (known : AKnown) → NoneBehind known keyword [] }
@@ -96,23 +100,23 @@ fn read_alone(keyword: Keyword) -> Result<TraceLine, LineEnd>
         Keyword::Early => Ok(TraceLine::Lacked(Lack::Early)),
         Keyword::NoStep => Ok(TraceLine::Lacked(Lack::NoStep)),
         Keyword::End => Ok(TraceLine::Ended),
-        Keyword::Begun => Err(LineEnd::NoForm),
-        Keyword::Hold => Err(LineEnd::NoForm),
-        Keyword::Free => Err(LineEnd::NoForm),
-        Keyword::Take => Err(LineEnd::NoForm),
-        Keyword::Leave => Err(LineEnd::NoForm),
-        Keyword::Move => Err(LineEnd::NoForm),
-        Keyword::Drop => Err(LineEnd::NoForm),
-        Keyword::Answer => Err(LineEnd::NoForm),
-        Keyword::Sent => Err(LineEnd::NoForm),
-        Keyword::Got => Err(LineEnd::NoForm),
-        Keyword::Fire => Err(LineEnd::NoForm),
-        Keyword::Undetected => Err(LineEnd::NoForm),
+        Keyword::Begun => Err(TraceLineEnd::NoForm),
+        Keyword::Hold => Err(TraceLineEnd::NoForm),
+        Keyword::Free => Err(TraceLineEnd::NoForm),
+        Keyword::Take => Err(TraceLineEnd::NoForm),
+        Keyword::Leave => Err(TraceLineEnd::NoForm),
+        Keyword::Move => Err(TraceLineEnd::NoForm),
+        Keyword::Drop => Err(TraceLineEnd::NoForm),
+        Keyword::Answer => Err(TraceLineEnd::NoForm),
+        Keyword::Sent => Err(TraceLineEnd::NoForm),
+        Keyword::Got => Err(TraceLineEnd::NoForm),
+        Keyword::Fire => Err(TraceLineEnd::NoForm),
+        Keyword::Undetected => Err(TraceLineEnd::NoForm),
     }
 }
 
 /// An event line.
-fn read_begun(alloc: Global, set_up: &SetUp, text: &[u8]) -> Result<TraceLine, LineEnd>
+fn read_begun(alloc: Global, set_up: &SetUp, text: &[u8]) -> Result<TraceLine, TraceLineEnd>
     requires { KnownIsReady set_up.now.known }
     ensures line { IfOk result (λ line.
         SpellsBehind set_up.now.known AKeyword.Begun (words_of text.now) (line_read line)) }
@@ -121,13 +125,13 @@ fn read_begun(alloc: Global, set_up: &SetUp, text: &[u8]) -> Result<TraceLine, L
 {
     match set_up.read_event(alloc, text) {
         Ok(event) => Ok(TraceLine::Begun(event)),
-        Err(EventEnd::Refused(_)) => Err(LineEnd::NoForm),
-        Err(EventEnd::NoMemory) => Err(LineEnd::NoMemory),
+        Err(EventEnd::Refused(_)) => Err(TraceLineEnd::NoForm),
+        Err(EventEnd::NoMemory) => Err(TraceLineEnd::NoMemory),
     }
 }
 
 /// A port holds a packet.
-fn read_hold(alloc: Global, set_up: &SetUp, text: &[u8]) -> Result<TraceLine, LineEnd>
+fn read_hold(alloc: Global, set_up: &SetUp, text: &[u8]) -> Result<TraceLine, TraceLineEnd>
     requires { KnownIsReady set_up.now.known }
     ensures line { IfOk result (λ line.
         SpellsBehind set_up.now.known AKeyword.Hold (words_of text.now) (line_read line)) }
@@ -135,11 +139,11 @@ fn read_hold(alloc: Global, set_up: &SetUp, text: &[u8]) -> Result<TraceLine, Li
         → NoneBehind set_up.now.known AKeyword.Hold (words_of text.now) }
 {
     let (port, packet) = link_step(alloc, set_up, text)?;
-    Ok(TraceLine::Stepped(Step::Hold(port, packet)))
+    Ok(TraceLine::Stepped(NetworkStep::Hold(port, packet)))
 }
 
 /// A port frees a packet.
-fn read_free(alloc: Global, set_up: &SetUp, text: &[u8]) -> Result<TraceLine, LineEnd>
+fn read_free(alloc: Global, set_up: &SetUp, text: &[u8]) -> Result<TraceLine, TraceLineEnd>
     requires { KnownIsReady set_up.now.known }
     ensures line { IfOk result (λ line.
         SpellsBehind set_up.now.known AKeyword.Free (words_of text.now) (line_read line)) }
@@ -147,11 +151,11 @@ fn read_free(alloc: Global, set_up: &SetUp, text: &[u8]) -> Result<TraceLine, Li
         → NoneBehind set_up.now.known AKeyword.Free (words_of text.now) }
 {
     let (port, packet) = link_step(alloc, set_up, text)?;
-    Ok(TraceLine::Stepped(Step::Free(port, packet)))
+    Ok(TraceLine::Stepped(NetworkStep::Free(port, packet)))
 }
 
 /// An endpoint takes a packet.
-fn read_take(alloc: Global, set_up: &SetUp, text: &[u8]) -> Result<TraceLine, LineEnd>
+fn read_take(alloc: Global, set_up: &SetUp, text: &[u8]) -> Result<TraceLine, TraceLineEnd>
     requires { KnownIsReady set_up.now.known }
     ensures line { IfOk result (λ line.
         SpellsBehind set_up.now.known AKeyword.Take (words_of text.now) (line_read line)) }
@@ -159,11 +163,11 @@ fn read_take(alloc: Global, set_up: &SetUp, text: &[u8]) -> Result<TraceLine, Li
         → NoneBehind set_up.now.known AKeyword.Take (words_of text.now) }
 {
     let (node, packet) = node_step(alloc, set_up, text)?;
-    Ok(TraceLine::Stepped(Step::Take(node, packet)))
+    Ok(TraceLine::Stepped(NetworkStep::Take(node, packet)))
 }
 
 /// A packet leaves at an endpoint.
-fn read_leave(alloc: Global, set_up: &SetUp, text: &[u8]) -> Result<TraceLine, LineEnd>
+fn read_leave(alloc: Global, set_up: &SetUp, text: &[u8]) -> Result<TraceLine, TraceLineEnd>
     requires { KnownIsReady set_up.now.known }
     ensures line { IfOk result (λ line.
         SpellsBehind set_up.now.known AKeyword.Leave (words_of text.now) (line_read line)) }
@@ -171,11 +175,11 @@ fn read_leave(alloc: Global, set_up: &SetUp, text: &[u8]) -> Result<TraceLine, L
         → NoneBehind set_up.now.known AKeyword.Leave (words_of text.now) }
 {
     let (node, packet) = node_step(alloc, set_up, text)?;
-    Ok(TraceLine::Stepped(Step::Leave(node, packet)))
+    Ok(TraceLine::Stepped(NetworkStep::Leave(node, packet)))
 }
 
 /// A switch moves a packet.
-fn read_move(alloc: Global, set_up: &SetUp, text: &[u8]) -> Result<TraceLine, LineEnd>
+fn read_move(alloc: Global, set_up: &SetUp, text: &[u8]) -> Result<TraceLine, TraceLineEnd>
     requires { KnownIsReady set_up.now.known }
     ensures line { IfOk result (λ line.
         SpellsBehind set_up.now.known AKeyword.Move (words_of text.now) (line_read line)) }
@@ -187,11 +191,11 @@ fn read_move(alloc: Global, set_up: &SetUp, text: &[u8]) -> Result<TraceLine, Li
     let from = any_port(set_up, from)?;
     let to = any_port(set_up, to)?;
     let packet = read_form(alloc, last_word(text)?)?;
-    Ok(TraceLine::Stepped(Step::Move(from, to, packet)))
+    Ok(TraceLine::Stepped(NetworkStep::Move(from, to, packet)))
 }
 
 /// A switch drops a packet.
-fn read_drop(alloc: Global, set_up: &SetUp, text: &[u8]) -> Result<TraceLine, LineEnd>
+fn read_drop(alloc: Global, set_up: &SetUp, text: &[u8]) -> Result<TraceLine, TraceLineEnd>
     requires { KnownIsReady set_up.now.known }
     ensures line { IfOk result (λ line.
         SpellsBehind set_up.now.known AKeyword.Drop (words_of text.now) (line_read line)) }
@@ -201,11 +205,11 @@ fn read_drop(alloc: Global, set_up: &SetUp, text: &[u8]) -> Result<TraceLine, Li
     let (port, text) = first_word(text)?;
     let port = any_port(set_up, port)?;
     let packet = read_form(alloc, last_word(text)?)?;
-    Ok(TraceLine::Stepped(Step::Drop(port, packet)))
+    Ok(TraceLine::Stepped(NetworkStep::Drop(port, packet)))
 }
 
 /// Registers answer a packet with another.
-fn read_answer(alloc: Global, set_up: &SetUp, text: &[u8]) -> Result<TraceLine, LineEnd>
+fn read_answer(alloc: Global, set_up: &SetUp, text: &[u8]) -> Result<TraceLine, TraceLineEnd>
     requires { KnownIsReady set_up.now.known }
     ensures line { IfOk result (λ line.
         SpellsBehind set_up.now.known AKeyword.Answer (words_of text.now) (line_read line)) }
@@ -217,11 +221,11 @@ fn read_answer(alloc: Global, set_up: &SetUp, text: &[u8]) -> Result<TraceLine, 
     let port = any_port(set_up, port)?;
     let packet = read_form(alloc, packet)?;
     let response = read_form(alloc, last_word(text)?)?;
-    Ok(TraceLine::Stepped(Step::Answer(port, packet, response)))
+    Ok(TraceLine::Stepped(NetworkStep::Answer(port, packet, response)))
 }
 
 /// A port put characters on its wire.
-fn read_sent(alloc: Global, set_up: &SetUp, text: &[u8]) -> Result<TraceLine, LineEnd>
+fn read_sent(alloc: Global, set_up: &SetUp, text: &[u8]) -> Result<TraceLine, TraceLineEnd>
     requires { KnownIsReady set_up.now.known }
     ensures line { IfOk result (λ line.
         SpellsBehind set_up.now.known AKeyword.Sent (words_of text.now) (line_read line)) }
@@ -233,7 +237,7 @@ fn read_sent(alloc: Global, set_up: &SetUp, text: &[u8]) -> Result<TraceLine, Li
 }
 
 /// A port took characters from its peer's wire.
-fn read_got(alloc: Global, set_up: &SetUp, text: &[u8]) -> Result<TraceLine, LineEnd>
+fn read_got(alloc: Global, set_up: &SetUp, text: &[u8]) -> Result<TraceLine, TraceLineEnd>
     requires { KnownIsReady set_up.now.known }
     ensures line { IfOk result (λ line.
         SpellsBehind set_up.now.known AKeyword.Got (words_of text.now) (line_read line)) }
@@ -245,7 +249,7 @@ fn read_got(alloc: Global, set_up: &SetUp, text: &[u8]) -> Result<TraceLine, Lin
 }
 
 /// The time-out of a port fired.
-fn read_fire(set_up: &SetUp, text: &[u8]) -> Result<TraceLine, LineEnd>
+fn read_fire(set_up: &SetUp, text: &[u8]) -> Result<TraceLine, TraceLineEnd>
     requires { KnownIsReady set_up.now.known }
     ensures line { IfOk result (λ line.
         SpellsBehind set_up.now.known AKeyword.Fire (words_of text.now) (line_read line)) }
@@ -257,7 +261,7 @@ fn read_fire(set_up: &SetUp, text: &[u8]) -> Result<TraceLine, LineEnd>
 }
 
 /// A port with a link, and a packet.
-fn link_step(alloc: Global, set_up: &SetUp, text: &[u8]) -> Result<(PortRef, Packet), LineEnd>
+fn link_step(alloc: Global, set_up: &SetUp, text: &[u8]) -> Result<(PortRef, Packet), TraceLineEnd>
     requires { KnownIsReady set_up.now.known }
     ensures found { IfOk result (λ found. IsEnd set_up.now.known found.0 × Passes found.1
         × (words_of text.now
@@ -272,7 +276,7 @@ fn link_step(alloc: Global, set_up: &SetUp, text: &[u8]) -> Result<(PortRef, Pac
 }
 
 /// A node, and a packet.
-fn node_step(alloc: Global, set_up: &SetUp, text: &[u8]) -> Result<(u8, Packet), LineEnd>
+fn node_step(alloc: Global, set_up: &SetUp, text: &[u8]) -> Result<(u8, Packet), TraceLineEnd>
     ensures found { IfOk result (λ found. IsNode set_up.now.known found.0 × Passes found.1
         × (words_of text.now
         ≡ name_of set_up.now.known.names found.0 ∷ hex_of found.1 ∷ [])) }
@@ -286,7 +290,11 @@ fn node_step(alloc: Global, set_up: &SetUp, text: &[u8]) -> Result<(u8, Packet),
 }
 
 /// A port with a link, and characters.
-fn port_chars(alloc: Global, set_up: &SetUp, text: &[u8]) -> Result<(PortRef, Vec<Char>), LineEnd>
+fn port_chars(
+    alloc: Global,
+    set_up: &SetUp,
+    text: &[u8],
+) -> Result<(PortRef, Vec<Char>), TraceLineEnd>
     requires { KnownIsReady set_up.now.known }
     ensures found { IfOk result (λ found. IsEnd set_up.now.known found.0
         × (found.1.items ≢ []) × AllByRecursion HasByte found.1.items

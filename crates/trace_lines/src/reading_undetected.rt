@@ -11,10 +11,10 @@ ghost use Rattle.fabric_script.specs.SetUps.{KnownIsReady};
 ghost use Rattle.trace_lines.specs.Keywords.{SpellsBehind, NoneBehind};
 ghost use Rattle.trace_lines.specs.Reads.{line_read};
 ghost use Rattle.trace_lines.specs.Words.{event_words, symbol_words, EventFits};
-ghost use Rattle.trace_lines.specs.declared.fields.LineEnd.TheVariants.{NoForm};
+ghost use Rattle.trace_lines.specs.declared.fields.TraceLineEnd.TheVariants.{NoForm};
 ghost use Rattle.trace_lines.specs.declared.keywords.Keyword.{Keyword as AKeyword};
 
-use crate::fields::{LineEnd, any_number, any_port, below, first_word, last_word, read_form};
+use crate::fields::{TraceLineEnd, any_number, any_port, below, first_word, last_word, read_form};
 use crate::lines::TraceLine;
 use fabric_script::SetUp;
 use link_model::Event;
@@ -27,7 +27,7 @@ pub(crate) fn read_undetected(
     alloc: Global,
     set_up: &SetUp,
     text: &[u8],
-) -> Result<TraceLine, LineEnd>
+) -> Result<TraceLine, TraceLineEnd>
     requires { KnownIsReady set_up.now.known }
     ensures line { IfOk result (λ line.
         SpellsBehind set_up.now.known AKeyword.Undetected (words_of text.now) (line_read line)) }
@@ -43,7 +43,7 @@ pub(crate) fn read_undetected(
 }
 
 /// The event that was not sent.
-fn read_event(alloc: Global, text: &[u8]) -> Result<Event, LineEnd>
+fn read_event(alloc: Global, text: &[u8]) -> Result<Event, TraceLineEnd>
     ensures event { IfOk result (λ event. EventFits event
         × (words_of text.now ≡ event_words event)) }
     ensures none { IsErrOf result NoForm → (event : AnEvent) → EventFits event
@@ -56,12 +56,12 @@ fn read_event(alloc: Global, text: &[u8]) -> Result<Event, LineEnd>
         let (ack, packet) = read_packet(alloc, text)?;
         Ok(Event::Pkt(ack, packet))
     } else {
-        Err(LineEnd::NoForm)
+        Err(TraceLineEnd::NoForm)
     }
 }
 
 /// A packet with its ackID.
-fn read_packet(alloc: Global, text: &[u8]) -> Result<(u8, Packet), LineEnd>
+fn read_packet(alloc: Global, text: &[u8]) -> Result<(u8, Packet), TraceLineEnd>
     ensures found { IfOk result (λ found. (found.0 < 32) × Passes found.1
         × (words_of text.now ≡ decimal found.0 ∷ hex_of found.1 ∷ [])) }
     ensures none { IsErrOf result NoForm → (ack : ℕ) (packet : List ℕ) → ack < 32
@@ -73,7 +73,7 @@ fn read_packet(alloc: Global, text: &[u8]) -> Result<(u8, Packet), LineEnd>
 }
 
 /// The fields of a control symbol.
-fn read_symbol(text: &[u8]) -> Result<Symbol, LineEnd>
+fn read_symbol(text: &[u8]) -> Result<Symbol, TraceLineEnd>
     ensures range { IfOk result InRange }
     ensures words { IfOk result (λ symbol. words_of text.now ≡ symbol_words symbol) }
     ensures none { OnErr result ((symbol : Fields) → InRange symbol

@@ -73,7 +73,8 @@ clear_entries-requires-clause-askable g c =
     let said = told g (goal.at.clear_entries-requires-clause-askable g c).In_ok-information in
     let at = c.requires.askable.0 in
     let asked = stage_askable c.requires.askable.1 c.requires.askable.2 c.requires.askable.3
-    (stage_default (g.M.Maint.registers c.write.new.maint) c.args.path.now (c.from.ensures ∙ said.entry) said.few
+    (stage_default (g.M.Maint.registers c.write.new.maint) c.args.path.now
+    (c.from.ensures ∙ said.entry) said.few
     c.in_ok-write.ensures.topology c.requires.askable.3 c.requires.askable.1.leads
     (stage_read at c.in_ok-information.ensures.topology c.in_ok-information.ensures.registers)
     c.in_ok-write.ensures.registers) in

@@ -5,7 +5,7 @@ use Rattle.fabric_trace.specs.Runs.{start}
 use Rattle.trace_lines.specs.Text.{trace_line_text}
 use Rattle.fabric_ports.specs.Events.{MayFollow, IsOwnBlock, IsAnsweredBlock, Evented}
 use Rattle.fabric_ports.specs.Ran.{WritesFront}
-use Rattle.fabric_ports.specs.declared.answers.EventEnd.TheVariants.{Undetected as Unsent}
+use Rattle.fabric_ports.specs.declared.answers.FabricEnd.TheVariants.{Undetected as Unsent}
 use Rattle.rio_live.specs.declared.live.Live.{Live}
 use Rattle.rio_live.proofs.TakenLaws.{may_follow, port_named}
 use Rattle.rio_live.proofs.AnsweringLaws.{on_err, names_held, put_text, put_set_up, happens_on, happens_unsent, falls_short, falls_at_once}

@@ -1,6 +1,6 @@
 use Rattle.std.proofs.Common.{Bool, ℕ, IfOk, sym, subst}
 use Rattle.fabric_model.specs.Network.{Network}
-use Rattle.trace_lines.specs.declared.lines.Step.{Step}
+use Rattle.trace_lines.specs.declared.lines.NetworkStep.{NetworkStep}
 use Rattle.trace_check.specs.declared.links.Links.{Links}
 use Rattle.trace_check.specs.declared.network.Network.{Network as Kept}
 use Rattle.trace_check.specs.Networks.{AreKeptLinks, IsNetwork, IsStepOf, MakesIt}
@@ -9,7 +9,7 @@ use Rattle.trace_check.proofs.NetworkLaws.{if_ok_map}
 use Rattle.trace_check.proofs.network.Network.make.Goals as goal
 
 -- what is ensured of the step that was read
-abbrev Makes : Kept → Links → Kept → Step → Bool → Type 0
+abbrev Makes : Kept → Links → Kept → NetworkStep → Bool → Type 0
 Makes old links new step made = (nodes : ℕ) (net : Network) → IsNetwork nodes net old
     → AreKeptLinks nodes net.links links → IsStepOf nodes (step_read step)
     → MakesIt nodes net (step_read step) new made
