@@ -1,6 +1,5 @@
 //! A fabric that is given its lines one by one.
 ghost use Rattle.std.specs.Prelude.{◌≡◌, ◌≤◌, ◌++◌, [], None, Some, length, IfOk, MatchOption};
-ghost use Rattle.fabric_script.specs.Scripts.{is_skipped};
 ghost use Rattle.fabric_trace.specs.Runs.{start};
 ghost use Rattle.fabric_ports.specs.Standing.{Stands};
 ghost use Rattle.live_lines.specs.Lines.{with_feed};
@@ -9,7 +8,7 @@ ghost use Rattle.rio_live.specs.Holding.{LiveHolds, SetUpIsSpelled};
 ghost use Rattle.rio_live.specs.Answers.{LiveTakes, TakesSetUp, LeavesSetUp, AreSetUp, AreNoSetUp, ReadsBy};
 
 use fabric_ports::Fabric;
-use fabric_script::{EventEnd, Line, ScriptEnd, SetUp, parse_set_up, read_set_up};
+use fabric_script::{EventEnd, Line, ScriptEnd, SetUp, is_skipped, parse_set_up, read_set_up};
 use rio_chars::NoMemory;
 use std::alloc::Global;
 
@@ -186,11 +185,4 @@ impl Live {
             Err(_) => Err(NoMemory),
         }
     }
-}
-
-/// Whether a line is empty or a comment.
-fn is_skipped(line: &[u8]) -> bool
-    ensures { result ≡ is_skipped line.now }
-{
-    matches!(line, [] | [b'#', ..])
 }

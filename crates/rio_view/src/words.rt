@@ -208,10 +208,8 @@ impl Words {
                 put_node(out, set_up, *node);
                 self.put_last(out, packet);
             }
-            NetworkStep::Hold(..)
-            | NetworkStep::Free(..)
-            | NetworkStep::Take(..)
-            | NetworkStep::Move(..) => {}
+            // Any other step leaves its packet in the fabric.
+            _ => {}
         }
     }
 
