@@ -1,22 +1,27 @@
--- What an outbox was told, once it is flushed.
-use Rattle.std.proofs.Common.{◌≡◌, ℕ, false, List, [], ◌++◌, Option, subst, append-nil}
-use Rattle.rio_chars.specs.Written.{Writes}
-use Rattle.rio_chars.specs.declared.outbox.Outbox.{Outbox}
+-- What a new outbox was told, once it is flushed.
+use Rattle.std.proofs.Common.{◌≡◌, ℕ, Bool, false, List, [], ◌++◌, Option, refl, subst, append-nil}
+use Rattle.std.specs.Borrow.{GName}
+use Rattle.rio_chars.specs.Written.{Outgoing, Writes}
 use Rattle.rio_chars.proofs.WrittenLaws.{Writes-whole, Writes-front, Writes-rose}
 use Rattle.fabric_contest.specs.ContestTexts.{TextIsTold}
 
-pub told_by : {K : Type 0} (written : K → Option (List ℕ)) (faults : K → ℕ)
-    (begun out : Outbox K) (text : List ℕ) → begun.buffer.now ≡ [] → begun.failed ≡ false
-    → Writes written faults begun out (text ++ []) → out.buffer.now ≡ []
-    → TextIsTold out.failed (written begun.sink.now) (faults begun.sink.now) (written out.sink.now)
-    (faults out.sink.now) text
-told_by written faults begun out text empty calm told none = record {
-  whole = λ fine. Writes-whole written faults begun out text empty all fine none;
-  counts = all.counts;
-  front = λ failed. Writes-front written faults begun out text empty all;
-  rose = λ failed. Writes-rose written faults begun out text calm all failed;
-  never_falls = all.never_falls;
-}
+pub told_by : {sink : GName} {w w' : Option (List ℕ)} {f f' : ℕ} {failed : Bool} {begun : Outgoing}
+    (out : Outgoing) (text : List ℕ)
+    → begun ≡ record { sink = sink; written = w; faults = f; waiting = []; failed = false }
+    → Writes begun out (text ++ []) → out.waiting ≡ [] → failed ≡ out.failed → w' ≡ out.written
+    → f' ≡ out.faults → TextIsTold failed w f w' f' text
+told_by {sink} {w} {w'} {f} {f'} {failed} out text new told none is ends counts =
+    rw (is, ends, counts) (record {
+      whole = λ fine. Writes-whole start out text refl all fine none;
+      counts = all.counts;
+      front = λ failed. Writes-front start out text refl all;
+      rose = λ failed. Writes-rose start out text refl all failed;
+      never_falls = all.never_falls;
+    })
   where
-    all : Writes written faults begun out text
-    all = subst (Writes written faults begun out) (append-nil text) told
+    start : Outgoing
+    start = record { sink = sink; written = w; faults = f; waiting = []; failed = false }
+
+    all : Writes start out text
+    all = subst (Writes start out) (append-nil text)
+        (subst (λ b. Writes b out (text ++ [])) new told)

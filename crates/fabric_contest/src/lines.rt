@@ -97,13 +97,15 @@ fn tell_contest<K: Sink>(
     tell_map(&mut outbox, &contest.second);
     outbox.write(b"end\n");
     outbox.flush();
-    outbox.failed()
+    let failed = outbox.failed();
+    outbox.into_sink();
+    failed
 }
 
 /// Tells the line of a host, which is this node.
 fn tell_host<K: Sink>(outbox: &mut Outbox<K>, names: &[Name], node: u8, walker: &Walker)
     requires { node < length names.now }
-    ensures { Writes K.written K.faults outbox.old outbox.new (host_line names.now node
+    ensures { Writes outbox.old outbox.new (host_line names.now node
         (machine_is_done walker.now.machine) (has_ended walker.now.machine)) }
 {
     outbox.write(b"host ");
@@ -115,7 +117,7 @@ fn tell_host<K: Sink>(outbox: &mut Outbox<K>, names: &[Name], node: u8, walker: 
 
 /// Tells what became of a host.
 fn tell_word<K: Sink>(outbox: &mut Outbox<K>, walker: &Walker)
-    ensures { Writes K.written K.faults outbox.old outbox.new
+    ensures { Writes outbox.old outbox.new
         (word_by (machine_is_done walker.now.machine) (has_ended walker.now.machine)) }
 {
     if walker.is_done() {
@@ -130,7 +132,7 @@ fn tell_word<K: Sink>(outbox: &mut Outbox<K>, walker: &Walker)
 /// Tells the lines of the map of a host that is done.
 fn tell_map<K: Sink>(outbox: &mut Outbox<K>, walker: &Walker)
     requires { HasEntries walker.now }
-    ensures { Writes K.written K.faults outbox.old outbox.new
+    ensures { Writes outbox.old outbox.new
         (map_if (machine_is_done walker.now.machine) walker.now.machine.map.devices.items) }
 {
     if let Some(map) = walker.map() {

@@ -1,14 +1,12 @@
 -- What a fabric shows after an event at a link, by what the call between two ports says.
-use Rattle.std.proofs.Common.{◌≡◌, ℕ, Option, List, length, Result, Ok, Err, IfOk, slice_get, slice_set, slice_index_or, Some, refl, sym, ap, ◌∙◌, subst}
+use Rattle.std.proofs.Common.{◌≡◌, ℕ, List, length, Result, Ok, Err, IfOk, slice_get, slice_set, slice_index_or, Some, refl, sym, ap, ◌∙◌, subst}
 use Rattle.std.proofs.lemmas.List.{with_items_is, length-set}
 use Rattle.std.specs.Vec.{with_item, with_items}
-use Rattle.rio_chars.specs.Written.{Writes}
-use Rattle.rio_chars.specs.declared.outbox.Outbox.{Outbox}
+use Rattle.trace_lines.specs.Writing.{Adds}
+use Rattle.trace_lines.specs.declared.writer.TraceWriter.{TraceWriter}
 use Rattle.fabric_script.specs.Operations.{line_for}
 use Rattle.fabric_script.specs.declared.operations.Action.{Action}
 use Rattle.link_port.specs.Ports.{PortState}
-use Rattle.link_watch.specs.Stops.{Stopped}
-use Rattle.link_watch.specs.declared.note.Note.{Note}
 use Rattle.link_machine.specs.Sound.{IsSoundLink}
 use Rattle.link_machine.specs.States.{Wires, link}
 use Rattle.link_law.specs.declared.answers.LinkEnd.{LinkEnd}
@@ -16,22 +14,21 @@ use Rattle.link_law.specs.declared.answers.LinkEnd.TheVariants.{Undetected, Fail
 use Rattle.fabric_script.specs.declared.ports.PortRef.{PortRef}
 use Rattle.fabric_trace.specs.Known.{Seen}
 use Rattle.trace_lines.specs.Lines.{TraceLine}
-use Rattle.trace_lines.specs.Text.{trace_text}
+use Rattle.rio_chars.specs.declared.sink.Sink.{Ghosts}
 use Rattle.trace_lines.specs.Watching.{WritesNotes}
 use Rattle.trace_lines.specs.declared.watching.LinkLines.{LinkLines}
 use Rattle.fabric_ports.specs.Acting.{part_of, answer_of, lack_lines, event_end, Acts, AtTwo}
 use Rattle.fabric_ports.specs.Ends.{IsPlaceOf}
 use Rattle.fabric_ports.specs.Places.{place_of}
-use Rattle.fabric_ports.specs.Ran.{Kind, Ran, Blocks}
+use Rattle.fabric_ports.specs.Ran.{Ran, Blocks}
 use Rattle.fabric_ports.specs.Standing.{Stands}
 use Rattle.fabric_ports.specs.declared.actions.Acted.{Acted}
-use Rattle.fabric_ports.specs.declared.answers.FabricEnd.{FabricEnd}
 use Rattle.fabric_ports.specs.declared.ends.LinkPlace.{LinkPlace}
 use Rattle.fabric_ports.specs.declared.fabric.Cable.{Cable}
 use Rattle.fabric_ports.specs.declared.fabric.Fabric.{Fabric}
 use Rattle.fabric_ports.proofs.Cables.{IsChanged, with_wires}
 use Rattle.fabric_ports.proofs.EndLaws.{cable_is}
-use Rattle.fabric_ports.proofs.LinkLaws.{IsKnown, known, known_sound, link_blocked, nothing_cut, link_exposed, link_cut}
+use Rattle.fabric_ports.proofs.LinkLaws.{IsKnown, known, known_sound, IsLent, back, link_blocked, link_exposed, link_cut}
 
 -- the link at a place, and the list of the ports, as the body has them
 pub record IsMet (fabric : Fabric) (port : PortRef) (place : LinkPlace) (cable : Cable)
@@ -102,89 +99,62 @@ changed_with fabric place cable wires ports next x y same first second becomes =
 -- ---- what the call between two ports says
 
 -- of the two ports, before and after
-abbrev pub Says : {K : Type 0} → (K → Option (List ℕ)) → (K → ℕ) → LinkPlace → Action → Cable
-    → LinkLines K → Result Acted LinkEnd → Wires → LinkLines K
+abbrev pub Says : {K : Type 0} {S : Ghosts K} → LinkPlace → Action → Cable → LinkLines K S
+    → Result Acted LinkEnd → Wires → LinkLines K S
     → PortState → PortState → PortState → PortState → Type 0
-Says written faults place action cable before result wires after a b a2 b2 =
-    Acts (WritesNotes written faults) (λ watch note next. next ≡ watch) (part_of place.side action)
+Says place action cable before result wires after a b a2 b2 =
+    Acts WritesNotes (λ watch note next. next ≡ watch) (part_of place.side action)
     (link cable.link a b) before result (link wires a2 b2) after
     × IfOk result (λ answer. answer ≡ answer_of place.side action (link cable.link a b))
 
-cut_same : {K : Type 0} (written : K → Option (List ℕ)) (faults : K → ℕ)
-    {before after : LinkLines K} {notes : List Note}
-    → Stopped (WritesNotes written faults) (λ watch note next. next ≡ watch) before notes after
-    → after.outbox.ghost_name ≡ before.outbox.ghost_name
-cut_same {K} written faults {before} {after} stopped =
-    ap (λ (w : LinkLines K). w.outbox.ghost_name)
-    (nothing_cut stopped.mid after stopped.rest stopped.cut_at) ∙ stopped.grown.outbox
-
-module _ {K : Type 0} (written : K → Option (List ℕ)) (faults : K → ℕ) (fabric : Fabric)
+module _ {K : Type 0} {S : Ghosts K} (fabric : Fabric)
     (port : PortRef) (place : LinkPlace) (action : Action) (cable : Cable)
     (ports next : List PortState) (wires : Wires)
-    (before after : LinkLines K) (result : Result Acted LinkEnd)
+    (before after : LinkLines K S) (result : Result Acted LinkEnd)
     (m : IsMet fabric port place cable ports)
     (two : AtTwo place.a place.b ports next
-    (Says written faults place action cable before result wires after))
-    (is_a : before.a ≡ cable.a) (is_b : before.b ≡ cable.b) where
+    (Says place action cable before result wires after))
+    (writer : TraceWriter K) (lent : IsLent writer before cable.a cable.b) where
   says : (r : Result Acted LinkEnd) → result ≡ r
-      → Says written faults place action cable before r wires after two.first two.second
+      → Says place action cable before r wires after two.first two.second
       two.next_first two.next_second
   says r is =
-      subst (λ r. Says written faults place action cable before r wires after two.first two.second
+      subst (λ r. Says place action cable before r wires after two.first two.second
       two.next_first two.next_second) is two.holds
 
   is_known : {from : Seen} {lines : List TraceLine} → Stands from lines fabric
       → IsKnown from lines fabric port place cable two.first two.second
   is_known stands = met_known two.first two.second m two.at_first two.at_second stands
 
-  pub act_done : (answer : Acted) → result ≡ Ok answer → (outbox : Outbox K)
-      → Writes written faults after.outbox.now outbox
-      (trace_text before.names.now (lack_lines answer))
+  pub act_done : (answer : Acted) → result ≡ Ok answer → (last : TraceWriter K)
+      → Adds (back writer after.outbox.now) last (lack_lines answer)
       → (from : Seen) (lines : List TraceLine) → Stands from lines fabric
-      → Ran (Blocks (line_for port action)) before.names.now written faults before.outbox.now outbox
-      from lines (Ok (fabric_with fabric place.cable cable wires next))
-  act_done answer is outbox lacks from lines stands =
+      → Ran (Blocks (line_for port action)) writer last from lines
+      (Ok (fabric_with fabric place.cable cable wires next))
+  act_done answer is last lacks from lines stands =
       let does = says (Ok answer) is in
       let k = is_known stands in
       let changed = changed_with fabric place cable wires ports next two.next_first two.next_second
       m.ports_are k.first k.second two.becomes in
-      link_blocked before.names.now action wires two.next_first two.next_second before after outbox
-      answer k does.0 does.1 refl is_a is_b lacks changed
+      link_blocked action wires two.next_first two.next_second before after writer last answer
+      k does.0 does.1 lent lacks changed
 
   pub act_ended : (end : LinkEnd) → result ≡ Err end → (from : Seen) (lines : List TraceLine)
       → Stands from lines fabric
-      → Ran (Blocks (line_for port action)) before.names.now written faults before.outbox.now
-      after.outbox.now from lines (Err (event_end cable.a cable.b end))
+      → Ran (Blocks (line_for port action)) writer (back writer after.outbox.now) from
+      lines
+      (Err (event_end cable.a cable.b end))
   act_ended (Undetected side e) is from lines stands =
-      link_exposed before.names.now action side e before after (is_known stands)
-      (says (Err (Undetected side e)) is).0 refl is_a is_b
+      link_exposed action side e before after writer (is_known stands)
+      (says (Err (Undetected side e)) is).0 lent
   act_ended Failed is from lines stands =
-      link_cut before.names.now action before after (is_known stands) (says (Err Failed) is).0 refl
-      is_a is_b
+      link_cut action before after writer (is_known stands) (says (Err Failed) is).0 lent
   act_ended NoMemory is from lines stands =
-      link_cut before.names.now action before after (is_known stands) (says (Err NoMemory) is).0
-      refl is_a is_b
+      link_cut action before after writer (is_known stands) (says (Err NoMemory) is).0 lent
 
-  -- the watch has the same outbox
-  pub same_outbox : (end : LinkEnd) → result ≡ Err end
-      → after.outbox.ghost_name ≡ before.outbox.ghost_name
-  same_outbox (Undetected side e) is = (says (Err (Undetected side e)) is).0.grown.outbox
-  same_outbox Failed is = cut_same written faults (says (Err Failed) is).0.stopped
-  same_outbox NoMemory is = cut_same written faults (says (Err NoMemory) is).0.stopped
+-- ---- the writer behind the call
 
--- ---- the outbox behind the call
-
-pub ended_by : {K : Type 0} (written : K → Option (List ℕ)) (faults : K → ℕ) (Is : Kind)
-    (names : List (List ℕ)) (old new next : Outbox K) (from : Seen) (lines : List TraceLine)
-    (end why : FabricEnd) → next ≡ new → why ≡ end
-    → Ran Is names written faults old new from lines (Err end)
-    → Ran Is names written faults old next from lines (Err why)
-ended_by written faults Is names old new next from lines end why same is ran =
-    subst (λ o. Ran Is names written faults old o from lines (Err why)) (sym same)
-    (subst (λ w. Ran Is names written faults old new from lines (Err w)) (sym is) ran)
-
-pub written_by : {K : Type 0} {written : K → Option (List ℕ)} {faults : K → ℕ} {old new : Outbox K}
-    {text : List ℕ} (next : Outbox K) → next ≡ new → Writes written faults old new text
-    → Writes written faults old next text
-written_by {K} {written} {faults} {old} {new} {text} next same writes =
-    subst (λ o. Writes written faults old o text) (sym same) writes
+pub written_by : {K : Type 0} {old new : TraceWriter K} {lines : List TraceLine}
+    (next : TraceWriter K) → next ≡ new → Adds old new lines → Adds old next lines
+written_by {old = old} {lines = lines} next same adds =
+    subst (λ o. Adds old o lines) (sym same) adds

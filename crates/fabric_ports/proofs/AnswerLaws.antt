@@ -4,8 +4,8 @@ use Rattle.std.proofs.lemmas.Grind.{flat_map-append}
 use Rattle.std.proofs.lemmas.List.{same_from_push}
 use Rattle.std.specs.Io.KnownBytes.{Appends}
 use Rattle.rio_chars.specs.Fronts.{AppendsFront}
-use Rattle.rio_chars.specs.Written.{Writes}
-use Rattle.rio_chars.specs.declared.outbox.Outbox.{Outbox}
+use Rattle.trace_lines.specs.Writing.{Adds}
+use Rattle.trace_lines.specs.declared.writer.TraceWriter.{TraceWriter}
 use Rattle.rio_packets.specs.LinkForm.{LinkForm}
 use Rattle.rio_packets.proofs.FormLaws.{Passes-from_form}
 use Rattle.maint_packets.specs.Requests.{IsGoodOp, request_of, request_body}
@@ -19,7 +19,7 @@ use Rattle.fabric_model.specs.Steps.{Leave, AtNode}
 use Rattle.fabric_trace.specs.Fold.{seen}
 use Rattle.fabric_trace.specs.Known.{Seen}
 use Rattle.trace_lines.specs.Lines.{TraceLine, Stepped}
-use Rattle.trace_lines.specs.Text.{trace_line_text, trace_text}
+use Rattle.trace_lines.specs.Text.{trace_text}
 use Rattle.fabric_trace.proofs.Network.Boards.{seen_board}
 use Rattle.fabric_trace.proofs.Traces.Existing.{ready_on}
 use Rattle.fabric_trace.proofs.Parts.Folding.{seen-append}
@@ -36,7 +36,7 @@ use Rattle.fabric_ask.proofs.Laying.{laid_heard}
 use Rattle.fabric_ask.proofs.Uncollected.{nothing_answers, answers-append}
 use Rattle.fabric_ports.specs.Asking.{CanAsk, Returns, Replied, AskEnds, Unwritten}
 use Rattle.fabric_ports.specs.Fetching.{NoneLeaves, AskLeaves, response_or_end, response_in, ask_answer}
-use Rattle.fabric_ports.specs.Ran.{WritesFront, Ran}
+use Rattle.fabric_ports.specs.Ran.{AddsFront, Ran}
 use Rattle.fabric_ports.specs.declared.answers.FabricEnd.{FabricEnd}
 use Rattle.fabric_ports.specs.declared.answers.FabricEnd.TheVariants as Ends
 use Rattle.fabric_ports.specs.declared.asking.AskEnd.{AskEnd}
@@ -62,38 +62,45 @@ low_hop request packet sendable form =
     (Passes-from_form (request_body request) packet form) (read request packet sendable form))
 
 -- what was told of an ask, by what left at the host or why it ended
-abbrev pub IsTold : List (List ℕ) → {K : Type 0} → (K → Option (List ℕ)) → (K → ℕ) → Outbox K
-    → Outbox K → ℕ → Request → List Edit → Seen → List TraceLine → Fabric
-    → Result (Option (List ℕ)) FabricEnd → Type 0
-IsTold names written faults a b host request noise from lines new (Ok left) =
-    Ran (AskLeaves host request noise left) names written faults a b from lines (Ok new)
-IsTold names written faults a b host request noise from lines new (Err end) =
-    Ran (IsAsk host request noise) names written faults a b from lines (Err end)
+abbrev pub IsTold : {K : Type 0} → TraceWriter K → TraceWriter K → ℕ → Request → List Edit → Seen
+    → List TraceLine → Fabric → Result (Option (List ℕ)) FabricEnd → Type 0
+IsTold a b host request noise from lines new (Ok left) =
+    Ran (AskLeaves host request noise left) a b from lines (Ok new)
+IsTold a b host request noise from lines new (Err end) =
+    Ran (IsAsk host request noise) a b from lines (Err end)
 
-module _ (names : List (List ℕ)) {K : Type 0} (written : K → Option (List ℕ)) (faults : K → ℕ)
-    (a b : Outbox K) (host : ℕ) (request : Request) (noise : List Edit) (old new : Fabric) where
+module _ {K : Type 0} (a b : TraceWriter K) (host : ℕ) (request : Request) (noise : List Edit)
+    (old new : Fabric) where
   pub is_told : (told : Result (Option (List ℕ)) FabricEnd)
       → IfOk told (λ left. (from : Seen) (lines : List TraceLine) → CanAsk host from lines old
-      → Ran (AskLeaves host request noise left) names written faults a b from lines (Ok new))
+      → Ran (AskLeaves host request noise left) a b from lines (Ok new))
       → IfErr told (λ end. (from : Seen) (lines : List TraceLine) → CanAsk host from lines old
-      → Ran (IsAsk host request noise) names written faults a b from lines (Err end))
+      → Ran (IsAsk host request noise) a b from lines (Err end))
       → (from : Seen) (lines : List TraceLine) → CanAsk host from lines old
-      → IsTold names written faults a b host request noise from lines new told
+      → IsTold a b host request noise from lines new told
   is_told (Ok left) done ended from lines can = done from lines can
   is_told (Err end) done ended from lines can = ended from lines can
 
-  -- some text was told
-  pub told_text : (told : Result (Option (List ℕ)) FabricEnd) (from : Seen)
+  -- some lines were told
+  pub told_lines : (told : Result (Option (List ℕ)) FabricEnd) (from : Seen)
       (lines : List TraceLine)
-      → IsTold names written faults a b host request noise from lines new told
-      → (text : List ℕ) × Writes written faults a b text
-  told_text (Ok left) from lines ran = (trace_text names ran.block, ran.ends.0)
-  told_text (Err (Ends.Undetected port event)) from lines ran =
-      (trace_text names ran.block, ran.ends.0)
-  told_text (Err Ends.Failed) from lines ran =
-      (trace_text names ran.ends.0.front, ran.ends.0.prints)
-  told_text (Err Ends.NoMemory) from lines ran =
-      (trace_text names ran.ends.front, ran.ends.prints)
+      → IsTold a b host request noise from lines new told
+      → (block : List TraceLine) × Adds a b block
+  told_lines (Ok left) from lines ran = (ran.block, ran.ends.0)
+  told_lines (Err (Ends.Undetected port event)) from lines ran = (ran.block, ran.ends.0)
+  told_lines (Err Ends.Failed) from lines ran = (ran.ends.0.front, ran.ends.0.adds)
+  told_lines (Err Ends.NoMemory) from lines ran = (ran.ends.front, ran.ends.adds)
+
+  -- the lines go to the outbox of before
+  pub told_same : (told : Result (Option (List ℕ)) FabricEnd)
+      → IfOk told (λ left. (from : Seen) (lines : List TraceLine) → CanAsk host from lines old
+      → Ran (AskLeaves host request noise left) a b from lines (Ok new))
+      → IfErr told (λ end. (from : Seen) (lines : List TraceLine) → CanAsk host from lines old
+      → Ran (IsAsk host request noise) a b from lines (Err end))
+      → (from : Seen) × (lines : List TraceLine) × CanAsk host from lines old
+      → b.outbox.ghost_name ≡ a.outbox.ghost_name
+  told_same told done ended can =
+      (told_lines told can.0 can.1 (is_told told done ended can.0 can.1 can.2)).1.same
 
 module _ (names : List (List ℕ)) (before after : Option (List ℕ)) (host : ℕ) (request : Request)
     (noise : List Edit) (from : Seen) (lines : List TraceLine) (old new : Fabric) where
@@ -103,7 +110,7 @@ module _ (names : List (List ℕ)) (before after : Option (List ℕ)) (host : �
       Replied names before after host request noise from lines new response
   IsAnswered (Err end) = AskEnds names before after host request noise from lines end
 
-  module _ {K : Type 0} (written : K → Option (List ℕ)) (faults : K → ℕ) (a b : Outbox K)
+  module _ {K : Type 0} (a b : TraceWriter K)
       (can : CanAsk host from lines old) (sendable : IsSendable request) where
     abbrev s : Seen
     s = seen from lines
@@ -113,7 +120,7 @@ module _ (names : List (List ℕ)) (before after : Option (List ℕ)) (host : �
     reads packet form = read request packet sendable form
 
     module _ (left : Option (List ℕ))
-        (ran : Ran (AskLeaves host request noise left) names written faults a b from lines (Ok new))
+        (ran : Ran (AskLeaves host request noise left) a b from lines (Ok new))
         (told : Appends before after (trace_text names ran.block)) where
       abbrev block : List TraceLine
       block = ran.block
@@ -225,21 +232,20 @@ module _ (names : List (List ℕ)) (before after : Option (List ℕ)) (host : �
 
     -- the lines were told whole
     told_whole : (left : Option (List ℕ))
-        → (ran : Ran (AskLeaves host request noise left) names written faults a b from lines
-        (Ok new))
+        → (ran : Ran (AskLeaves host request noise left) a b from lines (Ok new))
         → Appends before after (trace_text names ran.block)
         → IsAnswered (response_or_end (response_in left))
     told_whole None ran told = nothing_came None ran told ran.is.1
     told_whole (Some packet) ran told =
         came (Some packet) ran told packet ran.is.1.0 ran.is.1.1
 
-    front_more : (front rest : List TraceLine) → AppendsFront before after (trace_text names front)
+    front_more : (front rest : List TraceLine)
+        → AppendsFront before after (trace_text names front)
         → AppendsFront before after (trace_text names (front ++ rest))
     front_more front rest told = record {
       front = told.front;
       rest = told.rest ++ trace_text names rest;
-      whole = flat_map-append (λ (line : TraceLine). trace_line_text names line ++ 10 ∷ []) front
-          rest
+      whole = flat_map-append _ front rest
           ∙ ap (λ (l : List ℕ). l ++ trace_text names rest) told.whole
           ∙ append_assoc told.front told.rest (trace_text names rest);
       told = told.told;
@@ -247,7 +253,7 @@ module _ (names : List (List ℕ)) (before after : Option (List ℕ)) (host : �
 
     -- the first lines were told, and a front of their text was written
     told_short : (block : List TraceLine) → IsAsk host request noise (seen from lines) block
-        → (short : WritesFront names written faults a b block)
+        → (short : AddsFront a b block)
         → AppendsFront before after (trace_text names short.front)
         → Unwritten names before after host request noise from lines
     told_short block is short front = record {
@@ -259,11 +265,12 @@ module _ (names : List (List ℕ)) (before after : Option (List ℕ)) (host : �
 
     -- all that was told was written
     pub told_answers : (told : Result (Option (List ℕ)) FabricEnd)
-        → IsTold names written faults a b host request noise from lines new told
-        → ((text : List ℕ) → Writes written faults a b text → Appends before after text)
+        → IsTold a b host request noise from lines new told
+        → ((block : List TraceLine) → Adds a b block
+        → Appends before after (trace_text names block))
         → IsAnswered (ask_answer told)
     told_answers (Ok left) ran whole =
-        told_whole left ran (whole (trace_text names ran.block) ran.ends.0)
+        told_whole left ran (whole ran.block ran.ends.0)
     told_answers (Err (Ends.Undetected port event)) ran whole =
         let found = sym (ap (λ (t : Seen). t.unfaithful) (seen-append from lines ran.block))
         ∙ ran.ends.1 in
@@ -272,47 +279,45 @@ module _ (names : List (List ℕ)) (before after : Option (List ℕ)) (host : �
         (record { port = port; event = event }) found in
         record {
           block = ran.block;
-          told = whole (trace_text names ran.block) ran.ends.0;
+          told = whole ran.block ran.ends.0;
           is = ran.is;
           made = made-append can.stands.made apart.made;
           found = ran.ends.1;
           own = nothing_answers host ran.block apart.nothing;
         }
     told_answers (Err Ends.Failed) ran whole =
-        let text = trace_text names ran.ends.0.front in
         told_short ran.block ran.is ran.ends.0 (record {
-          front = text;
+          front = trace_text names ran.ends.0.front;
           rest = [];
-          whole = sym (append-nil text);
-          told = whole text ran.ends.0.prints;
+          whole = sym (append-nil _);
+          told = whole ran.ends.0.front ran.ends.0.adds;
         })
     told_answers (Err Ends.NoMemory) ran whole = record {
       block = ran.block;
       front = ran.ends.front;
       rest = ran.ends.rest;
-      told = whole (trace_text names ran.ends.front) ran.ends.prints;
+      told = whole ran.ends.front ran.ends.adds;
       is = ran.is;
       whole = ran.ends.whole;
     }
 
     -- a write failed
     pub told_fails : (told : Result (Option (List ℕ)) FabricEnd)
-        → IsTold names written faults a b host request noise from lines new told
-        → ((text : List ℕ) → Writes written faults a b text → AppendsFront before after text)
+        → IsTold a b host request noise from lines new told
+        → ((block : List TraceLine) → Adds a b block
+        → AppendsFront before after (trace_text names block))
         → Unwritten names before after host request noise from lines
     told_fails (Ok left) ran front = record {
       block = ran.block;
-      told = front (trace_text names ran.block) ran.ends.0;
+      told = front ran.block ran.ends.0;
       is = ran.is.0;
     }
     told_fails (Err (Ends.Undetected port event)) ran front = record {
       block = ran.block;
-      told = front (trace_text names ran.block) ran.ends.0;
+      told = front ran.block ran.ends.0;
       is = ran.is;
     }
     told_fails (Err Ends.Failed) ran front =
-        told_short ran.block ran.is ran.ends.0
-        (front (trace_text names ran.ends.0.front) ran.ends.0.prints)
+        told_short ran.block ran.is ran.ends.0 (front ran.ends.0.front ran.ends.0.adds)
     told_fails (Err Ends.NoMemory) ran front =
-        told_short ran.block ran.is ran.ends
-        (front (trace_text names ran.ends.front) ran.ends.prints)
+        told_short ran.block ran.is ran.ends (front ran.ends.front ran.ends.adds)

@@ -1,6 +1,6 @@
 -- What an ask tells, and how it ends.
 use Rattle.std.proofs.Common.{◌≡◌, ℕ, Bool, true, false, List, [], ◌∷◌, ◌++◌, length, Option, Some, None, Ok, refl, sym, ap, ◌∙◌, subst, arith, append-nil, append_assoc, inl, inr, ◌⊎◌, if◌then◌else◌}
-use Rattle.rio_chars.specs.declared.outbox.Outbox.{Outbox}
+use Rattle.trace_lines.specs.declared.writer.TraceWriter.{TraceWriter}
 use Rattle.rio_packets.specs.Fields.{prio_of}
 use Rattle.rio_packets.specs.LinkForm.{LinkForm, Passes}
 use Rattle.rio_packets.proofs.FormLaws.{Passes-from_form}
@@ -94,16 +94,14 @@ pub host_at : {host : ℕ} {from : Seen} {lines : List TraceLine} {fabric : Fabr
     → CanAsk host from lines fabric → IsEndpointAt fabric.devices.items host
 host_at {host} can = can.stands.shows.endpoints host (host_is can)
 
-module _ {K : Type 0} (written : K → Option (List ℕ)) (faults : K → ℕ) (names : List (List ℕ))
-    (host : ℕ) (request : Request) where
+module _ {K : Type 0} (host : ℕ) (request : Request) where
   -- the request is taken, and nothing else
-  pub asked : (a b : Outbox K) (from : Seen) (lines : List TraceLine) (old new : Fabric)
+  pub asked : (a b : TraceWriter K) (from : Seen) (lines : List TraceLine) (old new : Fabric)
       (packet : List ℕ) (happened : Happened) → CanAsk host from lines old
       → LinkForm (request_body request) packet
       → Did (λ block. (block ≡ take_lines (seen from lines) host packet)
-      × (happened ≡ answer_taken block))
-      names written faults a b (seen from lines) new
-      → Ran (λ s block. Asks s host request block) names written faults a b from lines (Ok new)
+      × (happened ≡ answer_taken block)) a b (seen from lines) new
+      → Ran (λ s block. Asks s host request block) a b from lines (Ok new)
   asked a b from lines old new packet happened can form did =
       let s = seen from lines in
       let own = taking host s packet did.block (host_is can)
@@ -116,19 +114,17 @@ module _ {K : Type 0} (written : K → Option (List ℕ)) (faults : K → ℕ) (
           form = form;
           lines = did.is.0;
         };
-        ends = (did.prints, did_stands can.stands did own.apart.made);
+        ends = (did.adds, did_stands can.stands did own.apart.made);
       }
 
   -- and then the rounds are made
-  pub asked_whole : (noise : List Edit) (a b c : Outbox K) (from : Seen) (lines : List TraceLine)
-      (mid new : Fabric) (left : Option (List ℕ))
-      → (first : Ran (λ s block. Asks s host request block) names written faults a b from lines
-      (Ok mid))
-      → Ran (RoundsLeave host most_rounds noise left) names written faults b c from
-      (lines ++ first.block) (Ok new)
-      → Ran (AskLeaves host request noise left) names written faults a c from lines (Ok new)
+  pub asked_whole : (noise : List Edit) (a b c : TraceWriter K) (from : Seen)
+      (lines : List TraceLine) (mid new : Fabric) (left : Option (List ℕ))
+      → (first : Ran (λ s block. Asks s host request block) a b from lines (Ok mid))
+      → Ran (RoundsLeave host most_rounds noise left) b c from (lines ++ first.block) (Ok new)
+      → Ran (AskLeaves host request noise left) a c from lines (Ok new)
   asked_whole noise a b c from lines mid new left first second =
-      ran_joined written faults names (λ s block. Asks s host request block)
+      ran_joined (λ s block. Asks s host request block)
       (RoundsLeave host most_rounds noise left) (AskLeaves host request noise left) a b c from lines
       mid (Ok new)
       (λ x y own still more. (

@@ -1,6 +1,6 @@
 -- Links that carry what they can, one after another.
 use Rattle.std.proofs.Common.{◌≡◌, ◌+◌, ℕ, List, [], ◌∷◌, ◌++◌, take, drop, Option, Some, None, refl, sym, ap, ◌∙◌, subst, Ok, Err}
-use Rattle.rio_chars.specs.declared.outbox.Outbox.{Outbox}
+use Rattle.trace_lines.specs.declared.writer.TraceWriter.{TraceWriter}
 use Rattle.link_wires.specs.declared.edits.Edit.{Edit}
 use Rattle.fabric_script.specs.declared.ports.PortRef.{PortRef}
 use Rattle.fabric_model.specs.Network.{link_in}
@@ -120,65 +120,56 @@ next_linked {from} {lines} {fabric} {k} {link} stands next = record {
   found = ap (λ l. link_in l link.0) (links_stand stands) ∙ next.found;
 }
 
-module _ {K : Type 0} (written : K → Option (List ℕ)) (faults : K → ℕ) (names : List (List ℕ)) where
-  pub carry_begins : (a : Outbox K) (from : Seen) (lines : List TraceLine) (fabric : Fabric)
+module _ {K : Type 0} where
+  pub carry_begins : (a : TraceWriter K) (from : Seen) (lines : List TraceLine) (fabric : Fabric)
       (noise : List Edit) → Stands from lines fabric
-      → Ran (CarryAll [] noise noise) names written faults a a from lines (Ok fabric)
+      → Ran (CarryAll [] noise noise) a a from lines (Ok fabric)
   carry_begins a from lines fabric noise stands =
-      ran_as written faults names Nothing (CarryAll [] noise noise) a a from lines (Ok fabric)
-      (λ block none. (none, refl)) (ran_nothing written faults names a from lines fabric stands)
+      ran_as Nothing (CarryAll [] noise noise) a a from lines (Ok fabric)
+      (λ block none. (none, refl)) (ran_nothing a from lines fabric stands)
 
   -- one link more has carried what it can
-  pub carried_more : (a b c : Outbox K) (from : Seen) (lines : List TraceLine)
+  pub carried_more : (a b c : TraceWriter K) (from : Seen) (lines : List TraceLine)
       (old mid new : Fabric) (k : ℕ) (link : PortRef × PortRef) (noise middle left : List Edit)
       → Stands from lines old → IsNext from k link
-      → (first : Ran (CarryAll (take k from.network.links) noise middle) names written faults a b
-      from lines (Ok mid))
-      → Ran (LinkCarries link middle left) names written faults b c from (lines ++ first.block)
-      (Ok new)
-      → Ran (CarryAll (take (k + 1) from.network.links) noise left) names written faults a c from
-      lines (Ok new)
+      → (first : Ran (CarryAll (take k from.network.links) noise middle) a b from lines (Ok mid))
+      → Ran (LinkCarries link middle left) b c from (lines ++ first.block) (Ok new)
+      → Ran (CarryAll (take (k + 1) from.network.links) noise left) a c from lines (Ok new)
   carried_more a b c from lines old mid new k link noise middle left stands next first own =
       let links = from.network.links in
-      ran_as written faults names
-      (Both (CarryAll (take k links) noise middle) (CarryAll (link ∷ []) middle left))
+      ran_as (Both (CarryAll (take k links) noise middle) (CarryAll (link ∷ []) middle left))
       (CarryAll (take (k + 1) links) noise left) a c from lines (Ok new)
       (λ block both. subst (λ (l : List (PortRef × PortRef)). CarryAll l noise left
       (seen from lines) block) (sym next.more)
       (carry_append (take k links) (link ∷ []) noise middle left (seen from lines) block
-      stands.sent both))
-      (ran_both written faults names (CarryAll (take k links) noise middle)
+      stands.sent both)) (ran_both (CarryAll (take k links) noise middle)
       (CarryAll (link ∷ []) middle left) a b c from lines mid (Ok new) first
-      (ran_as written faults names (LinkCarries link middle left)
-      (CarryAll (link ∷ []) middle left) b c
+      (ran_as (LinkCarries link middle left) (CarryAll (link ∷ []) middle left) b c
       from (lines ++ first.block) (Ok new)
       (λ block carries. carry_one link middle left (seen from (lines ++ first.block)) block carries)
       own))
 
   -- a link did not come to its end
-  pub carried_short : (a b c : Outbox K) (from : Seen) (lines : List TraceLine)
+  pub carried_short : (a b c : TraceWriter K) (from : Seen) (lines : List TraceLine)
       (old mid : Fabric) (k : ℕ) (link : PortRef × PortRef) (noise middle : List Edit)
       (end : FabricEnd) → Stands from lines old → IsNext from k link
-      → (first : Ran (CarryAll (take k from.network.links) noise middle) names written faults a b
-      from lines (Ok mid))
-      → Ran (WithLeft (LinkCarries link middle)) names written faults b c from
-      (lines ++ first.block) (Err end)
-      → Ran (WithLeft (LinksCarry noise)) names written faults a c from lines (Err end)
+      → (first : Ran (CarryAll (take k from.network.links) noise middle) a b from lines (Ok mid))
+      → Ran (WithLeft (LinkCarries link middle)) b c from (lines ++ first.block) (Err end)
+      → Ran (WithLeft (LinksCarry noise)) a c from lines (Err end)
   carried_short a b c from lines old mid k link noise middle end stands next first ended =
       let links = from.network.links in
       let rest = drop (k + 1) links in
-      let own = ran_left written faults names (LinkCarries link middle) b c from
+      let own = ran_left (LinkCarries link middle) b c from
       (lines ++ first.block) (Err end) ended in
       let on : GoesOn from (WithLeft (CarryAll rest own.0)) =
       λ more made sent. (let exist = carry_all_exist rest links own.0 (seen from more)
       (good_behind stands.ready made) sent (seen_links from more)
       (found_drop links links (k + 1) (all_found links stands.ready.proper)) in
       (exist.exists.lines, (exist.left, exist.exists.is))) in
-      let inner = ends_first written faults names (LinkCarries link middle own.0)
+      let inner = ends_first (LinkCarries link middle own.0)
       (WithLeft (CarryAll rest own.0)) b c from (lines ++ first.block) mid end
       (carries_made link middle own.0 stands.ready next.found) on first.ends.1 own.1 in
-      ran_as written faults names
-      (Both (CarryAll (take k links) noise middle)
+      ran_as (Both (CarryAll (take k links) noise middle)
       (Both (LinkCarries link middle own.0) (WithLeft (CarryAll rest own.0))))
       (WithLeft (LinksCarry noise)) a c from lines (Err end)
       (λ block both. (let all = both_left own.0 (seen from lines) block both in (
@@ -187,8 +178,7 @@ module _ {K : Type 0} (written : K → Option (List ℕ)) (faults : K → ℕ) (
             block) (next.whole ∙ sym (seen_links from lines))
             (carry_append (take k links) (link ∷ rest) noise middle all.0 (seen from lines) block
             stands.sent all.1),
-      )))
-      (ran_both written faults names (CarryAll (take k links) noise middle)
+      ))) (ran_both (CarryAll (take k links) noise middle)
       (Both (LinkCarries link middle own.0) (WithLeft (CarryAll rest own.0))) a b c from lines mid
       (Err end)
       first inner)
@@ -210,12 +200,11 @@ module _ {K : Type 0} (written : K → Option (List ℕ)) (faults : K → ℕ) (
           (CarryAll rest next) t lines more in (own.0, (next, own.1)))) both)
 
   -- all links have carried what they can
-  pub carried_all : (a b : Outbox K) (from : Seen) (lines : List TraceLine) (new : Fabric)
+  pub carried_all : (a b : TraceWriter K) (from : Seen) (lines : List TraceLine) (new : Fabric)
       (links : List (PortRef × PortRef)) (noise left : List Edit) → links ≡ from.network.links
-      → Ran (CarryAll links noise left) names written faults a b from lines (Ok new)
-      → Ran (LinksCarry noise left) names written faults a b from lines (Ok new)
+      → Ran (CarryAll links noise left) a b from lines (Ok new)
+      → Ran (LinksCarry noise left) a b from lines (Ok new)
   carried_all a b from lines new links noise left same ran =
-      ran_as written faults names (CarryAll links noise left) (LinksCarry noise left) a b from lines
-      (Ok new)
+      ran_as (CarryAll links noise left) (LinksCarry noise left) a b from lines (Ok new)
       (λ block own. subst (λ (l : List (PortRef × PortRef)). CarryAll l noise left
       (seen from lines) block) (same ∙ sym (seen_links from lines)) own) ran

@@ -1,7 +1,7 @@
 -- What a call did that collects a packet at an endpoint.
 use Rattle.std.proofs.Common.{◌≡◌, ℕ, false, List, [], ◌∷◌, slice_get, slice_set, Option, Some, None, option_map, refl, sym, ap, ◌∙◌, subst}
-use Rattle.rio_chars.specs.Written.{Writes}
-use Rattle.rio_chars.specs.declared.outbox.Outbox.{Outbox}
+use Rattle.trace_lines.specs.Writing.{Adds}
+use Rattle.trace_lines.specs.declared.writer.TraceWriter.{TraceWriter}
 use Rattle.rio_packets.specs.Fields.{prio_of}
 use Rattle.rio_packets.specs.LinkForm.{Passes}
 use Rattle.link_port.specs.Ports.{PortState, AreAlike}
@@ -19,7 +19,6 @@ use Rattle.fabric_model.specs.Steps.{Leave, Answer, AtNode, ByDevice, without_fi
 use Rattle.fabric_trace.specs.Fold.{seen}
 use Rattle.fabric_trace.specs.Known.{Seen, port_seen}
 use Rattle.fabric_trace.specs.Served.{face_in, collect_lines, HasResponseForm, IsCollect}
-use Rattle.trace_lines.specs.Text.{trace_text}
 use Rattle.fabric_trace.proofs.Parts.Keeping.{few_prio}
 use Rattle.fabric_ports.specs.declared.answers.Happened.{Happened}
 use Rattle.fabric_ports.specs.declared.fabric.Fabric.{Fabric}
@@ -132,19 +131,18 @@ pub record WasCollected (device next : Registers) (x y : PortState)
   pub alike : AreAlike x y
   pub forms : AreForms told
 
-pub did_collect : (names : List (List ℕ)) {K : Type 0} (written : K → Option (List ℕ))
-    (faults : K → ℕ) (b b2 : Outbox K) (s : Seen) (old new : Fabric) (n : ℕ)
+pub did_collect : {K : Type 0} (b b2 : TraceWriter K) (s : Seen) (old new : Fabric) (n : ℕ)
     (device next : Registers) (x y : PortState) (told : Collected) (happens : Happened)
     → ShowsFabric old s → s.unfaithful ≡ None → IsEndpointAt old.devices.items n
     → slice_get old.devices.items n ≡ Some device → port_seen s (port_of n) ≡ x
     → WasCollected device next x y told → HasBoth old new n next (port_of n) y
     → happens ≡ answer_collected (collect_lines n told)
-    → Writes written faults b b2 (trace_text names (collect_lines n told))
+    → Adds b b2 (collect_lines n told)
     → Did (λ block. IsCollect s.network n block
-    × (happens ≡ answer_collected block)) names written faults
+    × (happens ≡ answer_collected block))
     b b2 s new
-did_collect names written faults b b2 s old new n device next x y told happens shows sent at stands
-    is was has answers prints =
+did_collect b b2 s old new n device next x y told happens shows sent at stands
+    is was has answers adds =
     let net = s.network in
     let p = port_of n in
     let later = after_collect net n told in
@@ -166,7 +164,7 @@ did_collect names written faults b b2 s old new n device next x y told happens s
     let seen_is = seen_after s n told in
     record {
       block = collect_lines n told;
-      prints = prints;
+      adds = adds;
       is = (
         record {
           endpoint = ap

@@ -1,10 +1,10 @@
 -- What an edit of a wire makes of a fabric, and its block.
-use Rattle.std.proofs.Common.{◌≡◌, ℕ, Bool, true, false, List, [], ◌∷◌, Option, Some, slice_get, slice_set, slice_index_or, refl, sym, ap, ◌∙◌, subst, if◌then◌else◌}
+use Rattle.std.proofs.Common.{◌≡◌, ℕ, Bool, true, false, List, [], ◌∷◌, Some, slice_get, slice_set, slice_index_or, refl, sym, ap, ◌∙◌, subst, if◌then◌else◌}
 use Rattle.std.proofs.lemmas.List.{set-get_or}
 use Rattle.std.proofs.lemmas.Option.{get_or_from_slice_get}
 use Rattle.std.specs.Vec.{with_item}
-use Rattle.rio_chars.specs.Written.{Writes}
-use Rattle.rio_chars.specs.declared.outbox.Outbox.{Outbox}
+use Rattle.trace_lines.specs.Writing.{Adds}
+use Rattle.trace_lines.specs.declared.writer.TraceWriter.{TraceWriter}
 use Rattle.link_port.specs.Ports.{PortState}
 use Rattle.link_watch.specs.declared.side.Side.{Side}
 use Rattle.link_watch.specs.declared.side.Side.TheVariants.{A, B}
@@ -25,7 +25,6 @@ use Rattle.fabric_trace.specs.Fold.{edit_of, changed, edited_by, seen}
 use Rattle.fabric_trace.specs.Known.{Wire, Seen, wire_state, port_seen, link_at}
 use Rattle.trace_lines.specs.Lines as traced
 use Rattle.trace_lines.specs.Lines.{TraceLine, Lacked}
-use Rattle.trace_lines.specs.Text.{trace_text}
 use Rattle.fabric_trace.proofs.Parts.Folding.{wire_own, wire_other}
 use Rattle.fabric_trace.proofs.Parts.Making.{AreOthers}
 use Rattle.fabric_trace.proofs.Network.Walks.{elsewhere_here}
@@ -221,21 +220,19 @@ module _ (fabric : Fabric) (port : PortRef) (place : LinkPlace) (p : IsPlaceOf f
       k.good.proper others refl there)
 
 -- the block is written, and the fabric shows what is known after it
-pub edit_did : {K : Type 0} (written : K → Option (List ℕ)) (faults : K → ℕ) (fabric : Fabric)
+pub edit_did : {K : Type 0} (fabric : Fabric)
     (port : PortRef) (place : LinkPlace) (p : IsPlaceOf fabric port place) (cable : Cable)
     → cable ≡ slice_index_or fabric.cables.items place.cable cable → (asked : WireEdit)
     (edit : Edit) → edit ≡ edit_asked asked → (wires : Wires)
     → ((x y : PortState) → link wires x y ≡ edited_from place.side edit (link cable.link x y))
     → (answer : Edited) → answer ≡ edit_answered (fits edit (wire_at place.side cable.link).chars)
-    → (old new : Outbox K)
-    → ((names : List (List ℕ))
-    → Writes written faults old new (trace_text names (lack_lines (edit_acted answer))))
-    → (names : List (List ℕ)) (from : Seen) (lines : List TraceLine) → Stands from lines fabric
-    → Did (Blocks (line_editing port asked) (seen from lines)) names written faults old new
+    → (old new : TraceWriter K) → Adds old new (lack_lines (edit_acted answer))
+    → (from : Seen) (lines : List TraceLine) → Stands from lines fabric
+    → Did (Blocks (line_editing port asked) (seen from lines)) old new
     (edited_by (seen from lines) (Some (port, edit_asked asked)))
     (fabric_edited fabric place.cable cable wires)
-edit_did written faults fabric port place p cable met asked edit same wires becomes answer answers
-    old new writes names from lines stands =
+edit_did fabric port place p cable met asked edit same wires becomes answer answers old new adds
+    from lines stands =
     let s = seen from lines in
     let new_fabric = fabric_edited fabric place.cable cable wires in
     let t = edited_by s (Some (port, edit_asked asked)) in
@@ -252,7 +249,7 @@ edit_did written faults fabric port place p cable met asked edit same wires beco
     (edit_shows fabric port place p cable met edit wires becomes from lines stands) in
     record {
       block = block;
-      prints = writes names;
+      adds = adds;
       is = edit_block s port asked block block_is;
       sent = ap (λ (z : Seen). z.unfaithful) still ∙ stands.sent;
       shows = subst (ShowsFabric new_fabric) (sym still) shows;

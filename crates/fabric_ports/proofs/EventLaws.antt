@@ -2,9 +2,9 @@
 use Rattle.std.proofs.Common.{◌≡◌, ℕ, Bool, true, false, List, [], ◌∷◌, ◌++◌, get_or, slice_get, Option, Some, None, IsSome, Result, Ok, Err, option_map, unwrap_or, refl, sym, ap, ◌∙◌, subst}
 use mathlib.Core.Path.{fun_ext}
 use Rattle.std.proofs.lemmas.Option.{slice_get_within, slice_get-get_or}
-use Rattle.rio_chars.specs.Written.{Writes}
-use Rattle.rio_chars.specs.declared.outbox.Outbox.{Outbox}
-use Rattle.rio_chars.proofs.WrittenLaws.{Writes-then}
+use Rattle.trace_lines.specs.Writing.{Adds}
+use Rattle.trace_lines.specs.declared.writer.TraceWriter.{TraceWriter}
+use Rattle.trace_lines.specs.AddsLaws.{Adds-then}
 use Rattle.rio_packets.specs.LinkForm.{LinkForm}
 use Rattle.maint_registers.specs.Devices.{Registers, is_switch}
 use Rattle.maint_packets.specs.Requests.{request_body}
@@ -26,7 +26,6 @@ use Rattle.fabric_trace.specs.Events.{IsInRange, HasLink, IsThere}
 use Rattle.fabric_trace.specs.Fold.{edit_of, edited_by, seen}
 use Rattle.fabric_trace.specs.Known.{Seen}
 use Rattle.trace_lines.specs.Lines.{TraceLine, Begun}
-use Rattle.trace_lines.specs.Text.{trace_line_text, trace_text}
 use Rattle.fabric_trace.proofs.Parts.Folding.{seen-append}
 use Rattle.fabric_script.specs.declared.ports.PortRef.{PortRef}
 use Rattle.fabric_ports.specs.declared.answers.FabricEnd.{FabricEnd}
@@ -44,7 +43,7 @@ use Rattle.fabric_ports.specs.Showing.{ShowsFabric}
 use Rattle.fabric_ports.specs.Standing.{Stands}
 use Rattle.fabric_ports.proofs.Cables.{seen_links}
 use Rattle.fabric_ports.proofs.EditLaws.{edit_block}
-use Rattle.fabric_ports.proofs.RanLaws.{line_written, ran_behind}
+use Rattle.fabric_ports.proofs.RanLaws.{ran_behind}
 use Rattle.fabric_ports.proofs.StandLaws.{stands_begun, stands_on}
 
 -- ---- before
@@ -119,18 +118,17 @@ module _ (node prio : ℕ) where
 -- ---- afterwards
 
 -- an event, by what was done behind the line with which it begins
-pub evented : (line : Line) (names : List (List ℕ)) {K : Type 0} (written : K → Option (List ℕ))
-    (faults : K → ℕ) (b b2 b3 : Outbox K)
+pub evented : (line : Line) {K : Type 0} (b b2 b3 : TraceWriter K)
     (from : Seen) (lines : List TraceLine) (begins : Seen) (old new : Fabric) (told : Happened)
     (Is : List TraceLine → Type 0)
     → edited_by (seen from lines) (edit_of line) ≡ begins
     → Stands from lines old
-    → Writes written faults b b2 (trace_line_text names (Begun line) ++ 10 ∷ [])
-    → Did Is names written faults b2 b3 begins new
+    → Adds b b2 (Begun line ∷ [])
+    → Did Is b2 b3 begins new
     → ((block : List TraceLine) → Is block → IsBlock (seen from lines) line block
     × (told ≡ happened line block))
-    → Evented line (IsAnsweredBlock line told) names written faults b b3 from lines (Ok new)
-evented line names written faults b b2 b3 from lines begins old new told Is same stands begun did
+    → Evented line (IsAnsweredBlock line told) b b3 from lines (Ok new)
+evented line b b2 b3 from lines begins old new told Is same stands begun did
     is =
     let all = is did.block did.is in
     record {
@@ -141,8 +139,7 @@ evented line names written faults b b2 b3 from lines begins old new told Is same
         all.1,
       );
       ends = (
-        Writes-then (trace_line_text names (Begun line) ++ 10 ∷ []) (trace_text names did.block)
-            begun did.prints,
+        Adds-then begun did.adds,
         stands_on from lines old new line did.block stands all.0
             (subst (λ (t : Seen). (seen t did.block).unfaithful ≡ None) (sym same) did.sent)
             (subst (λ (t : Seen). ShowsFabric new (seen t did.block)) (sym same) did.shows),
@@ -150,25 +147,24 @@ evented line names written faults b b2 b3 from lines begins old new told Is same
     }
 
 -- an event that edits no wire, by what ran behind the line with which it begins
-pub ran_evented : (line asked : Line) (Q : Kind) (names : List (List ℕ)) {K : Type 0}
-    (written : K → Option (List ℕ)) (faults : K → ℕ) (b b2 b3 : Outbox K)
+pub ran_evented : (line asked : Line) (Q : Kind) {K : Type 0} (b b2 b3 : TraceWriter K)
     (from : Seen) (lines : List TraceLine) (old : Fabric) (end : Result Fabric FabricEnd)
     → line ≡ asked → edited_by (seen from lines) (edit_of asked) ≡ seen from lines
     → ((block : List TraceLine) → IsOwnBlock line (seen from lines) block → Q
     (seen from lines) block)
     → Stands from lines old
-    → Writes written faults b b2 (trace_line_text names (Begun line) ++ 10 ∷ [])
+    → Adds b b2 (Begun line ∷ [])
     → ((more : List TraceLine) → Stands from more old
-    → Ran (Blocks asked) names written faults b2 b3 from more end)
-    → Evented line Q names written faults b b3 from lines end
-ran_evented line asked Q names written faults b b2 b3 from lines old end is same turns stands begun
+    → Ran (Blocks asked) b2 b3 from more end)
+    → Evented line Q b b3 from lines end
+ran_evented line asked Q b b2 b3 from lines old end is same turns stands begun
     runs =
     let s = seen from lines in
     let still : edited_by s (edit_of line) ≡ s = ap (λ (l : Line). edited_by s (edit_of l)) is
     ∙ same in
     let joined : seen from (lines ++ Begun line ∷ []) ≡ s =
     seen-append from lines (Begun line ∷ []) ∙ still in
-    ran_behind written faults names (Blocks asked) Q (Begun line) b b2 b3 from lines end
+    ran_behind (Blocks asked) Q (Begun line) b b2 b3 from lines end
     (λ block blocks. (let own = subst (λ (l : Line). IsBlock s l block) (sym is)
     (subst (λ (t : Seen). IsBlock t asked block) joined blocks) in
     turns block (own, λ other also. block_one line s other block also own))) begun
@@ -294,27 +290,27 @@ edit_answers port (Edit.Insert place ch) block = refl
 edit_answers port (Edit.Erase place count) block = refl
 
 -- no line of an edit was written but that with which it begins
-pub edit_unmade : (line : Line) (port : PortRef) (edit : WireEdit) (names : List (List ℕ))
-    {K : Type 0} (written : K → Option (List ℕ)) (faults : K → ℕ) (b b2 b3 : Outbox K) (from : Seen)
-    (lines : List TraceLine) (end : FabricEnd) → line ≡ line_editing port edit
-    → Writes written faults b b2 (trace_line_text names (Begun line) ++ 10 ∷ [])
+pub edit_unmade : (line : Line) (port : PortRef) (edit : WireEdit) {K : Type 0}
+    (b b2 b3 : TraceWriter K) (from : Seen) (lines : List TraceLine) (end : FabricEnd)
+    → line ≡ line_editing port edit
+    → Adds b b2 (Begun line ∷ [])
     → (end ≡ NoMemory) × (b3 ≡ b2)
-    → Evented line (IsOwnBlock line) names written faults b b3 from lines (Err end)
-edit_unmade line port edit names written faults b b2 b3 from lines end is begun unmade =
+    → Evented line (IsOwnBlock line) b b3 from lines (Err end)
+edit_unmade line port edit b b2 b3 from lines end is begun unmade =
     let s = seen from lines in
     let block = edits s (Some (port, edit_asked edit)) in
     let own = subst (λ (l : Line). IsBlock s l block) (sym is) (edit_block s port edit block refl)
     in
-    subst (λ e. Evented line (IsOwnBlock line) names written faults b b3 from lines (Err e))
+    subst (λ e. Evented line (IsOwnBlock line) b b3 from lines (Err e))
     (sym unmade.0)
-    (subst (λ o. Evented line (IsOwnBlock line) names written faults b o from lines (Err NoMemory))
+    (subst (λ o. Evented line (IsOwnBlock line) b o from lines (Err NoMemory))
     (sym unmade.1) (record {
       block = block;
       is = (own, λ other also. block_one line s other block also own);
       ends = record {
         front = Begun line ∷ [];
         rest = block;
-        prints = line_written written faults names b b2 (Begun line) begun;
+        adds = begun;
         whole = refl;
       };
     }))

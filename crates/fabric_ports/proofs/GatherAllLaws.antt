@@ -1,6 +1,6 @@
 -- Endpoints that collect one after another, and a round of an ask.
-use Rattle.std.proofs.Common.{◌≡◌, ◌+◌, ◌==◌, ◌||◌, ℕ, suc, true, false, List, [], ◌∷◌, ◌++◌, length, Option, None, MatchBool, sym, subst, arith, Ok, Err}
-use Rattle.rio_chars.specs.declared.outbox.Outbox.{Outbox}
+use Rattle.std.proofs.Common.{◌≡◌, ◌+◌, ◌==◌, ◌||◌, ℕ, suc, true, false, List, [], ◌∷◌, ◌++◌, length, None, MatchBool, sym, subst, arith, Ok, Err}
+use Rattle.trace_lines.specs.declared.writer.TraceWriter.{TraceWriter}
 use Rattle.link_wires.specs.declared.edits.Edit.{Edit}
 use Rattle.maint_registers.specs.Devices.{Registers, is_switch}
 use Rattle.fabric_trace.specs.Fold.{seen}
@@ -58,33 +58,32 @@ node_rests host device node s lines is none =
 
 -- ---- a round
 
-module _ {K : Type 0} (written : K → Option (List ℕ)) (faults : K → ℕ) (names : List (List ℕ)) where
-  pub round_ran : (a b c d : Outbox K) (from : Seen) (lines : List TraceLine)
+module _ {K : Type 0} where
+  pub round_ran : (a b c d : TraceWriter K) (from : Seen) (lines : List TraceLine)
       (carried served new : Fabric) (host : ℕ) (noise left : List Edit)
-      → (first : Ran (LinksCarry noise left) names written faults a b from lines (Ok carried))
+      → (first : Ran (LinksCarry noise left) a b from lines (Ok carried))
       → ((more : List TraceLine) → Stands from more carried
-      → Ran SwitchesServe names written faults b c from more (Ok served))
+      → Ran SwitchesServe b c from more (Ok served))
       → ((more : List TraceLine) → Stands from more served
-      → Ran (OthersCollect host) names written faults c d from more (Ok new))
-      → Ran (AskRound host noise left) names written faults a d from lines (Ok new)
+      → Ran (OthersCollect host) c d from more (Ok new))
+      → Ran (AskRound host noise left) a d from lines (Ok new)
   round_ran a b c d from lines carried served new host noise left first serve collect =
       let serves = serve (lines ++ first.block) first.ends.1 in
-      ran_both written faults names (LinksCarry noise left) (Handles host) a b d from lines carried
-      (Ok new) first
-      (ran_both written faults names SwitchesServe (OthersCollect host) b c d from
+      ran_both (LinksCarry noise left) (Handles host) a b d from lines carried (Ok new) first
+      (ran_both SwitchesServe (OthersCollect host) b c d from
       (lines ++ first.block) served (Ok new) serves
       (collect ((lines ++ first.block) ++ serves.block) serves.ends.1))
 
   -- a link did not come to its end
-  pub round_short : (a b : Outbox K) (from : Seen) (lines : List TraceLine) (old : Fabric)
+  pub round_short : (a b : TraceWriter K) (from : Seen) (lines : List TraceLine) (old : Fabric)
       (host : ℕ) (noise : List Edit) (end : FabricEnd) → Stands from lines old
-      → Ran (WithLeft (LinksCarry noise)) names written faults a b from lines (Err end)
-      → Ran (WithLeft (AskRound host noise)) names written faults a b from lines (Err end)
+      → Ran (WithLeft (LinksCarry noise)) a b from lines (Err end)
+      → Ran (WithLeft (AskRound host noise)) a b from lines (Err end)
   round_short a b from lines old host noise end stands ended =
-      let own = ran_left written faults names (LinksCarry noise) a b from lines (Err end) ended in
+      let own = ran_left (LinksCarry noise) a b from lines (Err end) ended in
       let on : GoesOn from (Handles host) =
       λ more made sent. (let exist = handles_exist host (seen from more)
       (ready_on stands.ready made) sent in (exist.lines, exist.is)) in
-      with_left written faults names (AskRound host noise) own.0 a b from lines (Err end)
-      (ends_first written faults names (LinksCarry noise own.0) (Handles host) a b from lines old
+      with_left (AskRound host noise) own.0 a b from lines (Err end)
+      (ends_first (LinksCarry noise own.0) (Handles host) a b from lines old
       end (links_carry_made noise own.0 stands.ready) on stands own.1)

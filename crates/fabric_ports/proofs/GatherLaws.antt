@@ -1,6 +1,6 @@
 -- An endpoint that collects one packet after another.
-use Rattle.std.proofs.Common.{◌≡◌, ◌≢◌, ◌<◌, ◌≤◌, ◌+◌, ℕ, zero, suc, nat_lt, true, false, List, [], ◌∷◌, ◌++◌, length, drop, Option, Some, None, is_some, option_map, slice_get, refl, sym, ap, ◌∙◌, subst, arith, append-nil, append_assoc, lt-ltb, Ok}
-use Rattle.rio_chars.specs.declared.outbox.Outbox.{Outbox}
+use Rattle.std.proofs.Common.{◌≡◌, ◌≢◌, ◌<◌, ◌≤◌, ◌+◌, ℕ, zero, suc, nat_lt, true, false, List, [], ◌∷◌, ◌++◌, length, drop, Some, None, is_some, option_map, slice_get, refl, sym, ap, ◌∙◌, subst, arith, append-nil, append_assoc, lt-ltb, Ok}
+use Rattle.trace_lines.specs.declared.writer.TraceWriter.{TraceWriter}
 use Rattle.link_buffers.specs.Queues.{list_at}
 use Rattle.link_port.specs.Ports.{PortState}
 use Rattle.maint_registers.specs.Devices.{Registers, is_switch}
@@ -265,69 +265,58 @@ all_stopped node s first second own last =
 
 -- ---- what was written
 
-module _ {K : Type 0} (written : K → Option (List ℕ)) (faults : K → ℕ) (names : List (List ℕ)) where
-  pub gather_begins : (a : Outbox K) (from : Seen) (lines : List TraceLine) (fabric : Fabric)
+module _ {K : Type 0} where
+  pub gather_begins : (a : TraceWriter K) (from : Seen) (lines : List TraceLine) (fabric : Fabric)
       (node : ℕ) → Stands from lines fabric
-      → Ran (CollectsFirst node) names written faults a a from lines (Ok fabric)
+      → Ran (CollectsFirst node) a a from lines (Ok fabric)
   gather_begins a from lines fabric node stands =
-      ran_as written faults names Nothing (CollectsFirst node) a a from lines (Ok fabric)
+      ran_as Nothing (CollectsFirst node) a a from lines (Ok fabric)
       (λ block none. subst (λ (b : List TraceLine). CollectsFirst node (seen from lines) b)
-      (sym none) (λ rest own. own))
-      (ran_nothing written faults names a from lines fabric stands)
+      (sym none) (λ rest own. own)) (ran_nothing a from lines fabric stands)
 
-  pub gather_more : (a b c : Outbox K) (from : Seen) (lines : List TraceLine) (mid new : Fabric)
-      (node : ℕ) (told : Happened)
-      → (first : Ran (CollectsFirst node) names written faults a b from lines (Ok mid))
+  pub gather_more : (a b c : TraceWriter K) (from : Seen) (lines : List TraceLine)
+      (mid new : Fabric) (node : ℕ) (told : Happened)
+      → (first : Ran (CollectsFirst node) a b from lines (Ok mid))
       → holds_some node (seen from (lines ++ first.block)) ≡ true → told ≢ Full
       → Did (λ block. IsCollect (seen from (lines ++ first.block)).network node block
-      × (told ≡ answer_collected block)) names written faults b c (seen from (lines
-      ++ first.block)) new
-      → Ran (CollectsFirst node) names written faults a c from lines (Ok new)
+      × (told ≡ answer_collected block)) b c (seen from (lines ++ first.block)) new
+      → Ran (CollectsFirst node) a c from lines (Ok new)
   gather_more a b c from lines mid new node told first some other did =
       let s = seen from (lines ++ first.block) in
       let good = good_behind first.ends.1.ready first.ends.1.made in
-      ran_joined written faults names (CollectsFirst node) (One node) (CollectsFirst node) a b c
-      from lines mid (Ok new)
-      (λ x y own still one. first_more node (seen from lines) x y own one) first
-      (did_ran written faults names
-      (λ block. IsCollect s.network node block
-      × (told ≡ answer_collected block)) (One node) b c from
-      (lines ++ first.block) mid new first.ends.1
-      (λ block is. (
+      ran_joined (CollectsFirst node) (One node) (CollectsFirst node) a b c from lines mid (Ok new)
+      (λ x y own still one. first_more node (seen from lines) x y own one) first (did_ran
+      (λ block. IsCollect s.network node block × (told ≡ answer_collected block)) (One node) b c
+      from (lines ++ first.block) mid new first.ends.1 (λ block is. (
         (is.0, collected_step s node block told some is.0 is.1 other),
         collect_lines_made s node block good first.ends.1.sent is.0,
       )) did)
 
   -- there is no room for a response
-  pub gather_stops : (a b c : Outbox K) (from : Seen) (lines : List TraceLine) (mid new : Fabric)
-      (node : ℕ) (told : Happened)
-      → (first : Ran (CollectsFirst node) names written faults a b from lines (Ok mid))
+  pub gather_stops : (a b c : TraceWriter K) (from : Seen) (lines : List TraceLine)
+      (mid new : Fabric) (node : ℕ) (told : Happened)
+      → (first : Ran (CollectsFirst node) a b from lines (Ok mid))
       → told ≡ Full
       → Did (λ block. IsCollect (seen from (lines ++ first.block)).network node block
-      × (told ≡ answer_collected block)) names written faults b c (seen from (lines
-      ++ first.block)) new
-      → Ran (CollectsAt node) names written faults a c from lines (Ok new)
+      × (told ≡ answer_collected block)) b c (seen from (lines ++ first.block)) new
+      → Ran (CollectsAt node) a c from lines (Ok new)
   gather_stops a b c from lines mid new node told first full did =
       let s = seen from (lines ++ first.block) in
       let good = good_behind first.ends.1.ready first.ends.1.made in
-      ran_joined written faults names (CollectsFirst node) (Stop node) (CollectsAt node) a b c from
-      lines mid (Ok new)
-      (λ x y own still last. all_stopped node (seen from lines) x y own last) first
-      (did_ran written faults names
-      (λ block. IsCollect s.network node block
-      × (told ≡ answer_collected block)) (Stop node) b c from
-      (lines ++ first.block) mid new first.ends.1
-      (λ block is. (
+      ran_joined (CollectsFirst node) (Stop node) (CollectsAt node) a b c from lines mid (Ok new)
+      (λ x y own still last. all_stopped node (seen from lines) x y own last) first (did_ran
+      (λ block. IsCollect s.network node block × (told ≡ answer_collected block)) (Stop node) b c
+      from (lines ++ first.block) mid new first.ends.1 (λ block is. (
         (is.0, collected_full s node block told is.0 is.1 full),
         collect_lines_made s node block good first.ends.1.sent is.0,
       )) did)
 
   -- nothing is held any more
-  pub gather_rests : (a b : Outbox K) (from : Seen) (lines : List TraceLine) (new : Fabric)
-      (node : ℕ) (first : Ran (CollectsFirst node) names written faults a b from lines (Ok new))
+  pub gather_rests : (a b : TraceWriter K) (from : Seen) (lines : List TraceLine) (new : Fabric)
+      (node : ℕ) (first : Ran (CollectsFirst node) a b from lines (Ok new))
       → IsEndpointAt new.devices.items node
       → holds_some node (seen from (lines ++ first.block)) ≡ false
-      → Ran (CollectsAt node) names written faults a b from lines (Ok new)
+      → Ran (CollectsAt node) a b from lines (Ok new)
   gather_rests a b from lines new node first at none =
       let s = seen from (lines ++ first.block) in
       let endpoint : IsEndpoint s.network node =

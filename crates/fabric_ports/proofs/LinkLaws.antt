@@ -1,8 +1,8 @@
 -- What an event at a link writes, and for which lines the fabric stands then.
-use Rattle.std.proofs.Common.{◌≡◌, ℕ, List, [], ◌∷◌, ◌++◌, Option, Some, None, Ok, Err, slice_get, sym, ap, ◌∙◌, subst}
-use Rattle.rio_chars.specs.Written.{Writes}
-use Rattle.rio_chars.specs.declared.outbox.Outbox.{Outbox}
-use Rattle.rio_chars.proofs.WrittenLaws.{Writes-nil}
+use Rattle.std.proofs.Common.{◌≡◌, List, [], ◌∷◌, ◌++◌, Option, Some, None, Ok, Err, slice_get, refl, sym, ap, ◌∙◌, subst}
+use Rattle.trace_lines.specs.Writing.{Adds}
+use Rattle.trace_lines.specs.declared.writer.TraceWriter.{TraceWriter}
+use Rattle.trace_lines.specs.AddsLaws.{Adds-nil, Adds-then}
 use Rattle.link_model.specs.declared.event.Event.{Event}
 use Rattle.link_port.specs.Ports.{PortState}
 use Rattle.link_watch.specs.Stops.{CutAtFirst}
@@ -21,12 +21,13 @@ use Rattle.trace_lines.specs.Lines.{TraceLine}
 use Rattle.fabric_trace.specs.Parts.{Made}
 use Rattle.trace_lines.specs.Notes.{port_at_side, lines_of}
 use Rattle.fabric_trace.specs.Blocks.{IsBlock}
-use Rattle.trace_lines.specs.Text.{trace_text}
 use Rattle.fabric_trace.proofs.Parts.Folding.{seen-append, lines-append}
 use Rattle.fabric_trace.proofs.Traces.Existing.{good_of}
 use Rattle.fabric_trace.proofs.Parts.Keeping.{IsGood, made_keeps}
 use Rattle.fabric_trace.proofs.Parts.Making.{Reaches}
 use Rattle.fabric_trace.proofs.Rounds.Running.{acts_reach, block_made}
+use Rattle.rio_chars.specs.Written.{Outgoing}
+use Rattle.rio_chars.specs.declared.sink.Sink.{Ghosts}
 use Rattle.trace_lines.specs.Watching.{WritesNotes}
 use Rattle.trace_lines.specs.declared.watching.LinkLines.{LinkLines}
 use Rattle.fabric_script.specs.Operations.{line_for}
@@ -46,7 +47,7 @@ use Rattle.fabric_ports.specs.declared.fabric.Fabric.{Fabric}
 use Rattle.fabric_ports.proofs.BlockLaws.{block_of, lack_seen, begun_same, block_is, found_done}
 use Rattle.fabric_ports.proofs.Cables.{IsChanged, changed_shows, notes_registers}
 use Rattle.fabric_ports.proofs.EndLaws.{cable_shown}
-use Rattle.fabric_ports.proofs.RanLaws.{lines_written, front_on}
+use Rattle.fabric_ports.proofs.RanLaws.{front_on}
 use Rattle.fabric_ports.proofs.StandLaws.{stands_with}
 
 -- ---- the link, before
@@ -182,79 +183,74 @@ known_found {from} {lines} {d = d} {x} {y} all side e answer k reached =
 
 -- ---- what is written
 
--- the lines of notes, with the names and the ends of the link that the watch has
-told_as : {K : Type 0} {written : K → Option (List ℕ)} {faults : K → ℕ} (names : List (List ℕ))
-    (a b : PortRef) (notes : List Note) (watch : LinkLines K) (old new : Outbox K)
-    → watch.names.now ≡ names → watch.a ≡ a → watch.b ≡ b
-    → Writes written faults old new
-    (trace_text watch.names.now (lines_of watch.a watch.b notes))
-    → Writes written faults old new (trace_text names (lines_of a b notes))
-told_as {K} {written} {faults} names a b notes watch old new named is_a is_b told =
-    subst (λ (n : List (List ℕ)). Writes written faults old new (trace_text n (lines_of a b notes)))
-    named
-    (subst (λ (p : PortRef). Writes written faults old new
-    (trace_text watch.names.now (lines_of p b notes))) is_a
-    (subst (λ (p : PortRef). Writes written faults old new
-    (trace_text watch.names.now (lines_of watch.a p notes))) is_b told))
+-- a watch has the outbox and the names of a writer, and these ends
+pub record IsLent {K : Type 0} {S : Ghosts K} (writer : TraceWriter K) (watch : LinkLines K S)
+    (a b : PortRef) : Type 0 where
+  pub outbox : watch.outbox.now ≡ writer.outbox.now
+  pub names : watch.names.now ≡ writer.names.now
+  pub first_end : watch.a ≡ a
+  pub second_end : watch.b ≡ b
+
+-- the writer, whose outbox came back so
+abbrev pub back : {K : Type 0} → TraceWriter K → Outgoing → TraceWriter K
+back writer out = record writer { outbox = record writer.outbox { now = out } }
+
+told_as : {K : Type 0} {S : Ghosts K} {writer : TraceWriter K} {before after : LinkLines K S}
+    {a b : PortRef} {notes : List Note} → IsLent writer before a b
+    → WritesNotes before notes after
+    → Adds writer (back writer after.outbox.now) (lines_of a b notes)
+told_as lent told = record {
+  same = refl;
+  names = refl;
+  writes = rw (sym lent.outbox, sym lent.names, sym lent.first_end, sym lent.second_end)
+      told.lines.writes;
+}
 
 -- the whole block was written
-pub link_blocked : {K : Type 0} {written : K → Option (List ℕ)} {faults : K → ℕ} {from : Seen}
-    {lines : List TraceLine} {fabric new : Fabric} {port : PortRef} {place : LinkPlace} {d : Cable}
-    {x y : PortState}
-    (names : List (List ℕ)) (action : Action) (wires : Wires) (x2 y2 : PortState)
-    (before after : LinkLines K) (outbox : Outbox K) (answer : Acted)
-    → IsKnown from lines fabric port place d x y
-    → Comes (WritesNotes written faults) (part_of place.side action) (link d.link x y) before
+pub link_blocked : {K : Type 0} {S : Ghosts K} {from : Seen} {lines : List TraceLine}
+    {fabric new : Fabric} {port : PortRef} {place : LinkPlace} {d : Cable} {x y : PortState}
+    (action : Action) (wires : Wires) (x2 y2 : PortState) (before after : LinkLines K S)
+    (writer last : TraceWriter K) (answer : Acted) → IsKnown from lines fabric port place d x y
+    → Comes WritesNotes (part_of place.side action) (link d.link x y) before
     (At (link wires x2 y2)) after
-    → answer ≡ answer_of place.side action (link d.link x y) → before.names.now ≡ names
-    → before.a ≡ d.a → before.b ≡ d.b
-    → Writes written faults after.outbox.now outbox (trace_text names (lack_lines answer))
+    → answer ≡ answer_of place.side action (link d.link x y)
+    → IsLent writer before d.a d.b → Adds (back writer after.outbox.now) last (lack_lines answer)
     → IsChanged fabric new place.cable d wires x2 y2
-    → Ran (Blocks (line_for port action)) names written faults before.outbox.now outbox from lines
-    (Ok new)
-link_blocked {K} {written} {faults} {from} {lines} {fabric} {new} {port} {place} {d} {x} {y} names
-    action wires x2 y2 before after outbox answer k comes answered named is_a is_b lacks changed =
+    → Ran (Blocks (line_for port action)) writer last from lines (Ok new)
+link_blocked {place = place} {d} {x} {y} action wires x2 y2 before after writer last answer k comes
+    answered lent lacks changed =
     let l = link d.link x y in
-    let notes = acts_notes (At l) comes.acts in
-    let told = told_as names d.a d.b notes before before.outbox.now after.outbox.now named is_a is_b
-    comes.grown.lines in
     record {
       block = block_of d.a d.b l comes.acts (answer_of place.side action l);
       is = known_block action comes.acts k comes.part;
       ends = (
-        lines_written written faults names before.outbox.now after.outbox.now outbox
-            (lines_of d.a d.b notes) (lack_lines (answer_of place.side action l)) told
-            (subst (λ (z : Acted). Writes written faults after.outbox.now outbox
-            (trace_text names (lack_lines z))) answered lacks),
+        Adds-then (told_as lent comes.grown)
+            (subst (λ (z : Acted). Adds (back writer after.outbox.now) last (lack_lines z))
+            answered lacks),
         known_stands action comes.acts wires x2 y2 k comes.part comes.reached changed,
       );
     }
 
 -- it was written up to an event that was not sent
-pub link_exposed : {K : Type 0} {written : K → Option (List ℕ)} {faults : K → ℕ} {from : Seen}
-    {lines : List TraceLine} {fabric : Fabric} {port : PortRef} {place : LinkPlace} {d : Cable}
-    {x y : PortState}
-    (names : List (List ℕ)) (action : Action) (side : Side) (e : Event) (before after : LinkLines K)
+pub link_exposed : {K : Type 0} {S : Ghosts K} {from : Seen} {lines : List TraceLine}
+    {fabric : Fabric} {port : PortRef} {place : LinkPlace} {d : Cable} {x y : PortState}
+    (action : Action) (side : Side) (e : Event) (before after : LinkLines K S)
+    (writer : TraceWriter K)
     → IsKnown from lines fabric port place d x y
-    → Comes (WritesNotes written faults) (part_of place.side action) (link d.link x y) before
-    (FoundAt side e) after
-    → before.names.now ≡ names → before.a ≡ d.a → before.b ≡ d.b
-    → Ran (Blocks (line_for port action)) names written faults before.outbox.now after.outbox.now
-    from lines (Err (Undetected (port_at_side d.a d.b side) e))
-link_exposed {K} {written} {faults} {from} {lines} {fabric} {port} {place} {d} {x} {y} names action
-    side e before after k comes named is_a is_b =
+    → Comes WritesNotes (part_of place.side action) (link d.link x y) before (FoundAt side e) after
+    → IsLent writer before d.a d.b
+    → Ran (Blocks (line_for port action)) writer (back writer after.outbox.now) from lines
+    (Err (Undetected (port_at_side d.a d.b side) e))
+link_exposed {from = from} {lines} {port = port} {place} {d} {x} {y} action side e before after
+    writer k comes lent =
     let l = link d.link x y in
-    let notes = acts_notes (At l) comes.acts in
-    let told = told_as names d.a d.b notes before before.outbox.now after.outbox.now named is_a is_b
-    comes.grown.lines in
     let full = found_done place.side action l comes.acts side e comes.part comes.reached in
     record {
       block = block_of d.a d.b l comes.acts Done;
       is = subst (λ (z : Acted). IsBlock (seen from lines) (line_for port action)
           (block_of d.a d.b l comes.acts z)) full (known_block action comes.acts k comes.part);
       ends = (
-        lines_written written faults names before.outbox.now after.outbox.now after.outbox.now
-            (lines_of d.a d.b notes) [] told (Writes-nil written faults after.outbox.now),
+        Adds-then (told_as lent comes.grown) (Adds-nil (back writer after.outbox.now)),
         known_found comes.acts side e Done k comes.reached,
       );
     }
@@ -265,35 +261,30 @@ nothing_cut mid new [] cut = cut
 nothing_cut mid new (note ∷ rest) cut = cut
 
 -- a front of it was written
-pub link_cut : {K : Type 0} {written : K → Option (List ℕ)} {faults : K → ℕ} {from : Seen}
-    {lines : List TraceLine} {fabric : Fabric} {port : PortRef} {place : LinkPlace} {d : Cable}
-    {x y : PortState}
-    (names : List (List ℕ)) (action : Action) (before after : LinkLines K)
+pub link_cut : {K : Type 0} {S : Ghosts K} {from : Seen} {lines : List TraceLine}
+    {fabric : Fabric} {port : PortRef} {place : LinkPlace} {d : Cable} {x y : PortState}
+    (action : Action) (before after : LinkLines K S) (writer : TraceWriter K)
     → IsKnown from lines fabric port place d x y
-    → Stops (WritesNotes written faults) (λ watch note next. next ≡ watch)
-    (part_of place.side action) (link d.link x y) before after
-    → before.names.now ≡ names → before.a ≡ d.a → before.b ≡ d.b
-    → Ran (Blocks (line_for port action)) names written faults before.outbox.now after.outbox.now
-    from lines (Err NoMemory)
-link_cut {K} {written} {faults} {from} {lines} {fabric} {port} {place} {d} {x} {y} names action
-    before after k stops named is_a is_b =
+    → Stops WritesNotes (λ watch note next. next ≡ watch) (part_of place.side action)
+    (link d.link x y) before after
+    → IsLent writer before d.a d.b
+    → Ran (Blocks (line_for port action)) writer (back writer after.outbox.now) from lines
+    (Err NoMemory)
+link_cut {place = place} {d} {x} {y} action before after writer k stops lent =
     let l = link d.link x y in
     let s = stops.stopped in
     let answer = answer_of place.side action l in
-    let told = told_as names d.a d.b s.front before before.outbox.now s.mid.outbox.now named is_a
-    is_b s.grown.lines in
     record {
       block = block_of d.a d.b l stops.acts answer;
       is = known_block action stops.acts k stops.part;
-      ends = front_on written faults names before.outbox.now after.outbox.now
+      ends = front_on writer (back writer after.outbox.now)
           (lines_of d.a d.b (acts_notes (At l) stops.acts)) (lack_lines answer)
           (record {
             front = lines_of d.a d.b s.front;
             rest = lines_of d.a d.b s.rest;
-            prints = subst
-                (λ (w : LinkLines K). Writes written faults before.outbox.now w.outbox.now
-                (trace_text names (lines_of d.a d.b s.front)))
-                (sym (nothing_cut s.mid after s.rest s.cut_at)) told;
+            adds = subst
+                (λ w. Adds writer (back writer w.outbox.now) (lines_of d.a d.b s.front))
+                (sym (nothing_cut s.mid after s.rest s.cut_at)) (told_as lent s.grown);
             whole = ap (λ (notes : List Note). lines_of d.a d.b notes) s.whole
                 ∙ lines-append d.a d.b s.front s.rest;
           });

@@ -1,17 +1,15 @@
 -- What is done one behind the other, by the lines of each and for which a fabric stands then.
-use Rattle.std.proofs.Common.{◌≡◌, ℕ, true, List, [], ◌∷◌, ◌++◌, Option, Some, None, Result, Ok, Err, OnOk, IfOk, IfErr, IsErrAnd, refl, sym, ap, ◌∙◌, subst, append-nil, append_assoc}
-use Rattle.std.proofs.lemmas.Grind.{flat_map-append}
-use Rattle.rio_chars.specs.Written.{Writes}
-use Rattle.rio_chars.specs.declared.outbox.Outbox.{Outbox}
-use Rattle.rio_chars.proofs.WrittenLaws.{Writes-nil, Writes-then}
+use Rattle.std.proofs.Common.{◌≡◌, true, List, [], ◌∷◌, ◌++◌, Option, Some, None, Result, Ok, Err, OnOk, IfOk, IfErr, IsErrAnd, refl, sym, ap, ◌∙◌, subst, append-nil, append_assoc}
+use Rattle.trace_lines.specs.Writing.{Adds}
+use Rattle.trace_lines.specs.declared.writer.TraceWriter.{TraceWriter}
+use Rattle.trace_lines.specs.AddsLaws.{Adds-nil, Adds-then}
 use Rattle.fabric_trace.specs.Fold.{seen}
 use Rattle.fabric_trace.specs.Known.{Found, Seen}
 use Rattle.trace_lines.specs.Lines.{TraceLine}
 use Rattle.fabric_trace.specs.Parts.{Made}
 use Rattle.fabric_trace.specs.Rounds.{Follows, NamesNothing, Joined}
-use Rattle.trace_lines.specs.Text.{trace_line_text, trace_text}
 use Rattle.fabric_trace.proofs.Parts.Folding.{seen-append}
-use Rattle.fabric_ports.specs.Ran.{Kind, WritesFront, WritesTo, RanBehind, Ran}
+use Rattle.fabric_ports.specs.Ran.{Kind, AddsFront, WritesTo, RanBehind, Ran}
 use Rattle.fabric_ports.specs.Standing.{Stands}
 use Rattle.fabric_ports.specs.declared.answers.FabricEnd.{FabricEnd}
 use Rattle.fabric_ports.specs.declared.answers.FabricEnd.TheVariants.{Undetected, Failed, NoMemory}
@@ -138,6 +136,15 @@ more_exists Q from lines block None on made is =
     (more.0, subst (λ (s : Seen). Q s more.0) joined more.1)
 more_exists Q from lines block (Some found) on made is = ([], refl)
 
+-- what was told of the first, and behind it what may be told
+both_on : (P Q : Kind) (from : Seen) (lines block : List TraceLine) (old : Fabric)
+    → IsMade from P → GoesOn from Q → Stands from lines old → P (seen from lines) block
+    → (more : List TraceLine) × Both P Q (seen from lines) (block ++ more)
+both_on P Q from lines block old made on stands is =
+    let more = more_exists Q from lines block (seen (seen from lines) block).unfaithful on
+    (made lines block stands.made stands.sent is) refl in
+    (more.0, (block, more.0, refl, is, more.1))
+
 -- ---- what an answer says
 
 pub on_ok : {T X Y : Type 0} (r : Result T FabricEnd) → (X → Y) → OnOk r X → OnOk r Y
@@ -162,66 +169,47 @@ handed_on {T} (Err y) end P gives holds = subst P (sym gives) holds
 
 -- ---- what was written
 
-module _ {K : Type 0} (written : K → Option (List ℕ)) (faults : K → ℕ) (names : List (List ℕ)) where
-  pub lines_written : (a b c : Outbox K) (front more : List TraceLine)
-      → Writes written faults a b (trace_text names front)
-      → Writes written faults b c (trace_text names more)
-      → Writes written faults a c (trace_text names (front ++ more))
-  lines_written a b c front more first second =
-      subst (Writes written faults a c)
-      (sym (flat_map-append (λ (line : TraceLine). trace_line_text names line ++ 10 ∷ []) front
-      more))
-      (Writes-then _ _ first second)
-
-  pub line_written : (a b : Outbox K) (line : TraceLine)
-      → Writes written faults a b (trace_line_text names line ++ 10 ∷ [])
-      → Writes written faults a b (trace_text names (line ∷ []))
-  line_written a b line told =
-      subst (Writes written faults a b) (sym (append-nil (trace_line_text names line ++ 10 ∷ [])))
-      told
-
+module _ {K : Type 0} where
   -- a front of lines is one of those with more behind
-  pub front_on : (a b : Outbox K) (lines more : List TraceLine)
-      → WritesFront names written faults a b lines
-      → WritesFront names written faults a b (lines ++ more)
+  pub front_on : (a b : TraceWriter K) (lines more : List TraceLine)
+      → AddsFront a b lines
+      → AddsFront a b (lines ++ more)
   front_on a b lines more own = record {
     front = own.front;
     rest = own.rest ++ more;
-    prints = own.prints;
+    adds = own.adds;
     whole = ap (λ (l : List TraceLine). l ++ more) own.whole
         ∙ append_assoc own.front own.rest more;
   }
 
   -- and whole lines are a front of themselves
-  pub front_whole : (a b : Outbox K) (lines : List TraceLine)
-      → Writes written faults a b (trace_text names lines)
-      → WritesFront names written faults a b lines
+  pub front_whole : (a b : TraceWriter K) (lines : List TraceLine) → Adds a b lines
+      → AddsFront a b lines
   front_whole a b lines told =
-      record { front = lines; rest = []; prints = told; whole = sym (append-nil lines) }
+      record { front = lines; rest = []; adds = told; whole = sym (append-nil lines) }
 
-  front_behind : (a b c : Outbox K) (first lines : List TraceLine)
-      → Writes written faults a b (trace_text names first)
-      → WritesFront names written faults b c lines
-      → WritesFront names written faults a c (first ++ lines)
+  front_behind : (a b c : TraceWriter K) (first lines : List TraceLine) → Adds a b first
+      → AddsFront b c lines
+      → AddsFront a c (first ++ lines)
   front_behind a b c first lines told own = record {
     front = first ++ own.front;
     rest = own.rest;
-    prints = lines_written a b c first own.front told own.prints;
+    adds = Adds-then told own.adds;
     whole = ap (λ (l : List TraceLine). first ++ l) own.whole
         ∙ sym (append_assoc first own.front own.rest);
   }
 
   -- how a call ended, by the lines that were told before it with its own
-  writes_behind : (a b c : Outbox K) (from : Seen) (lines first told : List TraceLine)
-      (end : Result Fabric FabricEnd) → Writes written faults a b (trace_text names first)
-      → WritesTo names written faults b c from (lines ++ first) told end
-      → WritesTo names written faults a c from lines (first ++ told) end
+  writes_behind : (a b c : TraceWriter K) (from : Seen) (lines first told : List TraceLine)
+      (end : Result Fabric FabricEnd) → Adds a b first
+      → WritesTo b c from (lines ++ first) told end
+      → WritesTo a c from lines (first ++ told) end
   writes_behind a b c from lines first told (Ok fabric) before own = (
-    lines_written a b c first told before own.0,
+    Adds-then before own.0,
     subst (λ (l : List TraceLine). Stands from l fabric) (append_assoc lines first told) own.1,
   )
   writes_behind a b c from lines first told (Err (Undetected port event)) before own = (
-    lines_written a b c first told before own.0,
+    Adds-then before own.0,
     ap (λ (l : List TraceLine). (seen from l).unfaithful) (sym (append_assoc lines first told))
         ∙ own.1,
   )
@@ -230,27 +218,27 @@ module _ {K : Type 0} (written : K → Option (List ℕ)) (faults : K → ℕ) (
   writes_behind a b c from lines first told (Err NoMemory) before own =
       front_behind a b c first told before own
 
-  pub ran_nothing : (out : Outbox K) (from : Seen) (lines : List TraceLine) (fabric : Fabric)
-      → Stands from lines fabric → Ran Nothing names written faults out out from lines (Ok fabric)
+  pub ran_nothing : (out : TraceWriter K) (from : Seen) (lines : List TraceLine) (fabric : Fabric)
+      → Stands from lines fabric → Ran Nothing out out from lines (Ok fabric)
   ran_nothing out from lines fabric stands = record {
     block = [];
     is = refl;
     ends = (
-      Writes-nil written faults out,
+      Adds-nil out,
       subst (λ (l : List TraceLine). Stands from l fabric) (sym (append-nil lines)) stands,
     );
   }
 
   -- one behind the other
-  pub ran_joined : (P Q R : Kind) (a b c : Outbox K) (from : Seen) (lines : List TraceLine)
+  pub ran_joined : (P Q R : Kind) (a b c : TraceWriter K) (from : Seen) (lines : List TraceLine)
       (mid : Fabric) (end : Result Fabric FabricEnd)
       → ((first second : List TraceLine) → P (seen from lines) first
       → (seen (seen from lines) first).unfaithful ≡ None
       → Q (seen (seen from lines) first) second
       → R (seen from lines) (first ++ second))
-      → (first : Ran P names written faults a b from lines (Ok mid))
-      → Ran Q names written faults b c from (lines ++ first.block) end
-      → Ran R names written faults a c from lines end
+      → (first : Ran P a b from lines (Ok mid))
+      → Ran Q b c from (lines ++ first.block) end
+      → Ran R a c from lines end
   ran_joined P Q R a b c from lines mid end join first second =
       let joined = seen-append from lines first.block in
       record {
@@ -261,29 +249,29 @@ module _ {K : Type 0} (written : K → Option (List ℕ)) (faults : K → ℕ) (
         ends = writes_behind a b c from lines first.block second.block end first.ends.0 second.ends;
       }
 
-  pub ran_both : (P Q : Kind) (a b c : Outbox K) (from : Seen) (lines : List TraceLine)
+  pub ran_both : (P Q : Kind) (a b c : TraceWriter K) (from : Seen) (lines : List TraceLine)
       (mid : Fabric) (end : Result Fabric FabricEnd)
-      → (first : Ran P names written faults a b from lines (Ok mid))
-      → Ran Q names written faults b c from (lines ++ first.block) end
-      → Ran (Both P Q) names written faults a c from lines end
+      → (first : Ran P a b from lines (Ok mid))
+      → Ran Q b c from (lines ++ first.block) end
+      → Ran (Both P Q) a c from lines end
   ran_both P Q a b c from lines mid end first second =
       ran_joined P Q (Both P Q) a b c from lines mid end (joined_both P Q (seen from lines)) first
       second
 
   -- what is known before the lines may say that they are of another kind
-  pub ran_as : (P Q : Kind) (a b : Outbox K) (from : Seen) (lines : List TraceLine)
+  pub ran_as : (P Q : Kind) (a b : TraceWriter K) (from : Seen) (lines : List TraceLine)
       (end : Result Fabric FabricEnd)
       → ((block : List TraceLine) → P (seen from lines) block
       → Q (seen from lines) block)
-      → Ran P names written faults a b from lines end
-      → Ran Q names written faults a b from lines end
+      → Ran P a b from lines end
+      → Ran Q a b from lines end
   ran_as P Q a b from lines end turns ran =
       record { block = ran.block; is = turns ran.block ran.is; ends = ran.ends }
 
   -- it was told whole, but a write failed
-  pub failed_behind : (Is : Kind) (a b : Outbox K) (from : Seen) (lines : List TraceLine)
-      (fabric : Fabric) → b.failed ≡ true → Ran Is names written faults a b from lines (Ok fabric)
-      → Ran Is names written faults a b from lines (Err Failed)
+  pub failed_behind : (Is : Kind) (a b : TraceWriter K) (from : Seen) (lines : List TraceLine)
+      (fabric : Fabric) → b.outbox.now.failed ≡ true → Ran Is a b from lines (Ok fabric)
+      → Ran Is a b from lines (Err Failed)
   failed_behind Is a b from lines fabric failed ran = record {
     block = ran.block;
     is = ran.is;
@@ -291,33 +279,24 @@ module _ {K : Type 0} (written : K → Option (List ℕ)) (faults : K → ℕ) (
   }
 
   -- a line was told before the call
-  pub ran_behind : (P Q : Kind) (line : TraceLine) (a b c : Outbox K) (from : Seen)
+  pub ran_behind : (P Q : Kind) (line : TraceLine) (a b c : TraceWriter K) (from : Seen)
       (lines : List TraceLine) (end : Result Fabric FabricEnd)
       → ((block : List TraceLine) → P (seen from (lines ++ line ∷ [])) block
-      → Q (seen from lines) block)
-      → Writes written faults a b (trace_line_text names line ++ 10 ∷ [])
-      → Ran P names written faults b c from (lines ++ line ∷ []) end
-      → RanBehind (line ∷ []) Q names written faults a c from lines end
+      → Q (seen from lines) block) → Adds a b (line ∷ [])
+      → Ran P b c from (lines ++ line ∷ []) end
+      → RanBehind (line ∷ []) Q a c from lines end
   ran_behind P Q line a b c from lines end turns told ran = record {
     block = ran.block;
     is = turns ran.block ran.is;
-    ends = writes_behind a b c from lines (line ∷ []) ran.block end (line_written a b line told)
+    ends = writes_behind a b c from lines (line ∷ []) ran.block end told
         ran.ends;
   }
 
   -- It ended in the first: nothing stands behind an event that was not sent, and else what would.
-  both_on : (P Q : Kind) (from : Seen) (lines block : List TraceLine) (old : Fabric)
-      → IsMade from P → GoesOn from Q → Stands from lines old → P (seen from lines) block
-      → (more : List TraceLine) × Both P Q (seen from lines) (block ++ more)
-  both_on P Q from lines block old made on stands is =
-      let more = more_exists Q from lines block (seen (seen from lines) block).unfaithful on
-      (made lines block stands.made stands.sent is) refl in
-      (more.0, (block, more.0, refl, is, more.1))
-
-  pub ends_first : (P Q : Kind) (a b : Outbox K) (from : Seen) (lines : List TraceLine)
+  pub ends_first : (P Q : Kind) (a b : TraceWriter K) (from : Seen) (lines : List TraceLine)
       (old : Fabric) (end : FabricEnd) → IsMade from P → GoesOn from Q → Stands from lines old
-      → Ran P names written faults a b from lines (Err end)
-      → Ran (Both P Q) names written faults a b from lines (Err end)
+      → Ran P a b from lines (Err end)
+      → Ran (Both P Q) a b from lines (Err end)
   ends_first P Q a b from lines old (Undetected port event) made on stands ran =
       let joined = seen-append from lines ran.block in
       let found = sym (ap (λ (t : Seen). t.unfaithful) joined) ∙ ran.ends.1 in

@@ -2,7 +2,7 @@
 use Rattle.fabric_trace.specs.Known.{Seen}
 use Rattle.std.proofs.Common.{◌≡◌, ℕ, zero, suc, ◌+◌, ◌<◌, Bool, true, false, List, [], ◌∷◌, ◌++◌, length, take, get_or, slice_get, Option, Some, None, MatchBool, option_map, refl, sym, ap, ◌∙◌, subst, arith, Ok, Err}
 use Rattle.std.proofs.lemmas.Option.{slice_get-get_or}
-use Rattle.rio_chars.specs.declared.outbox.Outbox.{Outbox}
+use Rattle.trace_lines.specs.declared.writer.TraceWriter.{TraceWriter}
 use Rattle.maint_registers.specs.Devices.{Registers, is_switch}
 use Rattle.fabric_script.specs.declared.ports.PortRef.{PortRef}
 use Rattle.fabric_model.proofs.Peers.{ArePeers}
@@ -101,23 +101,22 @@ next_node {from} {lines} {more} {old} {new} k device kind before after at within
     record { device = first.0; is = first.2; more = own.0; many = own.1 }
 
 -- nodes, one after another, whatever each does
-module _ {K : Type 0} (written : K → Option (List ℕ)) (faults : K → ℕ) (names : List (List ℕ))
-    (Nodes : ℕ → List Registers → Kind)
+module _ {K : Type 0} (Nodes : ℕ → List Registers → Kind)
     (appends : (xs ys : List Registers) (node last : ℕ) (s : Seen) (lines : List TraceLine)
     → node + length xs ≡ last → s.unfaithful ≡ None
     → Both (Nodes node xs) (Nodes last ys) s lines → Nodes node (xs ++ ys) s lines)
     (from : Seen) (lines : List TraceLine) (old mid : Fabric) (devices : List Registers)
     (stands : Stands from lines old) where
-  pub nodes_on : (P : Kind) (a b c : Outbox K) (new : Fabric) (k : ℕ) (kind : Bool)
+  pub nodes_on : (P : Kind) (a b c : TraceWriter K) (new : Fabric) (k : ℕ) (kind : Bool)
       → (node : IsNode devices k kind)
       → ((s : Seen) (block : List TraceLine) → P s block → Nodes k (node.device ∷ []) s block)
-      → (first : Ran (Nodes 0 (take k devices)) names written faults a b from lines (Ok mid))
-      → Ran P names written faults b c from (lines ++ first.block) (Ok new)
-      → Ran (Nodes 0 (take (k + 1) devices)) names written faults a c from lines (Ok new)
+      → (first : Ran (Nodes 0 (take k devices)) a b from lines (Ok mid))
+      → Ran P b c from (lines ++ first.block) (Ok new)
+      → Ran (Nodes 0 (take (k + 1) devices)) a c from lines (Ok new)
   nodes_on P a b c new k kind node does first own =
       let at : 0 + length (take k devices) ≡ k = let many = node.many in omega (arith, many) in
-      ran_joined written faults names (Nodes 0 (take k devices)) P (Nodes 0 (take (k + 1) devices))
-      a b c from lines mid (Ok new)
+      ran_joined (Nodes 0 (take k devices)) P (Nodes 0 (take (k + 1) devices)) a b c from lines mid
+      (Ok new)
       (λ x y before still one. subst (λ (l : List Registers). Nodes 0 l (seen from lines) (x ++ y))
       (sym node.more)
       (appends (take k devices) (node.device ∷ []) 0 k (seen from lines) (x ++ y) at stands.sent
@@ -125,23 +124,22 @@ module _ {K : Type 0} (written : K → Option (List ℕ)) (faults : K → ℕ) (
       before still (does (seen (seen from lines) x) y one))))
       first own
 
-  pub nodes_none : (a b : Outbox K) (k : ℕ) (kind : Bool) → (node : IsNode devices k kind)
+  pub nodes_none : (a b : TraceWriter K) (k : ℕ) (kind : Bool) → (node : IsNode devices k kind)
       → ((s : Seen) (block : List TraceLine) → Nothing s block
       → Nodes k (node.device ∷ []) s block)
-      → Ran (Nodes 0 (take k devices)) names written faults a b from lines (Ok mid)
-      → Ran (Nodes 0 (take (k + 1) devices)) names written faults a b from lines (Ok mid)
+      → Ran (Nodes 0 (take k devices)) a b from lines (Ok mid)
+      → Ran (Nodes 0 (take (k + 1) devices)) a b from lines (Ok mid)
   nodes_none a b k kind node rests first =
       nodes_on Nothing a b b mid k kind node rests first
-      (ran_nothing written faults names b from (lines ++ first.block) mid first.ends.1)
+      (ran_nothing b from (lines ++ first.block) mid first.ends.1)
 
   -- all nodes of the fabric
-  pub nodes_all : (a b : Outbox K) → devices ≡ old.devices.items
-      → Ran (Nodes 0 devices) names written faults a b from lines (Ok mid)
-      → Ran (λ s block. Nodes 0 s.network.registers s block) names written faults a b from lines
-      (Ok mid)
+  pub nodes_all : (a b : TraceWriter K) → devices ≡ old.devices.items
+      → Ran (Nodes 0 devices) a b from lines (Ok mid)
+      → Ran (λ s block. Nodes 0 s.network.registers s block) a b from lines (Ok mid)
   nodes_all a b same ran =
-      ran_as written faults names (Nodes 0 devices)
-      (λ s block. Nodes 0 s.network.registers s block) a b from lines (Ok mid)
+      ran_as (Nodes 0 devices) (λ s block. Nodes 0 s.network.registers s block) a b from lines
+      (Ok mid)
       (λ block own. subst (λ (l : List Registers). Nodes 0 l (seen from lines) block)
       (same ∙ sym stands.shows.registers) own) ran
 
@@ -197,59 +195,55 @@ rounds_left (suc k) (suc n) less =
     let same = rest.1 in
     (rest.0, omega (arith, same))
 
-module _ {K : Type 0} (written : K → Option (List ℕ)) (faults : K → ℕ) (names : List (List ℕ)) where
+module _ {K : Type 0} where
   -- one round more
-  pub ran_more : (a b c d : Outbox K) (from : Seen) (lines : List TraceLine)
+  pub ran_more : (a b c d : TraceWriter K) (from : Seen) (lines : List TraceLine)
       (old mid linked new : Fabric) (k : ℕ) → Stands from lines old
-      → Ran (Rounds IsSettle k) names written faults a b from lines (Ok mid)
+      → Ran (Rounds IsSettle k) a b from lines (Ok mid)
       → ((more : List TraceLine) → Stands from more mid
-      → Ran LinksSettle names written faults b c from more (Ok linked))
+      → Ran LinksSettle b c from more (Ok linked))
       → ((more : List TraceLine) → Stands from more linked
-      → Ran SwitchesServe names written faults c d from more (Ok new))
-      → Ran (Rounds IsSettle (k + 1)) names written faults a d from lines (Ok new)
+      → Ran SwitchesServe c d from more (Ok new))
+      → Ran (Rounds IsSettle (k + 1)) a d from lines (Ok new)
   ran_more a b c d from lines old mid linked new k stands first links switches =
       let settled = links (lines ++ first.block) first.ends.1 in
-      let round = ran_both written faults names LinksSettle SwitchesServe b c d from
-      (lines ++ first.block) linked (Ok new) settled
+      let round = ran_both LinksSettle SwitchesServe b c d from (lines ++ first.block) linked
+      (Ok new) settled
       (switches ((lines ++ first.block) ++ settled.block) settled.ends.1) in
-      let one = ran_as written faults names (Round IsSettle) (Rounds IsSettle 1) b d from
-      (lines ++ first.block) (Ok new)
+      let one = ran_as (Round IsSettle) (Rounds IsSettle 1) b d from (lines ++ first.block) (Ok new)
       (λ block own. both_nothing (Round IsSettle) (seen from (lines ++ first.block)) block
       own) round in
-      ran_as written faults names (Both (Rounds IsSettle k) (Rounds IsSettle 1))
-      (Rounds IsSettle (k + 1)) a d from lines (Ok new)
-      (λ block both. rounds_append k 1 (seen from lines) block stands.sent both)
-      (ran_both written faults names (Rounds IsSettle k) (Rounds IsSettle 1) a b d from lines mid
+      ran_as (Both (Rounds IsSettle k) (Rounds IsSettle 1)) (Rounds IsSettle (k + 1)) a d from lines
       (Ok new)
-      first one)
+      (λ block both. rounds_append k 1 (seen from lines) block stands.sent both)
+      (ran_both (Rounds IsSettle k) (Rounds IsSettle 1) a b d from lines mid (Ok new) first one)
 
   -- the links of a round did not all settle
-  pub ran_short : (a b c : Outbox K) (from : Seen) (lines : List TraceLine) (old mid : Fabric)
+  pub ran_short : (a b c : TraceWriter K) (from : Seen) (lines : List TraceLine) (old mid : Fabric)
       (k n : ℕ) (end : FabricEnd) → k < n → Stands from lines old
-      → Ran (Rounds IsSettle k) names written faults a b from lines (Ok mid)
+      → Ran (Rounds IsSettle k) a b from lines (Ok mid)
       → ((more : List TraceLine) → Stands from more mid
-      → Ran LinksSettle names written faults b c from more (Err end))
-      → Ran (Rounds IsSettle n) names written faults a c from lines (Err end)
+      → Ran LinksSettle b c from more (Err end))
+      → Ran (Rounds IsSettle n) a c from lines (Err end)
   ran_short a b c from lines old mid k n end less stands first links =
       let left : (m : ℕ) × (k + suc m ≡ n) = rounds_left k n less in
-      let own = ends_first written faults names LinksSettle SwitchesServe b c from
-      (lines ++ first.block) mid end (links_made from stands.ready)
+      let own = ends_first LinksSettle SwitchesServe b c from (lines ++ first.block) mid end
+      (links_made from stands.ready)
       (switches_go_on from stands.ready) first.ends.1 (links (lines ++ first.block) first.ends.1) in
-      let more = ends_first written faults names (Round IsSettle) (Rounds IsSettle left.0) b c from
+      let more = ends_first (Round IsSettle) (Rounds IsSettle left.0) b c from
       (lines ++ first.block) mid end (round_made from stands.ready)
       (λ l made sent.
       (let own = rounds_exist left.0 (seen from l) (ready_on stands.ready made) sent in
       (own.lines, own.is))) first.ends.1 own in
-      ran_as written faults names (Both (Rounds IsSettle k) (Rounds IsSettle (suc left.0)))
-      (Rounds IsSettle n) a c from lines (Err end)
+      ran_as (Both (Rounds IsSettle k) (Rounds IsSettle (suc left.0))) (Rounds IsSettle n) a c from
+      lines (Err end)
       (λ block both. subst (λ m. Rounds IsSettle m (seen from lines) block) left.1
       (rounds_append k (suc left.0) (seen from lines) block stands.sent both))
-      (ran_both written faults names (Rounds IsSettle k) (Rounds IsSettle (suc left.0)) a b c
-      from
-      lines mid (Err end) first more)
+      (ran_both (Rounds IsSettle k) (Rounds IsSettle (suc left.0)) a b c from lines mid (Err end)
+      first more)
 
-  pub ran_all : (a b : Outbox K) (from : Seen) (lines : List TraceLine) (new : Fabric) (k n : ℕ)
-      → k ≡ n → Ran (Rounds IsSettle k) names written faults a b from lines (Ok new)
-      → Ran (Rounds IsSettle n) names written faults a b from lines (Ok new)
+  pub ran_all : (a b : TraceWriter K) (from : Seen) (lines : List TraceLine) (new : Fabric)
+      (k n : ℕ) → k ≡ n → Ran (Rounds IsSettle k) a b from lines (Ok new)
+      → Ran (Rounds IsSettle n) a b from lines (Ok new)
   ran_all a b from lines new k n same ran =
-      subst (λ m. Ran (Rounds IsSettle m) names written faults a b from lines (Ok new)) same ran
+      subst (λ m. Ran (Rounds IsSettle m) a b from lines (Ok new)) same ran

@@ -1,7 +1,7 @@
 -- What a call did that sends a packet at an endpoint.
-use Rattle.std.proofs.Common.{◌≡◌, ℕ, ◌<◌, true, false, List, [], ◌∷◌, ◌++◌, Option, None, refl, sym, ap, ◌∙◌, subst, append-nil, if◌then◌else◌, slice_get}
-use Rattle.rio_chars.specs.Written.{Writes}
-use Rattle.rio_chars.specs.declared.outbox.Outbox.{Outbox}
+use Rattle.std.proofs.Common.{◌≡◌, ℕ, ◌<◌, true, false, List, [], ◌∷◌, None, refl, sym, ap, ◌∙◌, subst, if◌then◌else◌, slice_get}
+use Rattle.trace_lines.specs.Writing.{Adds}
+use Rattle.trace_lines.specs.declared.writer.TraceWriter.{TraceWriter}
 use Rattle.rio_packets.specs.Fields.{prio_of}
 use Rattle.link_buffers.specs.Queues.{appended}
 use Rattle.link_port.specs.Ports.{PortState, AreAlike}
@@ -11,9 +11,8 @@ use Rattle.fabric_model.specs.Steps.{Take, AtNode, item_of, after}
 use Rattle.fabric_trace.specs.Blocks.{take_lines}
 use Rattle.fabric_trace.specs.Fold.{seen_line}
 use Rattle.fabric_trace.specs.Known.{Seen, port_seen}
-use Rattle.trace_lines.specs.Lines.{TraceLine, Full as NoRoom, Stepped, Lacked}
+use Rattle.trace_lines.specs.Lines.{Full as NoRoom, Stepped, Lacked}
 use Rattle.fabric_trace.specs.Served.{face_in}
-use Rattle.trace_lines.specs.Text.{trace_line_text, trace_text}
 use Rattle.fabric_ports.specs.declared.answers.Happened.TheVariants.{Took, Full}
 use Rattle.fabric_ports.specs.declared.fabric.Fabric.{Fabric}
 use Rattle.fabric_ports.specs.Events.{Did, answer_taken}
@@ -23,26 +22,17 @@ use Rattle.fabric_ports.proofs.DeviceLaws.{same_device}
 use Rattle.fabric_ports.proofs.FaceLaws.{more_own, more_other, face_of_port, port_faced, port_stays}
 use Rattle.fabric_ports.proofs.NodeLaws.{set_same, HasBoth, port_shows}
 
--- the text of one line
-pub one_line : (names : List (List ℕ)) (line : TraceLine) {K : Type 0}
-    {written : K → Option (List ℕ)} {faults : K → ℕ} {b b2 : Outbox K}
-    → Writes written faults b b2 (trace_line_text names line ++ 10 ∷ [])
-    → Writes written faults b b2 (trace_text names (line ∷ []))
-one_line names line {K} {written} {faults} {b} {b2} h =
-    subst (Writes written faults b b2) (sym (append-nil (trace_line_text names line ++ 10 ∷ []))) h
-
-module _ (names : List (List ℕ)) {K : Type 0} (written : K → Option (List ℕ)) (faults : K → ℕ)
-    (b b2 : Outbox K) (s : Seen) (old : Fabric) (n : ℕ) (packet : List ℕ) where
+module _ {K : Type 0}
+    (b b2 : TraceWriter K) (s : Seen) (old : Fabric) (n : ℕ) (packet : List ℕ) where
   -- there is no room for it
   pub did_full : ShowsFabric old s → s.unfaithful ≡ None
       → room_out s.network (port_of n) (prio_of packet) ≡ false
-      → Writes written faults b b2 (trace_line_text [] (Lacked NoRoom) ++ 10 ∷ [])
+      → Adds b b2 (Lacked NoRoom ∷ [])
       → Did (λ block. (block ≡ take_lines s n packet)
-      × (Full ≡ answer_taken block)) names written faults b b2 s
-      old
-  did_full shows sent none prints = record {
+      × (Full ≡ answer_taken block)) b b2 s old
+  did_full shows sent none adds = record {
     block = Lacked NoRoom ∷ [];
-    prints = one_line names (Lacked NoRoom) prints;
+    adds = adds;
     is = (
       ap (λ t. if t then Stepped (AtNode (Take n packet)) ∷ [] else Lacked NoRoom ∷ [])
           (sym none),
@@ -59,12 +49,10 @@ module _ (names : List (List ℕ)) {K : Type 0} (written : K → Option (List �
       → HasBoth old new n at.device (port_of n) y
       → AreAlike x y → y.queued ≡ appended x.queued (prio_of packet) packet
       → y.received.lists ≡ x.received.lists
-      → Writes written faults b b2
-      (trace_line_text names (Stepped (AtNode (Take n packet))) ++ 10 ∷ [])
+      → Adds b b2 (Stepped (AtNode (Take n packet)) ∷ [])
       → Did (λ block. (block ≡ take_lines s n packet)
-      × (Took ≡ answer_taken block)) names written faults b b2 s
-      new
-  did_take new x y shows sent room few at is has alike put same prints =
+      × (Took ≡ answer_taken block)) b b2 s new
+  did_take new x y shows sent room few at is has alike put same adds =
       let net = s.network in
       let p = port_of n in
       let next = after net (AtNode (Take n packet)) in
@@ -79,7 +67,7 @@ module _ (names : List (List ℕ)) {K : Type 0} (written : K → Option (List �
       let stands = ap (λ l. slice_get l n) shows.registers ∙ at.stands in
       record {
         block = Stepped (AtNode (Take n packet)) ∷ [];
-        prints = one_line names (Stepped (AtNode (Take n packet))) prints;
+        adds = adds;
         is = (
           ap (λ t. if t then Stepped (AtNode (Take n packet)) ∷ [] else Lacked NoRoom ∷ [])
               (sym room),

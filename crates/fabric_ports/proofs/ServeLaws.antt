@@ -1,7 +1,7 @@
 -- A switch that makes one step after another.
 use Rattle.std.proofs.Common.{◌≡◌, ◌≢◌, ℕ, zero, suc, ◌+◌, ◌<◌, ◌≤◌, Bool, true, false, List, [], ◌∷◌, ◌++◌, length, Option, Some, None, option_map, slice_get, refl, sym, ap, ◌∙◌, subst, arith, append_assoc, length-append, Ok}
 use Rattle.std.proofs.lemmas.List.{length-map}
-use Rattle.rio_chars.specs.declared.outbox.Outbox.{Outbox}
+use Rattle.trace_lines.specs.declared.writer.TraceWriter.{TraceWriter}
 use Rattle.link_port.specs.Ports.{PortState}
 use Rattle.maint_registers.specs.Devices.{Registers}
 use Rattle.switch_core.specs.SwitchSteps.{step_of}
@@ -170,60 +170,54 @@ all_served node s first second own last =
 
 -- ---- what was written
 
-module _ {K : Type 0} (written : K → Option (List ℕ)) (faults : K → ℕ) (names : List (List ℕ)) where
-  pub did_ran : (Is : List TraceLine → Type 0) (Q : Kind) (b c : Outbox K) (from : Seen)
+module _ {K : Type 0} where
+  pub did_ran : (Is : List TraceLine → Type 0) (Q : Kind) (b c : TraceWriter K) (from : Seen)
       (lines : List TraceLine) (mid new : Fabric) → Stands from lines mid
       → ((block : List TraceLine) → Is block → Q (seen from lines) block
       × Made (seen from lines) block)
-      → Did Is names written faults b c (seen from lines) new
-      → Ran Q names written faults b c from lines (Ok new)
+      → Did Is b c (seen from lines) new → Ran Q b c from lines (Ok new)
   did_ran Is Q b c from lines mid new stands gives did =
       let own = gives did.block did.is in
       record {
         block = did.block;
         is = own.0;
-        ends = (did.prints, stands_with did.block stands own.1 did.sent did.shows);
+        ends = (did.adds, stands_with did.block stands own.1 did.sent did.shows);
       }
 
-  pub serves_begin : (a : Outbox K) (from : Seen) (lines : List TraceLine) (fabric : Fabric)
-      (node : ℕ) → Stands from lines fabric
-      → Ran (ServesFirst node) names written faults a a from lines (Ok fabric)
+  pub serves_begin : (a : TraceWriter K) (from : Seen) (lines : List TraceLine) (fabric : Fabric)
+      (node : ℕ) → Stands from lines fabric → Ran (ServesFirst node) a a from lines (Ok fabric)
   serves_begin a from lines fabric node stands =
-      ran_as written faults names NoLines (ServesFirst node) a a from lines (Ok fabric)
+      ran_as NoLines (ServesFirst node) a a from lines (Ok fabric)
       (λ block none. first_begins node (seen from lines) block none)
-      (ran_nothing written faults names a from lines fabric stands)
+      (ran_nothing a from lines fabric stands)
 
-  pub serves_more : (a b c : Outbox K) (from : Seen) (lines : List TraceLine) (mid new : Fabric)
-      (node : ℕ) (result : Bool) → result ≡ true
-      → (first : Ran (ServesFirst node) names written faults a b from lines (Ok mid))
-      → Did (IsSwitchStep (seen from (lines ++ first.block)).network node result) names written
-      faults b c (seen from (lines ++ first.block)) new
-      → Ran (ServesFirst node) names written faults a c from lines (Ok new)
+  pub serves_more : (a b c : TraceWriter K) (from : Seen) (lines : List TraceLine)
+      (mid new : Fabric) (node : ℕ) (result : Bool) → result ≡ true
+      → (first : Ran (ServesFirst node) a b from lines (Ok mid))
+      → Did (IsSwitchStep (seen from (lines ++ first.block)).network node result) b c
+      (seen from (lines ++ first.block)) new
+      → Ran (ServesFirst node) a c from lines (Ok new)
   serves_more a b c from lines mid new node result told first did =
       let s = seen from (lines ++ first.block) in
       let good = good_behind first.ends.1.ready first.ends.1.made in
-      ran_joined written faults names (ServesFirst node) (One node) (ServesFirst node) a b c from
-      lines mid (Ok new)
+      ran_joined (ServesFirst node) (One node) (ServesFirst node) a b c from lines mid (Ok new)
       (λ x y own still one. first_more node (seen from lines) x y own one) first
       (did_ran (IsSwitchStep s.network node result) (One node) b c from (lines ++ first.block) mid
-      new
-      first.ends.1
+      new first.ends.1
       (λ block is. (let own = subst (λ r. IsSwitchStep s.network node r block) told is in
       (own, move_made s node block good own.0))) did)
 
-  pub serves_end : (a b c : Outbox K) (from : Seen) (lines : List TraceLine) (mid new : Fabric)
+  pub serves_end : (a b c : TraceWriter K) (from : Seen) (lines : List TraceLine) (mid new : Fabric)
       (node : ℕ) (result : Bool) → result ≡ false
-      → (first : Ran (ServesFirst node) names written faults a b from lines (Ok mid))
-      → Did (IsSwitchStep (seen from (lines ++ first.block)).network node result) names written
-      faults b c (seen from (lines ++ first.block)) new
-      → Ran (Serves node) names written faults a c from lines (Ok new)
+      → (first : Ran (ServesFirst node) a b from lines (Ok mid))
+      → Did (IsSwitchStep (seen from (lines ++ first.block)).network node result) b c
+      (seen from (lines ++ first.block)) new
+      → Ran (Serves node) a c from lines (Ok new)
   serves_end a b c from lines mid new node result told first did =
       let s = seen from (lines ++ first.block) in
-      ran_joined written faults names (ServesFirst node) (Last node) (Serves node) a b c from lines
-      mid (Ok new)
+      ran_joined (ServesFirst node) (Last node) (Serves node) a b c from lines mid (Ok new)
       (λ x y own still last. all_served node (seen from lines) x y own last) first
       (did_ran (IsSwitchStep s.network node result) (Last node) b c from (lines ++ first.block) mid
-      new
-      first.ends.1
+      new first.ends.1
       (λ block is. (let own = subst (λ r. IsSwitchStep s.network node r block) told is in
       (own, Done own.1))) did)

@@ -4,7 +4,7 @@ use Rattle.link_law.specs.Resting.{has_no_work}
 use Rattle.std.proofs.Common.{◌≡◌, ℕ, zero, suc, ◌+◌, ◌<◌, true, List, [], ◌∷◌, ◌++◌, length, map, take, drop, get_or, slice_get, Option, Some, None, IsSome, option_map, refl, sym, ap, ◌∙◌, subst, arith, rules, vec_len, Ok, Err, Result}
 use Rattle.std.proofs.lemmas.List.{length-map, take-append-drop, take_more, drop_more}
 use Rattle.std.proofs.lemmas.Option.{slice_get-map, slice_get-get_or}
-use Rattle.rio_chars.specs.declared.outbox.Outbox.{Outbox}
+use Rattle.trace_lines.specs.declared.writer.TraceWriter.{TraceWriter}
 use Rattle.maint_registers.specs.Devices.{Registers, is_switch}
 use Rattle.fabric_script.specs.declared.lines.Line.TheVariants.{Settle}
 use Rattle.fabric_script.specs.declared.ports.PortRef.{PortRef}
@@ -219,74 +219,66 @@ settles_made from link ready found lines block made sent own =
     ∙ found) in
     made-append made (link_made s link.0 link.1 block good sent peers own)
 
-module _ {K : Type 0} (written : K → Option (List ℕ)) (faults : K → ℕ) (names : List (List ℕ)) where
-  pub settle_ran : (a b : Outbox K) (from : Seen) (lines : List TraceLine)
+module _ {K : Type 0} where
+  pub settle_ran : (a b : TraceWriter K) (from : Seen) (lines : List TraceLine)
       (link : PortRef × PortRef) (end : Result Fabric FabricEnd)
       → link_in from.network.links link.0 ≡ Some link
-      → Ran (Blocks (Settle link.0)) names written faults a b from lines end
-      → Ran (Settles link) names written faults a b from lines end
+      → Ran (Blocks (Settle link.0)) a b from lines end → Ran (Settles link) a b from lines end
   settle_ran a b from lines link end found ran =
-      ran_as written faults names (Blocks (Settle link.0)) (Settles link) a b from lines end
+      ran_as (Blocks (Settle link.0)) (Settles link) a b from lines end
       (λ block own. settle_is from lines block link found own) ran
 
   -- one link more has settled
-  settled_next : (a b c : Outbox K) (from : Seen) (lines : List TraceLine)
+  settled_next : (a b c : TraceWriter K) (from : Seen) (lines : List TraceLine)
       (old mid new : Fabric) (k : ℕ) (link : PortRef × PortRef) → Stands from lines old
       → IsNext from k link
-      → (first : Ran (SettleAll IsSettle (take k from.network.links)) names written faults a b from
-      lines (Ok mid))
-      → Ran (Settles link) names written faults b c from (lines ++ first.block) (Ok new)
-      → Ran (SettleAll IsSettle (take (k + 1) from.network.links)) names written faults a c from
-      lines (Ok new)
+      → (first : Ran (SettleAll IsSettle (take k from.network.links)) a b from lines (Ok mid))
+      → Ran (Settles link) b c from (lines ++ first.block) (Ok new)
+      → Ran (SettleAll IsSettle (take (k + 1) from.network.links)) a c from lines (Ok new)
   settled_next a b c from lines old mid new k link stands next first ran =
-      let one = ran_as written faults names (Settles link) (SettleAll IsSettle (link ∷ [])) b c from
+      let one = ran_as (Settles link) (SettleAll IsSettle (link ∷ [])) b c from
       (lines ++ first.block) (Ok new)
       (λ block own. settle_one link (seen from (lines ++ first.block)) block own) ran in
-      ran_as written faults names
+      ran_as
       (Both (SettleAll IsSettle (take k from.network.links)) (SettleAll IsSettle (link ∷ [])))
       (SettleAll IsSettle (take (k + 1) from.network.links)) a c from lines (Ok new)
       (λ block both. subst (λ (l : List (PortRef × PortRef)). SettleAll IsSettle l
       (seen from lines) block) (sym next.more)
       (settle_append (take k from.network.links) (link ∷ []) (seen from lines) block stands.sent
       both))
-      (ran_both written faults names (SettleAll IsSettle (take k from.network.links))
+      (ran_both (SettleAll IsSettle (take k from.network.links))
       (SettleAll IsSettle (link ∷ [])) a b c from lines mid (Ok new) first one)
 
-  pub settled_more : (a b c : Outbox K) (from : Seen) (lines : List TraceLine)
+  pub settled_more : (a b c : TraceWriter K) (from : Seen) (lines : List TraceLine)
       (old mid new : Fabric) (k : ℕ) (link : PortRef × PortRef) → Stands from lines old
       → IsNext from k link
-      → (first : Ran (SettleAll IsSettle (take k from.network.links)) names written faults a b from
-      lines (Ok mid))
-      → Ran (Blocks (Settle link.0)) names written faults b c from (lines ++ first.block) (Ok new)
-      → Ran (SettleAll IsSettle (take (k + 1) from.network.links)) names written faults a c from
-      lines (Ok new)
+      → (first : Ran (SettleAll IsSettle (take k from.network.links)) a b from lines (Ok mid))
+      → Ran (Blocks (Settle link.0)) b c from (lines ++ first.block) (Ok new)
+      → Ran (SettleAll IsSettle (take (k + 1) from.network.links)) a c from lines (Ok new)
   settled_more a b c from lines old mid new k link stands next first blocks =
       settled_next a b c from lines old mid new k link stands next first
       (settle_ran b c from (lines ++ first.block) link (Ok new) next.found blocks)
 
   -- one that has nothing to do settles by nothing
-  pub settled_idle : (a b : Outbox K) (from : Seen) (lines : List TraceLine) (old mid : Fabric)
+  pub settled_idle : (a b : TraceWriter K) (from : Seen) (lines : List TraceLine) (old mid : Fabric)
       (k : ℕ) (link : PortRef × PortRef) → Stands from lines old → IsNext from k link
-      → (first : Ran (SettleAll IsSettle (take k from.network.links)) names written faults a b from
-      lines (Ok mid))
+      → (first : Ran (SettleAll IsSettle (take k from.network.links)) a b from lines (Ok mid))
       → has_no_work (link_at (seen from (lines ++ first.block)) link.0 link.1) ≡ true
-      → Ran (SettleAll IsSettle (take (k + 1) from.network.links)) names written faults a b from
-      lines (Ok mid)
+      → Ran (SettleAll IsSettle (take (k + 1) from.network.links)) a b from lines (Ok mid)
   settled_idle a b from lines old mid k link stands next first idle =
       let s = seen from (lines ++ first.block) in
       settled_next a b b from lines old mid mid k link stands next first
-      (ran_as written faults names Nothing (Settles link) b b from (lines ++ first.block) (Ok mid)
+      (ran_as Nothing (Settles link) b b from (lines ++ first.block) (Ok mid)
       (λ block none. subst (Settles link s) (sym none) (idle_block s link.0 link.1 idle))
-      (ran_nothing written faults names b from (lines ++ first.block) mid first.ends.1))
+      (ran_nothing b from (lines ++ first.block) mid first.ends.1))
 
   -- a link did not come to its end
-  pub settled_short : (a b c : Outbox K) (from : Seen) (lines : List TraceLine)
+  pub settled_short : (a b c : TraceWriter K) (from : Seen) (lines : List TraceLine)
       (old mid : Fabric) (k : ℕ) (link : PortRef × PortRef) (end : FabricEnd)
       → Stands from lines old → IsNext from k link
-      → (first : Ran (SettleAll IsSettle (take k from.network.links)) names written faults a b from
-      lines (Ok mid))
-      → Ran (Blocks (Settle link.0)) names written faults b c from (lines ++ first.block) (Err end)
-      → Ran LinksSettle names written faults a c from lines (Err end)
+      → (first : Ran (SettleAll IsSettle (take k from.network.links)) a b from lines (Ok mid))
+      → Ran (Blocks (Settle link.0)) b c from (lines ++ first.block) (Err end)
+      → Ran LinksSettle a c from lines (Err end)
   settled_short a b c from lines old mid k link end stands next first ends =
       let rest = drop (k + 1) from.network.links in
       let on : GoesOn from (SettleAll IsSettle rest) =
@@ -295,26 +287,26 @@ module _ {K : Type 0} (written : K → Option (List ℕ)) (faults : K → ℕ) (
       (found_drop from.network.links from.network.links (k + 1)
       (all_found from.network.links stands.ready.proper)) in
       (own.lines, own.is)) in
-      let own = ends_first written faults names (Settles link) (SettleAll IsSettle rest) b c from
+      let own = ends_first (Settles link) (SettleAll IsSettle rest) b c from
       (lines ++ first.block) mid end (settles_made from link stands.ready next.found) on
       first.ends.1
       (settle_ran b c from (lines ++ first.block) link (Err end) next.found ends) in
-      ran_as written faults names
+      ran_as
       (Both (SettleAll IsSettle (take k from.network.links)) (SettleAll IsSettle (link ∷ rest)))
       LinksSettle a c from lines (Err end)
       (λ block both. subst (λ (l : List (PortRef × PortRef)). SettleAll IsSettle l
       (seen from lines) block) (next.whole ∙ sym (seen_links from lines))
       (settle_append (take k from.network.links) (link ∷ rest) (seen from lines) block stands.sent
       both))
-      (ran_both written faults names (SettleAll IsSettle (take k from.network.links))
+      (ran_both (SettleAll IsSettle (take k from.network.links))
       (SettleAll IsSettle (link ∷ rest)) a b c from lines mid (Err end) first own)
 
   -- all links have settled
-  pub settled_all : (a b : Outbox K) (from : Seen) (lines : List TraceLine) (new : Fabric)
+  pub settled_all : (a b : TraceWriter K) (from : Seen) (lines : List TraceLine) (new : Fabric)
       (links : List (PortRef × PortRef)) → links ≡ from.network.links
-      → Ran (SettleAll IsSettle links) names written faults a b from lines (Ok new)
-      → Ran LinksSettle names written faults a b from lines (Ok new)
+      → Ran (SettleAll IsSettle links) a b from lines (Ok new)
+      → Ran LinksSettle a b from lines (Ok new)
   settled_all a b from lines new links same ran =
-      ran_as written faults names (SettleAll IsSettle links) LinksSettle a b from lines (Ok new)
+      ran_as (SettleAll IsSettle links) LinksSettle a b from lines (Ok new)
       (λ block own. subst (λ (l : List (PortRef × PortRef)). SettleAll IsSettle l
       (seen from lines) block) (same ∙ sym (seen_links from lines)) own) ran

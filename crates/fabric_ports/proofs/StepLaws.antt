@@ -1,10 +1,10 @@
 -- What a call did that makes a step of a switch.
-use Rattle.std.proofs.Common.{◌≡◌, ◌≢◌, ℕ, zero, suc, ◌+◌, ◌<◌, ◌≤◌, Bool, true, false, List, [], ◌∷◌, ◌++◌, length, map, slice_get, slice_set, slice_index_or, Option, Some, None, option_map, refl, sym, ap, ◌∙◌, subst, arith}
+use Rattle.std.proofs.Common.{◌≡◌, ◌≢◌, ℕ, zero, suc, ◌+◌, ◌<◌, ◌≤◌, Bool, true, false, List, [], ◌∷◌, length, map, slice_get, slice_set, slice_index_or, Option, Some, None, option_map, refl, sym, ap, ◌∙◌, subst, arith}
 use Rattle.std.proofs.lemmas.List.{with_items_is}
 use Rattle.std.specs.Vec.{with_items}
-use Rattle.rio_chars.specs.Written.{Writes}
-use Rattle.rio_chars.specs.declared.outbox.Outbox.{Outbox}
-use Rattle.rio_chars.proofs.WrittenLaws.{Writes-then}
+use Rattle.trace_lines.specs.Writing.{Adds}
+use Rattle.trace_lines.specs.declared.writer.TraceWriter.{TraceWriter}
+use Rattle.trace_lines.specs.AddsLaws.{Adds-then}
 use Rattle.rio_packets.specs.Fields.{prio_of}
 use Rattle.rio_packets.specs.LinkForm.{Passes}
 use Rattle.link_port.specs.Ports.{PortState, AreAlike}
@@ -29,7 +29,6 @@ use Rattle.fabric_trace.specs.Fold.{seen}
 use Rattle.fabric_trace.specs.Known.{Seen, port_seen}
 use Rattle.trace_lines.specs.Lines.{TraceLine, NoStep, Lacked}
 use Rattle.fabric_trace.specs.Served.{face_in, faces_from, faces_in, step_lines, ResponseHasForm, IsMove}
-use Rattle.trace_lines.specs.Text.{trace_line_text, trace_text}
 use Rattle.fabric_trace.proofs.Network.Faces.{face_is, StepNeeds, step_needs}
 use Rattle.fabric_trace.proofs.Parts.Keeping.{few_prio}
 use Rattle.fabric_ports.specs.declared.fabric.Fabric.{Fabric}
@@ -41,7 +40,6 @@ use Rattle.fabric_ports.proofs.DeviceLaws.{one_written}
 use Rattle.fabric_ports.proofs.FaceLaws.{without_other, more_other, nodes_differ, port, AreFacesOf, taken_faces, put_faces, face_of_port, SamePlans, port_faced, port_stays}
 use Rattle.fabric_ports.proofs.NodeLaws.{set_same, served_shows}
 use Rattle.fabric_ports.proofs.RowLaws.{row_within, row_set, replaced, length-replaced, get-own, own-length}
-use Rattle.fabric_ports.proofs.SendLaws.{one_line}
 
 has_form : (step : switch.Step) → AreForms step → ResponseHasForm step
 has_form (Moved from to packet) forms = tt
@@ -338,19 +336,18 @@ is_step_by net node (Dropped from packet) move = (move _ refl, λ same. absurd c
 is_step_by net node (Answered at request response) move = (move _ refl, λ same. absurd cc)
 is_step_by net node Nothing move = (move _ refl, refl)
 
-pub did_step : (names : List (List ℕ)) {K : Type 0} (written : K → Option (List ℕ))
-    (faults : K → ℕ) (b b2 : Outbox K) (s : Seen) (old new : Fabric) (node first : ℕ)
+pub did_step : {K : Type 0} (b b2 : TraceWriter K) (s : Seen) (old new : Fabric) (node first : ℕ)
     (device next : Registers) (step : switch.Step) (result : Bool)
     → ShowsFabric old s → s.unfaithful ≡ None → ByPriority s.network → is_switch device ≡ true
     → HasStepped old new node first device next step → AreForms step → result ≡ is_step step
-    → Writes written faults b b2 (trace_text names (written_lines node step))
-    → Did (IsSwitchStep s.network node result) names written faults b b2 s new
-did_step names written faults b b2 s old new node first device next step result shows sent by
-    switches has forms told prints =
+    → Adds b b2 (written_lines node step)
+    → Did (IsSwitchStep s.network node result) b b2 s new
+did_step b b2 s old new node first device next step result shows sent by switches has forms told
+    adds =
     let seen_is = seen_after s node step in
     record {
       block = written_lines node step;
-      prints = prints;
+      adds = adds;
       is = subst (λ r. IsSwitchStep s.network node r (written_lines node step)) (sym told)
           (is_step_by s.network node step
           (is_move s old new node first device next step shows by switches has forms));
@@ -360,18 +357,15 @@ did_step names written faults b b2 s old new node first device next step result 
     }
 
 -- no step was made, and that is written
-pub did_none : (names : List (List ℕ)) {K : Type 0} (written : K → Option (List ℕ))
-    (faults : K → ℕ) (b b2 b3 : Outbox K) (s : Seen) (new : Fabric) (node : ℕ) (result : Bool)
-    → Did (IsSwitchStep s.network node result) names written faults b b2 s new → result ≡ false
-    → Writes written faults b2 b3 (trace_line_text [] (Lacked NoStep) ++ 10 ∷ [])
-    → Did (IsMove s.network node) names written faults b b3 s new
-did_none names written faults b b2 b3 s new node result did told prints =
+pub did_none : {K : Type 0} (b b2 b3 : TraceWriter K) (s : Seen) (new : Fabric) (node : ℕ)
+    (result : Bool) → Did (IsSwitchStep s.network node result) b b2 s new → result ≡ false
+    → Adds b2 b3 (Lacked NoStep ∷ [])
+    → Did (IsMove s.network node) b b3 s new
+did_none b b2 b3 s new node result did told adds =
     let is = subst (λ r. IsSwitchStep s.network node r did.block) told did.is in
     record {
       block = Lacked NoStep ∷ [];
-      prints = Writes-then [] (trace_text names (Lacked NoStep ∷ []))
-          (subst (λ l. Writes written faults b b2 (trace_text names l)) is.1 did.prints)
-          (one_line names (Lacked NoStep) prints);
+      adds = Adds-then (subst (λ l. Adds b b2 l) is.1 did.adds) adds;
       is = is.0;
       sent = subst (λ l. (seen s l).unfaithful ≡ None) is.1 did.sent;
       shows = subst (λ l. ShowsFabric new (seen s l)) is.1 did.shows;

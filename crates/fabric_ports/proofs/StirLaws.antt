@@ -1,10 +1,11 @@
 -- An edit of a wire whose line is written if it does something.
-use Rattle.std.proofs.Common.{◌≡◌, ◌&&◌, ◌<◌, ℕ, ◌+◌, not, Bool, true, false, List, [], ◌∷◌, ◌++◌, length, take, drop, Option, Some, None, refl, sym, ap, ◌∙◌, subst, if◌then◌else◌, slice_index_or, arith, Ok, Err}
+use Rattle.std.proofs.Common.{◌≡◌, ◌&&◌, ◌<◌, ◌+◌, not, Bool, true, false, List, [], ◌∷◌, ◌++◌, length, take, drop, Some, None, refl, sym, ap, ◌∙◌, subst, if◌then◌else◌, slice_index_or, arith, Ok, Err}
 use Rattle.std.proofs.lemmas.Bool.{eqb-true}
 use Rattle.std.proofs.lemmas.List.{take-append-drop}
-use Rattle.rio_chars.specs.Written.{Writes}
+use Rattle.trace_lines.specs.AddsLaws.{Adds-nil}
+use Rattle.trace_lines.specs.Writing.{Adds}
 use Rattle.rio_chars.specs.declared.chars.Char.{Char}
-use Rattle.rio_chars.specs.declared.outbox.Outbox.{Outbox}
+use Rattle.trace_lines.specs.declared.writer.TraceWriter.{TraceWriter}
 use Rattle.link_port.specs.Ports.{PortState}
 use Rattle.link_wires.specs.Wires.{fits, edited}
 use Rattle.link_wires.specs.declared.edits.Edit.{Edit}
@@ -18,7 +19,6 @@ use Rattle.fabric_trace.specs.Known.{Seen}
 use Rattle.trace_lines.specs.Lines.{TraceLine, Begun}
 use Rattle.fabric_trace.specs.Parts.{Done}
 use Rattle.fabric_trace.specs.Parts.Part.{PartBegins}
-use Rattle.trace_lines.specs.Text.{trace_text}
 use Rattle.fabric_trace.proofs.Parts.Making.{one_part}
 use Rattle.fabric_ask.specs.Noise.{Gives, edit_line, is_idle, edit_lines, stirred}
 use Rattle.fabric_ask.proofs.Carrying.{edit_is}
@@ -35,7 +35,6 @@ use Rattle.fabric_ports.specs.declared.fabric.Fabric.{Fabric}
 use Rattle.fabric_ports.proofs.EditLaws.{fabric_edited, edit_chars, edit_shows}
 use Rattle.fabric_ports.proofs.RanLaws.{Nothing, ran_nothing, ran_as}
 use Rattle.fabric_ports.proofs.StandLaws.{stands_with}
-use Rattle.rio_chars.proofs.WrittenLaws.{Writes-nil}
 
 -- ---- an edit that changes nothing
 
@@ -97,28 +96,24 @@ edit_stands p edit from lines old new false is stands shows =
     stands_with [] stands (Done refl) stands.sent (subst (ShowsFabric new) same shows)
 
 -- the written lines are those of the edit, and the fabric stands for the lines with them
-pub edit_ran : {K : Type 0} (written : K → Option (List ℕ)) (faults : K → ℕ)
-    (names : List (List ℕ)) (fabric : Fabric) (port : PortRef) (place : LinkPlace)
+pub edit_ran : {K : Type 0} (fabric : Fabric) (port : PortRef) (place : LinkPlace)
     (p : IsPlaceOf fabric port place) (cable : Cable)
     → (met : cable ≡ slice_index_or fabric.cables.items place.cable cable) → (edit : Edit)
     → (wires : Wires)
     → ((x y : PortState) → link wires x y ≡ edited_from place.side edit (link cable.link x y))
-    → (old new : Outbox K)
-    → Writes written faults old new
-    (trace_text names (edit_lines port edit (wire_at place.side cable.link).chars))
+    → (old new : TraceWriter K)
+    → Adds old new (edit_lines port edit (wire_at place.side cable.link).chars)
     → (from : Seen) (lines : List TraceLine) → Stands from lines fabric
-    → Ran (EditsWire port edit) names written faults old new from lines
+    → Ran (EditsWire port edit) old new from lines
     (Ok (fabric_edited fabric place.cable cable wires))
-edit_ran written faults names fabric port place p cable met edit wires becomes old new writes from
-    lines stands =
+edit_ran fabric port place p cable met edit wires becomes old new adds from lines stands =
     let s = seen from lines in
     let chars = edit_chars fabric port place p cable met from lines stands in
     record {
       block = edit_lines port edit (s.wires port).chars;
       is = refl;
       ends = (
-        subst (λ l. Writes written faults old new (trace_text names (edit_lines port edit l))) chars
-            writes,
+        subst (λ l. Adds old new (edit_lines port edit l)) chars adds,
         edit_stands port edit from lines fabric
             (fabric_edited fabric place.cable cable wires)
             (fits edit (s.wires port).chars && not (is_idle edit)) refl stands
@@ -127,11 +122,10 @@ edit_ran written faults names fabric port place p cable met edit wires becomes o
     }
 
 -- nothing of it is written
-pub edit_short : {K : Type 0} (written : K → Option (List ℕ)) (faults : K → ℕ)
-    (names : List (List ℕ)) (port : PortRef) (edit : Edit) (outbox : Outbox K) (from : Seen)
+pub edit_short : {K : Type 0} (port : PortRef) (edit : Edit) (writer : TraceWriter K) (from : Seen)
     (lines : List TraceLine)
-    → Ran (EditsWire port edit) names written faults outbox outbox from lines (Err NoMemory)
-edit_short written faults names port edit outbox from lines =
+    → Ran (EditsWire port edit) writer writer from lines (Err NoMemory)
+edit_short port edit writer from lines =
     let block = edit_lines port edit ((seen from lines).wires port).chars in
     record {
       block = block;
@@ -139,7 +133,7 @@ edit_short written faults names port edit outbox from lines =
       ends = record {
         front = [];
         rest = block;
-        prints = Writes-nil written faults outbox;
+        adds = Adds-nil writer;
         whole = refl;
       };
     }
@@ -163,50 +157,46 @@ edit_stirred noise left edit p [] lines some gives is = absurd (omega (arith, so
 edit_stirred noise left edit p (c ∷ chars) lines some gives is =
     (λ i. (is i, left)) ∙ ap (λ (n : List Edit). stirred n p (c ∷ chars)) (sym gives)
 
-module _ {K : Type 0} (written : K → Option (List ℕ)) (faults : K → ℕ) (names : List (List ℕ))
-    (port : PortRef) (noise left : List Edit) where
+module _ {K : Type 0} (port : PortRef) (noise left : List Edit) where
   -- the wire has no characters
-  pub stir_empty : (out : Outbox K) (from : Seen) (lines : List TraceLine) (fabric : Fabric)
+  pub stir_empty : (out : TraceWriter K) (from : Seen) (lines : List TraceLine) (fabric : Fabric)
       → left ≡ noise → length ((seen from lines).wires port).chars ≡ 0 → Stands from lines fabric
-      → Ran (Stirs port noise left) names written faults out out from lines (Ok fabric)
+      → Ran (Stirs port noise left) out out from lines (Ok fabric)
   stir_empty out from lines fabric same none stands =
       let chars = ((seen from lines).wires port).chars in
-      ran_as written faults names Nothing (Stirs port noise left) out out from lines (Ok fabric)
+      ran_as Nothing (Stirs port noise left) out out from lines (Ok fabric)
       (λ block nothing. (λ i. (nothing i, same i))
-      ∙ none_stirred noise port chars (empty chars none))
-      (ran_nothing written faults names out from lines fabric stands)
+      ∙ none_stirred noise port chars (empty chars none)) (ran_nothing out from lines fabric stands)
 
   -- no edit is left
-  pub stir_none : (out : Outbox K) (from : Seen) (lines : List TraceLine) (fabric : Fabric)
+  pub stir_none : (out : TraceWriter K) (from : Seen) (lines : List TraceLine) (fabric : Fabric)
       → Gives noise None left → Stands from lines fabric
-      → Ran (Stirs port noise left) names written faults out out from lines (Ok fabric)
+      → Ran (Stirs port noise left) out out from lines (Ok fabric)
   stir_none out from lines fabric gives stands =
       let chars = ((seen from lines).wires port).chars in
-      ran_as written faults names Nothing (Stirs port noise left) out out from lines (Ok fabric)
+      ran_as Nothing (Stirs port noise left) out out from lines (Ok fabric)
       (λ block nothing. (λ i. (nothing i, gives.1 i))
       ∙ ap (λ (n : List Edit). stirred n port chars) (sym gives.0))
-      (ran_nothing written faults names out from lines fabric stands)
+      (ran_nothing out from lines fabric stands)
 
   -- the edit that was given is made
-  pub stir_some : (a b : Outbox K) (from : Seen) (lines : List TraceLine) (new : Fabric)
+  pub stir_some : (a b : TraceWriter K) (from : Seen) (lines : List TraceLine) (new : Fabric)
       (edit : Edit) → Gives noise (Some edit) left
       → 0 < length ((seen from lines).wires port).chars
-      → Ran (EditsWire port edit) names written faults a b from lines (Ok new)
-      → Ran (Stirs port noise left) names written faults a b from lines (Ok new)
+      → Ran (EditsWire port edit) a b from lines (Ok new)
+      → Ran (Stirs port noise left) a b from lines (Ok new)
   stir_some a b from lines new edit gives some ran =
-      ran_as written faults names (EditsWire port edit) (Stirs port noise left) a b from lines
-      (Ok new)
+      ran_as (EditsWire port edit) (Stirs port noise left) a b from lines (Ok new)
       (λ block is. edit_stirred noise left edit port ((seen from lines).wires port).chars block some
       gives is) ran
 
-  pub stir_ends : (a b : Outbox K) (from : Seen) (lines : List TraceLine) (edit : Edit)
+  pub stir_ends : (a b : TraceWriter K) (from : Seen) (lines : List TraceLine) (edit : Edit)
       (end : FabricEnd) → Gives noise (Some edit) left
       → 0 < length ((seen from lines).wires port).chars
-      → Ran (EditsWire port edit) names written faults a b from lines (Err end)
-      → Ran (WithLeft (Stirs port noise)) names written faults a b from lines (Err end)
+      → Ran (EditsWire port edit) a b from lines (Err end)
+      → Ran (WithLeft (Stirs port noise)) a b from lines (Err end)
   stir_ends a b from lines edit end gives some ran =
-      ran_as written faults names (EditsWire port edit) (WithLeft (Stirs port noise)) a b from
-      lines (Err end)
+      ran_as (EditsWire port edit) (WithLeft (Stirs port noise)) a b from lines (Err end)
       (λ block is. (
         left,
         edit_stirred noise left edit port ((seen from lines).wires port).chars

@@ -1,7 +1,5 @@
 -- What an event of a script needs of a fabric, and what it did.
-use Rattle.std.specs.Prelude.{◌≡◌, ◌≢◌, ◌≤◌, ℕ, Bool, true, false, List, [], ◌∷◌, length, Option, None, Result}
-use Rattle.rio_chars.specs.Written.{Writes}
-use Rattle.rio_chars.specs.declared.outbox.Outbox.{Outbox}
+use Rattle.std.specs.Prelude.{◌≡◌, ◌≢◌, ◌≤◌, ℕ, Bool, true, false, List, [], ◌∷◌, length, None, Result}
 use Rattle.rio_packets.specs.Fields.{body_of}
 use Rattle.maint_packets.specs.Requests.{request_body}
 use Rattle.maint_packets.specs.declared.request.Op.{Op}
@@ -18,7 +16,8 @@ use Rattle.fabric_trace.specs.Fold.{seen}
 use Rattle.fabric_trace.specs.Known.{Seen}
 use Rattle.trace_lines.specs.Lines.{Full as NoRoom, NoStep, TraceLine, Begun, Stepped, Lacked}
 use Rattle.fabric_trace.specs.Served.{IsMove}
-use Rattle.trace_lines.specs.Text.{trace_text}
+use Rattle.trace_lines.specs.Writing.{Adds}
+use Rattle.trace_lines.specs.declared.writer.TraceWriter.{TraceWriter}
 use Rattle.fabric_ports.specs.declared.answers.FabricEnd.{FabricEnd}
 use Rattle.fabric_ports.specs.declared.answers.Happened.{Happened}
 use Rattle.fabric_ports.specs.declared.answers.Happened.TheVariants.{Took, Full, Left, Answered, Empty, Other}
@@ -105,11 +104,10 @@ happened _ block = Other
 
 -- A call wrote lines which are such, and the fabric shows what is known after them. `s` is what was
 -- known before.
-pub record Did (Is : List TraceLine → Type 0) (names : List (List ℕ)) {K : Type 0}
-    (written : K → Option (List ℕ)) (faults : K → ℕ) (old new : Outbox K)
-    (s : Seen) (fabric : Fabric) : Type 0 where
+pub record Did (Is : List TraceLine → Type 0) {K : Type 0} (old new : TraceWriter K) (s : Seen)
+    (fabric : Fabric) : Type 0 where
   pub block : List TraceLine
-  pub prints : Writes written faults old new (trace_text names block)
+  pub adds : Adds old new block
   pub is : Is block
   pub sent : (seen s block).unfaithful ≡ None
   pub shows : ShowsFabric fabric (seen s block)
@@ -133,7 +131,6 @@ IsAnsweredBlock line answer s block =
     IsBlock s line block × IsOnlyBlock s line block × (answer ≡ happened line block)
 
 -- behind these lines an event told the line with which it begins, and lines of a kind behind it
-abbrev pub Evented : Line → Kind → List (List ℕ) → {K : Type 0} → (K → Option (List ℕ)) → (K → ℕ)
-    → Outbox K → Outbox K → Seen → List TraceLine → Result Fabric FabricEnd → Type 0
-Evented line Is names written faults old new from lines end =
-    RanBehind (Begun line ∷ []) Is names written faults old new from lines end
+abbrev pub Evented : Line → Kind → {K : Type 0} → TraceWriter K → TraceWriter K → Seen
+    → List TraceLine → Result Fabric FabricEnd → Type 0
+Evented line Is old new from lines end = RanBehind (Begun line ∷ []) Is old new from lines end

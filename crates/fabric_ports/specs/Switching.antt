@@ -1,7 +1,5 @@
 -- What the step of a switch is over the list in which its ports stand, and what is written of it.
-use Rattle.std.specs.Prelude.{◌≡◌, ℕ, ◌+◌, Bool, true, false, List, [], ◌++◌, take, drop, Option}
-use Rattle.rio_chars.specs.Written.{Writes}
-use Rattle.rio_chars.specs.declared.outbox.Outbox.{Outbox}
+use Rattle.std.specs.Prelude.{◌≡◌, ℕ, ◌+◌, Bool, true, false, List, [], ◌++◌, take, drop}
 use Rattle.rio_packets.specs.LinkForm.{Passes}
 use Rattle.link_port.specs.Ports.{PortState, AreAlike}
 use Rattle.maint_registers.specs.Devices.{Registers, IsSameDevice}
@@ -11,7 +9,8 @@ use Rattle.switch_core.specs.declared.switch.Step.{Step}
 use Rattle.switch_core.specs.declared.switch.Step.TheVariants.{Moved, Dropped, Answered, Nothing}
 use Rattle.trace_lines.specs.Lines.{TraceLine}
 use Rattle.fabric_trace.specs.Served.{step_lines}
-use Rattle.trace_lines.specs.Text.{trace_text}
+use Rattle.trace_lines.specs.Writing.{Adds}
+use Rattle.trace_lines.specs.declared.writer.TraceWriter.{TraceWriter}
 
 -- the lists of ports
 abbrev pub faces_at : List PortState → List faces.Face
@@ -53,9 +52,8 @@ written_lines node Nothing = []
 written_lines node step = step_lines node step
 
 -- The step was written, and its packets are ones in their link form. It is told whether it is one.
-pub record Wrote (names : List (List ℕ)) (node : ℕ) (step : Step) {K : Type 0}
-    (written : K → Option (List ℕ)) (faults : K → ℕ) (old new : Outbox K) (told : Bool)
+pub record Wrote (node : ℕ) (step : Step) {K : Type 0} (old new : TraceWriter K) (told : Bool)
     : Type 0 where
   pub forms : AreForms step
   pub is : told ≡ is_step step
-  pub prints : Writes written faults old new (trace_text names (written_lines node step))
+  pub adds : Adds old new (written_lines node step)

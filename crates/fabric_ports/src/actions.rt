@@ -1,10 +1,9 @@
 //! What a script has a link do.
 ghost use Rattle.std.specs.Prelude.{◌≡◌, ◌≢◌, ◌≤◌, ◌<◌, ℕ, List, length, slice_get, Some, OnOk, IfOk, IfErr, Ok, Err};
-ghost use Rattle.rio_chars.specs.Written.{Writes};
 ghost use Rattle.fabric_model.specs.Network.{Network};
 ghost use Rattle.fabric_trace.specs.Known.{Seen};
 ghost use Rattle.trace_lines.specs.Lines.{TraceLine};
-ghost use Rattle.trace_lines.specs.Text.{trace_text};
+ghost use Rattle.trace_lines.specs.Writing.{Adds};
 ghost use Rattle.link_machine.specs.Sound.{IsSoundLink};
 ghost use Rattle.link_machine.specs.States.{link};
 ghost use Rattle.link_port.specs.Ports.{PortState};
@@ -17,14 +16,14 @@ ghost use Rattle.fabric_ports.specs.Standing.{Stands};
 use crate::answers::FabricEnd;
 use crate::ends::{LinkPlace, two};
 use crate::fabric::Fabric;
-use fabric_script::{Action, Name, PortRef};
+use fabric_script::{Action, PortRef};
 use link_law::{Fired, Link, LinkEnd};
 use link_port::Port;
 use link_watch::{Side, Watch};
 use link_wires::Edited;
-use rio_chars::{Outbox, Sink};
+use rio_chars::Sink;
 use std::alloc::Global;
-use trace_lines::{LinkLines, port_at_side, write_early, write_short};
+use trace_lines::{Lack, LinkLines, TraceWriter, port_at_side};
 
 /// What came of what a link was asked to do.
 #[derive(Clone, Copy)]
@@ -41,27 +40,26 @@ impl Fabric {
     pub(crate) fn act<K: Sink>(
         &mut self,
         alloc: Global,
-        names: &[Name],
         port: PortRef,
         action: Action,
-        outbox: &mut Outbox<K>,
+        writer: &mut TraceWriter<K>,
     ) -> Result<(), FabricEnd>
         requires linked { PortIsLinked self.old port }
-        requires named { length self.old.devices.items ≤ length names.now }
+        requires named { length self.old.devices.items ≤ length writer.old.names.now }
         requires some { AsksForSome action }
         ensures done { OnOk result ((from : Seen) (lines : List TraceLine)
-            → Stands from lines self.old → Ran (Blocks (line_for port action)) names.now
-            K.written K.faults outbox.old outbox.new from lines (Ok self.new)) }
+            → Stands from lines self.old → Ran (Blocks (line_for port action))
+            writer.old writer.new from lines (Ok self.new)) }
         ensures ended { IfErr result (λ end. (from : Seen) (lines : List TraceLine)
-            → Stands from lines self.old → Ran (Blocks (line_for port action)) names.now
-            K.written K.faults outbox.old outbox.new from lines (Err end)) }
+            → Stands from lines self.old → Ran (Blocks (line_for port action))
+            writer.old writer.new from lines (Err end)) }
     {
         let place = self.link_of(port);
         let cable = &mut self.cables[place.cable];
         let (a, b) = (cable.a, cable.b);
         let mut lines = LinkLines {
-            outbox,
-            names,
+            outbox: writer.outbox,
+            names: writer.names,
             a,
             b,
         };
@@ -74,7 +72,7 @@ impl Fabric {
             &mut lines,
         ) {
             Ok(answer) => {
-                write_lack(lines.outbox, answer);
+                write_lack(writer, answer);
                 Ok(())
             }
             Err(end) => Err(ended(a, b, end)),
@@ -144,14 +142,13 @@ fn act_at<W: Watch>(
 }
 
 /// Writes what is not there, if nothing was done.
-pub(crate) fn write_lack<K: Sink>(outbox: &mut Outbox<K>, answer: Acted)
-    ensures { (names : List (List ℕ)) → Writes K.written K.faults outbox.old outbox.new
-        (trace_text names (lack_lines answer)) }
+pub(crate) fn write_lack<K: Sink>(writer: &mut TraceWriter<K>, answer: Acted)
+    ensures { Adds writer.old writer.new (lack_lines answer) }
 {
     match answer {
         Acted::Done => {}
-        Acted::Short => write_short(outbox),
-        Acted::Early => write_early(outbox),
+        Acted::Short => writer.write_lack(Lack::Short),
+        Acted::Early => writer.write_lack(Lack::Early),
     }
 }
 

@@ -22,6 +22,7 @@ use maint_packets::{Request, Response, read_response, write_request};
 use rio_chars::{Outbox, Sink, TextBuffer};
 use rio_packets::Packet;
 use std::alloc::Global;
+use trace_lines::TraceWriter;
 
 /// The most rounds that an ask makes: 256 for a request, which has a hop count below 256, as many
 /// for its response, and some to spare.
@@ -97,7 +98,9 @@ impl Fabric {
         show_request(request);
         let mut buffer = TextBuffer::new(alloc)?;
         let mut outbox = Outbox::new(&mut buffer, sink);
-        self.ask_through(alloc, names, host, request, noise, &mut outbox)
+        let answered = self.ask_through(alloc, names, host, request, noise, &mut outbox);
+        outbox.into_sink();
+        answered
     }
 
     /// Asks through an outbox, and writes all that was told.
@@ -119,23 +122,24 @@ impl Fabric {
         requires dest { request.now.large ≡ false → request.now.dest < 256 }
         requires source { request.now.large ≡ false → request.now.source < 256 }
         requires fine { outbox.old.failed ≡ false }
-        requires empty { outbox.old.buffer.now ≡ [] }
-        ensures same { outbox.new.sink.ghost_name ≡ outbox.old.sink.ghost_name }
+        requires empty { outbox.old.waiting ≡ [] }
+        ensures same { outbox.new.sink ≡ outbox.old.sink }
         ensures replied { IfOk result (λ response. (from : Seen) (lines : List TraceLine)
             → CanAsk host from lines self.old → Replied names.now
-            (K.written outbox.old.sink.now) (K.written outbox.new.sink.now) host request.now
+            outbox.old.written outbox.new.written host request.now
             (N.edits noise.old) from lines self.new response) }
         ensures ended { IfErr result (λ end. (from : Seen) (lines : List TraceLine)
             → CanAsk host from lines self.old → AskEnds names.now
-            (K.written outbox.old.sink.now) (K.written outbox.new.sink.now) host request.now
+            outbox.old.written outbox.new.written host request.now
             (N.edits noise.old) from lines end) }
         ensures write_fault { IsErrOf result AskEnd.WriteFault
-            → Rose (K.faults outbox.old.sink.now) (K.faults outbox.new.sink.now) }
+            → Rose outbox.old.faults outbox.new.faults }
         ensures counts { ¬ IsErrOf result AskEnd.WriteFault
-            → K.faults outbox.new.sink.now ≡ K.faults outbox.old.sink.now }
-        ensures never_falls { K.faults outbox.old.sink.now ≤ K.faults outbox.new.sink.now }
+            → outbox.new.faults ≡ outbox.old.faults }
+        ensures never_falls { outbox.old.faults ≤ outbox.new.faults }
     {
-        let told = self.tell_ask(alloc, names, host, request, noise, outbox);
+        let mut writer = TraceWriter { outbox, names };
+        let told = self.tell_ask(alloc, host, request, noise, &mut writer);
         outbox.flush();
         if outbox.failed() {
             return Err(AskEnd::WriteFault);
@@ -147,15 +151,14 @@ impl Fabric {
     fn tell_ask<N: Noise, K: Sink>(
         &mut self,
         alloc: Global,
-        names: &[Name],
         host: u8,
         request: &Request,
         noise: &mut N,
-        outbox: &mut Outbox<K>,
+        writer: &mut TraceWriter<K>,
     ) -> Result<Option<Packet>, FabricEnd>
         requires can { (from : Seen) × (lines : List TraceLine) × CanAsk host from lines self.old }
-        requires named { length self.old.devices.items ≤ length names.now }
-        requires few { length names.now ≤ 256 }
+        requires named { length self.old.devices.items ≤ length writer.old.names.now }
+        requires few { length writer.old.names.now ≤ 256 }
         requires op { IsGoodOp request.now.op }
         requires prio { request.now.prio < 4 }
         requires offset { request.now.offset < 0x1000000 }
@@ -163,15 +166,15 @@ impl Fabric {
         requires source { request.now.large ≡ false → request.now.source < 256 }
         ensures done { IfOk result (λ left. (from : Seen) (lines : List TraceLine)
             → CanAsk host from lines self.old
-            → Ran (AskLeaves host request.now (N.edits noise.old) left) names.now
-            K.written K.faults outbox.old outbox.new from lines (Ok self.new)) }
+            → Ran (AskLeaves host request.now (N.edits noise.old) left)
+            writer.old writer.new from lines (Ok self.new)) }
         ensures ended { IfErr result (λ end. (from : Seen) (lines : List TraceLine)
             → CanAsk host from lines self.old
-            → Ran (IsAsk host request.now (N.edits noise.old)) names.now
-            K.written K.faults outbox.old outbox.new from lines (Err end)) }
+            → Ran (IsAsk host request.now (N.edits noise.old))
+            writer.old writer.new from lines (Err end)) }
     {
-        self.send(names, host, write_request(request), outbox);
-        self.fetch(alloc, names, MOST_ROUNDS, host, noise, outbox)
+        self.send(host, write_request(request), writer);
+        self.fetch(alloc, MOST_ROUNDS, host, noise, writer)
     }
 
     /// Makes rounds until the host holds a packet, at most so many, and collects it. Answers the
@@ -179,29 +182,28 @@ impl Fabric {
     fn fetch<N: Noise, K: Sink>(
         &mut self,
         alloc: Global,
-        names: &[Name],
         rounds: u32,
         host: u8,
         noise: &mut N,
-        outbox: &mut Outbox<K>,
+        writer: &mut TraceWriter<K>,
     ) -> Result<Option<Packet>, FabricEnd>
         requires stands { (from : Seen) × (lines : List TraceLine) × Stands from lines self.old }
-        requires named { length self.old.devices.items ≤ length names.now }
-        requires few { length names.now ≤ 256 }
+        requires named { length self.old.devices.items ≤ length writer.old.names.now }
+        requires few { length writer.old.names.now ≤ 256 }
         requires endpoint { IsEndpointAt self.old.devices.items host }
         ensures done { IfOk result (λ left. (from : Seen) (lines : List TraceLine)
             → Stands from lines self.old
-            → Ran (RoundsLeave host rounds (N.edits noise.old) left) names.now
-            K.written K.faults outbox.old outbox.new from lines (Ok self.new)) }
+            → Ran (RoundsLeave host rounds (N.edits noise.old) left)
+            writer.old writer.new from lines (Ok self.new)) }
         ensures ended { IfErr result (λ end. (from : Seen) (lines : List TraceLine)
             → Stands from lines self.old
-            → Ran (AskRounds host rounds (N.edits noise.old)) names.now
-            K.written K.faults outbox.old outbox.new from lines (Err end)) }
+            → Ran (AskRounds host rounds (N.edits noise.old))
+            writer.old writer.new from lines (Err end)) }
     {
         for _ in 0..rounds {
-            self.ask_round(alloc, names, host, noise, outbox)?;
+            self.ask_round(alloc, host, noise, writer)?;
             if self.holds(host) {
-                return Ok(left_of(self.collect(names, host, outbox)));
+                return Ok(left_of(self.collect(host, writer)));
             }
         }
         Ok(None)

@@ -1,12 +1,11 @@
 //! What the links do in a round of an ask.
 ghost use Rattle.std.specs.Prelude.{◌≡◌, ◌≤◌, ◌<◌, List, length, map, slice_get, Some, OnOk, IfErr, Ok, Err};
-ghost use Rattle.rio_chars.specs.Written.{Writes};
 ghost use Rattle.rio_chars.specs.declared.chars.Char.{Char};
 ghost use Rattle.link_wires.specs.Wires.{fits, edit_answered};
 ghost use Rattle.fabric_trace.specs.Fold.{seen};
 ghost use Rattle.fabric_trace.specs.Known.{Seen};
 ghost use Rattle.trace_lines.specs.Lines.{TraceLine};
-ghost use Rattle.trace_lines.specs.Text.{trace_text};
+ghost use Rattle.trace_lines.specs.Writing.{Adds};
 ghost use Rattle.fabric_ask.specs.Noise.{edit_line, edit_lines, is_idle};
 ghost use Rattle.fabric_ports.specs.Carrying.{AreLinked, WithLeft, BothTurn, Stirs, Edits, BothStir, LinkCarries, LinksCarry};
 ghost use Rattle.fabric_ports.specs.Ends.{PortIsLinked};
@@ -17,36 +16,35 @@ ghost use Rattle.fabric_ports.specs.Standing.{Stands};
 use crate::answers::FabricEnd;
 use crate::fabric::Fabric;
 use crate::noise::Noise;
-use fabric_script::{Action, Line, Name, PortRef};
+use fabric_script::{Action, Line, PortRef};
 use link_wires::{Edit, Edited};
-use rio_chars::{Outbox, Sink};
+use rio_chars::Sink;
 use std::alloc::Global;
-use trace_lines::write_begun;
+use trace_lines::TraceWriter;
 
 impl Fabric {
     /// Every link carries what it can, in the order of the links.
     pub(crate) fn carry_all<N: Noise, K: Sink>(
         &mut self,
         alloc: Global,
-        names: &[Name],
         noise: &mut N,
-        outbox: &mut Outbox<K>,
+        writer: &mut TraceWriter<K>,
     ) -> Result<(), FabricEnd>
         requires stands { (from : Seen) × (lines : List TraceLine) × Stands from lines self.old }
-        requires named { length self.old.devices.items ≤ length names.now }
+        requires named { length self.old.devices.items ≤ length writer.old.names.now }
         ensures done { OnOk result ((from : Seen) (lines : List TraceLine)
             → Stands from lines self.old
-            → Ran (LinksCarry (N.edits noise.old) (N.edits noise.new)) names.now
-            K.written K.faults outbox.old outbox.new from lines (Ok self.new)) }
+            → Ran (LinksCarry (N.edits noise.old) (N.edits noise.new))
+            writer.old writer.new from lines (Ok self.new)) }
         ensures ended { IfErr result (λ end. (from : Seen) (lines : List TraceLine)
             → Stands from lines self.old
-            → Ran (WithLeft (LinksCarry (N.edits noise.old))) names.now
-            K.written K.faults outbox.old outbox.new from lines (Err end)) }
+            → Ran (WithLeft (LinksCarry (N.edits noise.old)))
+            writer.old writer.new from lines (Err end)) }
     {
         for place in 0..self.cables.len() {
             let cable = &self.cables[place];
             let (a, b) = (cable.a, cable.b);
-            self.carry_at(alloc, names, place, (a, b), noise, outbox)?;
+            self.carry_at(alloc, place, (a, b), noise, writer)?;
         }
         Ok(())
     }
@@ -55,28 +53,27 @@ impl Fabric {
     fn carry_at<N: Noise, K: Sink>(
         &mut self,
         alloc: Global,
-        names: &[Name],
         place: usize,
         ends: (PortRef, PortRef),
         noise: &mut N,
-        outbox: &mut Outbox<K>,
+        writer: &mut TraceWriter<K>,
     ) -> Result<(), FabricEnd>
         requires at { slice_get (map ends_of self.old.cables.items) place ≡ Some ends }
         requires linked { AreLinked self.old ends }
-        requires named { length self.old.devices.items ≤ length names.now }
+        requires named { length self.old.devices.items ≤ length writer.old.names.now }
         ensures done { OnOk result ((from : Seen) (lines : List TraceLine)
             → Stands from lines self.old
-            → Ran (LinkCarries ends (N.edits noise.old) (N.edits noise.new)) names.now
-            K.written K.faults outbox.old outbox.new from lines (Ok self.new)) }
+            → Ran (LinkCarries ends (N.edits noise.old) (N.edits noise.new))
+            writer.old writer.new from lines (Ok self.new)) }
         ensures ended { IfErr result (λ end. (from : Seen) (lines : List TraceLine)
             → Stands from lines self.old
-            → Ran (WithLeft (LinkCarries ends (N.edits noise.old))) names.now
-            K.written K.faults outbox.old outbox.new from lines (Err end)) }
+            → Ran (WithLeft (LinkCarries ends (N.edits noise.old)))
+            writer.old writer.new from lines (Err end)) }
     {
         if self.is_idle(place) {
             return Ok(());
         }
-        self.carry(alloc, names, ends, noise, outbox)
+        self.carry(alloc, ends, noise, writer)
     }
 
     /// Both ports of a link take a turn, each wire that has characters gets the next edit, and the
@@ -84,98 +81,94 @@ impl Fabric {
     fn carry<N: Noise, K: Sink>(
         &mut self,
         alloc: Global,
-        names: &[Name],
         ends: (PortRef, PortRef),
         noise: &mut N,
-        outbox: &mut Outbox<K>,
+        writer: &mut TraceWriter<K>,
     ) -> Result<(), FabricEnd>
         requires linked { AreLinked self.old ends }
-        requires named { length self.old.devices.items ≤ length names.now }
+        requires named { length self.old.devices.items ≤ length writer.old.names.now }
         ensures done { OnOk result ((from : Seen) (lines : List TraceLine)
             → Stands from lines self.old
-            → Ran (LinkCarries ends (N.edits noise.old) (N.edits noise.new)) names.now
-            K.written K.faults outbox.old outbox.new from lines (Ok self.new)) }
+            → Ran (LinkCarries ends (N.edits noise.old) (N.edits noise.new))
+            writer.old writer.new from lines (Ok self.new)) }
         ensures ended { IfErr result (λ end. (from : Seen) (lines : List TraceLine)
             → Stands from lines self.old
-            → Ran (WithLeft (LinkCarries ends (N.edits noise.old))) names.now
-            K.written K.faults outbox.old outbox.new from lines (Err end)) }
+            → Ran (WithLeft (LinkCarries ends (N.edits noise.old)))
+            writer.old writer.new from lines (Err end)) }
     {
-        self.turn_both(alloc, names, ends, outbox)?;
-        self.stir_both(alloc, names, ends, noise, outbox)?;
-        self.settle_link(alloc, names, ends.0, outbox)
+        self.turn_both(alloc, ends, writer)?;
+        self.stir_both(alloc, ends, noise, writer)?;
+        self.settle_link(alloc, ends.0, writer)
     }
 
     /// Both ports of a link take a turn to send.
     fn turn_both<K: Sink>(
         &mut self,
         alloc: Global,
-        names: &[Name],
         ends: (PortRef, PortRef),
-        outbox: &mut Outbox<K>,
+        writer: &mut TraceWriter<K>,
     ) -> Result<(), FabricEnd>
         requires linked { AreLinked self.old ends }
-        requires named { length self.old.devices.items ≤ length names.now }
+        requires named { length self.old.devices.items ≤ length writer.old.names.now }
         ensures done { OnOk result ((from : Seen) (lines : List TraceLine)
-            → Stands from lines self.old → Ran (BothTurn ends) names.now
-            K.written K.faults outbox.old outbox.new from lines (Ok self.new)) }
+            → Stands from lines self.old → Ran (BothTurn ends)
+            writer.old writer.new from lines (Ok self.new)) }
         ensures ended { IfErr result (λ end. (from : Seen) (lines : List TraceLine)
-            → Stands from lines self.old → Ran (BothTurn ends) names.now
-            K.written K.faults outbox.old outbox.new from lines (Err end)) }
+            → Stands from lines self.old → Ran (BothTurn ends)
+            writer.old writer.new from lines (Err end)) }
     {
-        self.act(alloc, names, ends.0, Action::Pump(1), outbox)?;
-        self.act(alloc, names, ends.1, Action::Pump(1), outbox)
+        self.act(alloc, ends.0, Action::Pump(1), writer)?;
+        self.act(alloc, ends.1, Action::Pump(1), writer)
     }
 
     /// Both wires of a link get the next edit, that of its first port first.
     fn stir_both<N: Noise, K: Sink>(
         &mut self,
         alloc: Global,
-        names: &[Name],
         ends: (PortRef, PortRef),
         noise: &mut N,
-        outbox: &mut Outbox<K>,
+        writer: &mut TraceWriter<K>,
     ) -> Result<(), FabricEnd>
         requires linked { AreLinked self.old ends }
-        requires named { length self.old.devices.items ≤ length names.now }
+        requires named { length self.old.devices.items ≤ length writer.old.names.now }
         ensures done { OnOk result ((from : Seen) (lines : List TraceLine)
             → Stands from lines self.old
-            → Ran (BothStir ends (N.edits noise.old) (N.edits noise.new)) names.now
-            K.written K.faults outbox.old outbox.new from lines (Ok self.new)) }
+            → Ran (BothStir ends (N.edits noise.old) (N.edits noise.new))
+            writer.old writer.new from lines (Ok self.new)) }
         ensures ended { IfErr result (λ end. (from : Seen) (lines : List TraceLine)
             → Stands from lines self.old
-            → Ran (WithLeft (BothStir ends (N.edits noise.old))) names.now
-            K.written K.faults outbox.old outbox.new from lines (Err end)) }
+            → Ran (WithLeft (BothStir ends (N.edits noise.old)))
+            writer.old writer.new from lines (Err end)) }
     {
-        self.stir(alloc, names, ends.0, noise, outbox)?;
-        self.stir(alloc, names, ends.1, noise, outbox)
+        self.stir(alloc, ends.0, noise, writer)?;
+        self.stir(alloc, ends.1, noise, writer)
     }
 
     /// The wire of a port gets the next edit, if the wire has characters and an edit is left.
     fn stir<N: Noise, K: Sink>(
         &mut self,
         alloc: Global,
-        names: &[Name],
         port: PortRef,
         noise: &mut N,
-        outbox: &mut Outbox<K>,
+        writer: &mut TraceWriter<K>,
     ) -> Result<(), FabricEnd>
         requires linked { PortIsLinked self.old port }
-        requires named { length self.old.devices.items ≤ length names.now }
+        requires named { length self.old.devices.items ≤ length writer.old.names.now }
         ensures done { OnOk result ((from : Seen) (lines : List TraceLine)
             → Stands from lines self.old
-            → Ran (Stirs port (N.edits noise.old) (N.edits noise.new)) names.now
-            K.written K.faults outbox.old outbox.new from lines (Ok self.new)) }
+            → Ran (Stirs port (N.edits noise.old) (N.edits noise.new))
+            writer.old writer.new from lines (Ok self.new)) }
         ensures ended { IfErr result (λ end. (from : Seen) (lines : List TraceLine)
             → Stands from lines self.old
-            → Ran (WithLeft (Stirs port (N.edits noise.old))) names.now
-            K.written K.faults outbox.old outbox.new from lines (Err end)) }
+            → Ran (WithLeft (Stirs port (N.edits noise.old)))
+            writer.old writer.new from lines (Err end)) }
     {
         let length = self.length(port);
         if length == 0 {
             return Ok(());
         }
         match noise.next(length) {
-            Some(edit) => self.edit_aloud(alloc, names, port, &edit, outbox),
+            Some(edit) => self.edit_aloud(alloc, port, &edit, writer),
             None => Ok(()),
         }
     }
@@ -195,25 +188,24 @@ impl Fabric {
     fn edit_aloud<K: Sink>(
         &mut self,
         alloc: Global,
-        names: &[Name],
         port: PortRef,
         edit: &Edit,
-        outbox: &mut Outbox<K>,
+        writer: &mut TraceWriter<K>,
     ) -> Result<(), FabricEnd>
         requires linked { PortIsLinked self.old port }
-        requires named { length self.old.devices.items ≤ length names.now }
+        requires named { length self.old.devices.items ≤ length writer.old.names.now }
         ensures done { OnOk result ((from : Seen) (lines : List TraceLine)
-            → Stands from lines self.old → Ran (Edits port edit.now) names.now
-            K.written K.faults outbox.old outbox.new from lines (Ok self.new)) }
+            → Stands from lines self.old → Ran (Edits port edit.now)
+            writer.old writer.new from lines (Ok self.new)) }
         ensures ended { IfErr result (λ end. (from : Seen) (lines : List TraceLine)
-            → Stands from lines self.old → Ran (Edits port edit.now) names.now
-            K.written K.faults outbox.old outbox.new from lines (Err end)) }
+            → Stands from lines self.old → Ran (Edits port edit.now)
+            writer.old writer.new from lines (Err end)) }
     {
         let place = self.link_of(port);
         let cable = &mut self.cables[place.cable];
         match cable.link.edit(alloc, place.side, edit) {
             Ok(edited) => {
-                write_edit(outbox, names, port, edit, edited);
+                write_edit(writer, port, edit, edited);
                 Ok(())
             }
             Err(_) => Err(FabricEnd::NoMemory),
@@ -222,22 +214,15 @@ impl Fabric {
 }
 
 /// Writes the line of an edit of a port's wire, if it was done and did something.
-fn write_edit<K: Sink>(
-    outbox: &mut Outbox<K>,
-    names: &[Name],
-    port: PortRef,
-    edit: &Edit,
-    edited: Edited,
-)
-    requires { port.node < length names.now }
+fn write_edit<K: Sink>(writer: &mut TraceWriter<K>, port: PortRef, edit: &Edit, edited: Edited)
+    requires { port.node < length writer.old.names.now }
     ensures { (chars : List Char) → edited ≡ edit_answered (fits edit.now chars)
-        → Writes K.written K.faults outbox.old outbox.new
-        (trace_text names.now (edit_lines port edit.now chars)) }
+        → Adds writer.old writer.new (edit_lines port edit.now chars) }
 {
     match edited {
         Edited::Done => {
             if !is_idle(edit) {
-                write_begun(outbox, names, &line_of(port, edit));
+                writer.write_begun(&line_of(port, edit));
             }
         }
         Edited::Short => {}

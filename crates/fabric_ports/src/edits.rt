@@ -17,8 +17,9 @@ use crate::answers::FabricEnd;
 use crate::fabric::Fabric;
 use fabric_script::{PortRef, WireEdit};
 use link_wires::{Edit, Edited};
-use rio_chars::{Outbox, Sink};
+use rio_chars::Sink;
 use std::alloc::Global;
+use trace_lines::TraceWriter;
 
 impl Fabric {
     /// Changes the characters of a port's wire, if it has so many. Nothing is written where memory
@@ -28,21 +29,20 @@ impl Fabric {
         alloc: Global,
         port: PortRef,
         edit: WireEdit,
-        outbox: &mut Outbox<K>,
+        writer: &mut TraceWriter<K>,
     ) -> Result<(), FabricEnd>
         requires { PortIsLinked self.old port }
-        ensures done { OnOk result ((names : List (List ℕ)) (from : Seen) (lines : List TraceLine)
+        ensures done { OnOk result ((from : Seen) (lines : List TraceLine)
             → Stands from lines self.old
-            → Did (Blocks (line_editing port edit) (seen from lines)) names
-            K.written K.faults outbox.old outbox.new
+            → Did (Blocks (line_editing port edit) (seen from lines)) writer.old writer.new
             (edited_by (seen from lines) (Some (port, edit_asked edit))) self.new) }
-        ensures ended { IfErr result (λ end. (end ≡ NoMemory) × (outbox.new ≡ outbox.old)) }
+        ensures ended { IfErr result (λ end. (end ≡ NoMemory) × (writer.new ≡ writer.old)) }
     {
         let place = self.link_of(port);
         let cable = &mut self.cables[place.cable];
         match cable.link.edit(alloc, place.side, &edit_asked(edit)) {
             Ok(edited) => {
-                write_lack(outbox, as_acted(edited));
+                write_lack(writer, as_acted(edited));
                 Ok(())
             }
             Err(_) => Err(FabricEnd::NoMemory),

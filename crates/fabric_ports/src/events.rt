@@ -13,13 +13,13 @@ ghost use Rattle.fabric_ports.specs.Standing.{Stands};
 
 use crate::answers::{FabricEnd, Happened};
 use crate::fabric::Fabric;
-use fabric_script::{Contents, GivenPacket, Line, Name, Operation, RequestHead};
+use fabric_script::{Contents, GivenPacket, Line, Operation, RequestHead};
 use maint_packets::{Op, Request, write_request};
 use maint_registers::Registers;
-use rio_chars::{Outbox, Sink};
+use rio_chars::Sink;
 use rio_packets::{Header, Packet, build};
 use std::alloc::Global;
-use trace_lines::write_begun;
+use trace_lines::TraceWriter;
 
 impl Fabric {
     /// Carries out an event, and writes its block of the trace: the line with which it begins, and
@@ -30,45 +30,44 @@ impl Fabric {
     /// port and the first such event; the block up to it was written. With `NoMemory` a front of
     /// the block was written, and so with `Failed`, which comes only if a write has failed. The
     /// fabric is of no use after each of them. Where a write fails, a `run` ends with `Failed`
-    /// behind the next link that settles; any other event goes on to its end, so ask the outbox
+    /// behind the next link that settles; any other event goes on to its end, so ask the writer
     /// behind an `Ok`.
     pub fn event<K: Sink>(
         &mut self,
         alloc: Global,
-        names: &[Name],
         line: &Line,
-        outbox: &mut Outbox<K>,
+        writer: &mut TraceWriter<K>,
     ) -> Result<Happened, FabricEnd>
-        requires may { MayFollow self.old names.now line.now }
+        requires may { MayFollow self.old writer.old.names.now line.now }
         ensures done { IfOk result (λ answer. (from : Seen) (lines : List TraceLine)
             → Stands from lines self.old → Evented line.now (IsAnsweredBlock line.now answer)
-            names.now K.written K.faults outbox.old outbox.new from lines (Ok self.new)) }
+            writer.old writer.new from lines (Ok self.new)) }
         ensures ended { IfErr result (λ end. (from : Seen) (lines : List TraceLine)
-            → Stands from lines self.old → Evented line.now (IsOwnBlock line.now) names.now
-            K.written K.faults outbox.old outbox.new from lines (Err end)) }
+            → Stands from lines self.old → Evented line.now (IsOwnBlock line.now)
+            writer.old writer.new from lines (Err end)) }
     {
-        write_begun(outbox, names, line);
+        writer.write_begun(line);
         match line.operation() {
             Operation::SetUp => unreachable!(),
             Operation::Give(given) => {
                 let packet = packet_of(&given, &self.devices[usize::from(given.node)]);
-                Ok(self.send(names, given.node, packet, outbox))
+                Ok(self.send(given.node, packet, writer))
             }
             Operation::AtLink(port, action) => {
-                self.act(alloc, names, port, action, outbox)?;
+                self.act(alloc, port, action, writer)?;
                 Ok(Happened::Other)
             }
             Operation::Edit(port, edit) => {
-                self.edit(alloc, port, edit, outbox)?;
+                self.edit(alloc, port, edit, writer)?;
                 Ok(Happened::Other)
             }
             Operation::Move(node) => {
-                self.step_or_none(names, node, outbox);
+                self.step_or_none(node, writer);
                 Ok(Happened::Other)
             }
-            Operation::Collect(node) => Ok(self.collect(names, node, outbox)),
+            Operation::Collect(node) => Ok(self.collect(node, writer)),
             Operation::Run(n) => {
-                self.run(alloc, names, n, outbox)?;
+                self.run(alloc, n, writer)?;
                 Ok(Happened::Other)
             }
         }

@@ -15,10 +15,11 @@ ghost use Rattle.fabric_ports.specs.Standing.{Stands};
 use crate::answers::{FabricEnd, Happened};
 use crate::fabric::Fabric;
 use crate::noise::Noise;
-use fabric_script::{Name, PortRef};
+use fabric_script::PortRef;
 use link_port::{Port, PortFace};
-use rio_chars::{Outbox, Sink};
+use rio_chars::Sink;
 use std::alloc::Global;
+use trace_lines::TraceWriter;
 
 impl Fabric {
     /// Makes one round of an ask: every link carries what it can, every switch makes steps until no
@@ -26,57 +27,56 @@ impl Fabric {
     pub(crate) fn ask_round<N: Noise, K: Sink>(
         &mut self,
         alloc: Global,
-        names: &[Name],
         host: u8,
         noise: &mut N,
-        outbox: &mut Outbox<K>,
+        writer: &mut TraceWriter<K>,
     ) -> Result<(), FabricEnd>
         requires stands { (from : Seen) × (lines : List TraceLine) × Stands from lines self.old }
-        requires named { length self.old.devices.items ≤ length names.now }
-        requires few { length names.now ≤ 256 }
+        requires named { length self.old.devices.items ≤ length writer.old.names.now }
+        requires few { length writer.old.names.now ≤ 256 }
         ensures done { OnOk result ((from : Seen) (lines : List TraceLine)
             → Stands from lines self.old
-            → Ran (AskRound host (N.edits noise.old) (N.edits noise.new)) names.now
-            K.written K.faults outbox.old outbox.new from lines (Ok self.new)) }
+            → Ran (AskRound host (N.edits noise.old) (N.edits noise.new))
+            writer.old writer.new from lines (Ok self.new)) }
         ensures ended { IfErr result (λ end. (from : Seen) (lines : List TraceLine)
             → Stands from lines self.old
-            → Ran (WithLeft (AskRound host (N.edits noise.old))) names.now
-            K.written K.faults outbox.old outbox.new from lines (Err end)) }
+            → Ran (WithLeft (AskRound host (N.edits noise.old)))
+            writer.old writer.new from lines (Err end)) }
     {
-        self.carry_all(alloc, names, noise, outbox)?;
-        self.serve_all(names, outbox);
-        self.collect_nodes(names, host, outbox);
+        self.carry_all(alloc, noise, writer)?;
+        self.serve_all(writer);
+        self.collect_nodes(host, writer);
         Ok(())
     }
 
     /// Every endpoint but the host collects, in the order of the devices.
-    fn collect_nodes<K: Sink>(&mut self, names: &[Name], host: u8, outbox: &mut Outbox<K>)
+    fn collect_nodes<K: Sink>(&mut self, host: u8, writer: &mut TraceWriter<K>)
         requires stands { (from : Seen) × (lines : List TraceLine) × Stands from lines self.old }
-        requires named { length self.old.devices.items ≤ length names.now }
-        requires few { length names.now ≤ 256 }
+        requires named { length self.old.devices.items ≤ length writer.old.names.now }
+        requires few { length writer.old.names.now ≤ 256 }
         ensures { (from : Seen) (lines : List TraceLine) → Stands from lines self.old
-            → Ran (OthersCollect host) names.now K.written K.faults outbox.old outbox.new from
+            → Ran (OthersCollect host) writer.old writer.new from
             lines (Ok self.new) }
     {
         for node in 0..self.devices.len() {
             if !self.devices[node].is_switch() && node != usize::from(host) {
-                self.collect_all(names, node as u8, outbox);
+                self.collect_all(node as u8, writer);
             }
         }
     }
 
     /// An endpoint collects one packet after another, until it holds none or has no room for a
     /// response.
-    fn collect_all<K: Sink>(&mut self, names: &[Name], node: u8, outbox: &mut Outbox<K>)
+    fn collect_all<K: Sink>(&mut self, node: u8, writer: &mut TraceWriter<K>)
         requires stands { (from : Seen) × (lines : List TraceLine) × Stands from lines self.old }
-        requires named { node < length names.now }
+        requires named { node < length writer.old.names.now }
         requires endpoint { IsEndpointAt self.old.devices.items node }
         ensures { (from : Seen) (lines : List TraceLine) → Stands from lines self.old
-            → Ran (Collects node) names.now K.written K.faults outbox.old outbox.new from lines
+            → Ran (Collects node) writer.old writer.new from lines
             (Ok self.new) }
     {
         while self.holds(node) {
-            if let Happened::Full = self.collect(names, node, outbox) {
+            if let Happened::Full = self.collect(node, writer) {
                 return;
             }
         }

@@ -11,54 +11,46 @@ ghost use Rattle.fabric_trace.specs.Served.{IsCollect};
 
 use crate::answers::Happened;
 use crate::fabric::Fabric;
-use fabric_script::{Name, PortRef};
+use fabric_script::PortRef;
 use link_port::PortFace;
-use rio_chars::{Outbox, Sink};
+use rio_chars::Sink;
 use rio_packets::Packet;
 use switch_core::{Collected, endpoint_collect};
-use trace_lines::{write_answer, write_empty, write_full, write_leave, write_take};
+use trace_lines::{Lack, TraceWriter};
 
 impl Fabric {
     /// An endpoint takes a packet to be sent, if there is room.
     pub(crate) fn send<K: Sink>(
         &mut self,
-        names: &[Name],
         node: u8,
         packet: Packet,
-        outbox: &mut Outbox<K>,
+        writer: &mut TraceWriter<K>,
     ) -> Happened
-        requires named { node < length names.now }
+        requires named { node < length writer.old.names.now }
         requires shown { (s : Seen) × ShowsFabric self.old s }
         requires endpoint { IsEndpointAt self.old.devices.items node }
         ensures { (s : Seen) → ShowsFabric self.old s → s.unfaithful ≡ None
             → Did (λ block. (block ≡ take_lines s node packet)
-            × (result ≡ answer_taken block)) names.now
-            K.written K.faults outbox.old outbox.new s self.new }
+            × (result ≡ answer_taken block)) writer.old writer.new s self.new }
     {
         let place = self.place(PortRef { node, port: 0 });
         if !self.ports[place].out_room(packet.prio()) {
-            write_full(outbox);
+            writer.write_lack(Lack::Full);
             return Happened::Full;
         }
-        write_take(outbox, names, node, &packet);
+        writer.write_take(node, &packet);
         self.ports[place].out_put(packet);
         Happened::Took
     }
 
     /// The packet whose turn it is leaves at an endpoint, or its registers answer it.
-    pub(crate) fn collect<K: Sink>(
-        &mut self,
-        names: &[Name],
-        node: u8,
-        outbox: &mut Outbox<K>,
-    ) -> Happened
-        requires named { node < length names.now }
+    pub(crate) fn collect<K: Sink>(&mut self, node: u8, writer: &mut TraceWriter<K>) -> Happened
+        requires named { node < length writer.old.names.now }
         requires shown { (s : Seen) × ShowsFabric self.old s }
         requires endpoint { IsEndpointAt self.old.devices.items node }
         ensures { (s : Seen) → ShowsFabric self.old s → s.unfaithful ≡ None
             → ByPriority s.network → Did (λ block. IsCollect s.network node block
-            × (result ≡ answer_collected block)) names.now
-            K.written K.faults outbox.old outbox.new s self.new }
+            × (result ≡ answer_collected block)) writer.old writer.new s self.new }
     {
         let port = PortRef { node, port: 0 };
         let place = self.place(port);
@@ -66,21 +58,21 @@ impl Fabric {
         match endpoint_collect(&mut self.ports[place], registers) {
             Collected::Left(packet) => {
                 show_form(&packet);
-                write_leave(outbox, names, node, &packet);
+                writer.write_leave(node, &packet);
                 Happened::Left(packet)
             }
             Collected::Answered { request, response } => {
                 show_form(&request);
                 show_form(&response);
-                write_answer(outbox, names, port, &request, &response);
+                writer.write_answer(port, &request, &response);
                 Happened::Answered
             }
             Collected::Empty => {
-                write_empty(outbox);
+                writer.write_lack(Lack::Empty);
                 Happened::Empty
             }
             Collected::Full => {
-                write_full(outbox);
+                writer.write_lack(Lack::Full);
                 Happened::Full
             }
         }

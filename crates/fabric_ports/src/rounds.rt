@@ -13,9 +13,10 @@ ghost use Rattle.fabric_ports.specs.Standing.{Stands};
 
 use crate::answers::FabricEnd;
 use crate::fabric::Fabric;
-use fabric_script::{Action, Name, PortRef};
-use rio_chars::{Outbox, Sink};
+use fabric_script::{Action, PortRef};
+use rio_chars::Sink;
 use std::alloc::Global;
+use trace_lines::TraceWriter;
 
 impl Fabric {
     /// Makes so many rounds. In each, every link settles in order, and then every switch in order
@@ -24,23 +25,22 @@ impl Fabric {
     pub(crate) fn run<K: Sink>(
         &mut self,
         alloc: Global,
-        names: &[Name],
         rounds: u32,
-        outbox: &mut Outbox<K>,
+        writer: &mut TraceWriter<K>,
     ) -> Result<(), FabricEnd>
         requires stands { (from : Seen) × (lines : List TraceLine) × Stands from lines self.old }
-        requires named { length self.old.devices.items ≤ length names.now }
-        requires few { length names.now ≤ 256 }
+        requires named { length self.old.devices.items ≤ length writer.old.names.now }
+        requires few { length writer.old.names.now ≤ 256 }
         ensures done { OnOk result ((from : Seen) (lines : List TraceLine)
-            → Stands from lines self.old → Ran (Rounds IsSettle rounds) names.now
-            K.written K.faults outbox.old outbox.new from lines (Ok self.new)) }
+            → Stands from lines self.old → Ran (Rounds IsSettle rounds)
+            writer.old writer.new from lines (Ok self.new)) }
         ensures ended { IfErr result (λ end. (from : Seen) (lines : List TraceLine)
-            → Stands from lines self.old → Ran (Rounds IsSettle rounds) names.now
-            K.written K.faults outbox.old outbox.new from lines (Err end)) }
+            → Stands from lines self.old → Ran (Rounds IsSettle rounds)
+            writer.old writer.new from lines (Err end)) }
     {
         for _ in 0..rounds {
-            self.settle_all(alloc, names, outbox)?;
-            self.serve_all(names, outbox);
+            self.settle_all(alloc, writer)?;
+            self.serve_all(writer);
         }
         Ok(())
     }
@@ -49,78 +49,76 @@ impl Fabric {
     fn settle_all<K: Sink>(
         &mut self,
         alloc: Global,
-        names: &[Name],
-        outbox: &mut Outbox<K>,
+        writer: &mut TraceWriter<K>,
     ) -> Result<(), FabricEnd>
         requires stands { (from : Seen) × (lines : List TraceLine) × Stands from lines self.old }
-        requires named { length self.old.devices.items ≤ length names.now }
+        requires named { length self.old.devices.items ≤ length writer.old.names.now }
         ensures done { OnOk result ((from : Seen) (lines : List TraceLine)
-            → Stands from lines self.old → Ran LinksSettle names.now
-            K.written K.faults outbox.old outbox.new from lines (Ok self.new)) }
+            → Stands from lines self.old → Ran LinksSettle
+            writer.old writer.new from lines (Ok self.new)) }
         ensures ended { IfErr result (λ end. (from : Seen) (lines : List TraceLine)
-            → Stands from lines self.old → Ran LinksSettle names.now
-            K.written K.faults outbox.old outbox.new from lines (Err end)) }
+            → Stands from lines self.old → Ran LinksSettle
+            writer.old writer.new from lines (Err end)) }
     {
         for place in 0..self.cables.len() {
             if self.is_idle(place) {
                 continue;
             }
             let port = self.cables[place].a;
-            self.settle_link(alloc, names, port, outbox)?;
+            self.settle_link(alloc, port, writer)?;
         }
         Ok(())
     }
 
-    /// The link of a port settles, and then the outbox is asked: behind a write that failed nothing
+    /// The link of a port settles, and then the writer is asked: behind a write that failed nothing
     /// more would be written.
     pub(crate) fn settle_link<K: Sink>(
         &mut self,
         alloc: Global,
-        names: &[Name],
         port: PortRef,
-        outbox: &mut Outbox<K>,
+        writer: &mut TraceWriter<K>,
     ) -> Result<(), FabricEnd>
         requires linked { PortIsLinked self.old port }
-        requires named { length self.old.devices.items ≤ length names.now }
+        requires named { length self.old.devices.items ≤ length writer.old.names.now }
         ensures done { OnOk result ((from : Seen) (lines : List TraceLine)
-            → Stands from lines self.old → Ran (Blocks (Settle port)) names.now
-            K.written K.faults outbox.old outbox.new from lines (Ok self.new)) }
+            → Stands from lines self.old → Ran (Blocks (Settle port))
+            writer.old writer.new from lines (Ok self.new)) }
         ensures ended { IfErr result (λ end. (from : Seen) (lines : List TraceLine)
-            → Stands from lines self.old → Ran (Blocks (Settle port)) names.now
-            K.written K.faults outbox.old outbox.new from lines (Err end)) }
+            → Stands from lines self.old → Ran (Blocks (Settle port))
+            writer.old writer.new from lines (Err end)) }
     {
-        self.act(alloc, names, port, Action::Settle, outbox)?;
-        if outbox.failed() {
+        self.act(alloc, port, Action::Settle, writer)?;
+        if writer.failed() {
             return Err(FabricEnd::Failed);
         }
         Ok(())
     }
 
     /// Every switch makes steps until no packet of it can go, in the order of the devices.
-    pub(crate) fn serve_all<K: Sink>(&mut self, names: &[Name], outbox: &mut Outbox<K>)
+    pub(crate) fn serve_all<K: Sink>(&mut self, writer: &mut TraceWriter<K>)
         requires stands { (from : Seen) × (lines : List TraceLine) × Stands from lines self.old }
-        requires named { length self.old.devices.items ≤ length names.now }
-        requires few { length names.now ≤ 256 }
+        requires named { length self.old.devices.items ≤ length writer.old.names.now }
+        requires few { length writer.old.names.now ≤ 256 }
         ensures { (from : Seen) (lines : List TraceLine) → Stands from lines self.old
-            → Ran SwitchesServe names.now K.written K.faults outbox.old outbox.new from lines
+            → Ran SwitchesServe writer.old writer.new from lines
             (Ok self.new) }
     {
         for node in 0..self.devices.len() {
             if self.devices[node].is_switch() {
-                self.serve(names, node as u8, outbox);
+                self.serve(node as u8, writer);
             }
         }
     }
 
     /// A switch makes steps until no packet of it can go. Each step takes a received packet away.
-    fn serve<K: Sink>(&mut self, names: &[Name], node: u8, outbox: &mut Outbox<K>)
+    fn serve<K: Sink>(&mut self, node: u8, writer: &mut TraceWriter<K>)
         requires stands { (from : Seen) × (lines : List TraceLine) × Stands from lines self.old }
-        requires named { node < length names.now }
+        requires named { node < length writer.old.names.now }
         requires switch { IsSwitchAt self.old.devices.items node }
         ensures { (from : Seen) (lines : List TraceLine) → Stands from lines self.old
-            → Ran (Serves node) names.now K.written K.faults outbox.old outbox.new from lines
+            → Ran (Serves node) writer.old writer.new from lines
             (Ok self.new) }
     {
-        while self.step(names, node, outbox) {}
+        while self.step(node, writer) {}
     }
 }

@@ -15,43 +15,41 @@ ghost use Rattle.fabric_ports.specs.Switching.{MadeStep, Wrote, faces_at, own_po
 
 use crate::fabric::Fabric;
 use crate::nodes::show_form;
-use fabric_script::{Name, PortRef};
+use fabric_script::PortRef;
 use link_port::Port;
 use maint_packets::Next;
 use maint_registers::Registers;
-use rio_chars::{Outbox, Sink};
+use rio_chars::Sink;
 use switch_core::{Going, first_going};
-use trace_lines::{write_answer, write_drop, write_move, write_none};
+use trace_lines::{Lack, TraceWriter};
 
 impl Fabric {
     /// A switch makes the first step that it can make, which is written; or it is written that it
     /// can make none.
-    pub(crate) fn step_or_none<K: Sink>(&mut self, names: &[Name], node: u8, outbox: &mut Outbox<K>)
-        requires named { node < length names.now }
+    pub(crate) fn step_or_none<K: Sink>(&mut self, node: u8, writer: &mut TraceWriter<K>)
+        requires named { node < length writer.old.names.now }
         requires shown { (s : Seen) × ShowsFabric self.old s }
         requires switch { IsSwitchAt self.old.devices.items node }
         ensures { (s : Seen) → ShowsFabric self.old s → s.unfaithful ≡ None → ByPriority s.network
-            → Did (IsMove s.network node) names.now
-            K.written K.faults outbox.old outbox.new s self.new }
+            → Did (IsMove s.network node) writer.old writer.new s self.new }
     {
-        if !self.step(names, node, outbox) {
-            write_none(outbox);
+        if !self.step(node, writer) {
+            writer.write_lack(Lack::NoStep);
         }
     }
 
     /// A switch makes the first step that it can make, which is written. Returns whether there was
     /// one; if not, nothing is written and nothing changes.
-    pub(crate) fn step<K: Sink>(&mut self, names: &[Name], node: u8, outbox: &mut Outbox<K>) -> bool
-        requires named { node < length names.now }
+    pub(crate) fn step<K: Sink>(&mut self, node: u8, writer: &mut TraceWriter<K>) -> bool
+        requires named { node < length writer.old.names.now }
         requires shown { (s : Seen) × ShowsFabric self.old s }
         requires switch { IsSwitchAt self.old.devices.items node }
         ensures { (s : Seen) → ShowsFabric self.old s → s.unfaithful ≡ None → ByPriority s.network
-            → Did (IsSwitchStep s.network node result) names.now
-            K.written K.faults outbox.old outbox.new s self.new }
+            → Did (IsSwitchStep s.network node result) writer.old writer.new s self.new }
     {
         let first = self.firsts[usize::from(node)];
         let registers = &mut self.devices[usize::from(node)];
-        step_from(&mut self.ports, first, registers, names, node, outbox)
+        step_from(&mut self.ports, first, registers, node, writer)
     }
 }
 
@@ -61,47 +59,45 @@ fn step_from<K: Sink>(
     ports: &mut [Port],
     first: usize,
     registers: &mut Registers,
-    names: &[Name],
     node: u8,
-    outbox: &mut Outbox<K>,
+    writer: &mut TraceWriter<K>,
 ) -> bool
     requires within { first + registers.old.ports ≤ length ports.old }
-    requires named { node < length names.now }
+    requires named { node < length writer.old.names.now }
     ensures made { MadeStep first registers.old registers.new ports.old ports.new
         (step_of registers.old (faces_at (own_ports ports.old first registers.old.ports))) }
-    ensures wrote { Wrote names.now node
+    ensures wrote { Wrote node
         (step_of registers.old (faces_at (own_ports ports.old first registers.old.ports)))
-        K.written K.faults outbox.old outbox.new result }
+        writer.old writer.new result }
 {
     let count = usize::from(registers.ports());
     let (_, rest) = ports.split_at_mut(first);
     let (own, _) = rest.split_at_mut(count);
-    step_own(own, registers, names, node, outbox)
+    step_own(own, registers, node, writer)
 }
 
 /// The step of a switch with these ports, which is written. Returns whether there is one.
 fn step_own<K: Sink>(
     own: &mut [Port],
     registers: &mut Registers,
-    names: &[Name],
     node: u8,
-    outbox: &mut Outbox<K>,
+    writer: &mut TraceWriter<K>,
 ) -> bool
     requires ports { length own.old ≡ registers.old.ports }
-    requires named { node < length names.now }
+    requires named { node < length writer.old.names.now }
     ensures lists { faces_at own.new
         ≡ faces_after (faces_at own.old) (step_of registers.old (faces_at own.old)) }
     ensures registers { registers.new
         ≡ switch_after registers.old (step_of registers.old (faces_at own.old)) }
     ensures same { IsSameDevice registers.old registers.new }
     ensures alike { AllAlike AreAlike own.old own.new }
-    ensures wrote { Wrote names.now node (step_of registers.old (faces_at own.old))
-        K.written K.faults outbox.old outbox.new result }
+    ensures wrote { Wrote node (step_of registers.old (faces_at own.old))
+        writer.old writer.new result }
 {
     let Some(going) = first_going(own, registers) else {
         return false;
     };
-    make_step(own, registers, going, names, node, outbox);
+    make_step(own, registers, going, node, writer);
     true
 }
 
@@ -110,11 +106,10 @@ fn make_step<K: Sink>(
     own: &mut [Port],
     registers: &mut Registers,
     going: Going,
-    names: &[Name],
     node: u8,
-    outbox: &mut Outbox<K>,
+    writer: &mut TraceWriter<K>,
 )
-    requires named { node < length names.now }
+    requires named { node < length writer.old.names.now }
     requires goes { Goes registers.old (faces_at own.old) going }
     ensures lists { faces_at own.new
         ≡ faces_after (faces_at own.old) (step_of registers.old (faces_at own.old)) }
@@ -122,26 +117,26 @@ fn make_step<K: Sink>(
         ≡ switch_after registers.old (step_of registers.old (faces_at own.old)) }
     ensures same { IsSameDevice registers.old registers.new }
     ensures alike { AllAlike AreAlike own.old own.new }
-    ensures wrote { Wrote names.now node (step_of registers.old (faces_at own.old))
-        K.written K.faults outbox.old outbox.new true }
+    ensures wrote { Wrote node (step_of registers.old (faces_at own.old))
+        writer.old writer.new true }
 {
     let from = port_at(node, going.port);
     let packet = going.packet(own);
     show_form(packet);
     match going.next {
         Next::Nowhere => {
-            write_drop(outbox, names, from, packet);
+            writer.write_drop(from, packet);
             going.pass_on(own);
         }
         Next::Port(to) => {
-            write_move(outbox, names, from, port_at(node, to), packet);
+            writer.write_move(from, port_at(node, to), packet);
             going.pass_on(own);
         }
         Next::RegisterUnit => {
             let request = packet.copy();
             let response = going.answer(own, registers);
             show_form(&response);
-            write_answer(outbox, names, from, &request, &response);
+            writer.write_answer(from, &request, &response);
         }
     }
 }

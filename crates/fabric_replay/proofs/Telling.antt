@@ -1,14 +1,10 @@
 -- How a replay goes from event to event, and what is told then.
-use Rattle.std.proofs.Common.{◌≡◌, inl, inr, ℕ, ◌+◌, ◌<◌, ◌≤◌, true, false, MatchBool, List, [], ◌∷◌, ◌++◌, All, length, take, drop, get_or, Option, Some, None, Result, Ok, Err, codes, refl, sym, ap, ◌∙◌, subst, append-nil, append_assoc, take-append-drop}
+use Rattle.std.proofs.Common.{◌≡◌, inl, inr, ℕ, ◌+◌, ◌<◌, ◌≤◌, true, false, MatchBool, List, [], ◌∷◌, ◌++◌, All, length, take, drop, get_or, Option, Some, None, Ok, Err, refl, sym, ap, ◌∙◌, subst, append-nil, append_assoc, take-append-drop}
 use Rattle.std.proofs.lemmas.List.{take_more, take_all, drop_more}
-use Rattle.rio_chars.specs.Written.{Writes}
-use Rattle.rio_chars.specs.declared.outbox.Outbox.{Outbox}
-use Rattle.rio_chars.proofs.WrittenLaws.{Writes-nil, Writes-then}
 use Rattle.link_model.specs.declared.event.Event.{Event}
 use Rattle.fabric_script.specs.Lines.{is_event}
 use Rattle.fabric_script.specs.Scripts.{ScriptPasses}
 use Rattle.fabric_script.specs.declared.ports.PortRef.{PortRef}
-use Rattle.fabric_script.specs.declared.lines.Line.{Line}
 use Rattle.fabric_script.specs.declared.lines.Numbered.{Numbered}
 use Rattle.fabric_trace.specs.Blocks.{IsBlock}
 use Rattle.fabric_trace.specs.Events.{MayHappen}
@@ -16,18 +12,18 @@ use Rattle.fabric_trace.specs.Fold.{seen}
 use Rattle.fabric_trace.specs.Known.{Found, Seen}
 use Rattle.trace_lines.specs.Lines.{TraceLine, Begun, Ended, Undetected}
 use Rattle.fabric_trace.specs.Runs.{bare, set_up_all, start, BlockThen, NamesNothing, BlocksFrom, RunsFrom, Runs, Begins}
-use Rattle.trace_lines.specs.Text.{trace_line_text}
+use Rattle.trace_lines.specs.AddsLaws.{Adds-nil, Adds-then}
+use Rattle.trace_lines.specs.Writing.{Adds}
+use Rattle.trace_lines.specs.declared.writer.TraceWriter.{TraceWriter}
 use Rattle.fabric_trace.proofs.Network.Boards.{happens_still}
 use Rattle.fabric_trace.proofs.Parts.Folding.{seen-append}
 use Rattle.fabric_trace.proofs.SetUps.Happening.{may_happen}
 use Rattle.fabric_ports.specs.Events.{MayFollow, IsOwnBlock, IsAnsweredBlock, Evented}
-use Rattle.fabric_ports.specs.Ran.{Kind}
 use Rattle.fabric_ports.specs.Standing.{Stands}
-use Rattle.fabric_ports.specs.declared.answers.FabricEnd.{FabricEnd}
 use Rattle.fabric_ports.specs.declared.answers.FabricEnd.TheVariants.{Undetected as Unsent, Failed, NoMemory}
 use Rattle.fabric_ports.specs.declared.answers.Happened.{Happened}
 use Rattle.fabric_ports.specs.declared.fabric.Fabric.{Fabric}
-use Rattle.fabric_ports.proofs.RanLaws.{lines_written, line_written, front_whole}
+use Rattle.fabric_ports.proofs.RanLaws.{front_whole}
 use Rattle.fabric_replay.specs.Going.{Going, ToldUntil, ToldFront, ToldWhole}
 use Rattle.fabric_replay.proofs.Joining.{blocks-append, runs-append, one_block, one_last}
 use Rattle.fabric_replay.proofs.Naming.{names_suffice, names_few}
@@ -84,33 +80,32 @@ front_from script i item is =
 
 -- ---- what was told
 
-module _ {K : Type 0} (written : K → Option (List ℕ)) (faults : K → ℕ) (begun : Outbox K)
-    (names : List (List ℕ)) (script : List Numbered) where
-  abbrev pub Gone : Outbox K → ℕ → Fabric → Type 0
-  Gone out count fabric = Going written faults begun out names script count fabric
+module _ {K : Type 0} (begun : TraceWriter K) (script : List Numbered) where
+  abbrev pub Gone : TraceWriter K → ℕ → Fabric → Type 0
+  Gone out count fabric = Going begun out script count fabric
 
-  abbrev pub Fronts : Outbox K → Type 0
-  Fronts out = ToldFront written faults begun out names script
+  abbrev pub Fronts : TraceWriter K → Type 0
+  Fronts out = ToldFront begun out script
 
-  abbrev pub Wholes : Outbox K → TraceLine → Option Found → Type 0
-  Wholes out last found = ToldWhole written faults begun out names script last found
+  abbrev pub Wholes : TraceWriter K → TraceLine → Option Found → Type 0
+  Wholes out last found = ToldWhole begun out script last found
 
-  pub Going-begin : (fabric : Fabric) → begun.failed ≡ false → Stands (start script) [] fabric
-      → Gone begun 0 fabric
+  pub Going-begin : (fabric : Fabric) → begun.outbox.now.failed ≡ false
+      → Stands (start script) [] fabric → Gone begun 0 fabric
   Going-begin fabric fine stands = record {
     lines = [];
-    told = Writes-nil written faults begun;
+    adds = Adds-nil begun;
     fine = fine;
     blocks = refl;
     stands = stands;
   }
 
-  pub Going-skip : (i : ℕ) (item : Numbered) (out : Outbox K) (fabric : Fabric)
+  pub Going-skip : (i : ℕ) (item : Numbered) (out : TraceWriter K) (fabric : Fabric)
       → IsItem script i item → is_event item.line ≡ false → Gone out i fabric
       → Gone out (i + 1) fabric
   Going-skip i item out fabric is no_block h = record {
     lines = h.lines;
-    told = h.told;
+    adds = h.adds;
     fine = h.fine;
     blocks = subst (λ front. BlocksFrom (start script) front h.lines) (front_with script i item is)
         (subst (BlocksFrom (start script) (take i script ++ item ∷ [])) (append-nil h.lines)
@@ -122,7 +117,7 @@ module _ {K : Type 0} (written : K → Option (List ℕ)) (faults : K → ℕ) (
   }
 
   -- the blocks up to an event, with its own
-  blocks_with : (i : ℕ) (item : Numbered) (out : Outbox K) (fabric : Fabric)
+  blocks_with : (i : ℕ) (item : Numbered) (out : TraceWriter K) (fabric : Fabric)
       (block : List TraceLine) → IsItem script i item → is_event item.line ≡ true
       → (h : Gone out i fabric) → IsBlock (seen (start script) h.lines) item.line block
       → BlocksFrom (start script) (take (i + 1) script) (h.lines ++ Begun item.line ∷ block)
@@ -143,66 +138,60 @@ module _ {K : Type 0} (written : K → Option (List ℕ)) (faults : K → ℕ) (
 
   -- ---- an event was carried out
 
-  pub Going-event : (i : ℕ) (item : Numbered) (out out2 : Outbox K) (fabric fabric2 : Fabric)
+  pub Going-event : (i : ℕ) (item : Numbered) (out out2 : TraceWriter K) (fabric fabric2 : Fabric)
       (what : Happened) → IsItem script i item → is_event item.line ≡ true → (h : Gone out i fabric)
-      → out2.failed ≡ false
-      → Evented item.line (IsAnsweredBlock item.line what) names written faults out out2
-      (start script) h.lines (Ok fabric2)
+      → out2.outbox.now.failed ≡ false
+      → Evented item.line (IsAnsweredBlock item.line what) out out2 (start script) h.lines
+      (Ok fabric2)
       → Gone out2 (i + 1) fabric2
   Going-event i item out out2 fabric fabric2 what is has h fine done = record {
     lines = h.lines ++ Begun item.line ∷ done.block;
-    told = lines_written written faults names begun out out2 h.lines
-        (Begun item.line ∷ done.block) h.told done.ends.0;
+    adds = Adds-then h.adds done.ends.0;
     fine = fine;
     blocks = blocks_with i item out fabric done.block is has h done.is.0;
     stands = done.ends.1;
   }
 
   -- it was carried out so far that a write failed
-  pub Going-broken : (i : ℕ) (item : Numbered) (out out2 : Outbox K) (fabric : Fabric)
+  pub Going-broken : (i : ℕ) (item : Numbered) (out out2 : TraceWriter K) (fabric : Fabric)
       → IsItem script i item → is_event item.line ≡ true → (h : Gone out i fabric)
-      → Evented item.line (IsOwnBlock item.line) names written faults out out2 (start script)
-      h.lines (Err Failed)
-      → ToldUntil written faults begun out2 names script
+      → Evented item.line (IsOwnBlock item.line) out out2 (start script) h.lines (Err Failed)
+      → ToldUntil begun out2 script
   Going-broken i item out out2 fabric is has h ended = record {
     count = i;
     before = h.lines;
     front = ended.ends.0.front;
     rest = ended.ends.0.rest;
     mid = out;
-    told_before = h.told;
+    adds_before = h.adds;
     blocks_before = h.blocks;
     fine = h.fine;
-    told = ended.ends.0.prints;
+    adds = ended.ends.0.adds;
     blocks = subst (λ own. BlocksFrom (start script) (take (i + 1) script) (h.lines ++ own))
         ended.ends.0.whole (blocks_with i item out fabric ended.block is has h ended.is.0);
     failed = ended.ends.1;
   }
 
   -- and a write failed in it
-  pub Going-until : (i : ℕ) (item : Numbered) (out out2 : Outbox K) (fabric fabric2 : Fabric)
+  pub Going-until : (i : ℕ) (item : Numbered) (out out2 : TraceWriter K) (fabric fabric2 : Fabric)
       (what : Happened) → IsItem script i item → is_event item.line ≡ true → (h : Gone out i fabric)
-      → out2.failed ≡ true
-      → Evented item.line (IsAnsweredBlock item.line what) names written faults out out2
-      (start script) h.lines (Ok fabric2)
-      → ToldUntil written faults begun out2 names script
+      → out2.outbox.now.failed ≡ true
+      → Evented item.line (IsAnsweredBlock item.line what) out out2 (start script) h.lines
+      (Ok fabric2)
+      → ToldUntil begun out2 script
   Going-until i item out out2 fabric fabric2 what is has h failed done =
       Going-broken i item out out2 fabric is has h (record {
         block = done.block;
         is = (done.is.0, done.is.1);
-        ends = (
-          front_whole written faults names out out2 (Begun item.line ∷ done.block) done.ends.0,
-          failed,
-        );
+        ends = (front_whole out out2 (Begun item.line ∷ done.block) done.ends.0, failed);
       })
 
   -- and so a front of a trace was told
-  pub until_front : (out : Outbox K) → ToldUntil written faults begun out names script → Fronts out
+  pub until_front : (out : TraceWriter K) → ToldUntil begun out script → Fronts out
   until_front out until = record {
     lines = until.before ++ until.front;
     behind = until.rest;
-    told = lines_written written faults names begun until.mid out until.before until.front
-        until.told_before until.told;
+    adds = Adds-then until.adds_before until.adds;
     begins = inl
         (subst (Begins script) (sym (append_assoc until.before until.front until.rest))
         (first_blocks (until.count + 1) (until.before ++ (until.front ++ until.rest))
@@ -210,17 +199,16 @@ module _ {K : Type 0} (written : K → Option (List ℕ)) (faults : K → ℕ) (
   }
 
   -- or memory ran out in it
-  pub Going-short : (i : ℕ) (item : Numbered) (out out2 : Outbox K) (fabric : Fabric)
+  pub Going-short : (i : ℕ) (item : Numbered) (out out2 : TraceWriter K) (fabric : Fabric)
       → IsItem script i item → is_event item.line ≡ true → (h : Gone out i fabric)
-      → Evented item.line (IsOwnBlock item.line) names written faults out out2 (start script)
-      h.lines (Err NoMemory) → Fronts out2
+      → Evented item.line (IsOwnBlock item.line) out out2 (start script) h.lines (Err NoMemory)
+      → Fronts out2
   Going-short i item out out2 fabric is has h ended =
       let short = ended.ends in
       record {
         lines = h.lines ++ short.front;
         behind = short.rest;
-        told = lines_written written faults names begun out out2 h.lines short.front h.told
-            short.prints;
+        adds = Adds-then h.adds short.adds;
         begins = inl
             (subst (Begins script)
             (ap (λ l. h.lines ++ l) short.whole ∙ sym (append_assoc h.lines short.front short.rest))
@@ -229,13 +217,12 @@ module _ {K : Type 0} (written : K → Option (List ℕ)) (faults : K → ℕ) (
       }
 
   -- or an event was acted on that was not sent
-  pub Going-unsent : (i : ℕ) (item : Numbered) (out out2 out3 : Outbox K) (fabric : Fabric)
+  pub Going-unsent : (i : ℕ) (item : Numbered) (out out2 out3 : TraceWriter K) (fabric : Fabric)
       (port : PortRef) (event : Event) → IsItem script i item → is_event item.line ≡ true
       → (h : Gone out i fabric)
-      → Evented item.line (IsOwnBlock item.line) names written faults out out2 (start script)
-      h.lines (Err (Unsent port event))
-      → Writes written faults out2 out3
-      (trace_line_text names (Undetected item.number port event) ++ codes "\n")
+      → Evented item.line (IsOwnBlock item.line) out out2 (start script) h.lines
+      (Err (Unsent port event))
+      → Adds out2 out3 (Undetected item.number port event ∷ [])
       → Wholes out3 (Undetected item.number port event)
       (Some (record { port = port; event = event }))
   Going-unsent i item out out2 out3 fabric port event is has h exposed last =
@@ -247,9 +234,7 @@ module _ {K : Type 0} (written : K → Option (List ℕ)) (faults : K → ℕ) (
       let finds = ap (λ (x : Seen). x.unfaithful) (sym there) ∙ exposed.ends.1 in
       record {
         lines = (h.lines ++ own) ++ named;
-        told = lines_written written faults names begun out2 out3 (h.lines ++ own) named
-            (lines_written written faults names begun out out2 h.lines own h.told exposed.ends.0)
-            (line_written written faults names out2 out3 (Undetected item.number port event) last);
+        adds = Adds-then (Adds-then h.adds exposed.ends.0) last;
         runs = subst (Runs script) (sym (append_assoc h.lines own named))
             (subst (λ all. RunsFrom (start script) all (h.lines ++ (own ++ named)))
             (front_from script i item is)
@@ -261,16 +246,13 @@ module _ {K : Type 0} (written : K → Option (List ℕ)) (faults : K → ℕ) (
       }
 
   -- all events were carried out
-  pub Going-end : (count : ℕ) (out out2 : Outbox K) (fabric : Fabric) → length script ≤ count
-      → Gone out count fabric
-      → Writes written faults out out2 (trace_line_text [] Ended ++ codes "\n")
-      → Wholes out2 Ended None
+  pub Going-end : (count : ℕ) (out out2 : TraceWriter K) (fabric : Fabric) → length script ≤ count
+      → Gone out count fabric → Adds out out2 (Ended ∷ []) → Wholes out2 Ended None
   Going-end count out out2 fabric whole h last =
       let all : take count script ≡ script = take_all count script whole in
       record {
         lines = h.lines ++ Ended ∷ [];
-        told = lines_written written faults names begun out out2 h.lines (Ended ∷ []) h.told
-            (line_written written faults names out out2 Ended last);
+        adds = Adds-then h.adds last;
         runs = subst (λ l. RunsFrom (start script) l (h.lines ++ Ended ∷ [])) (append-nil script)
             (runs-append script [] (start script) h.lines (Ended ∷ [])
             (subst (λ l. BlocksFrom (start script) l h.lines) all h.blocks) h.stands.sent refl);
@@ -278,42 +260,12 @@ module _ {K : Type 0} (written : K → Option (List ℕ)) (faults : K → ℕ) (
       }
 
   -- a whole trace was told, and so one that begins a trace
-  pub whole_front : (out : Outbox K) (last : TraceLine) (found : Option Found)
+  pub whole_front : (out : TraceWriter K) (last : TraceLine) (found : Option Found)
       → Wholes out last found → Fronts out
   whole_front out last found whole =
       record {
         lines = whole.lines;
         behind = [];
-        told = whole.told;
+        adds = whole.adds;
         begins = inr (subst (Runs script) (sym (append-nil whole.lines)) whole.runs);
       }
-
-  -- nothing more was told
-  pub Fronts-flushed : (out out2 : Outbox K) → Writes written faults out out2 [] → Fronts out
-      → Fronts out2
-  Fronts-flushed out out2 flushed h = record {
-    lines = h.lines;
-    behind = h.behind;
-    told = subst (Writes written faults begun out2) (append-nil _)
-        (Writes-then _ [] h.told flushed);
-    begins = h.begins;
-  }
-
-  pub Wholes-flushed : (out out2 : Outbox K) (last : TraceLine) (found : Option Found)
-      → Writes written faults out out2 [] → Wholes out last found → Wholes out2 last found
-  Wholes-flushed out out2 last found flushed h = record {
-    lines = h.lines;
-    told = subst (Writes written faults begun out2) (append-nil _)
-        (Writes-then _ [] h.told flushed);
-    runs = h.runs;
-    ends = h.ends;
-  }
-
--- the names were read from where they stand
-pub Evented-names : (line : Line) (Is : Kind) (read names : List (List ℕ)) {K : Type 0}
-    {written : K → Option (List ℕ)} {faults : K → ℕ} {out out2 : Outbox K} {from : Seen}
-    {lines : List TraceLine} {end : Result Fabric FabricEnd} → read ≡ names
-    → Evented line Is read written faults out out2 from lines end
-    → Evented line Is names written faults out out2 from lines end
-Evented-names line Is read names {K} {written} {faults} {out} {out2} {from} {lines} {end} same e =
-    subst (λ n. Evented line Is n written faults out out2 from lines end) same e

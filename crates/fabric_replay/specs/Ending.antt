@@ -1,9 +1,8 @@
 -- How a trace ends early.
-use Rattle.std.specs.Prelude.{◌≡◌, ◌<◌, ℕ, List, ◌++◌, length, Option, codes}
-use Rattle.rio_chars.specs.Written.{Writes}
-use Rattle.rio_chars.specs.declared.outbox.Outbox.{Outbox}
+use Rattle.std.specs.Prelude.{◌≡◌, ◌<◌, ℕ, List, [], ◌∷◌, length}
 use Rattle.trace_lines.specs.Lines.{Undetected as UnsentLine}
-use Rattle.trace_lines.specs.Text.{trace_line_text}
+use Rattle.trace_lines.specs.Writing.{Adds}
+use Rattle.trace_lines.specs.declared.writer.TraceWriter.{TraceWriter}
 use Rattle.fabric_ports.specs.declared.answers.FabricEnd.{FabricEnd}
 use Rattle.fabric_ports.specs.declared.answers.FabricEnd.TheVariants.{Undetected, Failed, NoMemory}
 use Rattle.fabric_replay.specs.declared.replaying.ReplayEnd.{ReplayEnd}
@@ -17,13 +16,9 @@ EndIsNamed names NoMemory = Unit {0}
 
 -- a replay ends for the reason that an event did, and the last line tells of an event that was not
 -- sent
-abbrev pub EndsBy : FabricEnd → ℕ → List (List ℕ) → {K : Type 0} → (K → Option (List ℕ)) → (K → ℕ)
-    → Outbox K → Outbox K → ReplayEnd → Type 0
-EndsBy (Undetected port event) line names written faults old new result =
-    (result ≡ Ends.Undetected line port event)
-    × Writes written faults old new
-    (trace_line_text names (UnsentLine line port event) ++ codes "\n")
-EndsBy Failed line names written faults old new result =
-    (result ≡ Ends.WriteFault) × (new ≡ old)
-EndsBy NoMemory line names written faults old new result =
-    (result ≡ Ends.NoMemory) × (new ≡ old)
+abbrev pub EndsBy : FabricEnd → ℕ → {K : Type 0} → TraceWriter K → TraceWriter K → ReplayEnd
+    → Type 0
+EndsBy (Undetected port event) line old new result =
+    (result ≡ Ends.Undetected line port event) × Adds old new (UnsentLine line port event ∷ [])
+EndsBy Failed line old new result = (result ≡ Ends.WriteFault) × (new ≡ old)
+EndsBy NoMemory line old new result = (result ≡ Ends.NoMemory) × (new ≡ old)

@@ -13,11 +13,11 @@ ghost use Rattle.fabric_replay.specs.Ending.{EndIsNamed, EndsBy};
 ghost use Rattle.fabric_replay.specs.declared.replaying.ReplayEnd.TheVariants.{NoMemory};
 
 use fabric_ports::{Fabric, FabricEnd};
-use fabric_script::{Name, PortRef, Script};
+use fabric_script::{PortRef, Script};
 use link_model::Event;
 use rio_chars::{Outbox, Sink, TextBuffer};
 use std::alloc::Global;
-use trace_lines::{write_end, write_undetected};
+use trace_lines::TraceWriter;
 
 /// Why a replay ended early.
 #[derive(Debug, Drop)]
@@ -73,7 +73,9 @@ pub fn replay<K: Sink>(alloc: Global, script: &Script, sink: &mut K) -> Result<(
     let mut buffer = TextBuffer::new(alloc)?;
     let mut fabric = Fabric::new(alloc, script)?;
     let mut outbox = Outbox::new(&mut buffer, sink);
-    write_trace(alloc, script, &mut fabric, &mut outbox)
+    let end = write_trace(alloc, script, &mut fabric, &mut outbox);
+    outbox.into_sink();
+    end
 }
 
 /// Carries out the events and hands their lines to the sink, up to the event in which a write
@@ -87,26 +89,29 @@ fn write_trace<K: Sink>(
     requires passes { ScriptPasses script.now.names.items script.now.lines.items }
     requires stands { Stands (start script.now.lines.items) [] fabric.old }
     requires fine { outbox.old.failed ≡ false }
-    requires empty { outbox.old.buffer.now ≡ [] }
-    ensures same { outbox.new.sink.ghost_name ≡ outbox.old.sink.ghost_name }
+    requires empty { outbox.old.waiting ≡ [] }
+    ensures same { outbox.new.sink ≡ outbox.old.sink }
     ensures done { OnOk result (ReplayedWhole script.now.names.items script.now.lines.items
-        (K.written outbox.old.sink.now) (K.written outbox.new.sink.now)) }
+        outbox.old.written outbox.new.written) }
     ensures undetected { (line : ℕ) (port : Port) (event : LinkEvent)
         → IsErrOf result (ReplayEnd.Undetected line port event)
         → ReplayedUnsent script.now.names.items script.now.lines.items line port event
-        (K.written outbox.old.sink.now) (K.written outbox.new.sink.now) }
+        outbox.old.written outbox.new.written }
     ensures write_fault { IsErrOf result ReplayEnd.WriteFault
-        → Rose (K.faults outbox.old.sink.now) (K.faults outbox.new.sink.now)
+        → Rose outbox.old.faults outbox.new.faults
         × ReplayedFront script.now.names.items script.now.lines.items
-        (K.written outbox.old.sink.now) (K.written outbox.new.sink.now) }
+        outbox.old.written outbox.new.written }
     ensures no_memory { IsErrOf result ReplayEnd.NoMemory
         → ReplayedFront script.now.names.items script.now.lines.items
-        (K.written outbox.old.sink.now) (K.written outbox.new.sink.now) }
-    ensures counts { ¬ IsErrOf result ReplayEnd.WriteFault
-        → K.faults outbox.new.sink.now ≡ K.faults outbox.old.sink.now }
-    ensures never_falls { K.faults outbox.old.sink.now ≤ K.faults outbox.new.sink.now }
+        outbox.old.written outbox.new.written }
+    ensures counts { ¬ IsErrOf result ReplayEnd.WriteFault → outbox.new.faults ≡ outbox.old.faults }
+    ensures never_falls { outbox.old.faults ≤ outbox.new.faults }
 {
-    let end = tell_trace(alloc, script, fabric, outbox);
+    let mut writer = TraceWriter {
+        outbox,
+        names: &script.names,
+    };
+    let end = tell_trace(alloc, script, fabric, &mut writer);
     outbox.flush();
     if outbox.failed() {
         return Err(ReplayEnd::WriteFault);
@@ -120,46 +125,43 @@ fn tell_trace<K: Sink>(
     alloc: Global,
     script: &Script,
     fabric: &mut Fabric,
-    outbox: &mut Outbox<K>,
+    writer: &mut TraceWriter<K>,
 ) -> Result<(), ReplayEnd>
     requires passes { ScriptPasses script.now.names.items script.now.lines.items }
+    requires named { writer.old.names.now ≡ script.now.names.items }
     requires stands { Stands (start script.now.lines.items) [] fabric.old }
-    requires fine { outbox.old.failed ≡ false }
-    ensures front { ToldFront K.written K.faults outbox.old outbox.new
-        script.now.names.items script.now.lines.items }
-    ensures done { OnOk result (ToldWhole K.written K.faults outbox.old outbox.new
-        script.now.names.items script.now.lines.items Ended None) }
+    requires fine { writer.old.outbox.now.failed ≡ false }
+    ensures front { ToldFront writer.old writer.new script.now.lines.items }
+    ensures done { OnOk result (ToldWhole writer.old writer.new script.now.lines.items Ended None) }
     ensures undetected { (line : ℕ) (port : Port) (event : LinkEvent)
         → IsErrOf result (ReplayEnd.Undetected line port event)
-        → ToldWhole K.written K.faults outbox.old outbox.new
-        script.now.names.items script.now.lines.items (UnsentLine line port event)
+        → ToldWhole writer.old writer.new script.now.lines.items (UnsentLine line port event)
         (Some (record { port = port; event = event })) }
     ensures write_fault { IsErrOf result ReplayEnd.WriteFault
-        → ToldUntil K.written K.faults outbox.old outbox.new
-        script.now.names.items script.now.lines.items }
+        → ToldUntil writer.old writer.new script.now.lines.items }
 {
     for numbered in &script.lines {
         if numbered.line.is_event() {
-            if let Err(end) = fabric.event(alloc, &script.names, &numbered.line, outbox) {
-                return Err(tell_end(&script.names, numbered.number, end, outbox));
+            if let Err(end) = fabric.event(alloc, &numbered.line, writer) {
+                return Err(tell_end(numbered.number, end, writer));
             }
-            if outbox.failed() {
+            if writer.failed() {
                 return Err(ReplayEnd::WriteFault);
             }
         }
     }
-    write_end(outbox);
+    writer.write_end();
     Ok(())
 }
 
 /// Tells the last line of a trace that ends early, if it has one, and answers why it ends.
-fn tell_end<K: Sink>(names: &[Name], line: u32, end: FabricEnd, outbox: &mut Outbox<K>) -> ReplayEnd
-    requires { EndIsNamed names.now end }
-    ensures { EndsBy end line names.now K.written K.faults outbox.old outbox.new result }
+fn tell_end<K: Sink>(line: u32, end: FabricEnd, writer: &mut TraceWriter<K>) -> ReplayEnd
+    requires { EndIsNamed writer.old.names.now end }
+    ensures { EndsBy end line writer.old writer.new result }
 {
     match end {
         FabricEnd::Undetected { port, event } => {
-            write_undetected(outbox, names, line, port, event.event());
+            writer.write_undetected(line, port, event.event());
             let event = event.event().copy();
             ReplayEnd::Undetected { line, port, event }
         }

@@ -1,29 +1,28 @@
 -- Words that are told behind others, and numbers in hexadecimal digits.
-use Rattle.std.proofs.Common.{◌≡◌, ℕ, ◌/◌, ◌%◌, List, [], ◌∷◌, ◌++◌, Option, refl, subst, arith}
+use Rattle.std.proofs.Common.{◌≡◌, ℕ, ◌/◌, ◌%◌, List, [], ◌∷◌, ◌++◌, refl, subst, arith}
 use Rattle.std.specs.List.{join_with_byte}
 use Rattle.rio_chars.specs.HexText.{hex_of}
-use Rattle.rio_chars.specs.Written.{Writes}
-use Rattle.rio_chars.specs.declared.outbox.Outbox.{Outbox}
+use Rattle.rio_chars.specs.Written.{Outgoing, Writes}
 use Rattle.rio_chars.proofs.WrittenLaws.{Writes-then}
 use Rattle.fabric_script.specs.Texts.{digits_text}
 use Rattle.fabric_script.specs.LineTexts.{after_words}
 use Rattle.fabric_script.proofs.Joins.{after_words-append, word_and_words}
 
-module _ {K : Type 0} {written : K → Option (List ℕ)} {faults : K → ℕ} {a b c : Outbox K} where
+module _ {a b c : Outgoing} where
   -- words behind words
   pub Writes-words : (first rest : List (List ℕ))
-      → Writes written faults a b (after_words [] first)
-      → Writes written faults b c (after_words [] rest)
-      → Writes written faults a c (after_words [] (first ++ rest))
+      → Writes a b (after_words [] first)
+      → Writes b c (after_words [] rest)
+      → Writes a c (after_words [] (first ++ rest))
   Writes-words first rest once more =
-      subst (Writes written faults a c) (after_words-append first rest) (Writes-then _ _ once more)
+      subst (Writes a c) (after_words-append first rest) (Writes-then _ _ once more)
 
   -- a keyword, and words behind it
-  pub Writes-joined : (word : List ℕ) (words : List (List ℕ)) → Writes written faults a b word
-      → Writes written faults b c (after_words [] words)
-      → Writes written faults a c (join_with_byte 32 (word ∷ words))
+  pub Writes-joined : (word : List ℕ) (words : List (List ℕ)) → Writes a b word
+      → Writes b c (after_words [] words)
+      → Writes a c (join_with_byte 32 (word ∷ words))
   Writes-joined word words once more =
-      subst (Writes written faults a c) (word_and_words word words) (Writes-then _ _ once more)
+      subst (Writes a c) (word_and_words word words) (Writes-then _ _ once more)
 
 -- the digits of a number are those of its bytes
 pub eight_digits : (n : ℕ)

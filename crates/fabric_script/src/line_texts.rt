@@ -23,6 +23,7 @@ pub fn line_text(alloc: Global, names: &[Name], line: &Line) -> Result<Vec<u8>, 
     let mut outbox = Outbox::new(&mut buffer, &mut sink);
     write_line(&mut outbox, names, line);
     finish(&mut outbox)?;
+    outbox.into_sink();
     Ok(sink.into_bytes())
 }
 
@@ -40,13 +41,14 @@ pub fn print(alloc: Global, script: &Script) -> Result<Vec<u8>, NoMemory>
     let mut outbox = Outbox::new(&mut buffer, &mut sink);
     write_lines(&mut outbox, script);
     finish(&mut outbox)?;
+    outbox.into_sink();
     Ok(sink.into_bytes())
 }
 
 /// Writes the lines of a script that passes, each with its line feed.
 fn write_lines<K: Sink>(outbox: &mut Outbox<K>, script: &Script)
     requires { ScriptPasses script.now.names.items script.now.lines.items }
-    ensures { Writes K.written K.faults outbox.old outbox.new
+    ensures { Writes outbox.old outbox.new
         (script_text script.now.names.items script.now.lines.items) }
 {
     for line in &script.lines {
@@ -57,8 +59,8 @@ fn write_lines<K: Sink>(outbox: &mut Outbox<K>, script: &Script)
 
 /// Writes what waits to a sink that fails only if memory runs out.
 fn finish<K: Sink>(outbox: &mut Outbox<K>) -> Result<(), NoMemory>
-    ensures written { Writes K.written K.faults outbox.old outbox.new [] }
-    ensures empty { outbox.new.buffer.now ≡ [] }
+    ensures written { Writes outbox.old outbox.new [] }
+    ensures empty { outbox.new.waiting ≡ [] }
     ensures fine { OnOk result (outbox.new.failed ≡ false) }
 {
     outbox.flush();

@@ -15,7 +15,7 @@ use rio_chars::{Char, Outbox, Sink, char_text};
 /// Puts a node.
 pub fn put_node<K: Sink>(outbox: &mut Outbox<K>, names: &[Name], node: u8)
     requires { node < length names.now }
-    ensures { Writes K.written K.faults outbox.old outbox.new
+    ensures { Writes outbox.old outbox.new
         (after_words [] (name_of names.now node ∷ [])) }
 {
     outbox.write(b" ");
@@ -25,7 +25,7 @@ pub fn put_node<K: Sink>(outbox: &mut Outbox<K>, names: &[Name], node: u8)
 /// Puts a port.
 pub(crate) fn put_port<K: Sink>(outbox: &mut Outbox<K>, names: &[Name], port: PortRef)
     requires { port.node < length names.now }
-    ensures { Writes K.written K.faults outbox.old outbox.new
+    ensures { Writes outbox.old outbox.new
         (after_words [] (port_text names.now port ∷ [])) }
 {
     outbox.write(b" ");
@@ -34,7 +34,7 @@ pub(crate) fn put_port<K: Sink>(outbox: &mut Outbox<K>, names: &[Name], port: Po
 
 /// Puts a number.
 pub fn put_number<K: Sink>(outbox: &mut Outbox<K>, n: u32)
-    ensures { Writes K.written K.faults outbox.old outbox.new (after_words [] (decimal n ∷ [])) }
+    ensures { Writes outbox.old outbox.new (after_words [] (decimal n ∷ [])) }
 {
     outbox.write(b" ");
     outbox.write_decimal(n);
@@ -42,7 +42,7 @@ pub fn put_number<K: Sink>(outbox: &mut Outbox<K>, n: u32)
 
 /// Puts two numbers.
 pub(crate) fn put_numbers<K: Sink>(outbox: &mut Outbox<K>, first: u32, second: u32)
-    ensures { Writes K.written K.faults outbox.old outbox.new
+    ensures { Writes outbox.old outbox.new
         (after_words [] (decimal first ∷ decimal second ∷ [])) }
 {
     put_number(outbox, first);
@@ -52,7 +52,7 @@ pub(crate) fn put_numbers<K: Sink>(outbox: &mut Outbox<K>, first: u32, second: u
 /// Puts a node and a number.
 pub(crate) fn put_node_number<K: Sink>(outbox: &mut Outbox<K>, names: &[Name], node: u8, n: u32)
     requires { node < length names.now }
-    ensures { Writes K.written K.faults outbox.old outbox.new
+    ensures { Writes outbox.old outbox.new
         (after_words [] (name_of names.now node ∷ decimal n ∷ [])) }
 {
     put_node(outbox, names, node);
@@ -67,7 +67,7 @@ pub(crate) fn put_port_number<K: Sink>(
     n: u32,
 )
     requires { port.node < length names.now }
-    ensures { Writes K.written K.faults outbox.old outbox.new
+    ensures { Writes outbox.old outbox.new
         (after_words [] (port_text names.now port ∷ decimal n ∷ [])) }
 {
     put_port(outbox, names, port);
@@ -76,7 +76,7 @@ pub(crate) fn put_port_number<K: Sink>(
 
 /// Puts a character.
 pub(crate) fn put_char<K: Sink>(outbox: &mut Outbox<K>, ch: Char)
-    ensures { Writes K.written K.faults outbox.old outbox.new
+    ensures { Writes outbox.old outbox.new
         (after_words [] (char_text_of ch ∷ [])) }
 {
     outbox.write(b" ");
@@ -85,7 +85,7 @@ pub(crate) fn put_char<K: Sink>(outbox: &mut Outbox<K>, ch: Char)
 
 /// Puts bytes in hexadecimal, and a hyphen for no bytes.
 pub fn put_bytes<K: Sink>(outbox: &mut Outbox<K>, bytes: &[u8])
-    ensures { Writes K.written K.faults outbox.old outbox.new
+    ensures { Writes outbox.old outbox.new
         (after_words [] (hex_text bytes.now ∷ [])) }
 {
     outbox.write(b" ");
@@ -98,7 +98,7 @@ pub fn put_bytes<K: Sink>(outbox: &mut Outbox<K>, bytes: &[u8])
 
 /// Puts the offset of a register, in six hexadecimal digits.
 pub(crate) fn put_offset<K: Sink>(outbox: &mut Outbox<K>, offset: u32)
-    ensures { Writes K.written K.faults outbox.old outbox.new
+    ensures { Writes outbox.old outbox.new
         (after_words [] (digits_text 6 offset ∷ [])) }
 {
     outbox.write(b" ");
@@ -107,7 +107,7 @@ pub(crate) fn put_offset<K: Sink>(outbox: &mut Outbox<K>, offset: u32)
 
 /// Puts a value of 32 bits, in eight hexadecimal digits.
 pub fn put_value<K: Sink>(outbox: &mut Outbox<K>, value: u32)
-    ensures { Writes K.written K.faults outbox.old outbox.new
+    ensures { Writes outbox.old outbox.new
         (after_words [] (digits_text 8 value ∷ [])) }
 {
     outbox.write(b" ");
@@ -117,7 +117,7 @@ pub fn put_value<K: Sink>(outbox: &mut Outbox<K>, value: u32)
 /// Writes the name of a node.
 pub fn write_name<K: Sink>(outbox: &mut Outbox<K>, names: &[Name], node: u8)
     requires { node < length names.now }
-    ensures { Writes K.written K.faults outbox.old outbox.new (name_of names.now node) }
+    ensures { Writes outbox.old outbox.new (name_of names.now node) }
 {
     outbox.write(names[usize::from(node)].as_slice());
 }
@@ -125,7 +125,7 @@ pub fn write_name<K: Sink>(outbox: &mut Outbox<K>, names: &[Name], node: u8)
 /// Writes a port: the name of its node, a point and its number.
 pub fn write_port<K: Sink>(outbox: &mut Outbox<K>, names: &[Name], port: PortRef)
     requires { port.node < length names.now }
-    ensures { Writes K.written K.faults outbox.old outbox.new (port_text names.now port) }
+    ensures { Writes outbox.old outbox.new (port_text names.now port) }
 {
     write_name(outbox, names, port.node);
     outbox.write(b".");

@@ -23,7 +23,7 @@ use rio_chars::{Outbox, Sink};
 /// Writes a line, without its line feed. Its nodes have names.
 pub fn write_line<K: Sink>(outbox: &mut Outbox<K>, names: &[Name], line: &Line)
     requires { AreNamed names.now line.now }
-    ensures { Writes K.written K.faults outbox.old outbox.new (line_text names.now line.now) }
+    ensures { Writes outbox.old outbox.new (line_text names.now line.now) }
 {
     outbox.write(line.form().keyword());
     put_words(outbox, names, line);
@@ -32,7 +32,7 @@ pub fn write_line<K: Sink>(outbox: &mut Outbox<K>, names: &[Name], line: &Line)
 /// Puts the words behind the keyword.
 fn put_words<K: Sink>(outbox: &mut Outbox<K>, names: &[Name], line: &Line)
     requires { AreNamed names.now line.now }
-    ensures { Writes K.written K.faults outbox.old outbox.new
+    ensures { Writes outbox.old outbox.new
         (after_words [] (value_texts names.now line.now)) }
 {
     match line.operation() {
@@ -49,7 +49,7 @@ fn put_words<K: Sink>(outbox: &mut Outbox<K>, names: &[Name], line: &Line)
 fn put_set_up<K: Sink>(outbox: &mut Outbox<K>, names: &[Name], line: &Line)
     requires named { AreNamed names.now line.now }
     requires set_up { is_event line.now ≡ false }
-    ensures { Writes K.written K.faults outbox.old outbox.new
+    ensures { Writes outbox.old outbox.new
         (after_words [] (value_texts names.now line.now)) }
 {
     match line {
@@ -76,7 +76,7 @@ fn put_set_up<K: Sink>(outbox: &mut Outbox<K>, names: &[Name], line: &Line)
 /// Puts the words of a packet that is given to an endpoint.
 fn put_packet<K: Sink>(outbox: &mut Outbox<K>, names: &[Name], given: &GivenPacket)
     requires { given.now.node < length names.now }
-    ensures { Writes K.written K.faults outbox.old outbox.new
+    ensures { Writes outbox.old outbox.new
         (after_words [] (value_texts names.now (line_giving given.now))) }
 {
     put_node_number(outbox, names, given.node, u32::from(given.prio));
@@ -95,7 +95,7 @@ fn put_packet<K: Sink>(outbox: &mut Outbox<K>, names: &[Name], given: &GivenPack
 
 /// Puts where a maintenance request goes, its number, and the register that it asks for.
 fn put_access<K: Sink>(outbox: &mut Outbox<K>, dest: u16, head: RequestHead)
-    ensures { Writes K.written K.faults outbox.old outbox.new (after_words []
+    ensures { Writes outbox.old outbox.new (after_words []
         (decimal dest ∷ decimal head.hop ∷ decimal head.tid ∷ digits_text 6 head.offset ∷ [])) }
 {
     put_numbers(outbox, u32::from(dest), u32::from(head.hop));
@@ -106,7 +106,7 @@ fn put_access<K: Sink>(outbox: &mut Outbox<K>, dest: u16, head: RequestHead)
 /// Puts the words of what the link of a port does.
 fn put_action<K: Sink>(outbox: &mut Outbox<K>, names: &[Name], port: PortRef, action: Action)
     requires { port.node < length names.now }
-    ensures { Writes K.written K.faults outbox.old outbox.new
+    ensures { Writes outbox.old outbox.new
         (after_words [] (value_texts names.now (line_for port action))) }
 {
     match action {
@@ -118,7 +118,7 @@ fn put_action<K: Sink>(outbox: &mut Outbox<K>, names: &[Name], port: PortRef, ac
 /// Puts the words of a change of what a port has sent.
 fn put_edit<K: Sink>(outbox: &mut Outbox<K>, names: &[Name], port: PortRef, edit: WireEdit)
     requires { port.node < length names.now }
-    ensures { Writes K.written K.faults outbox.old outbox.new
+    ensures { Writes outbox.old outbox.new
         (after_words [] (value_texts names.now (line_editing port edit))) }
 {
     match edit {

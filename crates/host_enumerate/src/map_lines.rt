@@ -12,7 +12,7 @@ use rio_chars::{Outbox, Sink};
 /// each device, and `entry TAG ID PORT` for each entry. A path is its ports with points between
 /// them, and that of the host is `host`.
 pub fn write_map<K: Sink>(outbox: &mut Outbox<K>, map: &Map)
-    ensures { Writes K.written K.faults outbox.old outbox.new
+    ensures { Writes outbox.old outbox.new
         (map_text map.now.devices.items map.now.entries.items) }
 {
     write_devices(outbox, map.devices.as_slice());
@@ -21,7 +21,7 @@ pub fn write_map<K: Sink>(outbox: &mut Outbox<K>, map: &Map)
 
 /// Tells the line `locked PATH ID` of the device on a path, whose lock is the ID of another host.
 pub fn write_locked<K: Sink>(outbox: &mut Outbox<K>, path: &[u8], id: u16)
-    ensures { Writes K.written K.faults outbox.old outbox.new (locked_text path.now id) }
+    ensures { Writes outbox.old outbox.new (locked_text path.now id) }
 {
     outbox.write(b"locked ");
     write_path(outbox, path);
@@ -32,7 +32,7 @@ pub fn write_locked<K: Sink>(outbox: &mut Outbox<K>, path: &[u8], id: u16)
 
 /// Tells the line of each device.
 fn write_devices<K: Sink>(outbox: &mut Outbox<K>, devices: &[Device])
-    ensures { Writes K.written K.faults outbox.old outbox.new
+    ensures { Writes outbox.old outbox.new
         (flat_map device_text devices.now) }
 {
     for device in devices {
@@ -42,7 +42,7 @@ fn write_devices<K: Sink>(outbox: &mut Outbox<K>, devices: &[Device])
 
 /// Tells the line of each entry.
 fn write_entries<K: Sink>(outbox: &mut Outbox<K>, entries: &[Entry])
-    ensures { Writes K.written K.faults outbox.old outbox.new
+    ensures { Writes outbox.old outbox.new
         (flat_map entry_text entries.now) }
 {
     for entry in entries {
@@ -52,7 +52,7 @@ fn write_entries<K: Sink>(outbox: &mut Outbox<K>, entries: &[Entry])
 
 /// Tells the line of a device.
 fn write_device<K: Sink>(outbox: &mut Outbox<K>, device: &Device)
-    ensures { Writes K.written K.faults outbox.old outbox.new (device_text device.now) }
+    ensures { Writes outbox.old outbox.new (device_text device.now) }
 {
     outbox.write(b"device ");
     outbox.write_decimal(device.tag);
@@ -64,7 +64,7 @@ fn write_device<K: Sink>(outbox: &mut Outbox<K>, device: &Device)
 
 /// Tells what a device is: the ID of an endpoint, or how many ports a switch has.
 fn write_kind<K: Sink>(outbox: &mut Outbox<K>, kind: Kind)
-    ensures { Writes K.written K.faults outbox.old outbox.new (kind_text kind) }
+    ensures { Writes outbox.old outbox.new (kind_text kind) }
 {
     match kind {
         Kind::Endpoint { id } => {
@@ -80,7 +80,7 @@ fn write_kind<K: Sink>(outbox: &mut Outbox<K>, kind: Kind)
 
 /// Tells the line of an entry.
 fn write_entry<K: Sink>(outbox: &mut Outbox<K>, entry: &Entry)
-    ensures { Writes K.written K.faults outbox.old outbox.new (entry_text entry.now) }
+    ensures { Writes outbox.old outbox.new (entry_text entry.now) }
 {
     outbox.write(b"entry ");
     outbox.write_decimal(entry.tag);
@@ -91,7 +91,7 @@ fn write_entry<K: Sink>(outbox: &mut Outbox<K>, entry: &Entry)
 
 /// Tells a number behind a space.
 fn write_number<K: Sink>(outbox: &mut Outbox<K>, number: u8)
-    ensures { Writes K.written K.faults outbox.old outbox.new (spaced number) }
+    ensures { Writes outbox.old outbox.new (spaced number) }
 {
     outbox.write(b" ");
     outbox.write_decimal(u32::from(number));
@@ -99,7 +99,7 @@ fn write_number<K: Sink>(outbox: &mut Outbox<K>, number: u8)
 
 /// Tells the ports of a path with points between them, or `host` if there are none.
 fn write_path<K: Sink>(outbox: &mut Outbox<K>, ports: &[u8])
-    ensures { Writes K.written K.faults outbox.old outbox.new (path_text ports.now) }
+    ensures { Writes outbox.old outbox.new (path_text ports.now) }
 {
     let [first, rest @ ..] = ports else {
         outbox.write(b"host");
@@ -111,7 +111,7 @@ fn write_path<K: Sink>(outbox: &mut Outbox<K>, ports: &[u8])
 
 /// Tells each port behind a point.
 fn write_ports<K: Sink>(outbox: &mut Outbox<K>, ports: &[u8])
-    ensures { Writes K.written K.faults outbox.old outbox.new
+    ensures { Writes outbox.old outbox.new
         (flat_map port_behind_point ports.now) }
 {
     for port in ports {

@@ -11,7 +11,7 @@ use rio_chars::{Outbox, Sink};
 
 /// Writes the line that says what became of a packet at the endpoint of this name.
 pub fn write_met<K: Sink>(outbox: &mut Outbox<K>, name: &[u8], met: &Met)
-    ensures { Writes K.written K.faults outbox.old outbox.new
+    ensures { Writes outbox.old outbox.new
         (met_text name.now met.now ++ codes "\n") }
 {
     match met {
@@ -25,7 +25,7 @@ pub fn write_met<K: Sink>(outbox: &mut Outbox<K>, name: &[u8], met: &Met)
 
 /// Writes a line with a word, a name, an address and data.
 fn write_access<K: Sink>(outbox: &mut Outbox<K>, word: &[u8], name: &[u8], addr: u32, load: &Load)
-    ensures { Writes K.written K.faults outbox.old outbox.new
+    ensures { Writes outbox.old outbox.new
         (word.now ++ name.now ++ codes " " ++ addr_text addr ++ codes " " ++ hex_of load.now
         ++ codes "\n") }
 {
@@ -40,7 +40,7 @@ fn write_access<K: Sink>(outbox: &mut Outbox<K>, word: &[u8], name: &[u8], addr:
 
 /// Writes a line with a word, a name and a format type.
 fn write_type<K: Sink>(outbox: &mut Outbox<K>, word: &[u8], name: &[u8], ftype: u8)
-    ensures { Writes K.written K.faults outbox.old outbox.new
+    ensures { Writes outbox.old outbox.new
         (word.now ++ name.now ++ codes " " ++ decimal ftype ++ codes "\n") }
 {
     outbox.write(word);
@@ -58,7 +58,7 @@ fn write_done<K: Sink>(
     status: u8,
     load: &Option<Load>,
 )
-    ensures { Writes K.written K.faults outbox.old outbox.new
+    ensures { Writes outbox.old outbox.new
         (codes "done " ++ name.now ++ codes " " ++ decimal tid ++ codes " " ++ decimal status
         ++ codes " " ++ data_text load.now ++ codes "\n") }
 {
@@ -75,7 +75,7 @@ fn write_done<K: Sink>(
 
 /// Writes data, or a dash if there are none.
 fn write_data<K: Sink>(outbox: &mut Outbox<K>, load: &Option<Load>)
-    ensures { Writes K.written K.faults outbox.old outbox.new (data_text load.now) }
+    ensures { Writes outbox.old outbox.new (data_text load.now) }
 {
     match load {
         Some(load) => outbox.write_hex(load.as_slice()),

@@ -1,9 +1,8 @@
 -- Before the first line, and what may be done then.
-use Rattle.std.proofs.Common.{◌≡◌, ◌≤◌, ◌+◌, ◌<◌, ◌%◌, ℕ, zero, suc, min, Bool, true, false, List, [], ◌∷◌, ◌++◌, All, length, map, take, replicate, get_or, slice_get, Option, Some, None, MatchBool, refl, sym, ap, ◌∙◌, subst, arith, option_map}
+use Rattle.std.proofs.Common.{◌≡◌, ◌≤◌, ◌+◌, ◌<◌, ◌%◌, ℕ, zero, suc, min, Bool, true, false, List, [], ◌∷◌, ◌++◌, All, length, map, take, replicate, get_or, slice_get, Some, None, MatchBool, refl, sym, ap, ◌∙◌, subst, arith, option_map}
 use Rattle.std.proofs.lemmas.List.{length-replicate, take_more, take_all}
 use Rattle.std.proofs.lemmas.List.Elements.{All-nil, All-replicate, All-head, All-tail}
 use Rattle.std.proofs.Math.Nat.{min-le_right}
-use Rattle.rio_chars.specs.declared.outbox.Outbox.{Outbox}
 use Rattle.rio_chars.proofs.WrittenLaws.{Writes-nil}
 use Rattle.rio_packets.specs.Fields.{prio_of}
 use Rattle.maint_registers.specs.Devices.{Registers, is_switch}
@@ -31,6 +30,7 @@ use Rattle.io_rounds.specs.Going.{IoState, Here}
 use Rattle.io_rounds.specs.Course.{kinds_of, KeepsFit, CanSend, CourseHolds, MayAct, IoAt}
 use Rattle.io_rounds.specs.Turns.{Underway, MayTurn}
 use Rattle.io_rounds.proofs.CalmLaws.{begins_calm}
+use Rattle.rio_chars.specs.Written.{Outgoing}
 
 -- ---- nothing is done yet
 
@@ -76,12 +76,11 @@ state_of way tasks = record {
   tasks = tasks;
 }
 
-pub at_itself : {names : List (List ℕ)} {course : Course} {K : Type 0}
-    (written : K → Option (List ℕ)) (faults : K → ℕ) (out : Outbox K)
+pub at_itself : {names : List (List ℕ)} {course : Course} (out : Outgoing)
     (way : Underway names course) (tasks : List IoTask)
-    → IoAt written faults out out names way.script (state_of way tasks) (state_of way tasks) course
-at_itself written faults out way tasks =
-    record { came = Here refl; told = Writes-nil written faults out; holds = way.holds }
+    → IoAt out out names way.script (state_of way tasks) (state_of way tasks) course
+at_itself out way tasks =
+    record { came = Here refl; told = Writes-nil out; holds = way.holds }
 
 abbrev pub underway : {names : List (List ℕ)} {script : List Numbered} {events : List Numbered}
     {trace : List TraceLine} {stations : List Station} {course : Course}

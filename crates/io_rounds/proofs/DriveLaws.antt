@@ -3,8 +3,7 @@ use Rattle.std.proofs.Common.{◌≡◌, ◌≤◌, ◌+◌, ◌<◌, ℕ, true,
 use Rattle.std.proofs.lemmas.List.{drop_more, drop_all}
 use Rattle.std.proofs.lemmas.List.Elements.{All-head, All-tail}
 use Rattle.std.specs.Io.KnownBytes.{Appends}
-use Rattle.rio_chars.specs.Written.{Writes}
-use Rattle.rio_chars.specs.declared.outbox.Outbox.{Outbox}
+use Rattle.rio_chars.specs.Written.{Outgoing, Writes}
 use Rattle.rio_chars.proofs.WrittenLaws.{Writes-nil, Writes-then, Writes-whole, Writes-front}
 use Rattle.fabric_script.specs.Lines.{is_event}
 use Rattle.fabric_script.specs.declared.lines.Line.{Line}
@@ -36,26 +35,26 @@ use Rattle.io_rounds.proofs.OnlyLaws.{comes_front, comes_last, comes_end}
 abbrev pub lines_from : List NumberedIo → ℕ → List IoTask
 lines_from io i = map (λ (l : NumberedIo). Carry l.io) (drop i io) ++ Finish ∷ []
 
-abbrev pub LinesDone : {K : Type 0} → (K → Option (List ℕ)) → (K → ℕ) → Outbox K
-    → List (List ℕ) → List Numbered → List NumberedIo → ℕ → Outbox K → Course → Type 0
-LinesDone written faults begun names script io i out course =
-    IoArrived written faults begun out names script (first_state names io) (lines_from io i) course
+abbrev pub LinesDone : Outgoing → List (List ℕ) → List Numbered → List NumberedIo → ℕ → Outgoing
+    → Course → Type 0
+LinesDone begun names script io i out course =
+    IoArrived begun out names script (first_state names io) (lines_from io i) course
 
-module _ {K : Type 0} (written : K → Option (List ℕ)) (faults : K → ℕ) (begun : Outbox K)
-    (names : List (List ℕ)) (script : List Numbered) (io : List NumberedIo) where
+module _ (begun : Outgoing) (names : List (List ℕ)) (script : List Numbered)
+    (io : List NumberedIo) where
   pub lines_begin : (course : Course)
       → CourseHolds names script [] [] (replicate (length names) new_station) course
-      → LinesDone written faults begun names script io 0 begun course
+      → LinesDone begun names script io 0 begun course
   lines_begin course holds = record {
     state = first_state names io;
-    at = record { came = Here refl; told = Writes-nil written faults begun; holds = holds };
+    at = record { came = Here refl; told = Writes-nil begun; holds = holds };
     left = refl;
   }
 
   -- the next line is to be carried out
-  pub line_next : (i : ℕ) (item : NumberedIo) (out : Outbox K) (course : Course) → i < length io
+  pub line_next : (i : ℕ) (item : NumberedIo) (out : Outgoing) (course : Course) → i < length io
       → item ≡ get_or io i item
-      → (done : LinesDone written faults begun names script io i out course)
+      → (done : LinesDone begun names script io i out course)
       → done.state.tasks ≡ Carry item.io ∷ lines_from io (i + 1)
   line_next i item out course within is done =
       done.left
@@ -63,9 +62,9 @@ module _ {K : Type 0} (written : K → Option (List ℕ)) (faults : K → ℕ) (
       (drop_more io i item within)
       ∙ ap (λ (x : NumberedIo). Carry x.io ∷ lines_from io (i + 1)) (sym is)
 
-  pub line_may : (i : ℕ) (item : NumberedIo) (out : Outbox K) (course : Course) → i < length io
+  pub line_may : (i : ℕ) (item : NumberedIo) (out : Outgoing) (course : Course) → i < length io
       → item ≡ get_or io i item → IsIoFit names script io
-      → LinesDone written faults begun names script io i out course
+      → LinesDone begun names script io i out course
       → MayBegin names course item.io
   line_may i item out course within is fit done = record {
     way = underway done.at.holds;
@@ -74,8 +73,8 @@ module _ {K : Type 0} (written : K → Option (List ℕ)) (faults : K → ℕ) (
   }
 
   -- all lines were carried out
-  pub lines_end : (i : ℕ) (out : Outbox K) (course : Course) → length io ≤ i
-      → (done : LinesDone written faults begun names script io i out course)
+  pub lines_end : (i : ℕ) (out : Outgoing) (course : Course) → length io ≤ i
+      → (done : LinesDone begun names script io i out course)
       → done.state.tasks ≡ Finish ∷ []
   lines_end i out course whole done =
       done.left
@@ -127,10 +126,10 @@ may_front net (line ∷ script) events are may =
 
 -- ---- in the end
 
-module _ {K : Type 0} {written : K → Option (List ℕ)} {faults : K → ℕ} {begun out : Outbox K}
-    {names : List (List ℕ)} {script : List Numbered} {io : List NumberedIo} where
+module _ {begun out : Outgoing} {names : List (List ℕ)} {script : List Numbered}
+    {io : List NumberedIo} where
   drives : {course : Course}
-      → (done : IoArrived written faults begun out names script (first_state names io) [] course)
+      → (done : IoArrived begun out names script (first_state names io) [] course)
       → Drives names script io done.state.events (done.state.trace ++ Ended ∷ []) done.state.output
   drives {course} done =
       let s = done.state in
@@ -157,66 +156,61 @@ module _ {K : Type 0} {written : K → Option (List ℕ)} {faults : K → ℕ} {
             runs;
       }
 
-  pub driven_whole : {course : Course} → begun.buffer.now ≡ [] → out.failed ≡ false
-      → out.buffer.now ≡ []
-      → IoArrived written faults begun out names script (first_state names io) [] course
-      → DrivenWhole names script io (written begun.sink.now) (written out.sink.now)
+  pub driven_whole : {course : Course} → begun.waiting ≡ [] → out.failed ≡ false → out.waiting ≡ []
+      → IoArrived begun out names script (first_state names io) [] course
+      → DrivenWhole names script io begun.written out.written
   driven_whole {course} empty fine none done = record {
     events = done.state.events;
     trace = done.state.trace ++ Ended ∷ [];
     output = done.state.output;
     drives = drives done;
-    told = Writes-whole written faults begun out done.state.output empty done.at.told fine none;
+    told = Writes-whole begun out done.state.output empty done.at.told fine none;
     only = λ others lines text other. other.same_output
         ∙ ap (λ (x : IoState). x.output)
         (comes_end other.over done.left other.comes done.at.came);
   }
 
-  pub driven_front : begun.buffer.now ≡ []
-      → IoStopped written faults begun out names script (first_state names io)
-      → DrivenFront names script io (written begun.sink.now) (written out.sink.now)
+  pub driven_front : begun.waiting ≡ [] → IoStopped begun out names script (first_state names io)
+      → DrivenFront names script io begun.written out.written
   driven_front empty stop = record {
     state = stop.state;
     comes = stop.came;
-    told = Writes-front written faults begun out stop.state.output empty stop.told;
+    told = Writes-front begun out stop.state.output empty stop.told;
     front = λ events trace output other.
         let front = comes_front (comes_last other.over stop.came other.comes) in
         (front.0, other.same_output ∙ front.1);
   }
 
-module _ {K : Type 0} {written : K → Option (List ℕ)} {faults : K → ℕ} {begun out : Outbox K}
-    {names : List (List ℕ)} {script : List Numbered} where
+module _ {begun out : Outgoing} {names : List (List ℕ)} {script : List Numbered} where
   -- nothing more was told
-  pub flushed : {first : IoState} {tasks : List IoTask} {course : Course} {end : Outbox K}
-      → IoArrived written faults begun out names script first tasks course
-      → Writes written faults out end []
-      → IoArrived written faults begun end names script first tasks course
+  pub flushed : {first : IoState} {tasks : List IoTask} {course : Course} {end : Outgoing}
+      → IoArrived begun out names script first tasks course → Writes out end []
+      → IoArrived begun end names script first tasks course
   flushed {first} {tasks} {course} {end} done more = record {
     state = done.state;
     at = record {
       came = done.at.came;
-      told = subst (Writes written faults begun end) (append-nil done.state.output)
+      told = subst (Writes begun end) (append-nil done.state.output)
           (Writes-then done.state.output [] done.at.told more);
       holds = done.at.holds;
     };
     left = done.left;
   }
 
-  pub stop_flushed : {first : IoState} {end : Outbox K}
-      → IoStopped written faults begun out names script first → Writes written faults out end []
-      → IoStopped written faults begun end names script first
+  pub stop_flushed : {first : IoState} {end : Outgoing}
+      → IoStopped begun out names script first → Writes out end []
+      → IoStopped begun end names script first
   stop_flushed {first} {end} stop more = record {
     state = stop.state;
     came = stop.came;
-    told = subst (Writes written faults begun end) (append-nil stop.state.output)
+    told = subst (Writes begun end) (append-nil stop.state.output)
         (Writes-then stop.state.output [] stop.told more);
   }
 
   pub arrived_stopped : {first : IoState} {tasks : List IoTask} {course : Course}
-      → IoArrived written faults begun out names script first tasks course
-      → IoStopped written faults begun out names script first
-  arrived_stopped done =
-      record { state = done.state; came = done.at.came; told = done.at.told }
+      → IoArrived begun out names script first tasks course
+      → IoStopped begun out names script first
+  arrived_stopped done = record { state = done.state; came = done.at.came; told = done.at.told }
 
 -- nothing was told
 pub driven_nothing : (names : List (List ℕ)) (script : List Numbered) (io : List NumberedIo)

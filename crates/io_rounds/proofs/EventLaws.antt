@@ -1,7 +1,6 @@
 -- One event, behind what was done.
 use Rattle.std.proofs.Common.{◌≡◌, ◌⊎◌, inl, inr, ◌<◌, ℕ, Bool, true, false, List, [], ◌∷◌, ◌++◌, Option, Some, None, Ok, Err, refl, sym, ap, ◌∙◌, subst, arith, append_assoc, if◌then◌else◌}
 use Rattle.std.proofs.lemmas.List.Elements.{All-push}
-use Rattle.rio_chars.specs.declared.outbox.Outbox.{Outbox}
 use Rattle.rio_packets.specs.Fields.{prio_of}
 use Rattle.link_model.specs.declared.event.Event.{Event}
 use Rattle.switch_core.specs.EndpointSteps.{collected}
@@ -39,6 +38,7 @@ use Rattle.io_rounds.specs.declared.stations.Station.{Station}
 use Rattle.io_rounds.specs.Calm.{LinksAreCalm}
 use Rattle.io_rounds.specs.Course.{CourseHolds, IsIoEvent, SendsPacket, MayAct, EventActed, held_behind}
 use Rattle.io_rounds.proofs.CalmLaws.{StayCalm, event_calm}
+use Rattle.trace_lines.specs.declared.writer.TraceWriter.{TraceWriter}
 
 is_an_event : (line : Line) → IsIoEvent line → is_event line ≡ true
 is_an_event (Send node prio ftype dest hex) event = refl
@@ -75,12 +75,11 @@ stays_calm names script events trace block stations course line holds kind is =
     event_calm (seen (start script) trace) line block kind
     (good_behind holds.stands.ready holds.stands.made) holds.stands.sent holds.calm is
 
-nothing_unsent : (names : List (List ℕ)) (course : Course) (line : Line) {K : Type 0}
-    (written : K → Option (List ℕ)) (faults : K → ℕ) (old new : Outbox K) (port : PortRef)
-    (event : Event) (may : MayAct names course line)
-    → Evented line (IsOwnBlock line) names written faults old new (start may.script) may.trace
+nothing_unsent : {K : Type 0} {old new : TraceWriter K} (names : List (List ℕ)) (course : Course)
+    (line : Line) (port : PortRef) (event : Event) (may : MayAct names course line)
+    → Evented line (IsOwnBlock line) old new (start may.script) may.trace
     (Err (Ends.Undetected port event)) → ⊥
-nothing_unsent names course line written faults old new port event may exposed =
+nothing_unsent names course line port event may exposed =
     let s = start may.script in
     let own = Begun line ∷ exposed.block in
     let stays = stays_calm names may.script may.events may.trace exposed.block may.stations course
@@ -99,27 +98,23 @@ nothing_unsent names course line written faults old new port event may exposed =
     none_some (Some y) x none some = absurd cc
 
 -- so memory can be wanting, or a write fail
-pub only_wanting : (names : List (List ℕ)) (course : Course) (line : Line) {K : Type 0}
-    (written : K → Option (List ℕ)) (faults : K → ℕ) (old new : Outbox K) (end : FabricEnd)
-    (may : MayAct names course line)
-    → Evented line (IsOwnBlock line) names written faults old new (start may.script) may.trace
-    (Err end)
+pub only_wanting : {K : Type 0} {old new : TraceWriter K} (names : List (List ℕ)) (course : Course)
+    (line : Line) (end : FabricEnd) (may : MayAct names course line)
+    → Evented line (IsOwnBlock line) old new (start may.script) may.trace (Err end)
     → (end ≡ Ends.Failed) ⊎ (end ≡ Ends.NoMemory)
-only_wanting names course line written faults old new (Ends.Undetected port event) may ends =
-    absurd (nothing_unsent names course line written faults old new port event may ends)
-only_wanting names course line written faults old new Ends.Failed may ends = inl refl
-only_wanting names course line written faults old new Ends.NoMemory may ends = inr refl
+only_wanting names course line (Ends.Undetected port event) may ends =
+    absurd (nothing_unsent names course line port event may ends)
+only_wanting names course line Ends.Failed may ends = inl refl
+only_wanting names course line Ends.NoMemory may ends = inr refl
 
-pub acted : (names : List (List ℕ)) (script events : List Numbered) (trace : List TraceLine)
-    (stations : List Station) (line : Line) (old new : Course) (what : Happened) {K : Type 0}
-    (written : K → Option (List ℕ)) (faults : K → ℕ) (o1 o2 : Outbox K)
-    → CourseHolds names script events trace stations old → IsIoEvent line
-    → Evented line (IsAnsweredBlock line what) names written faults o1 o2 (start script) trace
-    (Ok new.fabric)
+pub acted : {K : Type 0} {before after : TraceWriter K} (names : List (List ℕ))
+    (script events : List Numbered) (trace : List TraceLine) (stations : List Station) (line : Line)
+    (old new : Course) (what : Happened) → CourseHolds names script events trace stations old
+    → IsIoEvent line
+    → Evented line (IsAnsweredBlock line what) before after (start script) trace (Ok new.fabric)
     → new.stations.items ≡ old.stations.items → new.switches.items ≡ old.switches.items
     → EventActed names script events trace stations line what new
-acted names script events trace stations line old new what written faults o1 o2 holds kind done
-    same switches =
+acted names script events trace stations line old new what holds kind done same switches =
     let s = start script in
     let own = Begun line ∷ done.block in
     let next : Numbered = record { number = 0; line = line } in

@@ -2,8 +2,7 @@
 use Rattle.std.proofs.Common.{◌≡◌, ◌≢◌, ◌<◌, ℕ, List, [], ◌∷◌, ◌++◌, length, replicate, Option, codes, refl, sym, ap, ◌∙◌, subst, arith}
 use Rattle.std.proofs.lemmas.List.{length-set}
 use Rattle.std.proofs.lemmas.List.Elements.{All-set}
-use Rattle.rio_chars.specs.Written.{Writes}
-use Rattle.rio_chars.specs.declared.outbox.Outbox.{Outbox}
+use Rattle.rio_chars.specs.Written.{Outgoing, Writes}
 use Rattle.fabric_script.specs.declared.lines.Line.{Line}
 use Rattle.fabric_script.specs.declared.lines.Numbered.{Numbered}
 use Rattle.fabric_model.specs.Network.{Network}
@@ -114,14 +113,14 @@ other_stations : (line : IoLine) (stations : List Station)
 other_stations (Memory node bytes) stations memory = absurd (memory node bytes refl)
 other_stations _ stations memory = refl
 
-module _ {K : Type 0} {written : K → Option (List ℕ)} {faults : K → ℕ} {begun old new : Outbox K}
-    {names : List (List ℕ)} {script : List Numbered} {first s : IoState} where
+module _ {begun old new : Outgoing} {names : List (List ℕ)} {script : List Numbered}
+    {first s : IoState} where
   -- one that gives no memory
   pub begins_other : {course : Course} (line : IoLine) (rest : List IoTask)
-      → IoAt written faults begun old names script first s course → s.tasks ≡ Carry line ∷ rest
-      → Writes written faults old new (codes "> " ++ (io_line_text names line ++ codes "\n"))
+      → IoAt begun old names script first s course → s.tasks ≡ Carry line ∷ rest
+      → Writes old new (codes "> " ++ (io_line_text names line ++ codes "\n"))
       → ((node bytes : ℕ) → line ≢ Memory node bytes)
-      → IoAt written faults begun new names script first
+      → IoAt begun new names script first
       (begun_line names (endpoints_of script) line (left_to_do s rest)) course
   begins_other {course} line rest at is told other =
       begins_line line rest course at is told
@@ -130,12 +129,12 @@ module _ {K : Type 0} {written : K → Option (List ℕ)} {faults : K → ℕ} {
 
   pub begins_memory : {course : Course} (next : Course) (node bytes : ℕ) (memory : List ℕ)
       (line : IoLine) (rest : List IoTask)
-      → IoAt written faults begun old names script first s course → s.tasks ≡ Carry line ∷ rest
-      → Writes written faults old new (codes "> " ++ (io_line_text names line ++ codes "\n"))
+      → IoAt begun old names script first s course → s.tasks ≡ Carry line ∷ rest
+      → Writes old new (codes "> " ++ (io_line_text names line ++ codes "\n"))
       → line ≡ Memory node bytes → node < length names → memory ≡ replicate bytes 0
       → next.fabric ≡ course.fabric → next.switches ≡ course.switches
       → next.stations.items ≡ with_memory course.stations.items node memory
-      → IoArrived written faults begun new names script first rest next
+      → IoArrived begun new names script first rest next
   begins_memory {course} next node bytes memory line rest at is told given named zeros fabric
       switches stations =
       let holds = at.holds in

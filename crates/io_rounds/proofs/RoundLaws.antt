@@ -1,7 +1,6 @@
 -- A round: the endpoints have their turns, one after another.
-use Rattle.std.proofs.Common.{◌≡◌, ◌≤◌, ◌+◌, ◌<◌, ℕ, zero, suc, Bool, true, false, List, [], ◌∷◌, ◌++◌, length, map, drop, get_or, Option, refl, sym, ap, ◌∙◌, subst, arith, append_assoc, if◌then◌else◌}
+use Rattle.std.proofs.Common.{◌≡◌, ◌≤◌, ◌+◌, ◌<◌, ℕ, zero, suc, Bool, true, false, List, [], ◌∷◌, ◌++◌, length, map, drop, get_or, refl, sym, ap, ◌∙◌, subst, arith, append_assoc, if◌then◌else◌}
 use Rattle.std.proofs.lemmas.List.{length-map, drop_all}
-use Rattle.rio_chars.specs.declared.outbox.Outbox.{Outbox}
 use Rattle.maint_registers.specs.Devices.{Registers, is_switch}
 use Rattle.fabric_script.specs.declared.lines.Line.TheVariants.{Run}
 use Rattle.fabric_script.specs.declared.lines.Numbered.{Numbered}
@@ -12,10 +11,11 @@ use Rattle.fabric_trace.proofs.Network.Boards.{seen_board}
 use Rattle.io_rounds.specs.declared.course.Course.{Course}
 use Rattle.io_rounds.specs.Tasks.{IoTask, Settle, Turn, endpoints_from}
 use Rattle.io_rounds.specs.Going.{IoState, endpoints_of}
-use Rattle.io_rounds.specs.Course.{CourseHolds, EventActed, IoAt, IoArrived, node_turn}
+use Rattle.io_rounds.specs.Course.{CourseHolds, EventActed, IoAt, IoArrived, IoDoes, node_turn}
 use Rattle.io_rounds.specs.Turns.{Underway, MayTurn}
 use Rattle.io_rounds.proofs.TakeLaws.{settles}
 use Rattle.io_rounds.proofs.BeginLaws.{at_itself, state_of, endpoint_is}
+use Rattle.rio_chars.specs.Written.{Outgoing}
 
 -- the turns of the endpoints from a node on
 abbrev pub turns_from : List Numbered → ℕ → List IoTask
@@ -37,23 +37,21 @@ turns_step n (d ∷ devices) zero within = by_kind (is_switch d)
 turns_step n (d ∷ devices) (suc i) within = turns_step n devices i (omega (arith, within))
 
 -- The first endpoints have had their turns in a round, whatever it began with.
-abbrev pub InRound : {K : Type 0} → (K → Option (List ℕ)) → (K → ℕ) → List (List ℕ) → Outbox K
-    → Course → ℕ → Outbox K → Course → Type 0
-InRound {K} written faults names old first_course i out course =
-    (script : List Numbered) (begun : Outbox K) (first s : IoState) (rest : List IoTask)
-    → IoAt written faults begun old names script first s first_course
+abbrev pub InRound : List (List ℕ) → Outgoing → Course → ℕ → Outgoing → Course → Type 0
+InRound names old first_course i out course =
+    (script : List Numbered) (begun : Outgoing) (first s : IoState) (rest : List IoTask)
+    → IoAt begun old names script first s first_course
     → s.tasks ≡ Settle ∷ map Turn (endpoints_of script) ++ rest
-    → IoArrived written faults begun out names script first (turns_from script i ++ rest) course
+    → IoArrived begun out names script first (turns_from script i ++ rest) course
 
 -- the turn of a node comes next, if it is no switch
-pub turn_next : {K : Type 0} {written : K → Option (List ℕ)} {faults : K → ℕ}
-    {begun out : Outbox K} {names : List (List ℕ)} {script : List Numbered} {first : IoState}
-    (i : ℕ) (course : Course) (rest : List IoTask) → i < length course.switches.items
-    → (arrived : IoArrived written faults begun out names script first
-    (turns_from script i ++ rest) course)
+pub turn_next : {begun out : Outgoing} {names : List (List ℕ)} {script : List Numbered}
+    {first : IoState} (i : ℕ) (course : Course) (rest : List IoTask)
+    → i < length course.switches.items
+    → (arrived : IoArrived begun out names script first (turns_from script i ++ rest) course)
     → arrived.state.tasks
     ≡ node_turn (get_or course.switches.items i false) i ++ (turns_from script (suc i) ++ rest)
-turn_next {K} {written} {faults} {begun} {out} {names} {script} i course rest within arrived =
+turn_next {begun} {out} {names} {script} i course rest within arrived =
     let devices = (start script).network.registers in
     let same = arrived.at.holds.switches in
     let len = length-map devices is_switch in
@@ -65,41 +63,35 @@ turn_next {K} {written} {faults} {begun} {out} {names} {script} i course rest wi
     rest
     ∙ ap (λ l. node_turn (get_or l i false) i ++ (turns_from script (suc i) ++ rest)) (sym same)
 
-module _ {K : Type 0} {written : K → Option (List ℕ)} {faults : K → ℕ} {names : List (List ℕ)}
-    {old : Outbox K} {first_course : Course} where
+module _ {names : List (List ℕ)} {old : Outgoing} {first_course : Course} where
   pub round_begins : (what : Happened) (course : Course)
       → ((script : List Numbered) (s : IoState)
       → CourseHolds names script s.events s.trace s.stations first_course
       → EventActed names script s.events s.trace s.stations (Run 1) what course)
-      → InRound written faults names old first_course 0 old course
+      → InRound names old first_course 0 old course
   round_begins what course acts script begun first s rest at is =
       settles (map Turn (endpoints_of script) ++ rest) what at is (acts script s at.holds)
 
   -- a node has its turn, if it is no switch
-  pub round_turn : (i : ℕ) (out new : Outbox K) (course next : Course)
+  pub round_turn : (i : ℕ) (out new : Outgoing) (course next : Course)
       → i < length course.switches.items
-      → InRound written faults names old first_course i out course
-      → ((script : List Numbered) (begun : Outbox K) (first s : IoState) (rest : List IoTask)
-      → IoAt written faults begun out names script first s course
-      → s.tasks ≡ node_turn (get_or course.switches.items i false) i ++ rest
-      → IoArrived written faults begun new names script first rest next)
-      → InRound written faults names old first_course (i + 1) new next
+      → InRound names old first_course i out course
+      → ((script : List Numbered) → IoDoes names script out course
+      (node_turn (get_or course.switches.items i false) i) new next)
+      → InRound names old first_course (i + 1) new next
   round_turn i out new course next within in_round turn script begun first s rest at begins =
       let arrived = in_round script begun first s rest at begins in
       let next_i : suc i ≡ i + 1 = omega arith in
-      subst (λ n. IoArrived written faults begun new names script first
-      (turns_from script n ++ rest) next) next_i
+      subst (λ n. IoArrived begun new names script first (turns_from script n ++ rest) next) next_i
       (turn script begun first arrived.state (turns_from script (suc i) ++ rest) arrived.at
       (turn_next i course rest within arrived))
 
   -- all have had their turns
-  pub round_ends : (i : ℕ) (out : Outbox K) (course : Course)
+  pub round_ends : (i : ℕ) (out : Outgoing) (course : Course)
       → length course.switches.items ≤ i
-      → InRound written faults names old first_course i out course
-      → (script : List Numbered) (begun : Outbox K) (first s : IoState) (rest : List IoTask)
-      → IoAt written faults begun old names script first s first_course
-      → s.tasks ≡ Settle ∷ map Turn (endpoints_of script) ++ rest
-      → IoArrived written faults begun out names script first rest course
+      → InRound names old first_course i out course
+      → (script : List Numbered) → IoDoes names script old first_course
+      (Settle ∷ map Turn (endpoints_of script)) out course
   round_ends i out course whole in_round script begun first s rest at begins =
       let arrived = in_round script begun first s rest at begins in
       let devices = (start script).network.registers in
@@ -114,16 +106,16 @@ module _ {K : Type 0} {written : K → Option (List ℕ)} {faults : K → ℕ} {
       }
 
   -- the round so far, from what holds
-  pub round_itself : (i : ℕ) (out : Outbox K) (course : Course)
+  pub round_itself : (i : ℕ) (out : Outgoing) (course : Course)
       → (way : Underway names first_course)
-      → InRound written faults names old first_course i out course
-      → IoArrived written faults old out names way.script
+      → InRound names old first_course i out course
+      → IoArrived old out names way.script
       (state_of way (Settle ∷ map Turn (endpoints_of way.script) ++ []))
       (turns_from way.script i ++ []) course
   round_itself i out course way in_round =
       let tasks = Settle ∷ map Turn (endpoints_of way.script) ++ [] in
       in_round way.script old (state_of way tasks) (state_of way tasks) []
-      (at_itself written faults old way tasks) refl
+      (at_itself old way tasks) refl
 
 -- a node that is no switch is an endpoint, and its number is one of a name
 pub turn_may : {names : List (List ℕ)} (i : ℕ) (course : Course) → Underway names course

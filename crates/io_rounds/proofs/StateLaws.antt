@@ -2,8 +2,7 @@
 use Rattle.std.proofs.Common.{◌≡◌, ◌<◌, ℕ, List, [], ◌∷◌, ◌++◌, All, length, Option, Some, None, IfSome, Result, Ok, Err, IfOk, OnOk, OnErr, codes, refl, sym, ap, ◌∙◌, subst, arith}
 use Rattle.std.proofs.lemmas.List.Elements.{All-set}
 use Rattle.std.proofs.lemmas.List.{length-set}
-use Rattle.rio_chars.specs.Written.{Writes}
-use Rattle.rio_chars.specs.declared.outbox.Outbox.{Outbox}
+use Rattle.rio_chars.specs.Written.{Outgoing, Writes}
 use Rattle.rio_chars.proofs.WrittenLaws.{Writes-then}
 use Rattle.fabric_script.specs.declared.lines.Line.{Line}
 use Rattle.fabric_script.specs.declared.lines.Numbered.{Numbered}
@@ -90,55 +89,53 @@ pub comes_on : {names : List (List ℕ)} {script : List Numbered} {s t u : IoSta
 comes_on {names} {script} {s} first (Here is) = subst (λ x. IoComes names script s x) (sym is) first
 comes_on first (Further before more goes) = Further before (comes_on first more) goes
 
-module _ {K : Type 0} {written : K → Option (List ℕ)} {faults : K → ℕ} {begun : Outbox K}
-    {names : List (List ℕ)} {script : List Numbered} {first : IoState} where
+module _ {begun : Outgoing} {names : List (List ℕ)} {script : List Numbered}
+    {first : IoState} where
   -- one task more, in which this was told
-  pub at_then : {old new : Outbox K} {s : IoState} {course : Course} (t : IoState) (more : List ℕ)
-      (next : Course) → IoAt written faults begun old names script first s course
-      → IoGoes names script s t → Writes written faults old new more
+  pub at_then : {old new : Outgoing} {s : IoState} {course : Course} (t : IoState) (more : List ℕ)
+      (next : Course) → IoAt begun old names script first s course
+      → IoGoes names script s t → Writes old new more
       → t.output ≡ s.output ++ more → CourseHolds names script t.events t.trace t.stations next
-      → IoAt written faults begun new names script first t next
+      → IoAt begun new names script first t next
   at_then {old} {new} {s} t more next at goes told is holds = record {
     came = Further s at.came goes;
-    told = subst (Writes written faults begun new) (sym is)
-        (Writes-then s.output more at.told told);
+    told = subst (Writes begun new) (sym is) (Writes-then s.output more at.told told);
     holds = holds;
   }
 
   -- one in which nothing was told
-  pub at_silent : {out : Outbox K} {s : IoState} {course : Course} (t : IoState) (next : Course)
-      → IoAt written faults begun out names script first s course → IoGoes names script s t
+  pub at_silent : {out : Outgoing} {s : IoState} {course : Course} (t : IoState) (next : Course)
+      → IoAt begun out names script first s course → IoGoes names script s t
       → t.output ≡ s.output → CourseHolds names script t.events t.trace t.stations next
-      → IoAt written faults begun out names script first t next
+      → IoAt begun out names script first t next
   at_silent {out} {s} t next at goes is holds = record {
     came = Further s at.came goes;
-    told = subst (Writes written faults begun out) (sym is) at.told;
+    told = subst (Writes begun out) (sym is) at.told;
     holds = holds;
   }
 
   -- some, in which nothing was told
-  pub at_sent : {out : Outbox K} {s : IoState} {course next : Course} {node : ℕ}
-      {tasks : List IoTask} → IoAt written faults begun out names script first s course
+  pub at_sent : {out : Outgoing} {s : IoState} {course next : Course} {node : ℕ}
+      {tasks : List IoTask} → IoAt begun out names script first s course
       → (sent : TaskSent names script s node tasks next)
-      → IoAt written faults begun out names script first sent.state next
+      → IoAt begun out names script first sent.state next
   at_sent {out} at sent = record {
     came = comes_on at.came sent.comes;
-    told = subst (Writes written faults begun out) (sym sent.output) at.told;
+    told = subst (Writes begun out) (sym sent.output) at.told;
     holds = sent.holds;
   }
 
-  pub stopped : {out : Outbox K} {s : IoState} {course : Course}
-      → IoAt written faults begun out names script first s course
-      → IoStopped written faults begun out names script first
+  pub stopped : {out : Outgoing} {s : IoState} {course : Course}
+      → IoAt begun out names script first s course → IoStopped begun out names script first
   stopped {out} {s} at = record { state = s; came = at.came; told = at.told }
 
   -- a line is begun
-  pub begins_line : {old new : Outbox K} {s : IoState} {course : Course} (line : IoLine)
+  pub begins_line : {old new : Outgoing} {s : IoState} {course : Course} (line : IoLine)
       (rest : List IoTask) (next : Course)
-      → IoAt written faults begun old names script first s course → s.tasks ≡ Carry line ∷ rest
-      → Writes written faults old new (codes "> " ++ (io_line_text names line ++ codes "\n"))
+      → IoAt begun old names script first s course → s.tasks ≡ Carry line ∷ rest
+      → Writes old new (codes "> " ++ (io_line_text names line ++ codes "\n"))
       → CourseHolds names script s.events s.trace (stations_by line s.stations) next
-      → IoAt written faults begun new names script first
+      → IoAt begun new names script first
       (begun_line names (endpoints_of script) line (left_to_do s rest)) next
   begins_line {old} {new} {s} line rest next at is told holds =
       at_then (begun_line names (endpoints_of script) line (left_to_do s rest))
@@ -147,10 +144,10 @@ module _ {K : Type 0} {written : K → Option (List ℕ)} {faults : K → ℕ} {
       refl holds
 
   -- the last line is written
-  pub finishes : {old new : Outbox K} {s : IoState} {course : Course}
-      → IoAt written faults begun old names script first s course → s.tasks ≡ Finish ∷ []
-      → Writes written faults old new (codes "end" ++ codes "\n")
-      → IoArrived written faults begun new names script first [] course
+  pub finishes : {old new : Outgoing} {s : IoState} {course : Course}
+      → IoAt begun old names script first s course → s.tasks ≡ Finish ∷ []
+      → Writes old new (codes "end" ++ codes "\n")
+      → IoArrived begun new names script first [] course
   finishes {old} {new} {s} {course} at is told = record {
     state = telling (left_to_do s []) (codes "end");
     at = at_then (telling (left_to_do s []) (codes "end")) (codes "end" ++ codes "\n") course at

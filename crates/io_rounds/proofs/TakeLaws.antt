@@ -2,8 +2,7 @@
 use Rattle.std.proofs.Common.{◌≡◌, ◌≢◌, ◌<◌, ℕ, Bool, true, false, List, ◌∷◌, ◌++◌, All, length, Option, Some, None, codes, refl, sym, ap, ◌∙◌, subst, arith}
 use Rattle.std.proofs.lemmas.List.Elements.{All-set}
 use Rattle.std.proofs.lemmas.List.{length-set}
-use Rattle.rio_chars.specs.Written.{Writes}
-use Rattle.rio_chars.specs.declared.outbox.Outbox.{Outbox}
+use Rattle.rio_chars.specs.Written.{Outgoing, Writes}
 use Rattle.rio_chars.proofs.WrittenLaws.{Writes-then}
 use Rattle.fabric_script.specs.Names.{name_of}
 use Rattle.fabric_script.specs.declared.lines.Line.{Line}
@@ -58,15 +57,15 @@ took_nothing names node (Answers.Left packet) s none = absurd cc
 took_nothing names node Answers.Answered s none = absurd cc
 took_nothing names node _ s none = refl
 
-module _ {K : Type 0} {written : K → Option (List ℕ)} {faults : K → ℕ} {begun : Outbox K}
-    {names : List (List ℕ)} {script : List Numbered} {first : IoState} where
+module _ {begun : Outgoing} {names : List (List ℕ)} {script : List Numbered}
+    {first : IoState} where
   -- nothing was held, or a response of the registers has no room
-  pub takes_none : {out : Outbox K} {s : IoState} {old new : Course} (node : ℕ)
+  pub takes_none : {out : Outgoing} {s : IoState} {old new : Course} (node : ℕ)
       (rest : List IoTask) (what : Happened)
-      → IoAt written faults begun out names script first s old → s.tasks ≡ Fetch node ∷ rest
+      → IoAt begun out names script first s old → s.tasks ≡ Fetch node ∷ rest
       → EventActed names script s.events s.trace s.stations (Collect node) what new
       → goes_on what ≡ false
-      → CollectsOn written faults begun out names script first node false rest
+      → CollectsOn begun out names script first node false rest
       (held_behind script s.trace node) new
   takes_none {out} {s} {old} {new} node rest what at is acted none =
       let u = with_event (left_to_do s rest) (Collect node) acted.block in
@@ -79,11 +78,11 @@ module _ {K : Type 0} {written : K → Option (List ℕ)} {faults : K → ℕ} {
       }
 
   -- the registers answered
-  pub takes_answered : {out : Outbox K} {s : IoState} {old new : Course} (node : ℕ)
+  pub takes_answered : {out : Outgoing} {s : IoState} {old new : Course} (node : ℕ)
       (rest : List IoTask)
-      → IoAt written faults begun out names script first s old → s.tasks ≡ Fetch node ∷ rest
+      → IoAt begun out names script first s old → s.tasks ≡ Fetch node ∷ rest
       → EventActed names script s.events s.trace s.stations (Collect node) Answers.Answered new
-      → CollectsOn written faults begun out names script first node true rest
+      → CollectsOn begun out names script first node true rest
       (held_behind script s.trace node) new
   unfolding goes_on
   takes_answered {out} {s} {old} {new} node rest at is acted =
@@ -100,15 +99,15 @@ module _ {K : Type 0} {written : K → Option (List ℕ)} {faults : K → ℕ} {
       }
 
   -- a packet left, and what became of it was told
-  pub serves : {old new : Outbox K} {s : IoState} {mid next : Course} (node : ℕ)
+  pub serves : {old new : Outgoing} {s : IoState} {mid next : Course} (node : ℕ)
       (packet : List ℕ) (rest : List IoTask) (met : Met) → node < length names
-      → (taken : HasTaken written faults begun old names script first s node rest
+      → (taken : HasTaken begun old names script first s node rest
       (Answers.Left packet) mid)
       → met ≡ met_at_node s.stations node packet
-      → Writes written faults old new (met_text (name_of names node) met ++ codes "\n")
+      → Writes old new (met_text (name_of names node) met ++ codes "\n")
       → next.fabric ≡ mid.fabric → next.switches ≡ mid.switches
       → next.stations.items ≡ stations_met mid.stations.items node packet
-      → IoAt written faults begun new names script first
+      → IoAt begun new names script first
       (served_at names node packet
       (with_event (left_to_do s rest) (Collect node) taken.acted.block)) next
   serves {old} {new} {s} {mid} {next} node packet rest met within taken is told fabric switches
@@ -122,7 +121,7 @@ module _ {K : Type 0} {written : K → Option (List ℕ)} {faults : K → ℕ} {
         told = Writes-then s.output
             (met_text (name_of names node) (met_at_node s.stations node packet)
             ++ codes "\n") taken.at.told
-            (subst (λ m. Writes written faults old new
+            (subst (λ m. Writes old new
             (met_text (name_of names node) m ++ codes "\n"))
             is told);
         holds = holds_with t.stations next acted.holds fabric
@@ -133,15 +132,15 @@ module _ {K : Type 0} {written : K → Option (List ℕ)} {faults : K → ℕ} {
       }
 
   -- it was not answered
-  pub serves_on : {new : Outbox K} {s : IoState} {mid next : Course} (node : ℕ)
-      (packet : List ℕ) (rest : List IoTask) {old : Outbox K}
-      (taken : HasTaken written faults begun old names script first s node rest
+  pub serves_on : {new : Outgoing} {s : IoState} {mid next : Course} (node : ℕ)
+      (packet : List ℕ) (rest : List IoTask) {old : Outgoing}
+      (taken : HasTaken begun old names script first s node rest
       (Answers.Left packet) mid)
       → None ≡ answer_at_node s.stations node packet
-      → IoAt written faults begun new names script first
+      → IoAt begun new names script first
       (served_at names node packet
       (with_event (left_to_do s rest) (Collect node) taken.acted.block)) next
-      → CollectsOn written faults begun new names script first node true rest
+      → CollectsOn begun new names script first node true rest
       (held_behind script s.trace node) next
   unfolding goes_on
   serves_on {new} {s} {mid} {next} node packet rest taken none at = record {
@@ -154,18 +153,18 @@ module _ {K : Type 0} {written : K → Option (List ℕ)} {faults : K → ℕ} {
   }
 
   -- it was answered, and the reply was sent or kept
-  pub serves_replied : {new : Outbox K} {s : IoState} {mid next end : Course} (node : ℕ)
+  pub serves_replied : {new : Outgoing} {s : IoState} {mid next end : Course} (node : ℕ)
       (packet : List ℕ) (rest : List IoTask) (io : Io) (line : Line) (more : Bool)
-      {old : Outbox K} (taken : HasTaken written faults begun old names script first s node rest
+      {old : Outgoing} (taken : HasTaken begun old names script first s node rest
       (Answers.Left packet) mid)
       → Some io ≡ answer_at_node s.stations node packet → line ≡ reply_line node packet io
-      → IoAt written faults begun new names script first
+      → IoAt begun new names script first
       (served_at names node packet
       (with_event (left_to_do s rest) (Collect node) taken.acted.block)) next
       → ((t : IoState) → CourseHolds names script t.events t.trace t.stations next
       → t.tasks ≡ Reply node line ∷ rest
       → TaskSent names script t node (tasks_on node more rest) end)
-      → CollectsOn written faults begun new names script first node more rest
+      → CollectsOn begun new names script first node more rest
       (held_behind script s.trace node) end
   unfolding goes_on
   serves_replied {new} {s} {mid} {next} {end} node packet rest io line more taken some is at
@@ -189,15 +188,15 @@ module _ {K : Type 0} {written : K → Option (List ℕ)} {faults : K → ℕ} {
   -- ---- requests
 
   -- there was room
-  pub asks_took : {old new : Outbox K} {s : IoState} {before mid : Course} (node : ℕ)
+  pub asks_took : {old new : Outgoing} {s : IoState} {before mid : Course} (node : ℕ)
       (tid : Option ℕ) (line : Line) (rest : List IoTask) (next : Course)
-      → IoAt written faults begun old names script first s before
+      → IoAt begun old names script first s before
       → s.tasks ≡ Ask node tid line ∷ rest → node < length names
       → EventActed names script s.events s.trace s.stations line Answers.Took mid
-      → Writes written faults old new (asked_text (name_of names node) tid ++ codes "\n")
+      → Writes old new (asked_text (name_of names node) tid ++ codes "\n")
       → next.fabric ≡ mid.fabric → next.switches ≡ mid.switches
       → next.stations.items ≡ counted_on mid.stations.items node tid
-      → IoArrived written faults begun new names script first rest next
+      → IoArrived begun new names script first rest next
   asks_took {old} {new} {s} {before} {mid} node tid line rest next at is within acted told fabric
       switches stations =
       let u = with_event (left_to_do s rest) line acted.block in
@@ -216,13 +215,13 @@ module _ {K : Type 0} {written : K → Option (List ℕ)} {faults : K → ℕ} {
       }
 
   -- there was none
-  pub asks_full : {old new : Outbox K} {s : IoState} {before next : Course} (node : ℕ)
+  pub asks_full : {old new : Outgoing} {s : IoState} {before next : Course} (node : ℕ)
       (tid : Option ℕ) (line : Line) (rest : List IoTask) (what : Happened)
-      → IoAt written faults begun old names script first s before
+      → IoAt begun old names script first s before
       → s.tasks ≡ Ask node tid line ∷ rest → what ≢ Answers.Took
       → EventActed names script s.events s.trace s.stations line what next
-      → Writes written faults old new (codes "full" ++ codes "\n")
-      → IoArrived written faults begun new names script first rest next
+      → Writes old new (codes "full" ++ codes "\n")
+      → IoArrived begun new names script first rest next
   asks_full {old} {new} {s} {before} {next} node tid line rest what at is other acted told =
       let u = with_event (left_to_do s rest) line acted.block in
       record {
@@ -236,11 +235,11 @@ module _ {K : Type 0} {written : K → Option (List ℕ)} {faults : K → ℕ} {
   -- ---- a round
 
   -- the links settle and the switches step
-  pub settles : {out : Outbox K} {s : IoState} {old new : Course} (rest : List IoTask)
-      (what : Happened) → IoAt written faults begun out names script first s old
+  pub settles : {out : Outgoing} {s : IoState} {old new : Course} (rest : List IoTask)
+      (what : Happened) → IoAt begun out names script first s old
       → s.tasks ≡ Settle ∷ rest
       → EventActed names script s.events s.trace s.stations (Run 1) what new
-      → IoArrived written faults begun out names script first rest new
+      → IoArrived begun out names script first rest new
   settles {out} {s} {old} {new} rest what at is acted =
       let u = with_event (left_to_do s rest) (Run 1) acted.block in
       record {
@@ -273,12 +272,11 @@ turns_on node line what new may acts =
       endpoint = may.endpoint;
     }
 
-module _ {K : Type 0} {written : K → Option (List ℕ)} {faults : K → ℕ} {begun out : Outbox K}
-    {names : List (List ℕ)} {script : List Numbered} {first : IoState} {node : ℕ} {more : Bool}
-    {rest : List IoTask} {before : ℕ} {course : Course} where
+module _ {begun out : Outgoing} {names : List (List ℕ)} {script : List Numbered} {first : IoState}
+    {node : ℕ} {more : Bool} {rest : List IoTask} {before : ℕ} {course : Course} where
   pub taken_on : more ≡ true
-      → CollectsOn written faults begun out names script first node more rest before course
-      → IoArrived written faults begun out names script first (Fetch node ∷ rest) course
+      → CollectsOn begun out names script first node more rest before course
+      → IoArrived begun out names script first (Fetch node ∷ rest) course
   taken_on on taken = record {
     state = taken.state;
     at = taken.at;
@@ -286,8 +284,8 @@ module _ {K : Type 0} {written : K → Option (List ℕ)} {faults : K → ℕ} {
   }
 
   pub taken_over : more ≡ false
-      → CollectsOn written faults begun out names script first node more rest before course
-      → IoArrived written faults begun out names script first rest course
+      → CollectsOn begun out names script first node more rest before course
+      → IoArrived begun out names script first rest course
   taken_over over taken = record {
     state = taken.state;
     at = taken.at;
@@ -295,15 +293,14 @@ module _ {K : Type 0} {written : K → Option (List ℕ)} {faults : K → ℕ} {
   }
 
 -- the fabric has fewer packets at the node than before
-pub taken_smaller : {K : Type 0} {written : K → Option (List ℕ)} {faults : K → ℕ}
-    {begun out end : Outbox K} {names : List (List ℕ)} {script : List Numbered} {first : IoState}
-    {node : ℕ} {more : Bool} {tasks rest : List IoTask} {old new : Course}
+pub taken_smaller : {begun out end : Outgoing} {names : List (List ℕ)} {script : List Numbered}
+    {first : IoState} {node : ℕ} {more : Bool} {tasks rest : List IoTask} {old new : Course}
     → IsEndpoint (start script).network node → more ≡ true
-    → (arrived : IoArrived written faults begun out names script first tasks old)
-    → CollectsOn written faults begun end names script first node more rest
+    → (arrived : IoArrived begun out names script first tasks old)
+    → CollectsOn begun end names script first node more rest
     (held_behind script arrived.state.trace node) new
     → held_at new.fabric node < held_at old.fabric node
-taken_smaller {K} {written} {faults} {begun} {out} {end} {names} {script} {first} {node} {more}
+taken_smaller {begun} {out} {end} {names} {script} {first} {node} {more}
     {tasks} {rest} {old} {new} endpoint on arrived taken =
     let s = arrived.state in
     let t = taken.state in

@@ -1,7 +1,6 @@
 -- How far a script of reads and writes has come.
-use Rattle.std.specs.Prelude.{◌≡◌, ℕ, true, false, Bool, List, [], ◌∷◌, ◌++◌, All, length, map, Option, IfSome}
-use Rattle.rio_chars.specs.Written.{Writes}
-use Rattle.rio_chars.specs.declared.outbox.Outbox.{Outbox}
+use Rattle.std.specs.Prelude.{◌≡◌, ℕ, true, false, Bool, List, [], ◌∷◌, ◌++◌, All, length, map, IfSome}
+use Rattle.rio_chars.specs.Written.{Outgoing, Writes}
 use Rattle.fabric_script.specs.Lines.{is_event}
 use Rattle.fabric_script.specs.Scripts.{ScriptPasses}
 use Rattle.fabric_script.specs.declared.lines.Line.{Line}
@@ -84,28 +83,41 @@ pub record EventActed (names : List (List ℕ)) (script events : List Numbered)
 -- ---- many
 
 -- A state was reached from the first one, what it writes was told, and so much holds.
-pub record IoAt {K : Type 0} (written : K → Option (List ℕ)) (faults : K → ℕ) (begun out : Outbox K)
-    (names : List (List ℕ)) (script : List Numbered) (first s : IoState) (course : Course) : Type 0
-  where
-    pub came : IoComes names script first s
-    pub told : Writes written faults begun out s.output
-    pub holds : CourseHolds names script s.events s.trace s.stations course
+pub record IoAt (begun out : Outgoing) (names : List (List ℕ)) (script : List Numbered)
+    (first s : IoState) (course : Course) : Type 0 where
+  pub came : IoComes names script first s
+  pub told : Writes begun out s.output
+  pub holds : CourseHolds names script s.events s.trace s.stations course
 
 -- So was one in which these tasks are left.
-pub record IoArrived {K : Type 0} (written : K → Option (List ℕ)) (faults : K → ℕ)
-    (begun out : Outbox K) (names : List (List ℕ)) (script : List Numbered) (first : IoState)
-    (tasks : List IoTask) (course : Course) : Type 0 where
+pub record IoArrived (begun out : Outgoing) (names : List (List ℕ)) (script : List Numbered)
+    (first : IoState) (tasks : List IoTask) (course : Course) : Type 0 where
   pub state : IoState
-  pub at : IoAt written faults begun out names script first state course
+  pub at : IoAt begun out names script first state course
   pub left : state.tasks ≡ tasks
 
 -- A state was reached, and what it writes was told.
-pub record IoStopped {K : Type 0} (written : K → Option (List ℕ)) (faults : K → ℕ)
-    (begun out : Outbox K) (names : List (List ℕ)) (script : List Numbered) (first : IoState) :
-    Type 0 where
+pub record IoStopped (begun out : Outgoing) (names : List (List ℕ)) (script : List Numbered)
+    (first : IoState) : Type 0 where
   pub state : IoState
   pub came : IoComes names script first state
-  pub told : Writes written faults begun out state.output
+  pub told : Writes begun out state.output
+
+-- A call does these tasks, whatever state was reached in which they come first; or it stops among
+-- them.
+abbrev pub IoDoes : List (List ℕ) → List Numbered → Outgoing → Course → List IoTask → Outgoing
+    → Course → Type 0
+IoDoes names script old before tasks new after =
+    (begun : Outgoing) (first s : IoState) (rest : List IoTask)
+    → IoAt begun old names script first s before → s.tasks ≡ tasks ++ rest
+    → IoArrived begun new names script first rest after
+
+abbrev pub IoStops : List (List ℕ) → List Numbered → Outgoing → Course → List IoTask → Outgoing
+    → Type 0
+IoStops names script old before tasks new =
+    (begun : Outgoing) (first s : IoState) (rest : List IoTask)
+    → IoAt begun old names script first s before → s.tasks ≡ tasks ++ rest
+    → IoStopped begun new names script first
 
 -- how many packets a node has received and still holds, behind a trace
 abbrev pub held_behind : List Numbered → List TraceLine → ℕ → ℕ

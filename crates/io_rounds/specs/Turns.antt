@@ -1,6 +1,6 @@
 -- What an endpoint does in its turn, between two states of a script.
 use Rattle.std.specs.Prelude.{◌≡◌, ◌<◌, ◌≤◌, ℕ, true, Bool, List, ◌∷◌, length}
-use Rattle.rio_chars.specs.declared.outbox.Outbox.{Outbox}
+use Rattle.rio_chars.specs.Written.{Outgoing}
 use Rattle.fabric_script.specs.declared.lines.Line.{Line}
 use Rattle.fabric_script.specs.declared.lines.Line.TheVariants.{Collect}
 use Rattle.fabric_script.specs.declared.lines.Numbered.{Numbered}
@@ -8,7 +8,6 @@ use Rattle.fabric_model.specs.Network.{IsEndpoint}
 use Rattle.trace_lines.specs.Lines.{TraceLine}
 use Rattle.fabric_trace.specs.Runs.{start}
 use Rattle.fabric_ports.specs.declared.answers.Happened.{Happened}
-use Rattle.std.specs.Prelude.{Option}
 use Rattle.io_script.specs.declared.lines.IoLine.{IoLine}
 use Rattle.io_rounds.specs.declared.course.Course.{Course}
 use Rattle.io_rounds.specs.declared.stations.Station.{Station}
@@ -53,19 +52,19 @@ pub record TaskSent (names : List (List ℕ)) (script : List Numbered) (s : IoSt
   pub held : held_behind script state.trace node ≤ held_behind script s.trace node
 
 -- A node that was to collect did, with this answer, from a state that was reached.
-pub record HasTaken {K : Type 0} (written : K → Option (List ℕ)) (faults : K → ℕ)
-    (begun out : Outbox K) (names : List (List ℕ)) (script : List Numbered) (first s : IoState)
-    (node : ℕ) (rest : List IoTask) (what : Happened) (course : Course) : Type 0 where
+pub record HasTaken (begun out : Outgoing) (names : List (List ℕ)) (script : List Numbered)
+    (first s : IoState) (node : ℕ) (rest : List IoTask) (what : Happened) (course : Course) :
+    Type 0 where
   pub before : Course
-  pub at : IoAt written faults begun out names script first s before
+  pub at : IoAt begun out names script first s before
   pub next : s.tasks ≡ Fetch node ∷ rest
   pub acted : EventActed names script s.events s.trace s.stations (Collect node) what course
 
 -- The node collects on, and holds fewer packets than so many; or its turn is over.
-pub record CollectsOn {K : Type 0} (written : K → Option (List ℕ)) (faults : K → ℕ)
-    (begun out : Outbox K) (names : List (List ℕ)) (script : List Numbered) (first : IoState)
-    (node : ℕ) (more : Bool) (rest : List IoTask) (before : ℕ) (course : Course) : Type 0 where
+pub record CollectsOn (begun out : Outgoing) (names : List (List ℕ)) (script : List Numbered)
+    (first : IoState) (node : ℕ) (more : Bool) (rest : List IoTask) (before : ℕ) (course : Course) :
+    Type 0 where
   pub state : IoState
-  pub at : IoAt written faults begun out names script first state course
+  pub at : IoAt begun out names script first state course
   pub left : state.tasks ≡ tasks_on node more rest
   pub fewer : more ≡ true → held_behind script state.trace node < before

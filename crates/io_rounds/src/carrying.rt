@@ -2,9 +2,8 @@
 ghost use Rattle.std.specs.Prelude.{◌≡◌, ◌≤◌, ◌<◌, true, false, [], ◌∷◌, List, length, OnOk, OnErr, IsErrOf};
 ghost use Rattle.rio_chars.specs.Faults.{Rose};
 ghost use Rattle.fabric_script.specs.declared.lines.Numbered.{Numbered as NumberedLine};
-ghost use Rattle.io_rounds.specs.Tasks.{IoTask, Carry, Ask};
-ghost use Rattle.io_rounds.specs.Going.{IoState};
-ghost use Rattle.io_rounds.specs.Course.{CourseHolds, IoAt, IoArrived, IoStopped};
+ghost use Rattle.io_rounds.specs.Tasks.{Carry, Ask};
+ghost use Rattle.io_rounds.specs.Course.{CourseHolds, IoArrived, IoStopped, IoDoes, IoStops};
 ghost use Rattle.io_rounds.specs.Drives.{IsIoFit, DrivenWhole, DrivenFront, first_state};
 ghost use Rattle.io_rounds.specs.Turns.{MayBegin, MaySend};
 
@@ -63,7 +62,9 @@ pub fn carry_out<K: Sink>(alloc: Global, script: &IoScript, sink: &mut K) -> Res
     let mut course = Course::new(alloc, &script.script, trace)?;
     let mut buffer = TextBuffer::new(alloc)?;
     let mut outbox = Outbox::new(&mut buffer, sink);
-    write_output(alloc, script, &mut course, &mut outbox)
+    let end = write_output(alloc, script, &mut course, &mut outbox);
+    outbox.into_sink();
+    end
 }
 
 /// Carries out the lines and hands what they write to the sink.
@@ -78,21 +79,21 @@ fn write_output<K: Sink>(
     requires begins { CourseHolds script.now.script.names.items script.now.script.lines.items [] []
         (first_state script.now.script.names.items script.now.lines.items).stations course.old }
     requires fine { output.old.failed ≡ false }
-    requires empty { output.old.buffer.now ≡ [] }
-    ensures same { output.new.sink.ghost_name ≡ output.old.sink.ghost_name }
+    requires empty { output.old.waiting ≡ [] }
+    ensures same { output.new.sink ≡ output.old.sink }
     ensures done { OnOk result (DrivenWhole script.now.script.names.items
         script.now.script.lines.items script.now.lines.items
-        (K.written output.old.sink.now) (K.written output.new.sink.now)) }
+        output.old.written output.new.written) }
     ensures write_fault { IsErrOf result IoEnd.WriteFault
-        → Rose (K.faults output.old.sink.now) (K.faults output.new.sink.now)
+        → Rose output.old.faults output.new.faults
         × DrivenFront script.now.script.names.items script.now.script.lines.items
-        script.now.lines.items (K.written output.old.sink.now) (K.written output.new.sink.now) }
+        script.now.lines.items output.old.written output.new.written }
     ensures no_memory { IsErrOf result IoEnd.NoMemory
         → DrivenFront script.now.script.names.items script.now.script.lines.items
-        script.now.lines.items (K.written output.old.sink.now) (K.written output.new.sink.now) }
+        script.now.lines.items output.old.written output.new.written }
     ensures counts { ¬ IsErrOf result IoEnd.WriteFault
-        → K.faults output.new.sink.now ≡ K.faults output.old.sink.now }
-    ensures never_falls { K.faults output.old.sink.now ≤ K.faults output.new.sink.now }
+        → output.new.faults ≡ output.old.faults }
+    ensures never_falls { output.old.faults ≤ output.new.faults }
 {
     let end = tell_output(alloc, script, course, output);
     output.flush();
@@ -114,10 +115,10 @@ fn tell_output<K: Sink>(
     requires begins { CourseHolds script.now.script.names.items script.now.script.lines.items [] []
         (first_state script.now.script.names.items script.now.lines.items).stations course.old }
     requires fine { output.old.failed ≡ false }
-    ensures done { OnOk result (IoArrived K.written K.faults output.old output.new
+    ensures done { OnOk result (IoArrived output.old output.new
         script.now.script.names.items script.now.script.lines.items
         (first_state script.now.script.names.items script.now.lines.items) [] course.new) }
-    ensures front { IoStopped K.written K.faults output.old output.new
+    ensures front { IoStopped output.old output.new
         script.now.script.names.items script.now.script.lines.items
         (first_state script.now.script.names.items script.now.lines.items) }
     ensures failed { IsErrOf result IoEnd.WriteFault → output.new.failed ≡ true }
@@ -142,14 +143,10 @@ impl Course<'_> {
         output: &mut Outbox<K>,
     ) -> Result<(), NoMemory>
         requires { MayBegin names.now self.old line.now }
-        ensures done { OnOk result ((script : List NumberedLine) (begun : Outbox K)
-            (first s : IoState) (rest : List IoTask) → IoAt K.written K.faults begun output.old
-            names.now script first s self.old → s.tasks ≡ Carry line.now ∷ rest
-            → IoArrived K.written K.faults begun output.new names.now script first rest self.new) }
-        ensures ended { OnErr result ((script : List NumberedLine) (begun : Outbox K)
-            (first s : IoState) (rest : List IoTask) → IoAt K.written K.faults begun output.old
-            names.now script first s self.old → s.tasks ≡ Carry line.now ∷ rest
-            → IoStopped K.written K.faults begun output.new names.now script first) }
+        ensures done { OnOk result ((script : List NumberedLine) → IoDoes names.now script
+            output.old self.old (Carry line.now ∷ []) output.new self.new) }
+        ensures ended { OnErr result ((script : List NumberedLine) → IoStops names.now script
+            output.old self.old (Carry line.now ∷ []) output.new) }
     {
         match line {
             IoLine::Memory { node, bytes } => {
@@ -180,16 +177,11 @@ impl Course<'_> {
     ) -> Result<(), NoMemory>
         requires may { MaySend names.now self.old asked.now.line }
         requires named { asked.now.node < length names.now }
-        ensures done { OnOk result ((script : List NumberedLine) (begun : Outbox K)
-            (first s : IoState) (rest : List IoTask) → IoAt K.written K.faults begun output.old
-            names.now script first s self.old
-            → s.tasks ≡ Ask asked.now.node asked.now.tid asked.now.line ∷ rest
-            → IoArrived K.written K.faults begun output.new names.now script first rest self.new) }
-        ensures ended { OnErr result ((script : List NumberedLine) (begun : Outbox K)
-            (first s : IoState) (rest : List IoTask) → IoAt K.written K.faults begun output.old
-            names.now script first s self.old
-            → s.tasks ≡ Ask asked.now.node asked.now.tid asked.now.line ∷ rest
-            → IoStopped K.written K.faults begun output.new names.now script first) }
+        ensures done { OnOk result ((script : List NumberedLine) → IoDoes names.now script
+            output.old self.old (Ask asked.now.node asked.now.tid asked.now.line ∷ []) output.new
+            self.new) }
+        ensures ended { OnErr result ((script : List NumberedLine) → IoStops names.now script
+            output.old self.old (Ask asked.now.node asked.now.tid asked.now.line ∷ []) output.new) }
     {
         match self.act(alloc, names, &asked.line)? {
             Happened::Took => {

@@ -15,6 +15,7 @@ use fabric_ports::{Fabric, FabricEnd, Happened};
 use fabric_script::{Line, Name, Numbered, Script};
 use rio_chars::{NoMemory, Outbox, PlainSink};
 use std::alloc::{AllocError, Global};
+use trace_lines::TraceWriter;
 
 /// A fabric, what is kept of each node, whether it is a switch, and where the text of the fabric's
 /// trace goes, which is not kept.
@@ -64,7 +65,11 @@ impl<'a> Course<'a> {
             → CourseHolds names.now script events trace stations self.old
             → EventActed names.now script events trace stations line.now what self.new) }
     {
-        match self.fabric.event(alloc, names, line, &mut self.trace) {
+        let mut writer = TraceWriter {
+            outbox: &mut self.trace,
+            names,
+        };
+        match self.fabric.event(alloc, line, &mut writer) {
             Ok(what) => Ok(what),
             Err(end) => Err(want_of(end)),
         }

@@ -1,10 +1,11 @@
 //! Rounds: the links settle, the switches step, and each endpoint has its turn.
-ghost use Rattle.std.specs.Prelude.{◌≡◌, ◌<◌, false, ◌∷◌, ◌++◌, List, length, map, slice_index_or, IfOk, OnOk, OnErr};
+ghost use Rattle.std.specs.Prelude.{◌≡◌, ◌<◌, false, [], ◌∷◌, List, length, map, slice_index_or, IfOk, OnOk, OnErr};
+ghost use Rattle.rio_chars.specs.Written.{Outgoing};
 ghost use Rattle.fabric_script.specs.declared.lines.Numbered.{Numbered as NumberedLine};
 ghost use Rattle.fabric_ports.specs.declared.answers.Happened.TheVariants as Answers;
 ghost use Rattle.io_rounds.specs.Tasks.{IoTask, Settle, Turn, Reply, Fetch};
 ghost use Rattle.io_rounds.specs.Going.{IoState, endpoints_of};
-ghost use Rattle.io_rounds.specs.Course.{CourseHolds, IoAt, IoArrived, IoStopped, held_behind, tasks_on, node_turn};
+ghost use Rattle.io_rounds.specs.Course.{CourseHolds, IoAt, IoStopped, IoDoes, IoStops, held_behind, tasks_on, node_turn};
 ghost use Rattle.io_rounds.specs.Turns.{Underway, MayTurn, MaySend, TaskSent, HasTaken, CollectsOn};
 
 use crate::course::Course;
@@ -27,16 +28,10 @@ impl Course<'_> {
         output: &mut Outbox<K>,
     ) -> Result<(), NoMemory>
         requires { Underway names.now self.old }
-        ensures done { OnOk result ((script : List NumberedLine) (begun : Outbox K)
-            (first s : IoState) (rest : List IoTask) → IoAt K.written K.faults begun output.old
-            names.now script first s self.old
-            → s.tasks ≡ Settle ∷ map Turn (endpoints_of script) ++ rest
-            → IoArrived K.written K.faults begun output.new names.now script first rest self.new) }
-        ensures ended { OnErr result ((script : List NumberedLine) (begun : Outbox K)
-            (first s : IoState) (rest : List IoTask) → IoAt K.written K.faults begun output.old
-            names.now script first s self.old
-            → s.tasks ≡ Settle ∷ map Turn (endpoints_of script) ++ rest
-            → IoStopped K.written K.faults begun output.new names.now script first) }
+        ensures done { OnOk result ((script : List NumberedLine) → IoDoes names.now script
+            output.old self.old (Settle ∷ map Turn (endpoints_of script)) output.new self.new) }
+        ensures ended { OnErr result ((script : List NumberedLine) → IoStops names.now script
+            output.old self.old (Settle ∷ map Turn (endpoints_of script)) output.new) }
     {
         self.act(alloc, names, &Line::Run { n: 1 })?;
         for node in 0..self.switches.len() {
@@ -55,16 +50,12 @@ impl Course<'_> {
     ) -> Result<(), NoMemory>
         requires way { Underway names.now self.old }
         requires within { node < length self.old.switches.items }
-        ensures done { OnOk result ((script : List NumberedLine) (begun : Outbox K)
-            (first s : IoState) (rest : List IoTask) → IoAt K.written K.faults begun output.old
-            names.now script first s self.old
-            → s.tasks ≡ node_turn (slice_index_or self.old.switches.items node false) node ++ rest
-            → IoArrived K.written K.faults begun output.new names.now script first rest self.new) }
-        ensures ended { OnErr result ((script : List NumberedLine) (begun : Outbox K)
-            (first s : IoState) (rest : List IoTask) → IoAt K.written K.faults begun output.old
-            names.now script first s self.old
-            → s.tasks ≡ node_turn (slice_index_or self.old.switches.items node false) node ++ rest
-            → IoStopped K.written K.faults begun output.new names.now script first) }
+        ensures done { OnOk result ((script : List NumberedLine) → IoDoes names.now script
+            output.old self.old (node_turn (slice_index_or self.old.switches.items node false) node)
+            output.new self.new) }
+        ensures ended { OnErr result ((script : List NumberedLine) → IoStops names.now script
+            output.old self.old (node_turn (slice_index_or self.old.switches.items node false) node)
+            output.new) }
     {
         if self.switches[node] {
             return Ok(());
@@ -82,14 +73,10 @@ impl Course<'_> {
         output: &mut Outbox<K>,
     ) -> Result<(), NoMemory>
         requires { MayTurn names.now self.old node }
-        ensures done { OnOk result ((script : List NumberedLine) (begun : Outbox K)
-            (first s : IoState) (rest : List IoTask) → IoAt K.written K.faults begun output.old
-            names.now script first s self.old → s.tasks ≡ Turn node ∷ rest
-            → IoArrived K.written K.faults begun output.new names.now script first rest self.new) }
-        ensures ended { OnErr result ((script : List NumberedLine) (begun : Outbox K)
-            (first s : IoState) (rest : List IoTask) → IoAt K.written K.faults begun output.old
-            names.now script first s self.old → s.tasks ≡ Turn node ∷ rest
-            → IoStopped K.written K.faults begun output.new names.now script first) }
+        ensures done { OnOk result ((script : List NumberedLine) → IoDoes names.now script
+            output.old self.old (Turn node ∷ []) output.new self.new) }
+        ensures ended { OnErr result ((script : List NumberedLine) → IoStops names.now script
+            output.old self.old (Turn node ∷ []) output.new) }
     {
         if self.resend(alloc, names, node)? {
             return self.take_all(alloc, names, node, output);
@@ -144,14 +131,10 @@ impl Course<'_> {
         output: &mut Outbox<K>,
     ) -> Result<(), NoMemory>
         requires { MayTurn names.now self.old node }
-        ensures done { OnOk result ((script : List NumberedLine) (begun : Outbox K)
-            (first s : IoState) (rest : List IoTask) → IoAt K.written K.faults begun output.old
-            names.now script first s self.old → s.tasks ≡ Fetch node ∷ rest
-            → IoArrived K.written K.faults begun output.new names.now script first rest self.new) }
-        ensures ended { OnErr result ((script : List NumberedLine) (begun : Outbox K)
-            (first s : IoState) (rest : List IoTask) → IoAt K.written K.faults begun output.old
-            names.now script first s self.old → s.tasks ≡ Fetch node ∷ rest
-            → IoStopped K.written K.faults begun output.new names.now script first) }
+        ensures done { OnOk result ((script : List NumberedLine) → IoDoes names.now script
+            output.old self.old (Fetch node ∷ []) output.new self.new) }
+        ensures ended { OnErr result ((script : List NumberedLine) → IoStops names.now script
+            output.old self.old (Fetch node ∷ []) output.new) }
     {
         loop {
             if !self.take(alloc, names, node, output)? {
@@ -169,15 +152,13 @@ impl Course<'_> {
         output: &mut Outbox<K>,
     ) -> Result<bool, NoMemory>
         requires { MayTurn names.now self.old node }
-        ensures done { IfOk result (λ more. (script : List NumberedLine) (begun : Outbox K)
-            (first s : IoState) (rest : List IoTask) → IoAt K.written K.faults begun output.old
+        ensures done { IfOk result (λ more. (script : List NumberedLine) (begun : Outgoing)
+            (first s : IoState) (rest : List IoTask) → IoAt begun output.old
             names.now script first s self.old → s.tasks ≡ Fetch node ∷ rest
-            → CollectsOn K.written K.faults begun output.new names.now script first node more rest
+            → CollectsOn begun output.new names.now script first node more rest
             (held_behind script s.trace node) self.new) }
-        ensures ended { OnErr result ((script : List NumberedLine) (begun : Outbox K)
-            (first s : IoState) (rest : List IoTask) → IoAt K.written K.faults begun output.old
-            names.now script first s self.old → s.tasks ≡ Fetch node ∷ rest
-            → IoStopped K.written K.faults begun output.new names.now script first) }
+        ensures ended { OnErr result ((script : List NumberedLine) → IoStops names.now script
+            output.old self.old (Fetch node ∷ []) output.new) }
     {
         match self.act(alloc, names, &Line::Collect { node })? {
             Happened::Left(packet) => self.serve(alloc, names, node, &packet, output),
@@ -197,15 +178,15 @@ impl Course<'_> {
         output: &mut Outbox<K>,
     ) -> Result<bool, NoMemory>
         requires { MayTurn names.now self.old node }
-        ensures done { IfOk result (λ more. (script : List NumberedLine) (begun : Outbox K)
-            (first s : IoState) (rest : List IoTask) → HasTaken K.written K.faults begun output.old
+        ensures done { IfOk result (λ more. (script : List NumberedLine) (begun : Outgoing)
+            (first s : IoState) (rest : List IoTask) → HasTaken begun output.old
             names.now script first s node rest (Answers.Left packet.now) self.old
-            → CollectsOn K.written K.faults begun output.new names.now script first node more rest
+            → CollectsOn begun output.new names.now script first node more rest
             (held_behind script s.trace node) self.new) }
-        ensures ended { OnErr result ((script : List NumberedLine) (begun : Outbox K)
-            (first s : IoState) (rest : List IoTask) → HasTaken K.written K.faults begun output.old
+        ensures ended { OnErr result ((script : List NumberedLine) (begun : Outgoing)
+            (first s : IoState) (rest : List IoTask) → HasTaken begun output.old
             names.now script first s node rest (Answers.Left packet.now) self.old
-            → IoStopped K.written K.faults begun output.new names.now script first) }
+            → IoStopped begun output.new names.now script first) }
     {
         let meeting = meet_at(&mut self.stations, node, packet);
         write_left(output, names, node, &meeting.met);

@@ -14,7 +14,7 @@ use rio_chars::{Outbox, Sink};
 /// Writes the line that a line of the script begins with.
 pub(crate) fn write_begun_line<K: Sink>(outbox: &mut Outbox<K>, names: &[Name], line: &IoLine)
     requires { IsNamed names.now line.now }
-    ensures { Writes K.written K.faults outbox.old outbox.new
+    ensures { Writes outbox.old outbox.new
         (codes "> " ++ (io_line_text names.now line.now ++ codes "\n")) }
 {
     outbox.write(b"> ");
@@ -30,7 +30,7 @@ pub(crate) fn write_asked<K: Sink>(
     tid: Option<u8>,
 )
     requires { node < length names.now }
-    ensures { Writes K.written K.faults outbox.old outbox.new
+    ensures { Writes outbox.old outbox.new
         (asked_text (name_of names.now node) tid ++ codes "\n") }
 {
     outbox.write(b"ask ");
@@ -42,7 +42,7 @@ pub(crate) fn write_asked<K: Sink>(
 
 /// Writes a number, or a dash if there is none.
 fn write_tid<K: Sink>(outbox: &mut Outbox<K>, tid: Option<u8>)
-    ensures { Writes K.written K.faults outbox.old outbox.new (tid_text tid) }
+    ensures { Writes outbox.old outbox.new (tid_text tid) }
 {
     match tid {
         Some(tid) => outbox.write_decimal(u32::from(tid)),
@@ -53,7 +53,7 @@ fn write_tid<K: Sink>(outbox: &mut Outbox<K>, tid: Option<u8>)
 /// Writes what became of a packet that left at a node.
 pub(crate) fn write_left<K: Sink>(outbox: &mut Outbox<K>, names: &[Name], node: u8, met: &Met)
     requires { node < length names.now }
-    ensures { Writes K.written K.faults outbox.old outbox.new
+    ensures { Writes outbox.old outbox.new
         (met_text (name_of names.now node) met.now ++ codes "\n") }
 {
     write_met(outbox, names[usize::from(node)].as_slice(), met);

@@ -14,7 +14,7 @@ use rio_chars::{Outbox, Sink};
 /// Writes the text of a line, without its line feed. Its node has a name.
 pub fn write_io_line<K: Sink>(outbox: &mut Outbox<K>, names: &[Name], line: &IoLine)
     requires { IsNamed names.now line.now }
-    ensures { Writes K.written K.faults outbox.old outbox.new (io_line_text names.now line.now) }
+    ensures { Writes outbox.old outbox.new (io_line_text names.now line.now) }
 {
     outbox.write(line.form().keyword());
     write_words(outbox, names, line);
@@ -23,7 +23,7 @@ pub fn write_io_line<K: Sink>(outbox: &mut Outbox<K>, names: &[Name], line: &IoL
 /// Writes the words behind the keyword, a space before each.
 fn write_words<K: Sink>(outbox: &mut Outbox<K>, names: &[Name], line: &IoLine)
     requires { IsNamed names.now line.now }
-    ensures { Writes K.written K.faults outbox.old outbox.new
+    ensures { Writes outbox.old outbox.new
         (after_words [] (map (value_text names.now) (io_values_of line.now))) }
 {
     match line {
@@ -68,7 +68,7 @@ fn write_words<K: Sink>(outbox: &mut Outbox<K>, names: &[Name], line: &IoLine)
 /// Writes who asks, whom, and at which address.
 fn write_place<K: Sink>(outbox: &mut Outbox<K>, names: &[Name], node: u8, dest: u8, addr: u32)
     requires { node < length names.now }
-    ensures { Writes K.written K.faults outbox.old outbox.new
+    ensures { Writes outbox.old outbox.new
         (after_words [] (name_of names.now node ∷ decimal dest ∷ digits_text 8 addr ∷ [])) }
 {
     put_node(outbox, names, node);

@@ -5,8 +5,7 @@ use Rattle.std.specs.Io.KnownBytes.{Consumes}
 use Rattle.std.proofs.KnownBytes.{Consumes-trans, Consumes-nil, Appends-nil}
 use Rattle.std.proofs.lemmas.Grind.{flat_map-append}
 use Rattle.std.proofs.lemmas.List.Elements.{All-nil, All-push}
-use Rattle.rio_chars.specs.Written.{Writes}
-use Rattle.rio_chars.specs.declared.outbox.Outbox.{Outbox}
+use Rattle.rio_chars.specs.Written.{Outgoing, Writes}
 use Rattle.rio_chars.proofs.WrittenLaws.{Writes-nil, Writes-then, Writes-whole, Writes-front, Writes-rose}
 use Rattle.live_lines.specs.Lines.{IsLine, LinesStop, with_feed}
 use Rattle.live_lines.specs.Serving.{ServesLines, WritesAll, end_status}
@@ -34,36 +33,34 @@ with_line lines line rest =
     ∙ sym (flat_map-append with_feed lines (line ∷ [])))
 
 -- These lines were read so far, these bytes behind the last one, and this text was told.
-pub record Going {K : Type 0} (written : K → Option (List ℕ)) (faults : K → ℕ)
-    (begun out : Outbox K) (left left_now : Option (List ℕ)) (pending : List ℕ) (count : ℕ)
-    (read_faults read_faults_now : ℕ) (lines : List (List ℕ)) (text : List ℕ) : Type 0 where
+pub record Going (begun out : Outgoing) (left left_now : Option (List ℕ)) (pending : List ℕ)
+    (count : ℕ) (read_faults read_faults_now : ℕ) (lines : List (List ℕ)) (text : List ℕ)
+    : Type 0 where
   pub are_lines : All (λ line. IsLine line) lines
   pub counted : length lines ≡ count
   pub read : Consumes left left_now (flat_map with_feed lines ++ pending)
-  pub told : Writes written faults begun out text
+  pub told : Writes begun out text
   pub counts : read_faults_now ≡ read_faults
 
-module _ {K : Type 0} (written : K → Option (List ℕ)) (faults : K → ℕ) (begun : Outbox K)
-    (left : Option (List ℕ)) (read_faults : ℕ) where
+module _ (begun : Outgoing) (left : Option (List ℕ)) (read_faults : ℕ) where
   pub Going-begin : (pending : List ℕ) → pending ≡ []
-      → Going written faults begun begun left left pending 0 read_faults read_faults [] []
+      → Going begun begun left left pending 0 read_faults read_faults [] []
   Going-begin pending none = record {
     are_lines = All-nil (λ l. IsLine l);
     counted = refl;
     read = subst (Consumes left left) (sym none) (Consumes-nil left);
-    told = Writes-nil written faults begun;
+    told = Writes-nil begun;
     counts = refl;
   }
 
   -- a line more was read
-  pub Going-line : {out : Outbox K} {left_now left_next : Option (List ℕ)}
+  pub Going-line : {out : Outgoing} {left_now left_next : Option (List ℕ)}
       (pending pending_next line taken : List ℕ) {count : ℕ}
       (read_faults_now read_faults_next : ℕ) (lines : List (List ℕ)) (text : List ℕ)
-      → Going written faults begun out left left_now pending count read_faults read_faults_now
-      lines text
+      → Going begun out left left_now pending count read_faults read_faults_now lines text
       → Consumes left_now left_next taken → pending ++ taken ≡ with_feed line ++ pending_next
       → IsLine line → read_faults_next ≡ read_faults_now
-      → Going written faults begun out left left_next pending_next (count + 1) read_faults
+      → Going begun out left left_next pending_next (count + 1) read_faults
       read_faults_next (lines ++ line ∷ []) text
   Going-line {out} {left_now} {left_next} pending pending_next line taken {count}
       read_faults_now read_faults_next lines text h more is good same =
@@ -79,15 +76,13 @@ module _ {K : Type 0} (written : K → Option (List ℕ)) (faults : K → ℕ) (
       }
 
   -- bytes were read that are not answered
-  pub Going-read : {out : Outbox K} {left_now left_next : Option (List ℕ)}
+  pub Going-read : {out : Outgoing} {left_now left_next : Option (List ℕ)}
       (pending taken rest : List ℕ) {count : ℕ} (read_faults_now read_faults_next : ℕ)
       (lines : List (List ℕ)) (text : List ℕ)
-      → Going written faults begun out left left_now pending count read_faults read_faults_now
-      lines text
+      → Going begun out left left_now pending count read_faults read_faults_now lines text
       → Consumes left_now left_next taken → pending ++ taken ≡ rest
       → read_faults_next ≡ read_faults_now
-      → Going written faults begun out left left_next rest count read_faults read_faults_next
-      lines text
+      → Going begun out left left_next rest count read_faults read_faults_next lines text
   Going-read {out} {left_now} {left_next} pending taken rest {count} read_faults_now
       read_faults_next lines text h more is same = record {
         are_lines = h.are_lines;
@@ -100,13 +95,12 @@ module _ {K : Type 0} (written : K → Option (List ℕ)) (faults : K → ℕ) (
       }
 
   -- more was told
-  pub Going-told : {out next : Outbox K} {left_now : Option (List ℕ)} (pending : List ℕ)
+  pub Going-told : {out next : Outgoing} {left_now : Option (List ℕ)} (pending : List ℕ)
       {count : ℕ} (read_faults_now : ℕ) (lines : List (List ℕ)) (text more : List ℕ)
-      → Going written faults begun out left left_now pending count read_faults read_faults_now
-      lines text
-      → Writes written faults out next more
-      → Going written faults begun next left left_now pending count read_faults read_faults_now
-      lines (text ++ more)
+      → Going begun out left left_now pending count read_faults read_faults_now lines text
+      → Writes out next more
+      → Going begun next left left_now pending count read_faults read_faults_now lines
+      (text ++ more)
   Going-told {out} {next} {left_now} pending {count} read_faults_now lines text more h told =
       record {
         are_lines = h.are_lines;
@@ -117,30 +111,26 @@ module _ {K : Type 0} (written : K → Option (List ℕ)) (faults : K → ℕ) (
       }
 
   -- all of the text was written
-  pub Going-whole : {out : Outbox K} {left_now : Option (List ℕ)} (pending : List ℕ)
+  pub Going-whole : {out : Outgoing} {left_now : Option (List ℕ)} (pending : List ℕ)
       {count : ℕ} (read_faults_now : ℕ) (lines : List (List ℕ)) (text : List ℕ)
-      → Going written faults begun out left left_now pending count read_faults read_faults_now
-      lines text
-      → begun.buffer.now ≡ [] → out.failed ≡ false → out.buffer.now ≡ []
-      → WritesAll (written begun.sink.now) (written out.sink.now) (faults begun.sink.now)
-      (faults out.sink.now) text
+      → Going begun out left left_now pending count read_faults read_faults_now lines text
+      → begun.waiting ≡ [] → out.failed ≡ false → out.waiting ≡ []
+      → WritesAll begun.written out.written begun.faults out.faults text
   Going-whole {out} pending read_faults_now lines text h clear fine empty = (
-    Writes-whole written faults begun out text clear h.told fine empty,
+    Writes-whole begun out text clear h.told fine empty,
     h.told.counts fine,
   )
 
   -- there is no further line
-  pub Going-stops : {out : Outbox K} {left_now left_last : Option (List ℕ)} (most : ℕ)
+  pub Going-stops : {out : Outgoing} {left_now left_last : Option (List ℕ)} (most : ℕ)
       (pending taken : List ℕ) {count : ℕ} (read_faults_now read_faults_last : ℕ) (end : LineEnd)
       (lines : List (List ℕ)) (text : List ℕ)
-      → Going written faults begun out left left_now pending count read_faults read_faults_now
-      lines text
-      → begun.buffer.now ≡ [] → out.failed ≡ false → out.buffer.now ≡ []
+      → Going begun out left left_now pending count read_faults read_faults_now lines text
+      → begun.waiting ≡ [] → out.failed ≡ false → out.waiting ≡ []
       → Consumes left_now left_last taken
       → LinesStop end left_last read_faults_now read_faults_last (pending ++ taken)
       → ServesLines most (end_status end) left left_last read_faults read_faults_last
-      (written begun.sink.now) (written out.sink.now) (faults begun.sink.now)
-      (faults out.sink.now) lines text
+      begun.written out.written begun.faults out.faults lines text
   Going-stops {out} {left_now} {left_last} most pending taken {count} read_faults_now
       read_faults_last end lines text h clear fine empty more stops =
       let whole = Going-whole pending read_faults_now lines text h clear fine empty in
@@ -151,8 +141,7 @@ module _ {K : Type 0} (written : K → Option (List ℕ)) (faults : K → ℕ) (
       (pending ++ taken) h.read more refl in
       elim end as (λ e. LinesStop e left_last read_faults read_faults_last (pending ++ taken)
       → ServesLines most (end_status e) left left_last read_faults read_faults_last
-      (written begun.sink.now) (written out.sink.now) (faults begun.sink.now)
-      (faults out.sink.now) lines text) [
+      begun.written out.written begun.faults out.faults lines text) [
         | End ↦ λ s. record {
           behind = pending ++ taken;
           are_lines = h.are_lines;
@@ -184,16 +173,14 @@ module _ {K : Type 0} (written : K → Option (List ℕ)) (faults : K → ℕ) (
       ] stopped
 
   -- the most lines were served
-  pub Going-done : {out : Outbox K} {left_now : Option (List ℕ)} (most : ℕ)
+  pub Going-done : {out : Outgoing} {left_now : Option (List ℕ)} (most : ℕ)
       (pending : List ℕ) {count : ℕ} (read_faults_now : ℕ) (lines : List (List ℕ))
       (text : List ℕ)
-      → Going written faults begun out left left_now pending count read_faults read_faults_now
-      lines text
-      → begun.buffer.now ≡ [] → out.failed ≡ false → out.buffer.now ≡ []
+      → Going begun out left left_now pending count read_faults read_faults_now lines text
+      → begun.waiting ≡ [] → out.failed ≡ false → out.waiting ≡ []
       → count ≡ most
       → ServesLines most Done left left_now read_faults read_faults_now
-      (written begun.sink.now) (written out.sink.now) (faults begun.sink.now)
-      (faults out.sink.now) lines text
+      begun.written out.written begun.faults out.faults lines text
   Going-done most pending read_faults_now lines text h clear fine empty all = record {
     behind = pending;
     are_lines = h.are_lines;
@@ -203,15 +190,13 @@ module _ {K : Type 0} (written : K → Option (List ℕ)) (faults : K → ℕ) (
   }
 
   -- memory was not given
-  pub Going-no_memory : {out : Outbox K} {left_now : Option (List ℕ)} (most : ℕ)
+  pub Going-no_memory : {out : Outgoing} {left_now : Option (List ℕ)} (most : ℕ)
       (pending : List ℕ) {count : ℕ} (read_faults_now : ℕ) (lines : List (List ℕ))
       (text : List ℕ)
-      → Going written faults begun out left left_now pending count read_faults read_faults_now
-      lines text
-      → begun.buffer.now ≡ [] → out.failed ≡ false → out.buffer.now ≡ []
+      → Going begun out left left_now pending count read_faults read_faults_now lines text
+      → begun.waiting ≡ [] → out.failed ≡ false → out.waiting ≡ []
       → ServesLines most ends_with.NoMemory left left_now read_faults read_faults_now
-      (written begun.sink.now) (written out.sink.now) (faults begun.sink.now)
-      (faults out.sink.now) lines text
+      begun.written out.written begun.faults out.faults lines text
   Going-no_memory most pending read_faults_now lines text h clear fine empty = record {
     behind = pending;
     are_lines = h.are_lines;
@@ -221,15 +206,13 @@ module _ {K : Type 0} (written : K → Option (List ℕ)) (faults : K → ℕ) (
   }
 
   -- a port acted on what was not sent
-  pub Going-undetected : {out : Outbox K} {left_now : Option (List ℕ)} (most : ℕ)
+  pub Going-undetected : {out : Outgoing} {left_now : Option (List ℕ)} (most : ℕ)
       (pending : List ℕ) {count : ℕ} (read_faults_now : ℕ) (lines : List (List ℕ))
       (text : List ℕ)
-      → Going written faults begun out left left_now pending count read_faults read_faults_now
-      lines text
-      → begun.buffer.now ≡ [] → out.failed ≡ false → out.buffer.now ≡ []
+      → Going begun out left left_now pending count read_faults read_faults_now lines text
+      → begun.waiting ≡ [] → out.failed ≡ false → out.waiting ≡ []
       → ServesLines most Undetected left left_now read_faults read_faults_now
-      (written begun.sink.now) (written out.sink.now) (faults begun.sink.now)
-      (faults out.sink.now) lines text
+      begun.written out.written begun.faults out.faults lines text
   Going-undetected most pending read_faults_now lines text h clear fine empty = record {
     behind = pending;
     are_lines = h.are_lines;
@@ -239,23 +222,21 @@ module _ {K : Type 0} (written : K → Option (List ℕ)) (faults : K → ℕ) (
   }
 
   -- a write failed
-  pub Going-fault : {out : Outbox K} {left_now : Option (List ℕ)} (most : ℕ)
+  pub Going-fault : {out : Outgoing} {left_now : Option (List ℕ)} (most : ℕ)
       (pending : List ℕ) {count : ℕ} (read_faults_now : ℕ) (lines : List (List ℕ))
       (text : List ℕ)
-      → Going written faults begun out left left_now pending count read_faults read_faults_now
-      lines text
-      → begun.buffer.now ≡ [] → begun.failed ≡ false → out.failed ≡ true
+      → Going begun out left left_now pending count read_faults read_faults_now lines text
+      → begun.waiting ≡ [] → begun.failed ≡ false → out.failed ≡ true
       → ServesLines most WriteFault left left_now read_faults read_faults_now
-      (written begun.sink.now) (written out.sink.now) (faults begun.sink.now)
-      (faults out.sink.now) lines text
+      begun.written out.written begun.faults out.faults lines text
   Going-fault {out} most pending read_faults_now lines text h clear fine failed = record {
     behind = pending;
     are_lines = h.are_lines;
     read = h.read;
     ends = h.counts;
     writes = (
-      Writes-front written faults begun out text clear h.told,
-      Writes-rose written faults begun out text fine h.told failed,
+      Writes-front begun out text clear h.told,
+      Writes-rose begun out text fine h.told failed,
     );
   }
 

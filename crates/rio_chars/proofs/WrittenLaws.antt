@@ -1,13 +1,12 @@
 -- What an outbox is told, call by call.
-use Rattle.std.proofs.Common.{None, Some, ◌≡◌, ◌≢◌, ◌≤◌, ℕ, Option, List, [], ◌++◌, Bool, true, false, refl, sym, ap, ◌∙◌, subst, append-nil, append_assoc, inl, inr, arith}
-use Rattle.std.specs.Io.KnownBytes.{Appends, Keeps, append_known}
+use Rattle.std.proofs.Common.{◌≡◌, ◌≢◌, ◌≤◌, ℕ, Option, List, [], ◌++◌, Bool, true, false, refl, sym, ap, ◌∙◌, subst, append-nil, append_assoc, inl, inr, arith}
+use Rattle.std.specs.Io.KnownBytes.{Appends, Keeps}
 use Rattle.std.proofs.KnownBytes.{Appends-nil, Appends-trans, Appends-kept, Keeps-refl, Keeps-trans}
 use Rattle.rio_chars.specs.Faults.{Rose, FailedBy}
 use Rattle.rio_chars.specs.Fronts.{AppendsFront}
 use Rattle.rio_chars.proofs.FaultLaws.{FailedBy-trans}
 use Rattle.rio_chars.specs.Unless.{WritesUnless}
-use Rattle.rio_chars.specs.Written.{TextTold, TellsMore, Writes}
-use Rattle.rio_chars.specs.declared.outbox.Outbox.{Outbox}
+use Rattle.rio_chars.specs.Written.{Outgoing, TextTold, TellsMore, Writes}
 
 -- ---- what was told
 
@@ -30,22 +29,20 @@ Told-front start written waiting failed text told = record {
   told = told.told;
 }
 
--- where no write failed, the text is what was written and what waits behind it
-pub Told-appends : (start written : Option (List ℕ)) (waiting : List ℕ) (failed : Bool)
-    (text : List ℕ) → TextTold start written waiting failed text → failed ≡ false
-    → Appends start (append_known written waiting) text
-Told-appends None written waiting failed text told fine = tt
-Told-appends (Some x) None waiting failed text told fine = absurd told.told
-Told-appends (Some x) (Some y) waiting failed text told fine =
-    ap (λ l. y ++ l) (sym (told.waits fine))
-    ∙ ap (λ l. l ++ told.rest) told.told
-    ∙ append_assoc x told.front told.rest
-    ∙ ap (λ l. x ++ l) (sym told.whole)
+-- other bytes wait
+abbrev pub with_waiting : Outgoing → List ℕ → Outgoing
+with_waiting out waiting = record {
+  sink = out.sink;
+  written = out.written;
+  faults = out.faults;
+  waiting = waiting;
+  failed = out.failed;
+}
 
 -- bytes wait behind those that wait
-Tells-kept : (written : Option (List ℕ)) (waiting : List ℕ) (failed : Bool) (bytes : List ℕ)
-    → TellsMore written waiting failed written (waiting ++ bytes) failed bytes
-Tells-kept written waiting failed bytes start text told = record {
+Tells-kept : (out : Outgoing) (bytes : List ℕ)
+    → TellsMore out (with_waiting out (out.waiting ++ bytes)) bytes
+Tells-kept out bytes start text told = record {
   front = told.front;
   rest = told.rest ++ bytes;
   whole = ap (λ l. l ++ bytes) told.whole ∙ append_assoc told.front told.rest bytes;
@@ -57,7 +54,8 @@ Tells-kept written waiting failed bytes start text told = record {
 Tells-wrote : (a : Option (List ℕ)) (i : ℕ) (waiting : List ℕ) (failed : Bool) (b : Option (List ℕ))
     (j : ℕ) (failed_after : Bool) (bytes all : List ℕ) → waiting ++ bytes ≡ all
     → WritesUnless failed a i failed_after b j all
-    → TellsMore a waiting failed b [] failed_after bytes
+    → (start : Option (List ℕ)) (text : List ℕ) → TextTold start a waiting failed text
+    → TextTold start b [] failed_after (text ++ bytes)
 Tells-wrote a i waiting true b j true bytes all e wrote start text told = record {
   front = told.front;
   rest = told.rest ++ bytes;
@@ -129,117 +127,110 @@ down_before false after up down = refl
 
 -- ---- what calls write
 
-module _ {K : Type 0} (written : K → Option (List ℕ)) (faults : K → ℕ) where
-  -- nothing was told
-  pub Writes-nil : (out : Outbox K) → Writes written faults out out []
-  Writes-nil out = record {
-    same = refl;
-    told =
-        λ start text told. subst (TextTold start (written out.sink.now) out.buffer.now out.failed)
-        (sym (append-nil text)) told;
-    cause = λ failed. inl failed;
-    counts = λ fine. refl;
-    never_falls = omega arith;
-    stays = λ failed. (failed, Keeps-refl (written out.sink.now), refl);
-  }
+-- nothing was told
+pub Writes-nil : (out : Outgoing) → Writes out out []
+Writes-nil out = record {
+  same = refl;
+  told =
+      λ start text told. subst (TextTold start out.written out.waiting out.failed)
+      (sym (append-nil text)) told;
+  cause = λ failed. inl failed;
+  counts = λ fine. refl;
+  never_falls = omega arith;
+  stays = λ failed. (failed, Keeps-refl out.written, refl);
+}
 
-  -- bytes wait behind those that wait
-  pub Writes-kept : (old new : Outbox K) (bytes : List ℕ) → new.sink ≡ old.sink
-      → new.buffer.now ≡ old.buffer.now ++ bytes → new.failed ≡ old.failed
-      → Writes written faults old new bytes
-  Writes-kept old new bytes sink buffer failed = record {
-    same = ap (λ s. s.ghost_name) sink;
-    told =
-        λ start text told. rw (sink, buffer, failed)
-        (Tells-kept (written old.sink.now) old.buffer.now old.failed bytes start text told);
-    cause = λ is. inl (sym failed ∙ is);
-    counts = λ fine. ap (λ s. faults s.now) sink;
-    never_falls = rw sink (omega arith);
-    stays =
-        λ is.
-        (failed ∙ is, rw sink (Keeps-refl (written old.sink.now)), ap (λ s. faults s.now) sink);
-  }
+-- bytes wait behind those that wait
+pub Writes-kept : (out : Outgoing) (waiting bytes : List ℕ) → waiting ≡ out.waiting ++ bytes
+    → Writes out (with_waiting out waiting) bytes
+Writes-kept out waiting bytes behind = record {
+  same = refl;
+  told = λ start text told. rw behind (Tells-kept out bytes start text told);
+  cause = λ is. inl is;
+  counts = λ fine. refl;
+  never_falls = omega arith;
+  stays = λ is. (is, Keeps-refl out.written, refl);
+}
 
-  -- what waited was written, and more bytes behind it, and nothing waits any more
-  pub Writes-wrote : (old new : Outbox K) (bytes all : List ℕ)
-      → new.sink.ghost_name ≡ old.sink.ghost_name → new.buffer.now ≡ []
-      → old.buffer.now ++ bytes ≡ all
-      → WritesUnless old.failed (written old.sink.now) (faults old.sink.now) new.failed
-      (written new.sink.now) (faults new.sink.now) all → Writes written faults old new bytes
-  Writes-wrote old new bytes all same none e wrote = record {
-    same = same;
-    told =
-        λ start text told. subst
-        (λ l. TextTold start (written new.sink.now) l new.failed (text ++ bytes)) (sym none)
-        (Tells-wrote (written old.sink.now) (faults old.sink.now) old.buffer.now old.failed
-        (written new.sink.now) (faults new.sink.now) new.failed bytes all e wrote start text told);
-    cause =
-        cause_of old.failed (written old.sink.now) (faults old.sink.now) new.failed
-        (written new.sink.now) (faults new.sink.now) all wrote;
-    counts =
-        counts_of old.failed (written old.sink.now) (faults old.sink.now) new.failed
-        (written new.sink.now) (faults new.sink.now) all wrote;
-    never_falls =
-        never_falls_of old.failed (written old.sink.now) (faults old.sink.now) new.failed
-        (written new.sink.now) (faults new.sink.now) all wrote;
-    stays =
-        stays_of old.failed (written old.sink.now) (faults old.sink.now) new.failed
-        (written new.sink.now) (faults new.sink.now) all wrote;
-  }
+-- what waited was written, and more bytes behind it, and nothing waits any more
+pub Writes-wrote : (old new : Outgoing) (bytes all : List ℕ)
+    → new.sink ≡ old.sink → new.waiting ≡ []
+    → old.waiting ++ bytes ≡ all
+    → WritesUnless old.failed old.written old.faults new.failed
+    new.written new.faults all → Writes old new bytes
+Writes-wrote old new bytes all same none e wrote = record {
+  same = same;
+  told =
+      λ start text told. subst
+      (λ l. TextTold start new.written l new.failed (text ++ bytes)) (sym none)
+      (Tells-wrote old.written old.faults old.waiting old.failed
+      new.written new.faults new.failed bytes all e wrote start text told);
+  cause =
+      cause_of old.failed old.written old.faults new.failed
+      new.written new.faults all wrote;
+  counts =
+      counts_of old.failed old.written old.faults new.failed
+      new.written new.faults all wrote;
+  never_falls =
+      never_falls_of old.failed old.written old.faults new.failed
+      new.written new.faults all wrote;
+  stays =
+      stays_of old.failed old.written old.faults new.failed
+      new.written new.faults all wrote;
+}
 
-  -- a new outbox has been told nothing
-  Writes-begun : (start out : Outbox K) (text : List ℕ) → start.buffer.now ≡ []
-      → Writes written faults start out text
-      → TextTold (written start.sink.now) (written out.sink.now) out.buffer.now out.failed text
-  Writes-begun start out text empty told = told.told (written start.sink.now) [] (record {
-    front = [];
-    rest = [];
-    whole = refl;
-    told = Appends-nil (written start.sink.now);
-    waits = λ fine. sym empty;
-  })
+-- a new outbox has been told nothing
+Writes-begun : (start out : Outgoing) (text : List ℕ) → start.waiting ≡ []
+    → Writes start out text
+    → TextTold start.written out.written out.waiting out.failed text
+Writes-begun start out text empty told = told.told start.written [] (record {
+  front = [];
+  rest = [];
+  whole = refl;
+  told = Appends-nil start.written;
+  waits = λ fine. sym empty;
+})
 
-  -- where no write failed and nothing waits, all was written that a new outbox was told
-  pub Writes-whole : (start out : Outbox K) (text : List ℕ) → start.buffer.now ≡ []
-      → Writes written faults start out text → out.failed ≡ false → out.buffer.now ≡ []
-      → Appends (written start.sink.now) (written out.sink.now) text
-  Writes-whole start out text empty told fine none =
-      Told-end (written start.sink.now) (written out.sink.now) out.buffer.now out.failed text
-      (Writes-begun start out text empty told) fine none
+-- where no write failed and nothing waits, all was written that a new outbox was told
+pub Writes-whole : (start out : Outgoing) (text : List ℕ) → start.waiting ≡ []
+    → Writes start out text → out.failed ≡ false → out.waiting ≡ []
+    → Appends start.written out.written text
+Writes-whole start out text empty told fine none =
+    Told-end start.written out.written out.waiting out.failed text
+    (Writes-begun start out text empty told) fine none
 
-  -- whatever failed, a front of it was written
-  pub Writes-front : (start out : Outbox K) (text : List ℕ) → start.buffer.now ≡ []
-      → Writes written faults start out text
-      → AppendsFront (written start.sink.now) (written out.sink.now) text
-  Writes-front start out text empty told =
-      Told-front (written start.sink.now) (written out.sink.now) out.buffer.now out.failed text
-      (Writes-begun start out text empty told)
+-- whatever failed, a front of it was written
+pub Writes-front : (start out : Outgoing) (text : List ℕ) → start.waiting ≡ []
+    → Writes start out text
+    → AppendsFront start.written out.written text
+Writes-front start out text empty told =
+    Told-front start.written out.written out.waiting out.failed text
+    (Writes-begun start out text empty told)
 
-  -- a write failed only where the count of faults rose
-  pub Writes-rose : (start out : Outbox K) (text : List ℕ) → start.failed ≡ false
-      → Writes written faults start out text → out.failed ≡ true
-      → Rose (faults start.sink.now) (faults out.sink.now)
-  Writes-rose start out text fine told failed =
-      elim (told.cause failed) as (λ _. Rose (faults start.sink.now) (faults out.sink.now))
-      [ inl early ↦ absurd (never_true start.failed fine early) | inr rose ↦ rose ]
+-- a write failed only where the count of faults rose
+pub Writes-rose : (start out : Outgoing) (text : List ℕ) → start.failed ≡ false
+    → Writes start out text → out.failed ≡ true
+    → Rose start.faults out.faults
+Writes-rose start out text fine told failed =
+    elim (told.cause failed) as (λ _. Rose start.faults out.faults)
+    [ inl early ↦ absurd (never_true start.failed fine early) | inr rose ↦ rose ]
 
 -- two calls, one after the other
-pub Writes-then : {K : Type 0} {written : K → Option (List ℕ)} {faults : K → ℕ}
-    {old mid new : Outbox K} (bytes more : List ℕ)
-    → Writes written faults old mid bytes → Writes written faults mid new more
-    → Writes written faults old new (bytes ++ more)
-Writes-then {K} {written} {faults} {old} {mid} {new} bytes more first second =
+pub Writes-then : {old mid new : Outgoing} (bytes more : List ℕ)
+    → Writes old mid bytes → Writes mid new more
+    → Writes old new (bytes ++ more)
+Writes-then {old} {mid} {new} bytes more first second =
     let fine_before : new.failed ≡ false → mid.failed ≡ false =
     down_before mid.failed new.failed (λ is. (second.stays is).0) in
     record {
       same = second.same ∙ first.same;
       told =
-          λ start text told. subst (TextTold start (written new.sink.now) new.buffer.now new.failed)
+          λ start text told. subst (TextTold start new.written new.waiting new.failed)
           (append_assoc text bytes more)
           (second.told start (text ++ bytes) (first.told start text told));
       cause =
-          FailedBy-trans old.failed (faults old.sink.now) mid.failed (faults mid.sink.now)
-          new.failed (faults new.sink.now) first.cause second.cause first.never_falls
+          FailedBy-trans old.failed old.faults mid.failed mid.faults
+          new.failed new.faults first.cause second.cause first.never_falls
           second.never_falls;
       counts = λ fine. second.counts fine ∙ first.counts (fine_before fine);
       never_falls = omega (arith, first.never_falls, second.never_falls);
@@ -247,7 +238,7 @@ Writes-then {K} {written} {faults} {old} {mid} {new} bytes more first second =
           let once = first.stays failed in
           let twice = second.stays once.0 in (
             twice.0,
-            Keeps-trans (written old.sink.now) (written mid.sink.now) (written new.sink.now)
+            Keeps-trans old.written mid.written new.written
                 once.1 twice.1,
             twice.2
                 ∙ once.2,

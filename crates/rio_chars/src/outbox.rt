@@ -10,6 +10,7 @@ use crate::digits::write_decimal;
 use crate::runs::{RUN, spaced_char};
 use crate::text_buffer::ROOM;
 use crate::{Char, Sink, TextBuffer, write_all};
+use std::marker::Model;
 
 /// The most bytes whose digits have room in an empty buffer.
 const HEX_PART: usize = 32768;
@@ -18,19 +19,38 @@ const HEX_PART: usize = 32768;
 /// nothing more is written, and what is told from then on is dropped: so the text of one event can
 /// be told to its end without a branch at each word, and `failed` be asked then.
 #[derive(Drop)]
-pub struct Outbox<'a, K> {
+pub struct Outbox<'a, K: Sink> {
     sink: &'a mut K,
     buffer: &'a mut TextBuffer,
     failed: bool,
 }
 
+impl<'a, K: Sink> Model for Outbox<'a, K> {
+    ghost use Rattle.rio_chars.specs.Written.{Outgoing};
+
+    ghost Value = { Outgoing };
+
+    ghost view = { λ outbox.
+        record {
+          sink = outbox.sink.ghost_name;
+          written = K.written outbox.sink.now;
+          faults = K.faults outbox.sink.now;
+          waiting = outbox.buffer.now;
+          failed = outbox.failed;
+        } };
+}
+
 impl<'a, K: Sink> Outbox<'a, K> {
     /// An outbox to this sink that has been told nothing. What waited in the buffer is dropped.
     pub fn new(buffer: &'a mut TextBuffer, sink: &'a mut K) -> Outbox<'a, K>
-        ensures same { result.sink.ghost_name ≡ sink.entry.ghost_name }
-        ensures sink { result.sink.now ≡ sink.old }
-        ensures empty { result.buffer.now ≡ [] }
-        ensures fine { result.failed ≡ false }
+        ensures { result
+            ≡ record {
+              sink = sink.entry.ghost_name;
+              written = K.written sink.old;
+              faults = K.faults sink.old;
+              waiting = [];
+              failed = false;
+            } }
     {
         buffer.clear();
         Outbox {
@@ -38,6 +58,15 @@ impl<'a, K: Sink> Outbox<'a, K> {
             buffer,
             failed: false,
         }
+    }
+
+    /// Gives the sink back. What waits is dropped.
+    pub fn into_sink(self) -> &'a mut K
+        ensures same { result.ghost_name ≡ self.entry.sink }
+        ensures written { K.written result.now ≡ self.entry.written }
+        ensures faults { K.faults result.now ≡ self.entry.faults }
+    {
+        self.sink
     }
 
     /// Whether a write has failed.
@@ -49,7 +78,7 @@ impl<'a, K: Sink> Outbox<'a, K> {
 
     /// Tells these bytes.
     pub fn write(&mut self, bytes: &[u8])
-        ensures { Writes K.written K.faults self.old self.new bytes.now }
+        ensures { Writes self.old self.new bytes.now }
     {
         if bytes.len() <= self.buffer.room() {
             self.buffer.append(bytes);
@@ -63,7 +92,7 @@ impl<'a, K: Sink> Outbox<'a, K> {
     #[inline(always)]
     pub fn write_short(&mut self, text: &[u8; 8], count: usize)
         requires { count ≤ 8 }
-        ensures { Writes K.written K.faults self.old self.new (take count text.now) }
+        ensures { Writes self.old self.new (take count text.now) }
     {
         if self.buffer.room() >= 8 {
             self.buffer.append_short(text, count);
@@ -74,7 +103,7 @@ impl<'a, K: Sink> Outbox<'a, K> {
 
     /// Tells two lower-case hexadecimal digits for each byte.
     pub fn write_hex(&mut self, bytes: &[u8])
-        ensures { Writes K.written K.faults self.old self.new (hex_of bytes.now) }
+        ensures { Writes self.old self.new (hex_of bytes.now) }
     {
         let mut rest = bytes;
         while rest.len() > HEX_PART {
@@ -87,7 +116,7 @@ impl<'a, K: Sink> Outbox<'a, K> {
 
     /// Tells the text of each character behind a space. Runs of data characters go fastest.
     pub fn write_chars(&mut self, chars: &[Char])
-        ensures { Writes K.written K.faults self.old self.new (spaced_chars chars.now) }
+        ensures { Writes self.old self.new (spaced_chars chars.now) }
     {
         let mut left = chars;
         while let [first, rest @ ..] = left {
@@ -103,7 +132,7 @@ impl<'a, K: Sink> Outbox<'a, K> {
 
     /// Tells a number in decimal digits, with no zero in front.
     pub fn write_decimal(&mut self, number: u32)
-        ensures { Writes K.written K.faults self.old self.new (decimal number) }
+        ensures { Writes self.old self.new (decimal number) }
     {
         let mut digits = [0; 10];
         let begin = write_decimal(number, &mut digits);
@@ -112,8 +141,8 @@ impl<'a, K: Sink> Outbox<'a, K> {
 
     /// Writes what waits.
     pub fn flush(&mut self)
-        ensures written { Writes K.written K.faults self.old self.new [] }
-        ensures empty { self.new.buffer.now ≡ [] }
+        ensures written { Writes self.old self.new [] }
+        ensures empty { self.new.waiting ≡ [] }
     {
         self.failed = write_unless(self.failed, self.sink, self.buffer.as_slice());
         self.buffer.clear();
@@ -122,7 +151,7 @@ impl<'a, K: Sink> Outbox<'a, K> {
     /// Tells the digits of bytes that have room in an empty buffer.
     fn write_hex_part(&mut self, bytes: &[u8])
         requires { length bytes.now ≤ 32768 }
-        ensures { Writes K.written K.faults self.old self.new (hex_of bytes.now) }
+        ensures { Writes self.old self.new (hex_of bytes.now) }
     {
         if 2 * bytes.len() > self.buffer.room() {
             self.flush();
@@ -134,7 +163,7 @@ impl<'a, K: Sink> Outbox<'a, K> {
     /// many they are. More come with the next call.
     fn write_data(&mut self, chars: &[Char]) -> usize
         ensures within { result ≤ length chars.now }
-        ensures text { Writes K.written K.faults self.old self.new
+        ensures text { Writes self.old self.new
             (spaced_chars (take result chars.now)) }
     {
         self.make_room();
@@ -144,9 +173,9 @@ impl<'a, K: Sink> Outbox<'a, K> {
     /// Lets the texts of the data characters at the front wait, each behind a space, and answers
     /// how many they are.
     fn append_data(&mut self, chars: &[Char]) -> usize
-        requires room { length self.old.buffer.now + 2048 ≤ 65536 }
+        requires room { length self.old.waiting + 2048 ≤ 65536 }
         ensures within { result ≤ length chars.now }
-        ensures text { Writes K.written K.faults self.old self.new
+        ensures text { Writes self.old self.new
             (spaced_chars (take result chars.now)) }
     {
         self.buffer.append_data(chars)
@@ -154,8 +183,8 @@ impl<'a, K: Sink> Outbox<'a, K> {
 
     /// Makes room for the texts of as many data characters as are told at once.
     fn make_room(&mut self)
-        ensures written { Writes K.written K.faults self.old self.new [] }
-        ensures room { length self.new.buffer.now + 2048 ≤ 65536 }
+        ensures written { Writes self.old self.new [] }
+        ensures room { length self.new.waiting + 2048 ≤ 65536 }
     {
         if self.buffer.room() < 4 * RUN {
             self.flush();
@@ -164,7 +193,7 @@ impl<'a, K: Sink> Outbox<'a, K> {
 
     /// Tells bytes that have no room behind those that wait.
     fn write_long(&mut self, bytes: &[u8])
-        ensures { Writes K.written K.faults self.old self.new bytes.now }
+        ensures { Writes self.old self.new bytes.now }
     {
         self.flush();
         if bytes.len() <= ROOM {
@@ -176,8 +205,8 @@ impl<'a, K: Sink> Outbox<'a, K> {
 
     /// Writes bytes where none wait.
     fn pass(&mut self, bytes: &[u8])
-        requires { self.old.buffer.now ≡ [] }
-        ensures { Writes K.written K.faults self.old self.new bytes.now }
+        requires { self.old.waiting ≡ [] }
+        ensures { Writes self.old self.new bytes.now }
     {
         self.failed = write_unless(self.failed, self.sink, bytes);
     }

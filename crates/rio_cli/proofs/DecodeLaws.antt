@@ -4,8 +4,7 @@ use Rattle.std.specs.List.{flat_map}
 use Rattle.std.specs.Io.KnownBytes.{Appends}
 use Rattle.std.proofs.lemmas.Grind.{flat_map-append}
 use Rattle.rio_chars.specs.Fronts.{AppendsFront}
-use Rattle.rio_chars.specs.Written.{Writes}
-use Rattle.rio_chars.specs.declared.outbox.Outbox.{Outbox}
+use Rattle.rio_chars.specs.Written.{Outgoing, Writes}
 use Rattle.rio_chars.proofs.FrontLaws.{AppendsFront-longer}
 use Rattle.rio_chars.proofs.WrittenLaws.{Writes-nil, Writes-then, Writes-front}
 use Rattle.rio_chars.specs.declared.chars.Char.{Char}
@@ -30,14 +29,13 @@ whole_text chars = decode_text (run place_start 0 chars) (at_rest (place_after p
 
 -- how far a loop has come: the lines of the characters before these were told, and the framer
 -- stands before these
-pub record Going {K : Type 0} (written : K → Option (List ℕ)) (faults : K → ℕ)
-    (begun out : Outbox K) (chars : List Char) (n : ℕ) (left : List Char) (framer : Place) : Type 0
-  where
-    pub counted : n + length left ≡ length chars
-    pub found : List (ℕ × Event)
-    pub events : found ++ run framer n left ≡ run place_start 0 chars
-    pub stands : place_after framer left ≡ place_after place_start chars
-    pub told : Writes written faults begun out (flat_map placed_text found)
+pub record Going (begun out : Outgoing) (chars : List Char) (n : ℕ) (left : List Char)
+    (framer : Place) : Type 0 where
+  pub counted : n + length left ≡ length chars
+  pub found : List (ℕ × Event)
+  pub events : found ++ run framer n left ≡ run place_start 0 chars
+  pub stands : place_after framer left ≡ place_after place_start chars
+  pub told : Writes begun out (flat_map placed_text found)
 
 -- behind a run of characters
 behind_stands : (from : Place) (left : List Char)
@@ -67,10 +65,9 @@ given_lines from left place told new told_is new_is =
     (events_by-front from left)
     ∙ ap (λ es. flat_map placed_text (placed place es)) (listed-front from left)
 
-module _ {K : Type 0} (written : K → Option (List ℕ)) (faults : K → ℕ) (begun : Outbox K)
-    (chars : List Char) where
-  abbrev Gone : Outbox K → ℕ → List Char → Place → Type 0
-  Gone out n left framer = Going written faults begun out chars n left framer
+module _ (begun : Outgoing) (chars : List Char) where
+  abbrev Gone : Outgoing → ℕ → List Char → Place → Type 0
+  Gone out n left framer = Going begun out chars n left framer
 
   pub Going-begin : (framer : Place) → framer ≡ place_start → Gone begun 0 chars framer
   Going-begin framer new = rw new (record {
@@ -78,14 +75,13 @@ module _ {K : Type 0} (written : K → Option (List ℕ)) (faults : K → ℕ) (
     found = [];
     events = refl;
     stands = refl;
-    told = Writes-nil written faults begun;
+    told = Writes-nil begun;
   })
 
   -- a run of characters, of which the last has the place m
-  pub Going-more : (n m : ℕ) (left : List Char) (framer : Place) {out out2 : Outbox K}
+  pub Going-more : (n m : ℕ) (left : List Char) (framer : Place) {out out2 : Outgoing}
       → n + (telling_front framer left).count ≡ suc m → Gone out n left framer
-      → Writes written faults out out2
-      (flat_map placed_text (placed m (telling_front framer left).step.gives))
+      → Writes out out2 (flat_map placed_text (placed m (telling_front framer left).step.gives))
       → Gone out2 (suc m) (drop (telling_front framer left).count left)
       (telling_front framer left).step.place
   Going-more n m left framer {out} {out2} here h more =
@@ -101,7 +97,7 @@ module _ {K : Type 0} (written : K → Option (List ℕ)) (faults : K → ℕ) (
             ∙ ap (λ es. h.found ++ es) (sym (run-telling_front framer n m left here)) ∙ h.events;
         stands = behind_stands framer left ∙ h.stands;
         told =
-            subst (Writes written faults begun out2)
+            subst (Writes begun out2)
             (sym (flat_map-append placed_text h.found (placed m front.step.gives)))
             (Writes-then (flat_map placed_text h.found)
             (flat_map placed_text (placed m front.step.gives)) h.told more);
@@ -109,11 +105,11 @@ module _ {K : Type 0} (written : K → Option (List ℕ)) (faults : K → ℕ) (
 
   -- the same, as the framer reads the run and its lines are told
   pub Going-read : (n : ℕ) (left left2 : List Char) (from : Place) (count : ℕ) (told : Told)
-      (new : Framing) {out out2 : Outbox K} → count ≡ (telling_front from left).count
+      (new : Framing) {out out2 : Outgoing} → count ≡ (telling_front from left).count
       → told ≡ told_of_events (telling_front from left).step.gives
       → new ≡ framing_after (telling_front from left).step → left2 ≡ drop count left → 0 < count
       → Gone out n left from
-      → Writes written faults out out2 (flat_map placed_text (placed (n + count - 1)
+      → Writes out out2 (flat_map placed_text (placed (n + count - 1)
       (listed (events_by told new.ended).first (events_by told new.ended).second)))
       → Gone out2 (n + count) left2 new.place
   Going-read n left left2 from count told new {out} {out2} count_is told_is new_is left_is some h
@@ -123,8 +119,7 @@ module _ {K : Type 0} (written : K → Option (List ℕ)) (faults : K → ℕ) (
       let here : n + front.count ≡ suc m = omega (arith, count_is) in
       let whole : n + count ≡ suc m = omega arith in
       let lines =
-      subst (Writes written faults out out2) (given_lines from left m told new told_is new_is)
-      more in
+      subst (Writes out out2) (given_lines from left m told new told_is new_is) more in
       let done : Gone out2 (suc m) (drop front.count left) front.step.place =
       Going-more n m left from here h lines in
       subst (λ k. Gone out2 k left2 new.place) (sym whole)
@@ -133,9 +128,9 @@ module _ {K : Type 0} (written : K → Option (List ℕ)) (faults : K → ℕ) (
       (sym (ap (λ (f : Framing). f.place) new_is)) done))
 
   -- the text so far is a front of the whole text
-  pub Going-front : {out : Outbox K} (n : ℕ) (left : List Char) {framer : Place}
-      → begun.buffer.now ≡ [] → Gone out n left framer
-      → AppendsFront (written begun.sink.now) (written out.sink.now) (whole_text chars)
+  pub Going-front : {out : Outgoing} (n : ℕ) (left : List Char) {framer : Place}
+      → begun.waiting ≡ [] → Gone out n left framer
+      → AppendsFront begun.written out.written (whole_text chars)
   Going-front {out} n left {framer} empty h =
       let rest =
       flat_map placed_text (run framer n left)
@@ -147,17 +142,16 @@ module _ {K : Type 0} (written : K → Option (List ℕ)) (faults : K → ℕ) (
       (flat_map-append placed_text h.found (run framer n left))
       ∙ append_assoc (flat_map placed_text h.found) (flat_map placed_text (run framer n left))
       (end_text (at_rest (place_after place_start chars))) in
-      subst (AppendsFront (written begun.sink.now) (written out.sink.now)) (sym all)
-      (AppendsFront-longer (written begun.sink.now) (written out.sink.now)
-      (flat_map placed_text h.found) rest
-      (Writes-front written faults begun out (flat_map placed_text h.found) empty h.told))
+      subst (AppendsFront begun.written out.written) (sym all)
+      (AppendsFront-longer begun.written out.written (flat_map placed_text h.found) rest
+      (Writes-front begun out (flat_map placed_text h.found) empty h.told))
 
   -- the last line was told behind all others
-  pub Going-end : (n : ℕ) (left : List Char) (rest : Bool) {out out2 out3 : Outbox K}
+  pub Going-end : (n : ℕ) (left : List Char) (rest : Bool) {out out2 out3 : Outgoing}
       {framer : Place} → left ≡ []
       → Gone out n left framer → rest ≡ at_rest framer
-      → Writes written faults out out2 (end_text rest) → Writes written faults out2 out3 []
-      → Writes written faults begun out3 (whole_text chars)
+      → Writes out out2 (end_text rest) → Writes out2 out3 []
+      → Writes begun out3 (whole_text chars)
   Going-end n left rest {out} {out2} {out3} {framer} none h is last flush =
       let events : h.found ≡ run place_start 0 chars =
       sym (ap (λ cs. h.found ++ run framer n cs) none
@@ -170,7 +164,7 @@ module _ {K : Type 0} (written : K → Option (List ℕ)) (faults : K → ℕ) (
       ∙ ap (λ es. flat_map placed_text es ++ end_text rest) events
       ∙ ap (λ b. flat_map placed_text (run place_start 0 chars) ++ end_text b) (is
       ∙ ap at_rest stands) in
-      subst (Writes written faults begun out3) text (Writes-then
+      subst (Writes begun out3) text (Writes-then
       (flat_map placed_text h.found ++ end_text rest) []
       (Writes-then (flat_map placed_text h.found) (end_text rest) h.told last) flush)
 

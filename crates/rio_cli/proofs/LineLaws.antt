@@ -1,8 +1,7 @@
 -- What calls of an outbox tell, one after the other.
 use Rattle.std.proofs.Common.{◌≡◌, ℕ, List, [], ◌∷◌, ◌++◌, Option, None, Some, IsSome, refl, sym, ap, subst, append-nil}
 use Rattle.std.specs.List.{flat_map}
-use Rattle.rio_chars.specs.Written.{Writes}
-use Rattle.rio_chars.specs.declared.outbox.Outbox.{Outbox}
+use Rattle.rio_chars.specs.Written.{Outgoing, Writes}
 use Rattle.rio_chars.proofs.WrittenLaws.{Writes-then}
 use Rattle.rio_symbols.specs.Fields.{Fields}
 use Rattle.link_model.specs.declared.event.Event.{Event}
@@ -24,30 +23,30 @@ listed-parts n (Some e) None = append-nil (placed_text (n, e) ++ [])
 listed-parts n (Some e) (Some s) =
     ap (λ text. text ++ (placed_text (n, Ctl s) ++ [])) (append-nil (placed_text (n, e)))
 
-pub Writes-both : {K : Type 0} {written : K → Option (List ℕ)} {faults : K → ℕ} {a b c : Outbox K}
+pub Writes-both : {a b c : Outgoing}
     (n : ℕ) (first : Option Event) (second : Option Fields)
-    → Writes written faults a b (flat_map placed_text (placed n (listed first None)))
-    → Writes written faults b c (flat_map placed_text (placed n (listed None second)))
-    → Writes written faults a c (flat_map placed_text (placed n (listed first second)))
-Writes-both {K} {written} {faults} {a} {b} {c} n first second h k =
-    subst (Writes written faults a c) (listed-parts n first second) (Writes-then
+    → Writes a b (flat_map placed_text (placed n (listed first None)))
+    → Writes b c (flat_map placed_text (placed n (listed None second)))
+    → Writes a c (flat_map placed_text (placed n (listed first second)))
+Writes-both {a} {b} {c} n first second h k =
+    subst (Writes a c) (listed-parts n first second) (Writes-then
     (flat_map placed_text (placed n (listed first None)))
     (flat_map placed_text (placed n (listed None second))) h k)
 
 -- the line of one event
-pub Writes-event : {K : Type 0} {written : K → Option (List ℕ)} {faults : K → ℕ} {a b : Outbox K}
+pub Writes-event : {a b : Outgoing}
     (n : ℕ) (event : Event)
-    → Writes written faults a b (placed_text (n, event))
-    → Writes written faults a b (flat_map placed_text (placed n (event ∷ [])))
-Writes-event {K} {written} {faults} {a} {b} n event h =
-    subst (Writes written faults a b) (sym (append-nil (placed_text (n, event)))) h
+    → Writes a b (placed_text (n, event))
+    → Writes a b (flat_map placed_text (placed n (event ∷ [])))
+Writes-event {a} {b} n event h =
+    subst (Writes a b) (sym (append-nil (placed_text (n, event)))) h
 
 -- that of the one that ended
-pub Writes-ended : {K : Type 0} {written : K → Option (List ℕ)} {faults : K → ℕ} {a b : Outbox K}
+pub Writes-ended : {a b : Outgoing}
     (n : ℕ) (ended : Option Event) (event : Event) → ended ≡ Some event
-    → Writes written faults a b (placed_text (n, event))
-    → Writes written faults a b (flat_map placed_text (placed n (listed ended None)))
-Writes-ended {K} {written} {faults} {a} {b} n ended event is h = rw is (Writes-event n event h)
+    → Writes a b (placed_text (n, event))
+    → Writes a b (flat_map placed_text (placed n (listed ended None)))
+Writes-ended {a} {b} n ended event is h = rw is (Writes-event n event h)
 
 -- where a symbol is told that ended a packet, the packet is there
 pub ended-there : (es : List Event) (symbol : Fields) → told_of_events es ≡ told.Ends symbol

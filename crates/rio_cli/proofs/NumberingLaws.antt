@@ -1,10 +1,10 @@
 -- What was told behind the asks of a host, by the answer of its write.
 use Rattle.std.proofs.Common.{◌≡◌, inl, inr, ℕ, Bool, true, false, List, [], ◌++◌, Option, codes, refl, sym, ap, ◌∙◌, subst, append_assoc, append-nil}
+use Rattle.std.specs.Borrow.{GName}
 use Rattle.std.specs.Io.KnownBytes.{Appends}
 use Rattle.std.proofs.KnownBytes.{Appends-trans}
 use Rattle.rio_chars.specs.Fronts.{AppendsFront}
-use Rattle.rio_chars.specs.Written.{Writes}
-use Rattle.rio_chars.specs.declared.outbox.Outbox.{Outbox}
+use Rattle.rio_chars.specs.Written.{Outgoing, Writes}
 use Rattle.rio_chars.proofs.WrittenLaws.{Writes-whole, Writes-front, Writes-rose}
 use Rattle.fabric_script.specs.declared.lines.Numbered.{Numbered}
 use Rattle.fabric_map.specs.Routes.{AllRegisters}
@@ -20,27 +20,28 @@ use Rattle.rio_cli.specs.Answers.{Answers, SaysOfBytes, IsOther}
 use Rattle.rio_cli.specs.Numbering.{HasHost, topology_for, registers_for, ToldAsks, IsMapOf, NumbersTo, LocksTo, SaysOfHost}
 
 -- what a new outbox was told was written, or a front of it if a write failed
-pub answered_by : {K : Type 0} (written : K → Option (List ℕ)) (faults : K → ℕ)
-    (begun out : Outbox K) (answer status : Status) (text : List ℕ)
-    → begun.buffer.now ≡ [] → begun.failed ≡ false
-    → Writes written faults begun out (text ++ []) → out.buffer.now ≡ []
+pub answered_by : {sink : GName} {w w' : Option (List ℕ)} {f f' : ℕ} {begun : Outgoing}
+    (out : Outgoing) (answer status : Status) (text : List ℕ)
+    → begun ≡ record { sink = sink; written = w; faults = f; waiting = []; failed = false }
+    → Writes begun out (text ++ []) → out.waiting ≡ []
     → (out.failed ≡ false → answer ≡ status) → (out.failed ≡ true → answer ≡ WriteFault)
-    → Answers answer status text (written begun.sink.now) (faults begun.sink.now)
-    (written out.sink.now) (faults out.sink.now)
-answered_by written faults begun out answer status text empty calm told none fine broke =
+    → w' ≡ out.written → f' ≡ out.faults → Answers answer status text w f w' f'
+answered_by {sink} {w} {w'} {f} {f'} out answer status text new told none fine broke ends counts =
     go out.failed refl
   where
-    all : Writes written faults begun out text
-    all = subst (Writes written faults begun out) (append-nil text) told
+    start : Outgoing
+    start = record { sink = sink; written = w; faults = f; waiting = []; failed = false }
 
-    go : (failed : Bool) → out.failed ≡ failed
-        → Answers answer status text (written begun.sink.now) (faults begun.sink.now)
-        (written out.sink.now) (faults out.sink.now)
-    go false is = inl (fine is, Writes-whole written faults begun out text empty all is none)
+    all : Writes start out text
+    all = subst (Writes start out) (append-nil text)
+        (subst (λ b. Writes b out (text ++ [])) new told)
+
+    go : (failed : Bool) → out.failed ≡ failed → Answers answer status text w f w' f'
+    go false is = inl (fine is, rw ends (Writes-whole start out text refl all is none))
     go true is = inr (
       broke is,
-      Writes-rose written faults begun out text calm all is,
-      Writes-front written faults begun out text empty all,
+      rw counts (Writes-rose start out text refl all is),
+      rw ends (Writes-front start out text refl all),
     )
 
 -- a front of what was told behind other bytes is a front of both

@@ -53,7 +53,9 @@ pub(crate) fn decode_chars<K: Sink>(
     let mut buffer = TextBuffer::new(alloc)?;
     let mut outbox = Outbox::new(&mut buffer, sink);
     write_reading(chars, &mut outbox);
-    if outbox.failed() {
+    let failed = outbox.failed();
+    outbox.into_sink();
+    if failed {
         return Err(DecodeEnd::WriteFault);
     }
     Ok(())
@@ -63,18 +65,17 @@ pub(crate) fn decode_chars<K: Sink>(
 fn write_reading<K: Sink>(chars: &[Char], outbox: &mut Outbox<K>)
     requires length { length chars.now ≤ most_input }
     requires fine { outbox.old.failed ≡ false }
-    requires empty { outbox.old.buffer.now ≡ [] }
-    ensures same { outbox.new.sink.ghost_name ≡ outbox.old.sink.ghost_name }
+    requires empty { outbox.old.waiting ≡ [] }
+    ensures same { outbox.new.sink ≡ outbox.old.sink }
     ensures done { outbox.new.failed ≡ false
-        → Appends (K.written outbox.old.sink.now) (K.written outbox.new.sink.now)
+        → Appends outbox.old.written outbox.new.written
         (decode_text (run place_start 0 chars.now) (at_rest (place_after place_start chars.now))) }
     ensures write_fault { outbox.new.failed ≡ true
-        → Rose (K.faults outbox.old.sink.now) (K.faults outbox.new.sink.now)
-        × AppendsFront (K.written outbox.old.sink.now) (K.written outbox.new.sink.now)
+        → Rose outbox.old.faults outbox.new.faults
+        × AppendsFront outbox.old.written outbox.new.written
         (decode_text (run place_start 0 chars.now) (at_rest (place_after place_start chars.now))) }
-    ensures counts { outbox.new.failed ≡ false
-        → K.faults outbox.new.sink.now ≡ K.faults outbox.old.sink.now }
-    ensures never_falls { K.faults outbox.old.sink.now ≤ K.faults outbox.new.sink.now }
+    ensures counts { outbox.new.failed ≡ false → outbox.new.faults ≡ outbox.old.faults }
+    ensures never_falls { outbox.old.faults ≤ outbox.new.faults }
 {
     let mut framer = Framer::new();
     let mut left = chars;

@@ -19,7 +19,7 @@ use rio_symbols::Symbol;
 /// Tells the lines of what a run of characters told, of which the last has this place.
 pub(crate) fn write_told<K: Sink>(outbox: &mut Outbox<K>, place: u32, told: Told, framer: &Framer)
     requires { (symbol : Fields) → told ≡ Told.Ends symbol → IsSome framer.now.ended }
-    ensures { Writes K.written K.faults outbox.old outbox.new
+    ensures { Writes outbox.old outbox.new
         (flat_map placed_text (placed place (listed (events_by told framer.now.ended).first
         (events_by told framer.now.ended).second))) }
 {
@@ -37,7 +37,7 @@ pub(crate) fn write_told<K: Sink>(outbox: &mut Outbox<K>, place: u32, told: Told
 /// The line of the packet that ended.
 fn write_ended<K: Sink>(outbox: &mut Outbox<K>, place: u32, framer: &Framer)
     requires { IsSome framer.now.ended }
-    ensures { Writes K.written K.faults outbox.old outbox.new
+    ensures { Writes outbox.old outbox.new
         (flat_map placed_text (placed place (listed framer.now.ended None))) }
 {
     match framer.ended() {
@@ -48,7 +48,7 @@ fn write_ended<K: Sink>(outbox: &mut Outbox<K>, place: u32, framer: &Framer)
 
 /// Tells the line of a symbol.
 fn write_symbol<K: Sink>(outbox: &mut Outbox<K>, place: u32, symbol: &Symbol)
-    ensures { Writes K.written K.faults outbox.old outbox.new
+    ensures { Writes outbox.old outbox.new
         (decimal place ++ symbol_text symbol.now) }
 {
     write_place(outbox, place);
@@ -58,7 +58,7 @@ fn write_symbol<K: Sink>(outbox: &mut Outbox<K>, place: u32, symbol: &Symbol)
 /// Tells what stands behind the place: the word and the five fields.
 #[inline(always)]
 fn write_fields<K: Sink>(outbox: &mut Outbox<K>, symbol: &Symbol)
-    ensures { Writes K.written K.faults outbox.old outbox.new (symbol_text symbol.now) }
+    ensures { Writes outbox.old outbox.new (symbol_text symbol.now) }
 {
     outbox.write_short(b" symbol\n", 7);
     let (front, count) = digit_and_number(symbol.s0, symbol.p0);
@@ -69,7 +69,7 @@ fn write_fields<K: Sink>(outbox: &mut Outbox<K>, symbol: &Symbol)
 
 /// Tells the line of a packet.
 fn write_packet<K: Sink>(outbox: &mut Outbox<K>, place: u32, ack: u8, packet: &[u8])
-    ensures { Writes K.written K.faults outbox.old outbox.new
+    ensures { Writes outbox.old outbox.new
         (decimal place ++ event_packet_text ack packet.now) }
 {
     write_place(outbox, place);
@@ -78,7 +78,7 @@ fn write_packet<K: Sink>(outbox: &mut Outbox<K>, place: u32, ack: u8, packet: &[
 
 /// Tells what stands behind the place: the word, the ackID and the bytes.
 fn write_form<K: Sink>(outbox: &mut Outbox<K>, ack: u8, packet: &[u8])
-    ensures { Writes K.written K.faults outbox.old outbox.new (event_packet_text ack packet.now) }
+    ensures { Writes outbox.old outbox.new (event_packet_text ack packet.now) }
 {
     outbox.write_short(b" packet\n", 7);
     write_number(outbox, ack);
@@ -89,7 +89,7 @@ fn write_form<K: Sink>(outbox: &mut Outbox<K>, ack: u8, packet: &[u8])
 
 /// Tells the line of what is neither.
 fn write_bad<K: Sink>(outbox: &mut Outbox<K>, place: u32, cause: Cause)
-    ensures { Writes K.written K.faults outbox.old outbox.new
+    ensures { Writes outbox.old outbox.new
         (decimal place ++ bad_text cause) }
 {
     write_place(outbox, place);
@@ -98,7 +98,7 @@ fn write_bad<K: Sink>(outbox: &mut Outbox<K>, place: u32, cause: Cause)
 
 /// Tells what stands behind the place: the word and the number of the cause.
 fn write_cause<K: Sink>(outbox: &mut Outbox<K>, cause: Cause)
-    ensures { Writes K.written K.faults outbox.old outbox.new (bad_text cause) }
+    ensures { Writes outbox.old outbox.new (bad_text cause) }
 {
     outbox.write_short(b" bad\n\n\n\n", 4);
     write_number(outbox, cause_number(cause));
@@ -107,7 +107,7 @@ fn write_cause<K: Sink>(outbox: &mut Outbox<K>, cause: Cause)
 
 /// Tells the last line, by whether neither a symbol nor a packet is in progress.
 pub(crate) fn write_end<K: Sink>(outbox: &mut Outbox<K>, at_rest: bool)
-    ensures { Writes K.written K.faults outbox.old outbox.new (end_text at_rest) }
+    ensures { Writes outbox.old outbox.new (end_text at_rest) }
 {
     if at_rest {
         outbox.write(b"end\n");

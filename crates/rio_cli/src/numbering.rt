@@ -97,7 +97,9 @@ fn tell_map<K: Sink>(buffer: &mut TextBuffer, map: &Map, sink: &mut K) -> Status
     write_map(&mut outbox, map);
     outbox.write(b"end\n");
     outbox.flush();
-    status_of(&outbox, Status::Done)
+    let status = status_of(&outbox, Status::Done);
+    outbox.into_sink();
+    status
 }
 
 /// Writes the line of the device on a path, whose lock is the ID of another host.
@@ -110,7 +112,9 @@ fn tell_lock<K: Sink>(buffer: &mut TextBuffer, path: &[u8], id: u16, sink: &mut 
     let mut outbox = Outbox::new(buffer, sink);
     write_locked(&mut outbox, path, id);
     outbox.flush();
-    status_of(&outbox, Status::Locked)
+    let status = status_of(&outbox, Status::Locked);
+    outbox.into_sink();
+    status
 }
 
 /// This status, or WriteFault if a write has failed.

@@ -21,7 +21,7 @@ const DIGIT_PAIRS: [u16; 100] = [
 
 /// Tells a place in decimal: two digits and four are told at once.
 pub(crate) fn write_place<K: Sink>(outbox: &mut Outbox<K>, place: u32)
-    ensures { Writes K.written K.faults outbox.old outbox.new (decimal place) }
+    ensures { Writes outbox.old outbox.new (decimal place) }
 {
     if place < 10 {
         outbox.write_short(&[b'0' + place as u8, 0, 0, 0, 0, 0, 0, 0], 1);
@@ -80,7 +80,7 @@ const SPACED_NUMBERS: [u64; 100] = [
 /// Tells a number behind a space.
 #[inline(always)]
 pub(crate) fn write_number<K: Sink>(outbox: &mut Outbox<K>, number: u8)
-    ensures { Writes K.written K.faults outbox.old outbox.new (spaced number) }
+    ensures { Writes outbox.old outbox.new (spaced number) }
 {
     let (text, count) = spaced_number(number);
     outbox.write_short(&text, count);

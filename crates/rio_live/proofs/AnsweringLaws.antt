@@ -1,9 +1,8 @@
 -- What an event did, and what answers a line.
-use Rattle.std.proofs.Common.{◌≡◌, ◌⊎◌, inl, inr, ℕ, List, [], ◌∷◌, ◌++◌, Option, Some, Result, Ok, Err, IfOk, OnErr, codes, refl, sym, ap, ◌∙◌, subst, append-nil, append_assoc}
+use Rattle.std.proofs.Common.{◌≡◌, ◌⊎◌, inl, inr, ℕ, List, [], ◌∷◌, ◌++◌, Some, Result, Ok, Err, IfOk, OnErr, codes, refl, sym, ap, ◌∙◌, subst, append-nil, append_assoc}
 use Rattle.std.proofs.lemmas.List.Concat.{flat_map-append}
 use Rattle.std.specs.Fmt.{decimal}
-use Rattle.rio_chars.specs.Written.{Writes}
-use Rattle.rio_chars.specs.declared.outbox.Outbox.{Outbox}
+use Rattle.rio_chars.specs.Written.{Outgoing, Writes}
 use Rattle.rio_chars.proofs.WrittenLaws.{Writes-nil, Writes-then}
 use Rattle.link_model.specs.declared.event.Event.{Event as LinkEvent}
 use Rattle.fabric_script.specs.declared.lines.Line.{Line}
@@ -12,12 +11,17 @@ use Rattle.fabric_script.specs.Known.{Known}
 use Rattle.fabric_script.specs.Reading.{Spells}
 use Rattle.fabric_script.specs.SetUps.{SetUpLines, for_event}
 use Rattle.fabric_trace.specs.Blocks.{IsBlock}
+use Rattle.fabric_trace.specs.Known.{Seen}
 use Rattle.trace_lines.specs.Lines.{TraceLine, Begun, Undetected}
 use Rattle.fabric_trace.specs.Runs.{start}
 use Rattle.trace_lines.specs.Text.{trace_line_text, trace_text}
+use Rattle.trace_lines.specs.AddsLaws.{Adds-then}
+use Rattle.trace_lines.specs.Writing.{Adds}
+use Rattle.trace_lines.specs.declared.writer.TraceWriter.{TraceWriter}
 use Rattle.fabric_ports.specs.Events.{IsOwnBlock, IsAnsweredBlock, Evented}
-use Rattle.fabric_ports.specs.Ran.{WritesFront}
+use Rattle.fabric_ports.specs.Ran.{AddsFront}
 use Rattle.fabric_ports.specs.Standing.{Stands}
+use Rattle.fabric_ports.specs.declared.answers.FabricEnd.{FabricEnd}
 use Rattle.fabric_ports.specs.declared.answers.FabricEnd.TheVariants.{Undetected as Unsent}
 use Rattle.fabric_ports.specs.declared.answers.Happened.{Happened as Did}
 use Rattle.fabric_ports.specs.declared.fabric.Fabric.{Fabric}
@@ -33,27 +37,52 @@ use Rattle.rio_live.proofs.TakenLaws.{reads_happened, trace_more}
 
 -- ---- what an event did
 
-module _ {K : Type 0} (written : K → Option (List ℕ)) (faults : K → ℕ) (taken : Taken)
-    (line : List ℕ) (event : Line) where
+-- An outbox that was lent to a writer stands as it was left there, if the writer has it still.
+abbrev pub GivenBack : {K : Type 0} → TraceWriter K → TraceWriter K → Outgoing → Type 0
+GivenBack old new last = old.outbox.ghost_name ≡ new.outbox.ghost_name → last ≡ new.outbox.now
+
+-- the text of lines that were added, where the nodes have these names
+told_by : {K : Type 0} {old new : TraceWriter K} (names : List (List ℕ)) (last : Outgoing)
+    (lines : List TraceLine) → old.names.now ≡ names → GivenBack old new last → Adds old new lines
+    → Writes old.outbox.now last (trace_text names lines)
+told_by {old} {new} names last lines named back adds =
+    subst (λ out. Writes old.outbox.now out (trace_text names lines)) (sym (back (sym adds.same)))
+    (subst (λ n. Writes old.outbox.now new.outbox.now (trace_text n lines)) named adds.writes)
+
+-- the text of a block, with the line of an event that was not sent
+unsent_text : (names : List (List ℕ)) (block : List TraceLine) (number : ℕ) (port : PortRef)
+    (found : LinkEvent)
+    → trace_text names (block ++ Undetected number port found ∷ [])
+    ≡ trace_text names block
+    ++ found_text names number (Some (record { port = port; event = found }))
+unsent_text names block number port found =
+    flat_map-append (λ l. trace_line_text names l ++ 10 ∷ []) block
+    (Undetected number port found ∷ [])
+    ∙ ap (λ l. trace_text names block ++ l) (append-nil _)
+
+module _ (taken : Taken) (line : List ℕ) (event : Line) {K : Type 0} where
   -- it was carried out
-  pub happens_on : (out next : Outbox K) (number : ℕ) (live now : Live) (fabric last : Fabric)
-      (did : Did) → LiveHolds live taken → Spells (for_event taken.known) line event
+  pub happens_on : (old new : TraceWriter K) (last : Outgoing) (number : ℕ) (live now : Live)
+      (fabric fabric_now : Fabric) (did : Did) → old.names.now ≡ taken.known.names
+      → GivenBack old new last → LiveHolds live taken → Spells (for_event taken.known) line event
       → Stands (start taken.set_up) taken.trace fabric
-      → now.text.items ≡ live.text.items → now.set_up ≡ live.set_up → now.fabric ≡ Some last
-      → Evented event (IsAnsweredBlock event did) taken.known.names written faults out next
-      (start taken.set_up) taken.trace (Ok last)
-      → Happens written faults taken number line event out next now Goings.On
-  happens_on out next number live now fabric last did holds spells stands text set_up put
-      done =
+      → now.text.items ≡ live.text.items → now.set_up ≡ live.set_up
+      → now.fabric ≡ Some fabric_now
+      → Evented event (IsAnsweredBlock event did) old new (start taken.set_up) taken.trace
+      (Ok fabric_now)
+      → Happens taken number line event old.outbox.now last now Goings.On
+  happens_on old new last number live now fabric fabric_now did named back holds spells stands text
+      set_up put done =
       let names = taken.known.names in
-      let block_text = trace_text names (Begun event ∷ done.block) in
+      let own = Begun event ∷ done.block in
       record {
         block = done.block;
         is = done.is.0;
         told =
-            subst (λ found. Writes written faults out next
-            (block_text ++ found_text names number found)) (sym done.ends.1.sent)
-            (subst (Writes written faults out next) (sym (append-nil block_text)) done.ends.0);
+            subst (λ found. Writes old.outbox.now last
+            (trace_text names own ++ found_text names number found)) (sym done.ends.1.sent)
+            (subst (Writes old.outbox.now last) (sym (append-nil (trace_text names own)))
+            (told_by names last own named back done.ends.0));
         goes = record {
           text = text ∙ holds.text;
           few = holds.few;
@@ -69,26 +98,28 @@ module _ {K : Type 0} (written : K → Option (List ℕ)) (faults : K → ℕ) (
       }
 
   -- a port acted on an event that was not sent
-  pub happens_unsent : (out mid next : Outbox K) (number : ℕ) (live now : Live) (fabric : Fabric)
-      (port : PortRef) (found : LinkEvent) → LiveHolds live taken
+  pub happens_unsent : (old mid new : TraceWriter K) (last : Outgoing) (number : ℕ)
+      (live now : Live) (fabric : Fabric) (port : PortRef) (found : LinkEvent)
+      → old.names.now ≡ taken.known.names → GivenBack old new last → LiveHolds live taken
       → Spells (for_event taken.known) line event
       → Stands (start taken.set_up) taken.trace fabric
-      → Evented event (IsOwnBlock event) taken.known.names written faults out mid
-      (start taken.set_up) taken.trace (Err (Unsent port found))
-      → Writes written faults mid next
-      (trace_line_text taken.known.names (Undetected number port found) ++ codes "\n")
-      → Happens written faults taken number line event out next now Goings.Undetected
-  happens_unsent out mid next number live now fabric port found holds spells stands exposed
-      last =
+      → Evented event (IsOwnBlock event) old mid (start taken.set_up) taken.trace
+      (Err (Unsent port found))
+      → Adds mid new (Undetected number port found ∷ [])
+      → Happens taken number line event old.outbox.now last now Goings.Undetected
+  happens_unsent old mid new last number live now fabric port found named back holds spells stands
+      exposed named_line =
       let names = taken.known.names in
-      let block_text = trace_text names (Begun event ∷ exposed.block) in
+      let own = Begun event ∷ exposed.block in
+      let all = own ++ Undetected number port found ∷ [] in
       record {
         block = exposed.block;
         is = exposed.is.0;
         told =
-            subst (λ f. Writes written faults out next
-            (block_text ++ found_text names number f)) (sym exposed.ends.1)
-            (Writes-then _ _ exposed.ends.0 last);
+            subst (λ f. Writes old.outbox.now last
+            (trace_text names own ++ found_text names number f)) (sym exposed.ends.1)
+            (subst (Writes old.outbox.now last) (unsent_text names own number port found)
+            (told_by names last all named back (Adds-then exposed.ends.0 named_line)));
         goes = (
           trace_more taken number line event exposed.block fabric holds.trace
               (is_one taken.known line event spells) stands exposed.is.0,
@@ -96,20 +127,29 @@ module _ {K : Type 0} (written : K → Option (List ℕ)) (faults : K → ℕ) (
         );
       }
 
-  -- it was not carried out to its end, or not begun
-  pub falls_short : (out next : Outbox K) (block : List TraceLine)
-      → IsBlock (seen_so_far taken) event block
-      → WritesFront taken.known.names written faults out next (Begun event ∷ block)
-      → FallsShort written faults taken event out next
-  falls_short out next block is short = record {
+  -- it was not carried out to its end
+  pub falls_short : (old new : TraceWriter K) (last : Outgoing) (block : List TraceLine)
+      → old.names.now ≡ taken.known.names → GivenBack old new last
+      → IsBlock (seen_so_far taken) event block → AddsFront old new (Begun event ∷ block)
+      → FallsShort taken event old.outbox.now last
+  falls_short old new last block named back is short = record {
     front = short.front;
     is = inr (block, short.rest, is, short.whole);
-    told = short.prints;
+    told = told_by taken.known.names last short.front named back short.adds;
   }
 
-  pub falls_at_once : (out : Outbox K) → FallsShort written faults taken event out out
-  falls_at_once out =
-      record { front = []; is = inl refl; told = Writes-nil written faults out }
+-- nor begun
+pub falls_at_once : (taken : Taken) (event : Line) (out : Outgoing)
+    → FallsShort taken event out out
+falls_at_once taken event out = record { front = []; is = inl refl; told = Writes-nil out }
+
+-- how an event ended, by what its end is
+pub ended_as : (event : Line) {K : Type 0} (old new : TraceWriter K) (from : Seen)
+    (lines : List TraceLine) (end is : FabricEnd) → end ≡ is
+    → Evented event (IsOwnBlock event) old new from lines (Err end)
+    → Evented event (IsOwnBlock event) old new from lines (Err is)
+ended_as event old new from lines end is same ended =
+    subst (λ e. Evented event (IsOwnBlock event) old new from lines (Err e)) same ended
 
 -- what is said of an error, of any answer
 pub on_err : {T E : Type 0} {P : Type 0} (result : Result T E) → P → OnErr result P
@@ -151,25 +191,22 @@ quiet_text taken number line (SetUp lines known) quiet = refl
 quiet_text taken number line (Happened event block) quiet = absurd quiet
 quiet_text taken number line (IsRefusedAs reason) quiet = absurd quiet
 
-module _ {K : Type 0} (written : K → Option (List ℕ)) (faults : K → ℕ) (taken : Taken)
-    (number : ℕ) (line : List ℕ) where
-  pub answered_quiet : (out next : Outbox K) (live : Live) → LiveTakes taken line Quiet live
-      → Writes written faults out next (codes "ok\n")
-      → LineAnswered written faults taken number line out next live Goings.On
+module _ (taken : Taken) (number : ℕ) (line : List ℕ) where
+  pub answered_quiet : (out next : Outgoing) (live : Live) → LiveTakes taken line Quiet live
+      → Writes out next (codes "ok\n")
+      → LineAnswered taken number line out next live Goings.On
   answered_quiet out next live takes told = record {
     outcome = takes.0;
     reads = takes.2;
-    told =
-        subst (Writes written faults out next) (sym (quiet_text taken number line takes.0 takes.1))
-        told;
+    told = subst (Writes out next) (sym (quiet_text taken number line takes.0 takes.1)) told;
     goes = takes.3 number;
   }
 
-  pub answered_refused : (out mid next : Outbox K) (live : Live) (reason : ℕ)
+  pub answered_refused : (out mid next : Outgoing) (live : Live) (reason : ℕ)
       → LiveTakes taken line (Refused reason) live
-      → Writes written faults out mid (codes "refused " ++ decimal reason ++ codes "\n")
-      → Writes written faults mid next (codes "ok\n")
-      → LineAnswered written faults taken number line out next live Goings.On
+      → Writes out mid (codes "refused " ++ decimal reason ++ codes "\n")
+      → Writes mid next (codes "ok\n")
+      → LineAnswered taken number line out next live Goings.On
   answered_refused out mid next live reason takes told ok = record {
     outcome = IsRefusedAs reason;
     reads = takes.1;
@@ -177,11 +214,11 @@ module _ {K : Type 0} (written : K → Option (List ℕ)) (faults : K → ℕ) (
     goes = takes.0;
   }
 
-  pub answered_event : (out mid next : Outbox K) (live now : Live) (event : Line)
+  pub answered_event : (out mid next : Outgoing) (live now : Live) (event : Line)
       (going : Whether) → LiveTakes taken line (Event event) live
-      → Happens written faults taken number line event out mid now going
-      → Writes written faults mid next (codes "ok\n")
-      → LineAnswered written faults taken number line out next now going
+      → Happens taken number line event out mid now going
+      → Writes mid next (codes "ok\n")
+      → LineAnswered taken number line out next now going
   answered_event out mid next live now event going takes happens ok = record {
     outcome = Happened event happens.block;
     reads = reads_happened taken line event happens.block takes.1 takes.2 happens.is;
@@ -189,9 +226,9 @@ module _ {K : Type 0} (written : K → Option (List ℕ)) (faults : K → ℕ) (
     goes = happens.goes;
   }
 
-  pub breaks_event : (out next : Outbox K) (live : Live) (event : Line)
-      → LiveTakes taken line (Event event) live → FallsShort written faults taken event out next
-      → BreaksOff written faults taken number line out next
+  pub breaks_event : (out next : Outgoing) (live : Live) (event : Line)
+      → LiveTakes taken line (Event event) live → FallsShort taken event out next
+      → BreaksOff taken number line out next
   breaks_event out next live event takes short =
       record { text = trace_text names short.front; is = by_front short.is; told = short.told }
     where
@@ -227,13 +264,13 @@ module _ {K : Type 0} (written : K → Option (List ℕ)) (faults : K → ℕ) (
           )
 
   -- and what waited was written
-  pub answered_whole : (out mid next : Outbox K) (live : Live) (going : Whether)
-      → LineAnswered written faults taken number line out mid live going
-      → Writes written faults mid next []
-      → LineAnswered written faults taken number line out next live going
+  pub answered_whole : (out mid next : Outgoing) (live : Live) (going : Whether)
+      → LineAnswered taken number line out mid live going
+      → Writes mid next []
+      → LineAnswered taken number line out next live going
   answered_whole out mid next live going a flushed = record {
     outcome = a.outcome;
     reads = a.reads;
-    told = subst (Writes written faults out next) (append-nil _) (Writes-then _ [] a.told flushed);
+    told = subst (Writes out next) (append-nil _) (Writes-then _ [] a.told flushed);
     goes = a.goes;
   }

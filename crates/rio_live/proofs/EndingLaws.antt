@@ -1,8 +1,7 @@
 -- Lines that a fabric is given end.
 use Rattle.std.proofs.Common.{◌≡◌, ℕ, ◌+◌, ◌-◌, ◌^◌, Option, Bool, true, false, if◌then◌else◌, List, [], ◌++◌, length, codes, inl, inr, refl, sym, ap, ◌∙◌, subst}
 use Rattle.std.specs.Io.KnownBytes.{Consumes}
-use Rattle.rio_chars.specs.Written.{Writes}
-use Rattle.rio_chars.specs.declared.outbox.Outbox.{Outbox}
+use Rattle.rio_chars.specs.Written.{Outgoing, Writes}
 use Rattle.live_lines.specs.declared.input.LineEnd.{LineEnd}
 use Rattle.live_lines.specs.declared.input.LineEnd.TheVariants as stops_at
 use Rattle.live_lines.specs.declared.status.Status.{Status}
@@ -18,20 +17,17 @@ use Rattle.rio_live.specs.Program.{Closes, LiveServes}
 use Rattle.rio_live.proofs.TakenLaws.{is_sent}
 use Rattle.rio_live.proofs.ServingLaws.{Course, with_nothing}
 
-module _ {K : Type 0} (written : K → Option (List ℕ)) (faults : K → ℕ) (begun : Outbox K)
-    (left : Option (List ℕ)) (read_faults : ℕ) where
+module _ (begun : Outgoing) (left : Option (List ℕ)) (read_faults : ℕ) where
   -- there is no further line, and not since the input ended
-  pub Course-stops : {out : Outbox K} {live : Live} {left_now left_last : Option (List ℕ)}
+  pub Course-stops : {out : Outgoing} {live : Live} {left_now left_last : Option (List ℕ)}
       (pending taken : List ℕ) {count : ℕ} (read_faults_now read_faults_last : ℕ) (end : LineEnd)
       → (end ≡ stops_at.End → ⊥)
-      → Course written faults begun out live left left_now pending count read_faults
-      read_faults_now
-      → begun.buffer.now ≡ [] → out.failed ≡ false → out.buffer.now ≡ []
+      → Course begun out live left left_now pending count read_faults read_faults_now
+      → begun.waiting ≡ [] → out.failed ≡ false → out.waiting ≡ []
       → Consumes left_now left_last taken
       → LinesStop end left_last read_faults_now read_faults_last (pending ++ taken)
       → LiveServes (end_status end) left left_last read_faults read_faults_last
-      (written begun.sink.now) (written out.sink.now) (faults begun.sink.now)
-      (faults out.sink.now)
+      begun.written out.written begun.faults out.faults
   Course-stops {out} {live} {left_now} {left_last} pending taken {count} read_faults_now
       read_faults_last end other h clear fine empty more stops = record {
         lines = h.lines;
@@ -42,8 +38,8 @@ module _ {K : Type 0} (written : K → Option (List ℕ)) (faults : K → ℕ) (
         trace = h.holds.trace;
         closes = by_end end other;
         serves =
-            with_nothing written faults begun left read_faults out (end_status end) h.lines h.text
-            (Going-stops written faults begun left read_faults (2 ^ 32 - 1) pending taken
+            with_nothing begun left read_faults out (end_status end) h.lines h.text
+            (Going-stops begun left read_faults (2 ^ 32 - 1) pending taken
             read_faults_now read_faults_last end h.lines h.text h.going clear fine empty more
             stops);
       }
@@ -56,31 +52,26 @@ module _ {K : Type 0} (written : K → Option (List ℕ)) (faults : K → ℕ) (
       by_end stops_at.NoMemory other = (is_sent live h.taken h.holds, ([], inl refl))
 
   -- the last line of the trace was told
-  closes_trace : {left_last : Option (List ℕ)} {read_faults_last : ℕ} (next : Outbox K)
+  closes_trace : {left_last : Option (List ℕ)} {read_faults_last : ℕ} (next : Outgoing)
       (live : Live) (status : Status) (lines : List (List ℕ)) (text : List ℕ) (taken : Taken)
       → AnswersLines nothing_taken 1 lines text taken → LiveHolds live taken
       → (next.failed ≡ true
       → ServesLines (2 ^ 32 - 1) ends_with.WriteFault left left_last read_faults read_faults_last
-      (written begun.sink.now) (written next.sink.now) (faults begun.sink.now)
-      (faults next.sink.now) lines (text ++ codes "end\n"))
+      begun.written next.written begun.faults next.faults lines (text ++ codes "end\n"))
       → (next.failed ≡ false
       → ServesLines (2 ^ 32 - 1) ends_with.Done left left_last read_faults read_faults_last
-      (written begun.sink.now) (written next.sink.now) (faults begun.sink.now)
-      (faults next.sink.now) lines (text ++ codes "end\n"))
+      begun.written next.written begun.faults next.faults lines (text ++ codes "end\n"))
       → status ≡ (if next.failed then ends_with.WriteFault else ends_with.Done)
       → LiveServes status left left_last read_faults read_faults_last
-      (written begun.sink.now) (written next.sink.now) (faults begun.sink.now)
-      (faults next.sink.now)
+      begun.written next.written begun.faults next.faults
   closes_trace {left_last} {read_faults_last} next live status lines text taken answers holds
       fault done is = by_failed next.failed refl
     where
       as_serves : (s : Status) → Closes s taken (length lines + 1) (codes "end\n")
           → ServesLines (2 ^ 32 - 1) s left left_last read_faults read_faults_last
-          (written begun.sink.now) (written next.sink.now) (faults begun.sink.now)
-          (faults next.sink.now) lines (text ++ codes "end\n")
+          begun.written next.written begun.faults next.faults lines (text ++ codes "end\n")
           → LiveServes s left left_last read_faults read_faults_last
-          (written begun.sink.now) (written next.sink.now) (faults begun.sink.now)
-          (faults next.sink.now)
+          begun.written next.written begun.faults next.faults
       as_serves s closes serves = record {
         lines = lines;
         text = text;
@@ -93,66 +84,60 @@ module _ {K : Type 0} (written : K → Option (List ℕ)) (faults : K → ℕ) (
       }
 
       by_failed : (b : Bool) → next.failed ≡ b
-          → LiveServes status left left_last read_faults read_faults_last (written begun.sink.now)
-          (written next.sink.now) (faults begun.sink.now) (faults next.sink.now)
+          → LiveServes status left left_last read_faults read_faults_last begun.written
+          next.written begun.faults next.faults
       by_failed true failed =
           subst (λ s. LiveServes s left left_last read_faults read_faults_last
-          (written begun.sink.now) (written next.sink.now) (faults begun.sink.now)
-          (faults next.sink.now))
+          begun.written next.written begun.faults next.faults)
           (sym (is ∙ ap (λ f. if f then ends_with.WriteFault else ends_with.Done) failed))
           (as_serves ends_with.WriteFault (inr (inl refl)) (fault failed))
       by_failed false fine =
           subst (λ s. LiveServes s left left_last read_faults read_faults_last
-          (written begun.sink.now) (written next.sink.now) (faults begun.sink.now)
-          (faults next.sink.now))
+          begun.written next.written begun.faults next.faults)
           (sym (is ∙ ap (λ f. if f then ends_with.WriteFault else ends_with.Done) fine))
           (as_serves ends_with.Done (is_sent live taken holds, refl) (done fine))
 
   -- the input ended
-  pub Course-ends : {out next : Outbox K} {live : Live} {left_now left_last : Option (List ℕ)}
+  pub Course-ends : {out next : Outgoing} {live : Live} {left_now left_last : Option (List ℕ)}
       (pending taken : List ℕ) {count : ℕ} (read_faults_now read_faults_last : ℕ)
       (status : Status)
-      → Course written faults begun out live left left_now pending count read_faults
-      read_faults_now
-      → begun.buffer.now ≡ [] → begun.failed ≡ false → next.buffer.now ≡ []
+      → Course begun out live left left_now pending count read_faults read_faults_now
+      → begun.waiting ≡ [] → begun.failed ≡ false → next.waiting ≡ []
       → Consumes left_now left_last taken
       → LinesStop stops_at.End left_last read_faults_now read_faults_last (pending ++ taken)
-      → Writes written faults out next (codes "end\n")
+      → Writes out next (codes "end\n")
       → status ≡ (if next.failed then ends_with.WriteFault else ends_with.Done)
       → LiveServes status left left_last read_faults read_faults_last
-      (written begun.sink.now) (written next.sink.now) (faults begun.sink.now)
-      (faults next.sink.now)
+      begun.written next.written begun.faults next.faults
   Course-ends {out} {next} {live} pending taken read_faults_now read_faults_last status h clear
       fresh empty more stops told is =
       let ended =
-      Going-told written faults begun left read_faults pending read_faults_now h.lines h.text
+      Going-told begun left read_faults pending read_faults_now h.lines h.text
       (codes "end\n") h.going told in
       closes_trace next live status h.lines h.text h.taken h.answers h.holds
-      (λ failed. Going-fault written faults begun left read_faults (2 ^ 32 - 1)
+      (λ failed. Going-fault begun left read_faults (2 ^ 32 - 1)
       (pending ++ taken) read_faults_last h.lines (h.text ++ codes "end\n")
-      (Going-read written faults begun left read_faults pending taken (pending ++ taken)
+      (Going-read begun left read_faults pending taken (pending ++ taken)
       read_faults_now read_faults_last h.lines (h.text ++ codes "end\n") ended more refl
       stops.2)
       clear fresh failed)
-      (λ fine. Going-stops written faults begun left read_faults (2 ^ 32 - 1) pending taken
+      (λ fine. Going-stops begun left read_faults (2 ^ 32 - 1) pending taken
       read_faults_now read_faults_last stops_at.End h.lines (h.text ++ codes "end\n") ended clear
       fine empty more stops)
       is
 
   -- there is no further line
-  pub Course-closed : (next : Outbox K) {out : Outbox K} {live : Live}
+  pub Course-closed : (next : Outgoing) {out : Outgoing} {live : Live}
       {left_now left_last : Option (List ℕ)}
       (pending taken : List ℕ) {count : ℕ} (read_faults_now read_faults_last : ℕ)
       (end : LineEnd) (status : Status)
-      → Course written faults begun out live left left_now pending count read_faults
-      read_faults_now
-      → begun.buffer.now ≡ [] → begun.failed ≡ false → out.failed ≡ false
-      → out.buffer.now ≡ [] → Consumes left_now left_last taken
+      → Course begun out live left left_now pending count read_faults read_faults_now
+      → begun.waiting ≡ [] → begun.failed ≡ false → out.failed ≡ false
+      → out.waiting ≡ [] → Consumes left_now left_last taken
       → LinesStop end left_last read_faults_now read_faults_last (pending ++ taken)
-      → LinesStopped end written faults out next status
+      → LinesStopped end out next status
       → LiveServes status left left_last read_faults read_faults_last
-      (written begun.sink.now) (written next.sink.now) (faults begun.sink.now)
-      (faults next.sink.now)
+      begun.written next.written begun.faults next.faults
   Course-closed next {out} {live} {left_now} {left_last} pending taken {count}
       read_faults_now read_faults_last end status h clear fresh fine empty more = by_end end
     where
@@ -160,24 +145,20 @@ module _ {K : Type 0} (written : K → Option (List ℕ)) (faults : K → ℕ) (
           → LinesStop e left_last read_faults_now read_faults_last (pending ++ taken)
           → (status ≡ end_status e) × (next ≡ out)
           → LiveServes status left left_last read_faults read_faults_last
-          (written begun.sink.now) (written next.sink.now) (faults begun.sink.now)
-          (faults next.sink.now)
+          begun.written next.written begun.faults next.faults
       other e no_end stops is =
           subst (λ s. LiveServes s left left_last read_faults read_faults_last
-          (written begun.sink.now) (written next.sink.now) (faults begun.sink.now)
-          (faults next.sink.now)) (sym is.0)
-          (subst (λ (o : Outbox K). LiveServes (end_status e) left left_last read_faults
-          read_faults_last (written begun.sink.now) (written o.sink.now)
-          (faults begun.sink.now) (faults o.sink.now)) (sym is.1)
+          begun.written next.written begun.faults next.faults) (sym is.0)
+          (subst (λ (o : Outgoing). LiveServes (end_status e) left left_last read_faults
+          read_faults_last begun.written o.written begun.faults o.faults) (sym is.1)
           (Course-stops pending taken read_faults_now read_faults_last e no_end h clear fine
           empty more stops))
 
       by_end : (e : LineEnd)
           → LinesStop e left_last read_faults_now read_faults_last (pending ++ taken)
-          → LinesStopped e written faults out next status
+          → LinesStopped e out next status
           → LiveServes status left left_last read_faults read_faults_last
-          (written begun.sink.now) (written next.sink.now) (faults begun.sink.now)
-          (faults next.sink.now)
+          begun.written next.written begun.faults next.faults
       by_end stops_at.End stops stopped =
           Course-ends pending taken read_faults_now read_faults_last status h clear fresh
           stopped.1 more stops stopped.0 stopped.2
@@ -189,23 +170,21 @@ module _ {K : Type 0} (written : K → Option (List ℕ)) (faults : K → ℕ) (
           other stops_at.NoMemory (λ is. absurd cc) stops (stopped.0, stopped.1)
 
   -- the most lines were served
-  pub Course-done : {out next : Outbox K} {live : Live} {left_now : Option (List ℕ)}
+  pub Course-done : {out next : Outgoing} {live : Live} {left_now : Option (List ℕ)}
       (pending : List ℕ) {count : ℕ} (read_faults_now : ℕ) (status : Status)
-      → Course written faults begun out live left left_now pending count read_faults
-      read_faults_now
-      → begun.buffer.now ≡ [] → begun.failed ≡ false → next.buffer.now ≡ []
-      → count ≡ 2 ^ 32 - 1 → Writes written faults out next (codes "end\n")
+      → Course begun out live left left_now pending count read_faults read_faults_now
+      → begun.waiting ≡ [] → begun.failed ≡ false → next.waiting ≡ []
+      → count ≡ 2 ^ 32 - 1 → Writes out next (codes "end\n")
       → status ≡ (if next.failed then ends_with.WriteFault else ends_with.Done)
       → LiveServes status left left_now read_faults read_faults_now
-      (written begun.sink.now) (written next.sink.now) (faults begun.sink.now)
-      (faults next.sink.now)
+      begun.written next.written begun.faults next.faults
   Course-done {out} {next} {live} pending read_faults_now status h clear fresh empty all told is =
       let ended =
-      Going-told written faults begun left read_faults pending read_faults_now h.lines h.text
+      Going-told begun left read_faults pending read_faults_now h.lines h.text
       (codes "end\n") h.going told in
       closes_trace next live status h.lines h.text h.taken h.answers h.holds
-      (λ failed. Going-fault written faults begun left read_faults (2 ^ 32 - 1) pending
+      (λ failed. Going-fault begun left read_faults (2 ^ 32 - 1) pending
       read_faults_now h.lines (h.text ++ codes "end\n") ended clear fresh failed)
-      (λ fine. Going-done written faults begun left read_faults (2 ^ 32 - 1) pending
+      (λ fine. Going-done begun left read_faults (2 ^ 32 - 1) pending
       read_faults_now h.lines (h.text ++ codes "end\n") ended clear fine empty all)
       is

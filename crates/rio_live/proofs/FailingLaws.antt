@@ -1,7 +1,7 @@
 -- The answer of a line is the last one.
 use Rattle.std.proofs.Common.{◌≡◌, ℕ, ◌+◌, ◌-◌, ◌^◌, Option, Result, Ok, Err, IfOk, OnErr, true, false, List, [], ◌∷◌, ◌++◌, length, inl, inr, refl, sym, ap, subst}
 use Rattle.std.specs.Io.KnownBytes.{Consumes}
-use Rattle.rio_chars.specs.declared.outbox.Outbox.{Outbox}
+use Rattle.rio_chars.specs.Written.{Outgoing}
 use Rattle.live_lines.specs.declared.status.Status.{Status}
 use Rattle.live_lines.specs.declared.status.Status.TheVariants as ends_with
 use Rattle.live_lines.specs.Lines.{IsLine, with_feed}
@@ -18,8 +18,7 @@ use Rattle.rio_live.specs.Program.{AnswerIsCut, Closes, LiveServes}
 use Rattle.rio_live.proofs.TakenLaws.{is_sent}
 use Rattle.rio_live.proofs.ServingLaws.{Course, with_nothing, line_told, with_answer}
 
-module _ {K : Type 0} (written : K → Option (List ℕ)) (faults : K → ℕ) (begun : Outbox K)
-    (left : Option (List ℕ)) (read_faults : ℕ) where
+module _ (begun : Outgoing) (left : Option (List ℕ)) (read_faults : ℕ) where
   -- the lines that were taken are a trace, whether there may be a further one or not
   goes_trace : (going : Whether) (live : Live) (taken : Taken) → LiveGoes going live taken
       → IsTrace taken
@@ -27,18 +26,16 @@ module _ {K : Type 0} (written : K → Option (List ℕ)) (faults : K → ℕ) (
   goes_trace Goings.Undetected live taken goes = goes.0
 
   -- a write failed in the answer of a line
-  pub Course-fault : {out next : Outbox K} {live live_next : Live}
+  pub Course-fault : {out next : Outgoing} {live live_next : Live}
       {left_now left_next : Option (List ℕ)} (pending pending_next line taken : List ℕ)
       {count : ℕ} (read_faults_now read_faults_next : ℕ) (going : Whether)
-      → (h : Course written faults begun out live left left_now pending count read_faults
-      read_faults_now)
-      → begun.buffer.now ≡ [] → begun.failed ≡ false → next.failed ≡ true
+      → (h : Course begun out live left left_now pending count read_faults read_faults_now)
+      → begun.waiting ≡ [] → begun.failed ≡ false → next.failed ≡ true
       → Consumes left_now left_next taken → pending ++ taken ≡ with_feed line ++ pending_next
       → IsLine line → read_faults_next ≡ read_faults_now
-      → LineAnswered written faults h.taken (count + 1) line out next live_next going
+      → LineAnswered h.taken (count + 1) line out next live_next going
       → LiveServes ends_with.WriteFault left left_next read_faults read_faults_next
-      (written begun.sink.now) (written next.sink.now) (faults begun.sink.now)
-      (faults next.sink.now)
+      begun.written next.written begun.faults next.faults
   Course-fault {out} {next} {live} {live_next} pending pending_next line taken {count}
       read_faults_now read_faults_next going h clear fresh failed read is good same a =
       let more = answer_text h.taken (count + 1) line a.outcome in
@@ -48,34 +45,31 @@ module _ {K : Type 0} (written : K → Option (List ℕ)) (faults : K → ℕ) (
         text = h.text ++ more;
         taken = now;
         last = [];
-        answers = with_answer written faults begun left read_faults pending line read_faults_now
+        answers = with_answer begun left read_faults pending line read_faults_now
             a.outcome h a.reads;
         trace = goes_trace going live_next now a.goes;
         closes = inl refl;
         serves =
-            with_nothing written faults begun left read_faults next ends_with.WriteFault
+            with_nothing begun left read_faults next ends_with.WriteFault
             (h.lines ++ line ∷ []) (h.text ++ more)
-            (Going-fault written faults begun left read_faults (2 ^ 32 - 1) pending_next
+            (Going-fault begun left read_faults (2 ^ 32 - 1) pending_next
             read_faults_next (h.lines ++ line ∷ []) (h.text ++ more)
-            (line_told written faults begun left read_faults pending pending_next line taken more
-            read_faults_now read_faults_next h
-            read is good a.told same)
+            (line_told begun left read_faults pending pending_next line taken more
+            read_faults_now read_faults_next h read is good a.told same)
             clear fresh failed);
       }
 
   -- a port acted on an event that was not sent
-  pub Course-undetected : {out next : Outbox K} {live live_next : Live}
+  pub Course-undetected : {out next : Outgoing} {live live_next : Live}
       {left_now left_next : Option (List ℕ)} (pending pending_next line taken : List ℕ)
       {count : ℕ} (read_faults_now read_faults_next : ℕ)
-      → (h : Course written faults begun out live left left_now pending count read_faults
-      read_faults_now)
-      → begun.buffer.now ≡ [] → next.failed ≡ false → next.buffer.now ≡ []
+      → (h : Course begun out live left left_now pending count read_faults read_faults_now)
+      → begun.waiting ≡ [] → next.failed ≡ false → next.waiting ≡ []
       → Consumes left_now left_next taken → pending ++ taken ≡ with_feed line ++ pending_next
       → IsLine line → read_faults_next ≡ read_faults_now
-      → LineAnswered written faults h.taken (count + 1) line out next live_next Goings.Undetected
+      → LineAnswered h.taken (count + 1) line out next live_next Goings.Undetected
       → LiveServes ends_with.Undetected left left_next read_faults read_faults_next
-      (written begun.sink.now) (written next.sink.now) (faults begun.sink.now)
-      (faults next.sink.now)
+      begun.written next.written begun.faults next.faults
   Course-undetected {out} {next} {live} {live_next} pending pending_next line taken {count}
       read_faults_now read_faults_next h clear fine empty read is good same a =
       let more = answer_text h.taken (count + 1) line a.outcome in
@@ -84,35 +78,31 @@ module _ {K : Type 0} (written : K → Option (List ℕ)) (faults : K → ℕ) (
         text = h.text ++ more;
         taken = taken_after h.taken (count + 1) line a.outcome;
         last = [];
-        answers = with_answer written faults begun left read_faults pending line read_faults_now
+        answers = with_answer begun left read_faults pending line read_faults_now
             a.outcome h a.reads;
         trace = a.goes.0;
         closes = (a.goes.1, refl);
         serves =
-            with_nothing written faults begun left read_faults next ends_with.Undetected
+            with_nothing begun left read_faults next ends_with.Undetected
             (h.lines ++ line ∷ []) (h.text ++ more)
-            (Going-undetected written faults begun left read_faults (2 ^ 32 - 1) pending_next
+            (Going-undetected begun left read_faults (2 ^ 32 - 1) pending_next
             read_faults_next (h.lines ++ line ∷ []) (h.text ++ more)
-            (line_told written faults begun left read_faults pending pending_next line taken more
-            read_faults_now read_faults_next h
-            read is good a.told same)
+            (line_told begun left read_faults pending pending_next line taken more
+            read_faults_now read_faults_next h read is good a.told same)
             clear fine empty);
       }
 
   -- the answer of a line broke off
-  breaks : {out next : Outbox K} {live : Live} {left_now left_next : Option (List ℕ)}
+  breaks : {out next : Outgoing} {live : Live} {left_now left_next : Option (List ℕ)}
       (status : Status) (pending pending_next line taken : List ℕ) {count : ℕ}
       (read_faults_now read_faults_next : ℕ)
-      → (h : Course written faults begun out live left left_now pending count read_faults
-      read_faults_now)
-      → (b : BreaksOff written faults h.taken (count + 1) line out next)
+      → (h : Course begun out live left left_now pending count read_faults read_faults_now)
+      → (b : BreaksOff h.taken (count + 1) line out next)
       → Closes status h.taken (length h.lines + 1) b.text
       → ServesLines (2 ^ 32 - 1) status left left_next read_faults read_faults_next
-      (written begun.sink.now) (written next.sink.now) (faults begun.sink.now)
-      (faults next.sink.now) h.lines (h.text ++ b.text)
+      begun.written next.written begun.faults next.faults h.lines (h.text ++ b.text)
       → LiveServes status left left_next read_faults read_faults_next
-      (written begun.sink.now) (written next.sink.now) (faults begun.sink.now)
-      (faults next.sink.now)
+      begun.written next.written begun.faults next.faults
   breaks status pending pending_next line taken read_faults_now read_faults_next h b closes
       serves = record {
         lines = h.lines;
@@ -126,95 +116,87 @@ module _ {K : Type 0} (written : K → Option (List ℕ)) (faults : K → ℕ) (
       }
 
   -- what was told then
-  broken : {out next : Outbox K} {live : Live} {left_now left_next : Option (List ℕ)}
+  broken : {out next : Outgoing} {live : Live} {left_now left_next : Option (List ℕ)}
       (pending pending_next line taken : List ℕ) {count : ℕ}
       (read_faults_now read_faults_next : ℕ)
-      → (h : Course written faults begun out live left left_now pending count read_faults
-      read_faults_now)
+      → (h : Course begun out live left left_now pending count read_faults read_faults_now)
       → Consumes left_now left_next taken → pending ++ taken ≡ with_feed line ++ pending_next
       → read_faults_next ≡ read_faults_now
-      → (b : BreaksOff written faults h.taken (count + 1) line out next)
-      → Going written faults begun next left left_next (with_feed line ++ pending_next) count
+      → (b : BreaksOff h.taken (count + 1) line out next)
+      → Going begun next left left_next (with_feed line ++ pending_next) count
       read_faults read_faults_next h.lines (h.text ++ b.text)
   broken pending pending_next line taken read_faults_now read_faults_next h read is same b =
-      Going-told written faults begun left read_faults (with_feed line ++ pending_next)
+      Going-told begun left read_faults (with_feed line ++ pending_next)
       read_faults_next h.lines h.text b.text
-      (Going-read written faults begun left read_faults pending taken
+      (Going-read begun left read_faults pending taken
       (with_feed line ++ pending_next) read_faults_now read_faults_next h.lines h.text h.going
       read is same)
       b.told
 
   -- the front of the answer has the number of the next line
-  cut_at : {out next : Outbox K} {live : Live} {left_now : Option (List ℕ)}
+  cut_at : {out next : Outgoing} {live : Live} {left_now : Option (List ℕ)}
       (pending line : List ℕ) {count : ℕ} (read_faults_now : ℕ)
-      → (h : Course written faults begun out live left left_now pending count read_faults
-      read_faults_now)
-      → (b : BreaksOff written faults h.taken (count + 1) line out next)
+      → (h : Course begun out live left left_now pending count read_faults read_faults_now)
+      → (b : BreaksOff h.taken (count + 1) line out next)
       → AnswerIsCut h.taken (length h.lines + 1) b.text
   cut_at {out} {next} {live} pending line read_faults_now h b = (
     is_sent live h.taken h.holds,
     (line, subst (λ n. IsCutOf h.taken n line b.text) (ap (λ n. n + 1) (sym h.going.counted)) b.is),
   )
 
-  pub Course-no_memory : {out next : Outbox K} {live : Live}
+  pub Course-no_memory : {out next : Outgoing} {live : Live}
       {left_now left_next : Option (List ℕ)} (pending pending_next line taken : List ℕ)
       {count : ℕ} (read_faults_now read_faults_next : ℕ)
-      → (h : Course written faults begun out live left left_now pending count read_faults
-      read_faults_now)
-      → begun.buffer.now ≡ [] → next.failed ≡ false → next.buffer.now ≡ []
+      → (h : Course begun out live left left_now pending count read_faults read_faults_now)
+      → begun.waiting ≡ [] → next.failed ≡ false → next.waiting ≡ []
       → Consumes left_now left_next taken → pending ++ taken ≡ with_feed line ++ pending_next
       → read_faults_next ≡ read_faults_now
-      → BreaksOff written faults h.taken (count + 1) line out next
+      → BreaksOff h.taken (count + 1) line out next
       → LiveServes ends_with.NoMemory left left_next read_faults read_faults_next
-      (written begun.sink.now) (written next.sink.now) (faults begun.sink.now)
-      (faults next.sink.now)
+      begun.written next.written begun.faults next.faults
   Course-no_memory pending pending_next line taken read_faults_now read_faults_next h clear fine
       empty read is same b =
       breaks ends_with.NoMemory pending pending_next line taken read_faults_now
       read_faults_next h b (cut_at pending line read_faults_now h b)
-      (Going-no_memory written faults begun left read_faults (2 ^ 32 - 1)
+      (Going-no_memory begun left read_faults (2 ^ 32 - 1)
       (with_feed line ++ pending_next) read_faults_next h.lines (h.text ++ b.text)
       (broken pending pending_next line taken read_faults_now read_faults_next h read is same b)
       clear fine empty)
 
   -- and a write failed in it
-  pub Course-fault_within : {out next : Outbox K} {live : Live}
+  pub Course-fault_within : {out next : Outgoing} {live : Live}
       {left_now left_next : Option (List ℕ)} (pending pending_next line taken : List ℕ)
       {count : ℕ} (read_faults_now read_faults_next : ℕ)
-      → (h : Course written faults begun out live left left_now pending count read_faults
-      read_faults_now)
-      → begun.buffer.now ≡ [] → begun.failed ≡ false → next.failed ≡ true
+      → (h : Course begun out live left left_now pending count read_faults read_faults_now)
+      → begun.waiting ≡ [] → begun.failed ≡ false → next.failed ≡ true
       → Consumes left_now left_next taken → pending ++ taken ≡ with_feed line ++ pending_next
       → read_faults_next ≡ read_faults_now
-      → BreaksOff written faults h.taken (count + 1) line out next
+      → BreaksOff h.taken (count + 1) line out next
       → LiveServes ends_with.WriteFault left left_next read_faults read_faults_next
-      (written begun.sink.now) (written next.sink.now) (faults begun.sink.now)
-      (faults next.sink.now)
+      begun.written next.written begun.faults next.faults
   Course-fault_within pending pending_next line taken read_faults_now read_faults_next h clear
       fresh failed read is same b =
       breaks ends_with.WriteFault pending pending_next line taken read_faults_now
       read_faults_next h b (inr (inr (cut_at pending line read_faults_now h b)))
-      (Going-fault written faults begun left read_faults (2 ^ 32 - 1)
+      (Going-fault begun left read_faults (2 ^ 32 - 1)
       (with_feed line ++ pending_next) read_faults_next h.lines (h.text ++ b.text)
       (broken pending pending_next line taken read_faults_now read_faults_next h read is same b)
       clear fresh failed)
 
   -- a write failed, whether the line was answered or not
-  pub Course-failed : (next : Outbox K) (live_next : Live) {out : Outbox K} {live : Live}
+  pub Course-failed : (next : Outgoing) (live_next : Live) {out : Outgoing} {live : Live}
       {left_now left_next : Option (List ℕ)} (pending pending_next line taken : List ℕ)
       {count : ℕ} (read_faults_now read_faults_next : ℕ) (result : Result Whether BrokenOff)
-      → Course written faults begun out live left left_now pending count read_faults
-      read_faults_now
-      → begun.buffer.now ≡ [] → begun.failed ≡ false → next.failed ≡ true
+      → Course begun out live left left_now pending count read_faults read_faults_now
+      → begun.waiting ≡ [] → begun.failed ≡ false → next.failed ≡ true
       → Consumes left_now left_next taken → pending ++ taken ≡ with_feed line ++ pending_next
       → IsLine line → read_faults_next ≡ read_faults_now
       → IfOk result (λ going. (t : Taken) → LiveHolds live t
-      → LineAnswered written faults t (count + 1) line out next live_next going)
+      → LineAnswered t (count + 1) line out next live_next going)
       → OnErr result ((t : Taken) → LiveHolds live t
-      → BreaksOff written faults t (count + 1) line out next)
+      → BreaksOff t (count + 1) line out next)
       → LiveServes ends_with.WriteFault left left_next read_faults read_faults_next
-      (written begun.sink.now) (written next.sink.now) (faults begun.sink.now)
-      (faults next.sink.now)
+      begun.written next.written begun.faults next.faults
   Course-failed next live_next pending pending_next line taken read_faults_now read_faults_next
       (Ok going) h clear fresh failed read is good same answered short =
       Course-fault pending pending_next line taken read_faults_now read_faults_next going h

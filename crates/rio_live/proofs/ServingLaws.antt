@@ -1,8 +1,7 @@
 -- Lines that a fabric is given, one after another.
 use Rattle.std.proofs.Common.{◌≡◌, ℕ, ◌+◌, ◌-◌, ◌^◌, Option, Result, Ok, IfOk, List, [], ◌∷◌, ◌++◌, inl, refl, sym, subst, append-nil, arith}
 use Rattle.std.specs.Io.KnownBytes.{Consumes}
-use Rattle.rio_chars.specs.Written.{Writes}
-use Rattle.rio_chars.specs.declared.outbox.Outbox.{Outbox}
+use Rattle.rio_chars.specs.Written.{Outgoing, Writes}
 use Rattle.live_lines.specs.declared.status.Status.{Status}
 use Rattle.live_lines.specs.declared.status.Status.TheVariants as ends_with
 use Rattle.live_lines.specs.Lines.{IsLine, with_feed}
@@ -17,16 +16,14 @@ use Rattle.rio_live.specs.Program.{LiveServes}
 use Rattle.rio_live.proofs.TakenLaws.{nothing_is_trace, is_sent, answers_more}
 
 -- Lines were served so far, and these bytes were read behind the last one.
-pub record Course {K : Type 0} (written : K → Option (List ℕ)) (faults : K → ℕ)
-    (begun out : Outbox K) (live : Live) (left left_now : Option (List ℕ)) (pending : List ℕ)
-    (count : ℕ) (read_faults read_faults_now : ℕ) : Type 0 where
+pub record Course (begun out : Outgoing) (live : Live) (left left_now : Option (List ℕ))
+    (pending : List ℕ) (count : ℕ) (read_faults read_faults_now : ℕ) : Type 0 where
   pub lines : List (List ℕ)
   pub text : List ℕ
   pub taken : Taken
   pub answers : AnswersLines nothing_taken 1 lines text taken
   pub holds : LiveHolds live taken
-  pub going : Going written faults begun out left left_now pending count read_faults
-      read_faults_now lines text
+  pub going : Going begun out left left_now pending count read_faults read_faults_now lines text
 
 -- what is said of an answer that is no error, by which one it is
 pub as_ok : {T E : Type 0} (P : T → Type 0) (result : Result T E) (x y : T) → result ≡ Ok x
@@ -48,43 +45,40 @@ serves_none left written read_faults write_faults = record {
   serves = served_none (2 ^ 32 - 1) left written read_faults write_faults;
 }
 
-module _ {K : Type 0} (written : K → Option (List ℕ)) (faults : K → ℕ) (begun : Outbox K)
-    (left : Option (List ℕ)) (read_faults : ℕ) where
+module _ (begun : Outgoing) (left : Option (List ℕ)) (read_faults : ℕ) where
   pub Course-begin : (live : Live) (pending : List ℕ) → LiveHolds live nothing_taken → pending ≡ []
-      → Course written faults begun begun live left left pending 0 read_faults read_faults
+      → Course begun begun live left left pending 0 read_faults read_faults
   Course-begin live pending holds none = record {
     lines = [];
     text = [];
     taken = nothing_taken;
     answers = (refl, refl);
     holds = holds;
-    going = Going-begin written faults begun left read_faults pending none;
+    going = Going-begin begun left read_faults pending none;
   }
 
   -- a line more was read, and a text told of it
-  pub line_told : {out next : Outbox K} {live : Live} {left_now left_next : Option (List ℕ)}
+  pub line_told : {out next : Outgoing} {live : Live} {left_now left_next : Option (List ℕ)}
       (pending pending_next line taken more : List ℕ) {count : ℕ}
       (read_faults_now read_faults_next : ℕ)
-      → (h : Course written faults begun out live left left_now pending count read_faults
-      read_faults_now)
+      → (h : Course begun out live left left_now pending count read_faults read_faults_now)
       → Consumes left_now left_next taken → pending ++ taken ≡ with_feed line ++ pending_next
-      → IsLine line → Writes written faults out next more
+      → IsLine line → Writes out next more
       → read_faults_next ≡ read_faults_now
-      → Going written faults begun next left left_next pending_next (count + 1) read_faults
+      → Going begun next left left_next pending_next (count + 1) read_faults
       read_faults_next (h.lines ++ line ∷ []) (h.text ++ more)
   line_told pending pending_next line taken more read_faults_now read_faults_next h read is good
       told same =
-      Going-told written faults begun left read_faults pending_next read_faults_next
+      Going-told begun left read_faults pending_next read_faults_next
       (h.lines ++ line ∷ []) h.text more
-      (Going-line written faults begun left read_faults pending pending_next line taken
+      (Going-line begun left read_faults pending pending_next line taken
       read_faults_now read_faults_next h.lines h.text h.going read is good same)
       told
 
   -- it is answered
-  pub with_answer : {out : Outbox K} {live : Live} {left_now : Option (List ℕ)}
+  pub with_answer : {out : Outgoing} {live : Live} {left_now : Option (List ℕ)}
       (pending line : List ℕ) {count : ℕ} (read_faults_now : ℕ) (outcome : Outcome)
-      → (h : Course written faults begun out live left left_now pending count read_faults
-      read_faults_now)
+      → (h : Course begun out live left left_now pending count read_faults read_faults_now)
       → ReadsAs h.taken line outcome
       → AnswersLines nothing_taken 1 (h.lines ++ line ∷ [])
       (h.text ++ answer_text h.taken (count + 1) line outcome)
@@ -94,15 +88,14 @@ module _ {K : Type 0} (written : K → Option (List ℕ)) (faults : K → ℕ) (
       answers_more nothing_taken 1 h.lines line h.text h.taken (count + 1) outcome h.answers
       (omega arith) (is_sent live h.taken h.holds) reads
 
-  pub Course-line : {out next : Outbox K} {live live_next : Live}
+  pub Course-line : {out next : Outgoing} {live live_next : Live}
       {left_now left_next : Option (List ℕ)} (pending pending_next line taken : List ℕ)
       {count : ℕ} (read_faults_now read_faults_next : ℕ)
-      → (h : Course written faults begun out live left left_now pending count read_faults
-      read_faults_now)
+      → (h : Course begun out live left left_now pending count read_faults read_faults_now)
       → Consumes left_now left_next taken → pending ++ taken ≡ with_feed line ++ pending_next
       → IsLine line → read_faults_next ≡ read_faults_now
-      → LineAnswered written faults h.taken (count + 1) line out next live_next Goings.On
-      → Course written faults begun next live_next left left_next pending_next (count + 1)
+      → LineAnswered h.taken (count + 1) line out next live_next Goings.On
+      → Course begun next live_next left left_next pending_next (count + 1)
       read_faults read_faults_next
   Course-line pending pending_next line taken {count} read_faults_now read_faults_next h read is
       good same a = record {
@@ -118,15 +111,12 @@ module _ {K : Type 0} (written : K → Option (List ℕ)) (faults : K → ℕ) (
       }
 
   -- what is said of a text, and of it with nothing behind it
-  pub with_nothing : {left_last : Option (List ℕ)} {read_faults_last : ℕ} (out : Outbox K)
+  pub with_nothing : {left_last : Option (List ℕ)} {read_faults_last : ℕ} (out : Outgoing)
       (status : Status) (lines : List (List ℕ)) (text : List ℕ)
       → ServesLines (2 ^ 32 - 1) status left left_last read_faults read_faults_last
-      (written begun.sink.now) (written out.sink.now) (faults begun.sink.now)
-      (faults out.sink.now) lines text
+      begun.written out.written begun.faults out.faults lines text
       → ServesLines (2 ^ 32 - 1) status left left_last read_faults read_faults_last
-      (written begun.sink.now) (written out.sink.now) (faults begun.sink.now)
-      (faults out.sink.now) lines (text ++ [])
+      begun.written out.written begun.faults out.faults lines (text ++ [])
   with_nothing {left_last} {read_faults_last} out status lines text serves =
       subst (λ l. ServesLines (2 ^ 32 - 1) status left left_last read_faults read_faults_last
-      (written begun.sink.now) (written out.sink.now) (faults begun.sink.now)
-      (faults out.sink.now) lines l) (sym (append-nil text)) serves
+      begun.written out.written begun.faults out.faults lines l) (sym (append-nil text)) serves

@@ -1,7 +1,6 @@
 -- What the calls that answer a line say.
-use Rattle.std.specs.Prelude.{◌≡◌, ◌≤◌, ◌<◌, ◌⊎◌, ℕ, false, List, [], ◌∷◌, ◌++◌, length, Option, Some, MatchBool, codes, if◌then◌else◌}
-use Rattle.rio_chars.specs.Written.{Writes}
-use Rattle.rio_chars.specs.declared.outbox.Outbox.{Outbox}
+use Rattle.std.specs.Prelude.{◌≡◌, ◌≤◌, ◌<◌, ◌⊎◌, ℕ, false, List, [], ◌∷◌, ◌++◌, length, Some, MatchBool, codes, if◌then◌else◌}
+use Rattle.rio_chars.specs.Written.{Outgoing, Writes}
 use Rattle.fabric_script.specs.declared.lines.Line.{Line}
 use Rattle.fabric_script.specs.declared.lines.Numbered.{Numbered}
 use Rattle.fabric_script.specs.Known.{Known, nothing_in, of_set_up}
@@ -97,48 +96,43 @@ LiveGoes Undetected live taken =
     IsTrace taken × ((found : Found) × ((seen_so_far taken).unfaithful ≡ Some found))
 
 -- an event was carried out, and its block was written
-pub record Happens {K : Type 0} (written : K → Option (List ℕ)) (faults : K → ℕ) (taken : Taken)
-    (number : ℕ) (line : List ℕ) (event : Line) (old new : Outbox K) (live : Live) (going : Going)
-    : Type 0 where
+pub record Happens (taken : Taken) (number : ℕ) (line : List ℕ) (event : Line) (old new : Outgoing)
+    (live : Live) (going : Going) : Type 0 where
   pub block : List TraceLine
   pub is : IsBlock (seen_so_far taken) event block
-  pub told : Writes written faults old new (trace_text taken.known.names (Begun event ∷ block)
+  pub told : Writes old new (trace_text taken.known.names (Begun event ∷ block)
       ++ found_text taken.known.names number
       (seen_so_far (taken_after taken number line (Happened event block))).unfaithful)
   pub goes : LiveGoes going live (taken_after taken number line (Happened event block))
 
 -- a front of the block was written, or nothing
-pub record FallsShort {K : Type 0} (written : K → Option (List ℕ)) (faults : K → ℕ)
-    (taken : Taken) (event : Line) (old new : Outbox K) : Type 0 where
+pub record FallsShort (taken : Taken) (event : Line) (old new : Outgoing) : Type 0 where
   pub front : List TraceLine
   pub is : (front ≡ []) ⊎ ((block : List TraceLine) × (rest : List TraceLine)
       × IsBlock (seen_so_far taken) event block × (Begun event ∷ block ≡ front ++ rest))
-  pub told : Writes written faults old new (trace_text taken.known.names front)
+  pub told : Writes old new (trace_text taken.known.names front)
 
 -- a line was answered
-pub record LineAnswered {K : Type 0} (written : K → Option (List ℕ)) (faults : K
-    → ℕ) (taken : Taken)
-    (number : ℕ) (line : List ℕ) (old new : Outbox K) (live : Live) (going : Going) : Type 0 where
+pub record LineAnswered (taken : Taken) (number : ℕ) (line : List ℕ) (old new : Outgoing)
+    (live : Live) (going : Going) : Type 0 where
   pub outcome : Outcome
   pub reads : ReadsAs taken line outcome
-  pub told : Writes written faults old new (answer_text taken number line outcome)
+  pub told : Writes old new (answer_text taken number line outcome)
   pub goes : LiveGoes going live (taken_after taken number line outcome)
 
 -- the answer broke off, and a front of it was written
-pub record BreaksOff {K : Type 0} (written : K → Option (List ℕ)) (faults : K → ℕ)
-    (taken : Taken) (number : ℕ) (line : List ℕ) (old new : Outbox K) : Type 0 where
+pub record BreaksOff (taken : Taken) (number : ℕ) (line : List ℕ) (old new : Outgoing)
+    : Type 0 where
   pub text : List ℕ
   pub is : IsCutOf taken number line text
-  pub told : Writes written faults old new text
+  pub told : Writes old new text
 
 -- ---- ending
 
 -- there is no further line, and the last line of the trace was written if the input ended
-abbrev pub LinesStopped : LineEnd → {K : Type 0} → (K → Option (List ℕ)) → (K → ℕ) → Outbox K
-    → Outbox K → Status → Type 0
-LinesStopped End written faults old new status = Writes written faults old new (codes "end\n")
-    × (new.buffer.now ≡ [])
+abbrev pub LinesStopped : LineEnd → Outgoing → Outgoing → Status → Type 0
+LinesStopped End old new status = Writes old new (codes "end\n") × (new.waiting ≡ [])
     × (status ≡ (if new.failed then ends_with.WriteFault else ends_with.Done))
-LinesStopped Fault written faults old new status = (status ≡ ends_with.ReadFault) × (new ≡ old)
-LinesStopped TooLong written faults old new status = (status ≡ ends_with.TooLong) × (new ≡ old)
-LinesStopped NoMemory written faults old new status = (status ≡ ends_with.NoMemory) × (new ≡ old)
+LinesStopped Fault old new status = (status ≡ ends_with.ReadFault) × (new ≡ old)
+LinesStopped TooLong old new status = (status ≡ ends_with.TooLong) × (new ≡ old)
+LinesStopped NoMemory old new status = (status ≡ ends_with.NoMemory) × (new ≡ old)

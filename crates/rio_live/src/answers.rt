@@ -13,7 +13,7 @@ use fabric_ports::FabricEnd;
 use fabric_script::Line;
 use rio_chars::{NoMemory, Outbox, Sink};
 use std::alloc::Global;
-use trace_lines::write_undetected;
+use trace_lines::TraceWriter;
 
 /// Whether there may be a further line.
 #[derive(Clone, Copy, Debug, PartialEq, Eq)]
@@ -45,10 +45,9 @@ pub(crate) fn answer<K: Sink>(
 ) -> Result<Going, BrokenOff>
     requires { (taken : Taken) × LiveHolds live.old taken }
     ensures answered { IfOk result (λ going. (taken : Taken) → LiveHolds live.old taken
-        → LineAnswered K.written K.faults taken number line.now outbox.old outbox.new live.new
-        going) }
+        → LineAnswered taken number line.now outbox.old outbox.new live.new going) }
     ensures breaks { OnErr result ((taken : Taken) → LiveHolds live.old taken
-        → BreaksOff K.written K.faults taken number line.now outbox.old outbox.new) }
+        → BreaksOff taken number line.now outbox.old outbox.new) }
 {
     let going = match live.take(alloc, line)? {
         Asked::Quiet => Going::On,
@@ -75,21 +74,21 @@ fn happen<K: Sink>(
     ensures happens { IfOk result (λ going. (taken : Taken) (line : List ℕ)
         → LiveHolds live.old taken
         → Spells (for_event taken.known) line event.now
-        → Happens K.written K.faults taken number line event.now outbox.old outbox.new live.new
-        going) }
+        → Happens taken number line event.now outbox.old outbox.new live.new going) }
     ensures short { OnErr result ((taken : Taken) (line : List ℕ) → LiveHolds live.old taken
         → Spells (for_event taken.known) line event.now
-        → FallsShort K.written K.faults taken event.now outbox.old outbox.new) }
+        → FallsShort taken event.now outbox.old outbox.new) }
 {
     let mut fabric = live.take_fabric(alloc)?;
     let names = live.set_up().names();
-    match fabric.event(alloc, names, event, outbox) {
+    let mut writer = TraceWriter { outbox, names };
+    match fabric.event(alloc, event, &mut writer) {
         Ok(_) => {
             live.put_fabric(fabric);
             Ok(Going::On)
         }
         Err(FabricEnd::Undetected { port, event }) => {
-            write_undetected(outbox, names, number, port, event.event());
+            writer.write_undetected(number, port, event.event());
             Ok(Going::Undetected)
         }
         Err(FabricEnd::Failed) => Err(BrokenOff),
@@ -99,8 +98,7 @@ fn happen<K: Sink>(
 
 /// Tells the reason of a refusal.
 fn write_refused<K: Sink>(outbox: &mut Outbox<K>, reason: u8)
-    ensures { Writes K.written K.faults outbox.old outbox.new
-        (codes "refused " ++ decimal reason ++ codes "\n") }
+    ensures { Writes outbox.old outbox.new (codes "refused " ++ decimal reason ++ codes "\n") }
 {
     outbox.write(b"refused ");
     outbox.write_decimal(u32::from(reason));

@@ -12,7 +12,7 @@ use crate::live::Live;
 use live_lines::{Input, LineEnd, Status};
 use rio_chars::{Outbox, Sink, Source, TextBuffer};
 use std::alloc::Global;
-use trace_lines::write_end;
+use trace_lines::TraceWriter;
 
 /// Reads lines, and answers each before the next is asked for. At the end of input the last line of
 /// the trace is written.
@@ -31,7 +31,9 @@ pub fn serve<S: Source, K: Sink>(alloc: Global, source: &mut S, sink: &mut K) ->
         return Status::NoMemory;
     };
     let mut outbox = Outbox::new(&mut buffer, sink);
-    serve_lines(alloc, &mut live, &mut input, source, &mut outbox)
+    let status = serve_lines(alloc, &mut live, &mut input, source, &mut outbox);
+    outbox.into_sink();
+    status
 }
 
 /// Reads lines, and answers each before the next is asked for.
@@ -45,11 +47,11 @@ fn serve_lines<S: Source, K: Sink>(
     requires holds { LiveHolds live.old nothing_taken }
     requires input { input.old ≡ [] }
     requires fine { outbox.old.failed ≡ false }
-    requires empty { outbox.old.buffer.now ≡ [] }
-    ensures same { outbox.new.sink.ghost_name ≡ outbox.old.sink.ghost_name }
+    requires empty { outbox.old.waiting ≡ [] }
+    ensures same { outbox.new.sink ≡ outbox.old.sink }
     ensures serves { LiveServes result (S.left source.old) (S.left source.new) (S.faults source.old)
-        (S.faults source.new) (K.written outbox.old.sink.now) (K.written outbox.new.sink.now)
-        (K.faults outbox.old.sink.now) (K.faults outbox.new.sink.now) }
+        (S.faults source.new) outbox.old.written outbox.new.written outbox.old.faults
+        outbox.new.faults }
 {
     let mut line = Vec::new(alloc);
     let mut number = 0u32;
@@ -82,12 +84,11 @@ fn answer_line<K: Sink>(
 ) -> Result<Going, BrokenOff>
     requires { (taken : Taken) × LiveHolds live.old taken }
     ensures answered { IfOk result (λ going. (taken : Taken) → LiveHolds live.old taken
-        → LineAnswered K.written K.faults taken number line.now outbox.old outbox.new live.new
-        going) }
+        → LineAnswered taken number line.now outbox.old outbox.new live.new going) }
     ensures breaks { OnErr result ((taken : Taken) → LiveHolds live.old taken
-        → BreaksOff K.written K.faults taken number line.now outbox.old outbox.new) }
-    ensures empty { outbox.new.buffer.now ≡ [] }
-    ensures same { outbox.new.sink.ghost_name ≡ outbox.old.sink.ghost_name }
+        → BreaksOff taken number line.now outbox.old outbox.new) }
+    ensures empty { outbox.new.waiting ≡ [] }
+    ensures same { outbox.new.sink ≡ outbox.old.sink }
 {
     let answered = answer(alloc, live, number, line, outbox);
     outbox.flush();
@@ -96,8 +97,8 @@ fn answer_line<K: Sink>(
 
 /// Ends where there is no further line: the last line of the trace is written if the input ended.
 fn end_lines<K: Sink>(end: LineEnd, outbox: &mut Outbox<K>) -> Status
-    ensures stopped { LinesStopped end K.written K.faults outbox.old outbox.new result }
-    ensures same { outbox.new.sink.ghost_name ≡ outbox.old.sink.ghost_name }
+    ensures stopped { LinesStopped end outbox.old outbox.new result }
+    ensures same { outbox.new.sink ≡ outbox.old.sink }
 {
     match end {
         LineEnd::End => end_trace(outbox),
@@ -107,11 +108,12 @@ fn end_lines<K: Sink>(end: LineEnd, outbox: &mut Outbox<K>) -> Status
 
 /// Writes the last line of the trace, and answers how the program ends.
 fn end_trace<K: Sink>(outbox: &mut Outbox<K>) -> Status
-    ensures written { Writes K.written K.faults outbox.old outbox.new (codes "end\n") }
-    ensures empty { outbox.new.buffer.now ≡ [] }
+    ensures written { Writes outbox.old outbox.new (codes "end\n") }
+    ensures empty { outbox.new.waiting ≡ [] }
     ensures status { result ≡ (if outbox.new.failed then ends_with.WriteFault else ends_with.Done) }
 {
-    write_end(outbox);
+    let mut writer = TraceWriter { outbox, names: &[] };
+    writer.write_end();
     outbox.flush();
     if outbox.failed() {
         Status::WriteFault

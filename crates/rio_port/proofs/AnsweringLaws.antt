@@ -1,9 +1,8 @@
 -- Answers that are told piece by piece.
-use Rattle.std.proofs.Common.{◌≡◌, ℕ, ◌<◌, ◌≤◌, zero, suc, Bool, true, false, nat_lt, Option, List, [], ◌∷◌, ◌++◌, length, refl, sym, ap, subst, ◌∙◌, append-nil, append_assoc, arith, IsTrue, ◌↔◌}
+use Rattle.std.proofs.Common.{◌≡◌, ℕ, ◌<◌, ◌≤◌, zero, suc, Bool, true, false, nat_lt, List, [], ◌∷◌, ◌++◌, length, refl, sym, ap, subst, ◌∙◌, append-nil, append_assoc, arith, IsTrue, ◌↔◌}
 use Rattle.std.proofs.lemmas.Bool.{lt-ltb}
-use Rattle.rio_chars.specs.Written.{Writes}
+use Rattle.rio_chars.specs.Written.{Outgoing, Writes}
 use Rattle.rio_chars.specs.declared.chars.Char.{Char}
-use Rattle.rio_chars.specs.declared.outbox.Outbox.{Outbox}
 use Rattle.rio_chars.proofs.WrittenLaws.{Writes-nil, Writes-then}
 use Rattle.link_port.specs.Ports.{PortState}
 use Rattle.link_port.specs.Steps.{takes}
@@ -20,25 +19,24 @@ is_some_test false (suc n) same =
     absurd cc
 
 -- Of an answer this much was told, and what is left is the answer of a port that stands here.
-pub record IsTold {K : Type 0} (written : K → Option (List ℕ)) (faults : K → ℕ)
-    (begun out : Outbox K) (whole rest : PortAnswer) : Type 0 where
+pub record IsTold (begun out : Outgoing) (whole rest : PortAnswer) : Type 0 where
   pub text : List ℕ
-  pub told : Writes written faults begun out text
+  pub told : Writes begun out text
   pub is : whole ≡ after_text text rest
 
-module _ {K : Type 0} {written : K → Option (List ℕ)} {faults : K → ℕ} {begun out : Outbox K} where
+module _ {begun out : Outgoing} where
   pub IsTold-begin : (whole : PortAnswer) → begun ≡ out
-      → IsTold written faults begun out whole whole
+      → IsTold begun out whole whole
   IsTold-begin whole same = record {
     text = [];
-    told = subst (λ o. Writes written faults begun o []) same (Writes-nil written faults begun);
+    told = subst (λ o. Writes begun o []) same (Writes-nil begun);
     is = refl;
   }
 
   -- more is told of what is left
-  pub IsTold-more : {next : Outbox K} {whole rest : PortAnswer} (text : List ℕ) (left : PortAnswer)
-      → IsTold written faults begun out whole rest → rest ≡ after_text text left
-      → Writes written faults out next text → IsTold written faults begun next whole left
+  pub IsTold-more : {next : Outgoing} {whole rest : PortAnswer} (text : List ℕ) (left : PortAnswer)
+      → IsTold begun out whole rest → rest ≡ after_text text left
+      → Writes out next text → IsTold begun next whole left
   IsTold-more {next} {whole} {rest} text left h is told = record {
     text = h.text ++ text;
     told = Writes-then h.text text h.told told;
@@ -49,13 +47,13 @@ module _ {K : Type 0} {written : K → Option (List ℕ)} {faults : K → ℕ} {
 
   -- nothing is left
   pub IsTold-end : {whole rest : PortAnswer} (port : PortState)
-      → IsTold written faults begun out whole rest → rest ≡ saying port []
-      → (whole.port ≡ port) × Writes written faults begun out whole.text
+      → IsTold begun out whole rest → rest ≡ saying port []
+      → (whole.port ≡ port) × Writes begun out whole.text
   IsTold-end {whole} {rest} port h none =
       let all : whole ≡ saying port h.text =
       h.is ∙ ap (after_text h.text) none ∙ ap (saying port) (append-nil h.text) in (
         ap (λ (a : PortAnswer). a.port) all,
-        subst (Writes written faults begun out) (sym (ap (λ (a : PortAnswer). a.text) all)) h.told,
+        subst (Writes begun out) (sym (ap (λ (a : PortAnswer). a.text) all)) h.told,
       )
 
 -- ---- the two answers that go piece by piece

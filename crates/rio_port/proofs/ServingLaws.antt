@@ -1,8 +1,7 @@
 -- Lines that are served, one after another.
 use Rattle.std.proofs.Common.{◌≡◌, ℕ, ◌+◌, Option, List, [], ◌∷◌, ◌++◌, refl, sym, ap, ◌∙◌, subst, append-nil, append_assoc}
 use Rattle.std.specs.Io.KnownBytes.{Consumes}
-use Rattle.rio_chars.specs.Written.{Writes}
-use Rattle.rio_chars.specs.declared.outbox.Outbox.{Outbox}
+use Rattle.rio_chars.specs.Written.{Outgoing, Writes}
 use Rattle.link_port.specs.Ports.{PortState}
 use Rattle.live_lines.specs.Lines.{IsLine, with_feed}
 use Rattle.live_lines.proofs.ServingLaws.{Going, Going-begin, Going-line, Going-told, Going-read}
@@ -33,38 +32,35 @@ AnswersLines-more port (other ∷ lines) line so_far next h k = (
 )
 
 -- Lines were served so far, and these bytes were read behind the last one.
-pub record Served {K : Type 0} (written : K → Option (List ℕ)) (faults : K → ℕ)
-    (begun out : Outbox K) (port now : PortState) (left left_now : Option (List ℕ))
+pub record Served (begun out : Outgoing) (port now : PortState) (left left_now : Option (List ℕ))
     (pending : List ℕ) (count : ℕ) (read_faults read_faults_now : ℕ) : Type 0 where
   pub lines : List (List ℕ)
   pub answer : PortAnswer
   pub answers : PortAnswersLines port lines answer
   pub stands : now ≡ answer.port
-  pub going : Going written faults begun out left left_now pending count read_faults
-      read_faults_now lines answer.text
+  pub going : Going begun out left left_now pending count read_faults read_faults_now lines
+      answer.text
 
-module _ {K : Type 0} (written : K → Option (List ℕ)) (faults : K → ℕ) (begun : Outbox K)
-    (port : PortState) (left : Option (List ℕ)) (read_faults : ℕ) where
+module _ (begun : Outgoing) (port : PortState) (left : Option (List ℕ)) (read_faults : ℕ) where
   pub Served-begin : (pending : List ℕ) → pending ≡ []
-      → Served written faults begun begun port port left left pending 0 read_faults read_faults
+      → Served begun begun port port left left pending 0 read_faults read_faults
   Served-begin pending none = record {
     lines = [];
     answer = saying port [];
     answers = refl;
     stands = refl;
-    going = Going-begin written faults begun left read_faults pending none;
+    going = Going-begin begun left read_faults pending none;
   }
 
   -- a line more was read and answered
-  pub Served-line : {out next : Outbox K} {now after : PortState}
+  pub Served-line : {out next : Outgoing} {now after : PortState}
       {left_now left_next : Option (List ℕ)} (pending pending_next line taken : List ℕ)
       {count : ℕ} (read_faults_now read_faults_next : ℕ) (answer : PortAnswer)
-      → Served written faults begun out port now left left_now pending count read_faults
-      read_faults_now
+      → Served begun out port now left left_now pending count read_faults read_faults_now
       → Consumes left_now left_next taken → pending ++ taken ≡ with_feed line ++ pending_next
       → IsLine line → AnswersLine now line answer → after ≡ answer.port
-      → Writes written faults out next answer.text → read_faults_next ≡ read_faults_now
-      → Served written faults begun next port after left left_next pending_next (count + 1)
+      → Writes out next answer.text → read_faults_next ≡ read_faults_now
+      → Served begun next port after left left_next pending_next (count + 1)
       read_faults read_faults_next
   Served-line {out} {next} {now} {after} {left_now} {left_next} pending pending_next line taken
       {count} read_faults_now read_faults_next answer h more is good answers stands told same =
@@ -76,28 +72,26 @@ module _ {K : Type 0} (written : K → Option (List ℕ)) (faults : K → ℕ) (
             (subst (λ p. AnswersLine p line answer) h.stands answers);
         stands = stands;
         going =
-            Going-told written faults begun left read_faults pending_next read_faults_next
+            Going-told begun left read_faults pending_next read_faults_next
             (h.lines ++ line ∷ []) h.answer.text answer.text
-            (Going-line written faults begun left read_faults pending pending_next line taken
+            (Going-line begun left read_faults pending pending_next line taken
             read_faults_now read_faults_next h.lines h.answer.text h.going more is good same)
             told;
       }
 
   -- bytes were read that are no line, and the port stays
-  pub Served-read : {out : Outbox K} {now : PortState} {left_now left_next : Option (List ℕ)}
+  pub Served-read : {out : Outgoing} {now : PortState} {left_now left_next : Option (List ℕ)}
       (pending taken rest : List ℕ) {count : ℕ} (read_faults_now read_faults_next : ℕ)
-      → Served written faults begun out port now left left_now pending count read_faults
-      read_faults_now
+      → Served begun out port now left left_now pending count read_faults read_faults_now
       → Consumes left_now left_next taken → pending ++ taken ≡ rest
       → read_faults_next ≡ read_faults_now
-      → Served written faults begun out port now left left_next rest count read_faults
-      read_faults_next
+      → Served begun out port now left left_next rest count read_faults read_faults_next
   Served-read pending taken rest read_faults_now read_faults_next h more is same = record {
     lines = h.lines;
     answer = h.answer;
     answers = h.answers;
     stands = h.stands;
     going =
-        Going-read written faults begun left read_faults pending taken rest read_faults_now
+        Going-read begun left read_faults pending taken rest read_faults_now
         read_faults_next h.lines h.answer.text h.going more is same;
   }

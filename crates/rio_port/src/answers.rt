@@ -24,8 +24,7 @@ pub(crate) fn answer<K: Sink>(
     outbox: &mut Outbox<K>,
 )
     ensures port { port.new ≡ (asked_answer port.old asked).port }
-    ensures text { Writes K.written K.faults outbox.old outbox.new
-        (asked_answer port.old asked).text }
+    ensures text { Writes outbox.old outbox.new (asked_answer port.old asked).text }
 {
     match asked {
         Ok(request) => answer_request(port, request, outbox),
@@ -37,8 +36,7 @@ pub(crate) fn answer<K: Sink>(
 /// Does what is asked for, and tells what came of it.
 fn answer_request<K: Sink>(port: &mut Port, request: PortRequest, outbox: &mut Outbox<K>)
     ensures port { port.new ≡ (request_answer port.old request).port }
-    ensures text { Writes K.written K.faults outbox.old outbox.new
-        (request_answer port.old request).text }
+    ensures text { Writes outbox.old outbox.new (request_answer port.old request).text }
 {
     match request {
         PortRequest::Got(chars) => take_chars(port, chars.as_slice(), outbox),
@@ -53,8 +51,7 @@ fn answer_request<K: Sink>(port: &mut Port, request: PortRequest, outbox: &mut O
 /// Takes characters, one after another.
 fn take_chars<K: Sink>(port: &mut Port, chars: &[Char], outbox: &mut Outbox<K>)
     ensures port { port.new ≡ (answers_chars port.old chars.now).port }
-    ensures text { Writes K.written K.faults outbox.old outbox.new
-        (answers_chars port.old chars.now).text }
+    ensures text { Writes outbox.old outbox.new (answers_chars port.old chars.now).text }
 {
     let mut freed = ArrayVec::new();
     let mut left = chars;
@@ -73,8 +70,7 @@ fn take_char<K: Sink>(
     outbox: &mut Outbox<K>,
 )
     ensures port { port.new ≡ (takes port.old c).port }
-    ensures text { Writes K.written K.faults outbox.old outbox.new
-        (acted_text (takes port.old c)) }
+    ensures text { Writes outbox.old outbox.new (acted_text (takes port.old c)) }
 {
     freed.clear();
     let taken = port.take(c, freed);
@@ -89,7 +85,7 @@ fn take_char<K: Sink>(
 
 /// Tells packets that are freed.
 fn write_freed<K: Sink>(outbox: &mut Outbox<K>, freed: &[Packet])
-    ensures { Writes K.written K.faults outbox.old outbox.new (freed_text freed.now) }
+    ensures { Writes outbox.old outbox.new (freed_text freed.now) }
 {
     for packet in freed {
         write_packet(outbox, b"free ", packet);
@@ -99,8 +95,7 @@ fn write_freed<K: Sink>(outbox: &mut Outbox<K>, freed: &[Packet])
 /// Takes turns, one after another.
 fn take_turns<K: Sink>(port: &mut Port, count: u32, outbox: &mut Outbox<K>)
     ensures port { port.new ≡ (answers_turns port.old count).port }
-    ensures text { Writes K.written K.faults outbox.old outbox.new
-        (answers_turns port.old count).text }
+    ensures text { Writes outbox.old outbox.new (answers_turns port.old count).text }
 {
     let mut left = count;
     while left > 0 {
@@ -112,8 +107,7 @@ fn take_turns<K: Sink>(port: &mut Port, count: u32, outbox: &mut Outbox<K>)
 /// Takes a turn, and tells what is sent, if anything is.
 fn take_turn<K: Sink>(port: &mut Port, outbox: &mut Outbox<K>)
     ensures port { port.new ≡ turns_to port.old }
-    ensures text { Writes K.written K.faults outbox.old outbox.new
-        (burst_text (turn_sends port.old).chars) }
+    ensures text { Writes outbox.old outbox.new (burst_text (turn_sends port.old).chars) }
 {
     let burst = port.turn();
     if !burst.chars.is_empty() {
@@ -125,7 +119,7 @@ fn take_turn<K: Sink>(port: &mut Port, outbox: &mut Outbox<K>)
 fn send<K: Sink>(port: &mut Port, packet: Packet, outbox: &mut Outbox<K>)
     ensures port { port.new
         ≡ (answers_packet (port_has_room port.old (prio_of packet)) port.old packet).port }
-    ensures text { Writes K.written K.faults outbox.old outbox.new
+    ensures text { Writes outbox.old outbox.new
         (answers_packet (port_has_room port.old (prio_of packet)) port.old packet).text }
 {
     if port.out_room(packet.prio()) {
@@ -139,7 +133,7 @@ fn send<K: Sink>(port: &mut Port, packet: Packet, outbox: &mut Outbox<K>)
 /// Takes the first held packet of the highest priority.
 fn take_held<K: Sink>(port: &mut Port, outbox: &mut Outbox<K>)
     ensures port { port.new ≡ (answers_held port.old (highest port.old.received.lists)).port }
-    ensures text { Writes K.written K.faults outbox.old outbox.new
+    ensures text { Writes outbox.old outbox.new
         (answers_held port.old (highest port.old.received.lists)).text }
 {
     let Some(prio) = highest_held(port) else {

@@ -32,7 +32,9 @@ pub fn serve<S: Source, K: Sink>(alloc: Global, buffers: u8, source: &mut S, sin
         return Status::NoMemory;
     };
     let mut outbox = Outbox::new(&mut buffer, sink);
-    serve_lines(alloc, &mut port, &mut input, source, &mut outbox)
+    let status = serve_lines(alloc, &mut port, &mut input, source, &mut outbox);
+    outbox.into_sink();
+    status
 }
 
 /// Reads lines, and answers each before the next is asked for.
@@ -45,12 +47,11 @@ fn serve_lines<S: Source, K: Sink>(
 ) -> Status
     requires input { input.old ≡ [] }
     requires fine { outbox.old.failed ≡ false }
-    requires empty { outbox.old.buffer.now ≡ [] }
-    ensures same { outbox.new.sink.ghost_name ≡ outbox.old.sink.ghost_name }
+    requires empty { outbox.old.waiting ≡ [] }
+    ensures same { outbox.new.sink ≡ outbox.old.sink }
     ensures serves { ServesFrom port.old result (S.left source.old) (S.left source.new)
         (S.faults source.old) (S.faults source.new)
-        (K.written outbox.old.sink.now) (K.written outbox.new.sink.now)
-        (K.faults outbox.old.sink.now) (K.faults outbox.new.sink.now) }
+        outbox.old.written outbox.new.written outbox.old.faults outbox.new.faults }
 {
     let mut line = Vec::new(alloc);
     let mut count = 0u64;
@@ -79,8 +80,8 @@ fn answer_line<K: Sink>(
 ) -> Result<(), AllocError>
     ensures answer { OnOk result ((answer : PortAnswer) × AnswersLine port.old line.now answer
         × (port.new ≡ answer.port)
-        × Writes K.written K.faults outbox.old outbox.new answer.text) }
-    ensures written { OnOk result (outbox.new.buffer.now ≡ []) }
+        × Writes outbox.old outbox.new answer.text) }
+    ensures written { OnOk result (outbox.new.waiting ≡ []) }
     ensures port { OnErr result (port.new ≡ port.old) }
     ensures outbox { OnErr result (outbox.new ≡ outbox.old) }
 {

@@ -10,7 +10,7 @@ use rio_packets::Packet;
 
 /// Tells that the port sends these characters.
 pub(crate) fn write_sent<K: Sink>(outbox: &mut Outbox<K>, chars: &[Char])
-    ensures { Writes K.written K.faults outbox.old outbox.new (sent_text chars.now) }
+    ensures { Writes outbox.old outbox.new (sent_text chars.now) }
 {
     outbox.write(b"sent");
     outbox.write_chars(chars);
@@ -19,8 +19,7 @@ pub(crate) fn write_sent<K: Sink>(outbox: &mut Outbox<K>, chars: &[Char])
 
 /// Tells a word and a packet.
 pub(crate) fn write_packet<K: Sink>(outbox: &mut Outbox<K>, word: &[u8], packet: &Packet)
-    ensures { Writes K.written K.faults outbox.old outbox.new
-        (packet_text word.now packet.now) }
+    ensures { Writes outbox.old outbox.new (packet_text word.now packet.now) }
 {
     outbox.write(word);
     outbox.write_hex(packet.bytes());
@@ -29,7 +28,7 @@ pub(crate) fn write_packet<K: Sink>(outbox: &mut Outbox<K>, word: &[u8], packet:
 
 /// Tells the state of a port.
 pub(crate) fn write_state<K: Sink>(outbox: &mut Outbox<K>, port: &Port)
-    ensures { Writes K.written K.faults outbox.old outbox.new (state_text port.now) }
+    ensures { Writes outbox.old outbox.new (state_text port.now) }
 {
     outbox.write(b"output ");
     outbox.write(output_word(port.out_kind()));
@@ -44,7 +43,7 @@ pub(crate) fn write_state<K: Sink>(outbox: &mut Outbox<K>, port: &Port)
 
 /// Tells why a line is refused.
 pub(crate) fn write_refused<K: Sink>(outbox: &mut Outbox<K>, reason: Reason)
-    ensures { Writes K.written K.faults outbox.old outbox.new (refused_text reason) }
+    ensures { Writes outbox.old outbox.new (refused_text reason) }
 {
     outbox.write(b"refused ");
     outbox.write(reason_word(reason));

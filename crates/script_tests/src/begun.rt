@@ -32,23 +32,23 @@ fn lines_of_set_up_are_their_words(rt: HostRuntime) -> Result<(), Fail> {
     let mut sink = MemSink::new(alloc, 512, 64, Vec::new(alloc))?;
     let mut buffer = TextBuffer::new(alloc)?;
     let mut outbox = Outbox::new(&mut buffer, &mut sink);
-    write_begun(&mut outbox, &names, &Line::Endpoint { name: 0, id: 255 });
-    write_begun(&mut outbox, &names, &Line::Switch { name: 1, ports: 16 });
-    write_begun(&mut outbox, &names, &Line::Link { a: NEAR, b: last });
-    write_begun(&mut outbox, &names, &Line::Buffers { port: NEAR, n: 4 });
-    write_begun(
-        &mut outbox,
-        &names,
-        &Line::Route {
-            node: 1,
-            id: 1023,
-            p: 0,
-        },
-    );
-    write_begun(&mut outbox, &names, &Line::Default { node: 1, p: 254 });
-    write_begun(&mut outbox, &names, &Line::Lock { node: 1, id: 65535 });
-    write_begun(&mut outbox, &names, &Line::Large { node: 0, id: 4097 });
-    write_begun(&mut outbox, &names, &Line::Credits { port: last });
+    let mut writer = TraceWriter {
+        outbox: &mut outbox,
+        names: &names,
+    };
+    writer.write_begun(&Line::Endpoint { name: 0, id: 255 });
+    writer.write_begun(&Line::Switch { name: 1, ports: 16 });
+    writer.write_begun(&Line::Link { a: NEAR, b: last });
+    writer.write_begun(&Line::Buffers { port: NEAR, n: 4 });
+    writer.write_begun(&Line::Route {
+        node: 1,
+        id: 1023,
+        p: 0,
+    });
+    writer.write_begun(&Line::Default { node: 1, p: 254 });
+    writer.write_begun(&Line::Lock { node: 1, id: 65535 });
+    writer.write_begun(&Line::Large { node: 0, id: 4097 });
+    writer.write_begun(&Line::Credits { port: last });
     outbox.flush();
     assert_eq!(rt; sink.written(), SET_UPS);
     Ok(())
@@ -94,10 +94,14 @@ fn lines_of_packets_are_their_words(rt: HostRuntime) -> Result<(), Fail> {
     let mut sink = MemSink::new(alloc, 512, 64, Vec::new(alloc))?;
     let mut buffer = TextBuffer::new(alloc)?;
     let mut outbox = Outbox::new(&mut buffer, &mut sink);
-    write_begun(&mut outbox, &names, &lines.0);
-    write_begun(&mut outbox, &names, &lines.1);
-    write_begun(&mut outbox, &names, &lines.2);
-    write_begun(&mut outbox, &names, &lines.3);
+    let mut writer = TraceWriter {
+        outbox: &mut outbox,
+        names: &names,
+    };
+    writer.write_begun(&lines.0);
+    writer.write_begun(&lines.1);
+    writer.write_begun(&lines.2);
+    writer.write_begun(&lines.3);
     outbox.flush();
     assert_eq!(rt; sink.written(), PACKETS);
     Ok(())
@@ -134,9 +138,13 @@ fn lines_of_large_packets_are_their_words(rt: HostRuntime) -> Result<(), Fail> {
     let mut sink = MemSink::new(alloc, 512, 64, Vec::new(alloc))?;
     let mut buffer = TextBuffer::new(alloc)?;
     let mut outbox = Outbox::new(&mut buffer, &mut sink);
-    write_begun(&mut outbox, &names, &send);
-    write_begun(&mut outbox, &names, &read);
-    write_begun(&mut outbox, &names, &write);
+    let mut writer = TraceWriter {
+        outbox: &mut outbox,
+        names: &names,
+    };
+    writer.write_begun(&send);
+    writer.write_begun(&read);
+    writer.write_begun(&write);
     outbox.flush();
     assert_eq!(rt; sink.written(), LARGE_PACKETS);
     Ok(())
@@ -150,46 +158,34 @@ fn lines_at_ports_are_their_words(rt: HostRuntime) -> Result<(), Fail> {
     let mut sink = MemSink::new(alloc, 512, 64, Vec::new(alloc))?;
     let mut buffer = TextBuffer::new(alloc)?;
     let mut outbox = Outbox::new(&mut buffer, &mut sink);
-    write_begun(&mut outbox, &names, &Line::Pump { port: NEAR, n: 31 });
-    write_begun(&mut outbox, &names, &Line::Deliver { port: FAR, n: 20 });
-    write_begun(
-        &mut outbox,
-        &names,
-        &Line::Alter {
-            port: NEAR,
-            place: 8,
-            ch: Char::Data(0xcb),
-        },
-    );
-    write_begun(
-        &mut outbox,
-        &names,
-        &Line::Alter {
-            port: NEAR,
-            place: 9,
-            ch: Char::Invalid,
-        },
-    );
-    write_begun(
-        &mut outbox,
-        &names,
-        &Line::Insert {
-            port: FAR,
-            place: 100000,
-            ch: start,
-        },
-    );
-    write_begun(
-        &mut outbox,
-        &names,
-        &Line::Erase {
-            port: FAR,
-            place: 0,
-            n: 4,
-        },
-    );
-    write_begun(&mut outbox, &names, &Line::Timeout { port: NEAR });
-    write_begun(&mut outbox, &names, &Line::Settle { port: FAR });
+    let mut writer = TraceWriter {
+        outbox: &mut outbox,
+        names: &names,
+    };
+    writer.write_begun(&Line::Pump { port: NEAR, n: 31 });
+    writer.write_begun(&Line::Deliver { port: FAR, n: 20 });
+    writer.write_begun(&Line::Alter {
+        port: NEAR,
+        place: 8,
+        ch: Char::Data(0xcb),
+    });
+    writer.write_begun(&Line::Alter {
+        port: NEAR,
+        place: 9,
+        ch: Char::Invalid,
+    });
+    writer.write_begun(&Line::Insert {
+        port: FAR,
+        place: 100000,
+        ch: start,
+    });
+    writer.write_begun(&Line::Erase {
+        port: FAR,
+        place: 0,
+        n: 4,
+    });
+    writer.write_begun(&Line::Timeout { port: NEAR });
+    writer.write_begun(&Line::Settle { port: FAR });
     outbox.flush();
     assert_eq!(rt; sink.written(), AT_PORTS);
     Ok(())
@@ -202,9 +198,13 @@ fn lines_at_nodes_are_their_words(rt: HostRuntime) -> Result<(), Fail> {
     let mut sink = MemSink::new(alloc, 512, 64, Vec::new(alloc))?;
     let mut buffer = TextBuffer::new(alloc)?;
     let mut outbox = Outbox::new(&mut buffer, &mut sink);
-    write_begun(&mut outbox, &names, &Line::Move { node: 1 });
-    write_begun(&mut outbox, &names, &Line::Collect { node: 0 });
-    write_begun(&mut outbox, &names, &Line::Run { n: 100000 });
+    let mut writer = TraceWriter {
+        outbox: &mut outbox,
+        names: &names,
+    };
+    writer.write_begun(&Line::Move { node: 1 });
+    writer.write_begun(&Line::Collect { node: 0 });
+    writer.write_begun(&Line::Run { n: 100000 });
     outbox.flush();
     assert_eq!(rt; sink.written(), AT_NODES);
     Ok(())
@@ -224,14 +224,12 @@ fn event_that_was_not_sent_is_named(rt: HostRuntime) -> Result<(), Fail> {
     let mut sink = MemSink::new(alloc, 512, 64, Vec::new(alloc))?;
     let mut buffer = TextBuffer::new(alloc)?;
     let mut outbox = Outbox::new(&mut buffer, &mut sink);
-    write_undetected(&mut outbox, &names, 8, NEAR, &Event::Ctl(symbol));
-    write_undetected(
-        &mut outbox,
-        &names,
-        u32::MAX,
-        FAR,
-        &Event::Pkt(31, a_packet(&rt)),
-    );
+    let mut writer = TraceWriter {
+        outbox: &mut outbox,
+        names: &names,
+    };
+    writer.write_undetected(8, NEAR, &Event::Ctl(symbol));
+    writer.write_undetected(u32::MAX, FAR, &Event::Pkt(31, a_packet(&rt)));
     outbox.flush();
     assert_eq!(rt; sink.written(), NOT_SENT);
     Ok(())

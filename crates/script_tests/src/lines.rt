@@ -130,11 +130,10 @@ fn write_notes<K: Sink>(
 ) -> Result<(), NoteEnd>
     requires first_named { a.node < length names.now }
     requires second_named { b.node < length names.now }
-    ensures all { OnOk result (Writes K.written K.faults outbox.old outbox.new
-        (trace_text names.now (lines_of a b notes.now))) }
+    ensures all { OnOk result
+        (Writes outbox.old outbox.new (trace_text names.now (lines_of a b notes.now))) }
     ensures front { OnErr result ((front rest : List Note) × (notes.now ≡ front ++ rest)
-        × Writes K.written K.faults outbox.old outbox.new
-        (trace_text names.now (lines_of a b front))) }
+        × Writes outbox.old outbox.new (trace_text names.now (lines_of a b front))) }
 {
     let mut watch = LinkLines {
         outbox,
@@ -154,22 +153,26 @@ fn lines_are_those_of_a_trace(rt: HostRuntime) -> Result<(), Fail> {
     let mut sink = MemSink::new(alloc, 512, 64, Vec::new(alloc))?;
     let mut buffer = TextBuffer::new(alloc)?;
     let mut outbox = Outbox::new(&mut buffer, &mut sink);
-    write_take(&mut outbox, &names, 0, &packet);
-    write_fire(&mut outbox, &names, NEAR);
-    write_sent(&mut outbox, &names, FAR, &SYMBOL);
-    write_got(&mut outbox, &names, NEAR, &SYMBOL);
-    write_hold(&mut outbox, &names, FAR, &packet);
-    write_free(&mut outbox, &names, NEAR, &packet);
-    write_leave(&mut outbox, &names, 1, &packet);
-    write_move(&mut outbox, &names, NEAR, FAR, &packet);
-    write_drop(&mut outbox, &names, FAR, &packet);
-    write_answer(&mut outbox, &names, FAR, &packet, &response);
-    write_full(&mut outbox);
-    write_empty(&mut outbox);
-    write_short(&mut outbox);
-    write_early(&mut outbox);
-    write_none(&mut outbox);
-    write_end(&mut outbox);
+    let mut writer = TraceWriter {
+        outbox: &mut outbox,
+        names: &names,
+    };
+    writer.write_take(0, &packet);
+    writer.write_fire(NEAR);
+    writer.write_sent(FAR, &SYMBOL);
+    writer.write_got(NEAR, &SYMBOL);
+    writer.write_hold(FAR, &packet);
+    writer.write_free(NEAR, &packet);
+    writer.write_leave(1, &packet);
+    writer.write_move(NEAR, FAR, &packet);
+    writer.write_drop(FAR, &packet);
+    writer.write_answer(FAR, &packet, &response);
+    writer.write_lack(Lack::Full);
+    writer.write_lack(Lack::Empty);
+    writer.write_lack(Lack::Short);
+    writer.write_lack(Lack::Early);
+    writer.write_lack(Lack::NoStep);
+    writer.write_end();
     outbox.flush();
     assert!(rt; !outbox.failed());
     assert_eq!(rt; sink.written(), LINES);
@@ -202,7 +205,11 @@ fn notes_behind_a_failed_write_are_dropped(rt: HostRuntime) -> Result<(), Fail> 
     let mut sink = MemSink::new(alloc, 512, 64, vec![in alloc; 0]?)?;
     let mut buffer = TextBuffer::new(alloc)?;
     let mut outbox = Outbox::new(&mut buffer, &mut sink);
-    write_full(&mut outbox);
+    let mut writer = TraceWriter {
+        outbox: &mut outbox,
+        names: &names,
+    };
+    writer.write_lack(Lack::Full);
     outbox.flush();
     assert!(rt; outbox.failed());
     let told = write_notes(&mut outbox, alloc, &names, NEAR, FAR, &notes);

@@ -1,6 +1,8 @@
 pub mod Lines
 pub mod Text
 pub mod Notes
+pub mod Writing
+pub mod AddsLaws
 pub mod Watching
 pub mod WatchingLaws
 pub mod Words

@@ -1,6 +1,6 @@
 //! The lines of a trace over ports: what they say, their text, their writer and their reader.
 //!
-//! Promised: each function that writes writes the text of one line, with its line feed; the watch
+//! Promised: each method that writes writes the text of one line, with its line feed; the watch
 //! writes the line of each note, in order. A text is read as the line that it spells, and as no
 //! line exactly if it spells none, unless memory runs out; it spells one line at most.
 //!
@@ -8,14 +8,11 @@
 //!
 //! - `Lines`, `Text` and `Notes`, in `specs`: what a line says, its text, and the line of what is
 //!   noted of a link; `Words`: which text spells a line
-//! - `write_begun`: the line with which an event begins
-//! - `write_take` to `write_none`: the lines of an event
+//! - [`TraceWriter`]: writes a trace, with a method for each kind of line
 //! - [`LinkLines`]: a watch of a link, which writes its notes
-//! - `write_end`, `write_undetected`: the last line
 //! - [`read_trace_line`]: a [`TraceLine`] from its text
 #![tactic(auto)]
 
-mod begun;
 mod fields;
 mod keywords;
 mod laws;
@@ -24,17 +21,11 @@ mod reading;
 mod reading_undetected;
 mod undetected;
 mod watching;
-mod writing;
+mod writer;
 
-pub use begun::write_begun;
 pub use fields::TraceLineEnd;
 pub use laws::{one_trace_line, texts_spell_their_lines, words_are_the_text};
 pub use lines::{Lack, NetworkStep, TraceLine};
 pub use reading::read_trace_line;
-pub use undetected::write_undetected;
 pub use watching::{LinkLines, port_at_side};
-pub use writing::{
-    write_answer, write_drop, write_early, write_empty, write_end, write_fire, write_free,
-    write_full, write_got, write_hold, write_leave, write_move, write_none, write_sent,
-    write_short, write_take,
-};
+pub use writer::TraceWriter;

@@ -1,43 +1,41 @@
 //! The last line of a trace in which a port acted on an event that was not sent.
-ghost use Rattle.std.specs.Prelude.{◌<◌, ◌++◌, length, codes};
+ghost use Rattle.std.specs.Prelude.{◌<◌, ◌∷◌, [], length};
 ghost use Rattle.std.specs.Fmt.{decimal};
 ghost use Rattle.rio_chars.specs.Written.{Writes};
 ghost use Rattle.link_model.specs.declared.event.Event.TheVariants.{Ctl, Pkt};
 ghost use Rattle.trace_lines.specs.Lines.{Undetected};
-ghost use Rattle.trace_lines.specs.Text.{event_text, trace_line_text};
+ghost use Rattle.trace_lines.specs.Text.{event_text};
 
-use fabric_script::{Name, PortRef, write_port};
+use crate::writer::TraceWriter;
+use fabric_script::{PortRef, write_port};
 use link_model::Event;
 use rio_chars::{Outbox, Sink};
 use rio_packets::Packet;
 use rio_symbols::Symbol;
 
-/// Writes that the port acted on this event, which was not sent, in the event of the script's line
-/// of this number. Nothing is told of characters that are neither a symbol nor a packet: a port
-/// never acts on them.
-pub fn write_undetected<K: Sink>(
-    outbox: &mut Outbox<K>,
-    names: &[Name],
-    number: u32,
-    port: PortRef,
-    event: &Event,
-)
-    requires { port.node < length names.now }
-    ensures { Writes K.written K.faults outbox.old outbox.new
-        (trace_line_text names.now (Undetected number port event.now) ++ codes "\n") }
-{
-    outbox.write(b"undetected ");
-    outbox.write_decimal(number);
-    outbox.write(b" ");
-    write_port(outbox, names, port);
-    outbox.write(b" ");
-    write_event(outbox, event);
-    outbox.write(b"\n");
+impl<'o, 's, 'n, K: Sink> TraceWriter<'o, 's, 'n, K> {
+    ghost use Rattle.trace_lines.specs.Writing.{Adds};
+
+    /// Writes that the port acted on this event, which was not sent, in the event of the script's
+    /// line of this number. Nothing is told of characters that are neither a symbol nor a packet: a
+    /// port never acts on them.
+    pub fn write_undetected(&mut self, number: u32, port: PortRef, event: &Event)
+        requires { port.node < length self.old.names.now }
+        ensures { Adds self.old self.new (Undetected number port event.now ∷ []) }
+    {
+        self.outbox.write(b"undetected ");
+        self.outbox.write_decimal(number);
+        self.outbox.write(b" ");
+        write_port(self.outbox, self.names, port);
+        self.outbox.write(b" ");
+        write_event(self.outbox, event);
+        self.outbox.write(b"\n");
+    }
 }
 
 /// Writes an event.
 fn write_event<K: Sink>(outbox: &mut Outbox<K>, event: &Event)
-    ensures { Writes K.written K.faults outbox.old outbox.new (event_text event.now) }
+    ensures { Writes outbox.old outbox.new (event_text event.now) }
 {
     match event {
         Event::Ctl(symbol) => write_symbol(outbox, symbol),
@@ -48,7 +46,7 @@ fn write_event<K: Sink>(outbox: &mut Outbox<K>, event: &Event)
 
 /// Writes a symbol.
 fn write_symbol<K: Sink>(outbox: &mut Outbox<K>, symbol: &Symbol)
-    ensures { Writes K.written K.faults outbox.old outbox.new (event_text (Ctl symbol.now)) }
+    ensures { Writes outbox.old outbox.new (event_text (Ctl symbol.now)) }
 {
     outbox.write(b"symbol ");
     write_number(outbox, symbol.s0);
@@ -64,7 +62,7 @@ fn write_symbol<K: Sink>(outbox: &mut Outbox<K>, symbol: &Symbol)
 
 /// Writes a packet, behind the ackID that it came with.
 fn write_packet_with_ack<K: Sink>(outbox: &mut Outbox<K>, ack: u8, packet: &Packet)
-    ensures { Writes K.written K.faults outbox.old outbox.new (event_text (Pkt ack packet.now)) }
+    ensures { Writes outbox.old outbox.new (event_text (Pkt ack packet.now)) }
 {
     outbox.write(b"packet ");
     write_number(outbox, ack);
@@ -74,7 +72,7 @@ fn write_packet_with_ack<K: Sink>(outbox: &mut Outbox<K>, ack: u8, packet: &Pack
 
 /// Writes a number.
 fn write_number<K: Sink>(outbox: &mut Outbox<K>, number: u8)
-    ensures { Writes K.written K.faults outbox.old outbox.new (decimal number) }
+    ensures { Writes outbox.old outbox.new (decimal number) }
 {
     outbox.write_decimal(u32::from(number));
 }

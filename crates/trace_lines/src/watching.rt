@@ -4,7 +4,7 @@ ghost use Rattle.rio_chars.specs.Faults.{Rose};
 ghost use Rattle.trace_lines.specs.Notes.{port_at_side};
 ghost use Rattle.link_watch.specs.declared.note.Note.TheVariants.{Sent, Got, Hold, Free, Fire};
 
-use crate::writing::{write_fire, write_free, write_got, write_hold, write_sent};
+use crate::writer::TraceWriter;
 use fabric_script::{Name, PortRef};
 use link_watch::{Note, NoteEnd, Side, Watch};
 use rio_chars::{Char, Outbox, Sink};
@@ -15,7 +15,7 @@ use std::alloc::Global;
 /// takes in every note, and takes no memory. After a write that fails the outbox drops what it is
 /// told: ask it, behind the last note, whether it failed.
 #[derive(Drop)]
-pub struct LinkLines<'o, 's, 'n, K> {
+pub struct LinkLines<'o, 's, 'n, K: Sink> {
     /// Where the lines go.
     pub outbox: &'o mut Outbox<'s, K>,
     /// The names of the nodes.
@@ -35,19 +35,19 @@ impl<'o, 's, 'n, K: Sink> Watch for LinkLines<'o, 's, 'n, K> {
 
     ghost faults = { λ watch. 0 };
 
-    ghost grew = { WritesNotes K.written K.faults };
+    ghost grew = { WritesNotes };
 
     ghost cut = { λ watch note next. next ≡ watch };
 
-    ghost grew_none = { writes_no_notes K.written K.faults };
+    ghost grew_none = { writes_no_notes };
 
-    ghost grew_on = { writes_more_notes K.written K.faults };
+    ghost grew_on = { writes_more_notes };
 
     ghost cut_none = { λ watch note. refl };
 
     fn note(&mut self, alloc: Global, note: &Note) -> Result<(), NoteEnd>
         ensures taken { OnOk result
-            (WritesNotes K.written K.faults self.old (note.now ∷ []) self.new) }
+            (WritesNotes self.old (note.now ∷ []) self.new) }
         ensures stopped { OnErr result (self.new ≡ self.old) }
         ensures cause { IsErrOf result NoteEnd.Failed → Rose 0 0 }
         ensures counts { ¬ IsErrOf result NoteEnd.Failed → ◌≡◌ {A = ℕ} 0 0 }
@@ -65,86 +65,91 @@ impl<'o, 's, 'n, K: Sink> Watch for LinkLines<'o, 's, 'n, K> {
 
     fn sent(&mut self, _alloc: Global, side: Side, chars: &[Char]) -> Result<(), NoteEnd>
         ensures taken { OnOk result
-            (WritesNotes K.written K.faults self.old (Sent side chars.now ∷ []) self.new) }
+            (WritesNotes self.old (Sent side chars.now ∷ []) self.new) }
         ensures stopped { OnErr result (self.new ≡ self.old) }
         ensures cause { IsErrOf result NoteEnd.Failed → Rose 0 0 }
         ensures counts { ¬ IsErrOf result NoteEnd.Failed → ◌≡◌ {A = ℕ} 0 0 }
         ensures never_falls { 0 ≤ 0 }
         ensures always { IsOk result }
     {
-        write_sent(
-            self.outbox,
-            self.names,
-            port_at_side(self.a, self.b, side),
-            chars,
-        );
+        let port = port_at_side(self.a, self.b, side);
+        let mut writer = TraceWriter {
+            outbox: self.outbox,
+            names: self.names,
+        };
+        writer.write_sent(port, chars);
         Ok(())
     }
 
     fn got(&mut self, _alloc: Global, side: Side, chars: &[Char]) -> Result<(), NoteEnd>
         ensures taken { OnOk result
-            (WritesNotes K.written K.faults self.old (Got side chars.now ∷ []) self.new) }
+            (WritesNotes self.old (Got side chars.now ∷ []) self.new) }
         ensures stopped { OnErr result (self.new ≡ self.old) }
         ensures cause { IsErrOf result NoteEnd.Failed → Rose 0 0 }
         ensures counts { ¬ IsErrOf result NoteEnd.Failed → ◌≡◌ {A = ℕ} 0 0 }
         ensures never_falls { 0 ≤ 0 }
         ensures always { IsOk result }
     {
-        write_got(
-            self.outbox,
-            self.names,
-            port_at_side(self.a, self.b, side),
-            chars,
-        );
+        let port = port_at_side(self.a, self.b, side);
+        let mut writer = TraceWriter {
+            outbox: self.outbox,
+            names: self.names,
+        };
+        writer.write_got(port, chars);
         Ok(())
     }
 
     fn hold(&mut self, _alloc: Global, side: Side, packet: &Packet) -> Result<(), NoteEnd>
         ensures taken { OnOk result
-            (WritesNotes K.written K.faults self.old (Hold side packet.now ∷ []) self.new) }
+            (WritesNotes self.old (Hold side packet.now ∷ []) self.new) }
         ensures stopped { OnErr result (self.new ≡ self.old) }
         ensures cause { IsErrOf result NoteEnd.Failed → Rose 0 0 }
         ensures counts { ¬ IsErrOf result NoteEnd.Failed → ◌≡◌ {A = ℕ} 0 0 }
         ensures never_falls { 0 ≤ 0 }
         ensures always { IsOk result }
     {
-        write_hold(
-            self.outbox,
-            self.names,
-            port_at_side(self.a, self.b, side),
-            packet,
-        );
+        let port = port_at_side(self.a, self.b, side);
+        let mut writer = TraceWriter {
+            outbox: self.outbox,
+            names: self.names,
+        };
+        writer.write_hold(port, packet);
         Ok(())
     }
 
     fn free(&mut self, _alloc: Global, side: Side, packet: &Packet) -> Result<(), NoteEnd>
         ensures taken { OnOk result
-            (WritesNotes K.written K.faults self.old (Free side packet.now ∷ []) self.new) }
+            (WritesNotes self.old (Free side packet.now ∷ []) self.new) }
         ensures stopped { OnErr result (self.new ≡ self.old) }
         ensures cause { IsErrOf result NoteEnd.Failed → Rose 0 0 }
         ensures counts { ¬ IsErrOf result NoteEnd.Failed → ◌≡◌ {A = ℕ} 0 0 }
         ensures never_falls { 0 ≤ 0 }
         ensures always { IsOk result }
     {
-        write_free(
-            self.outbox,
-            self.names,
-            port_at_side(self.a, self.b, side),
-            packet,
-        );
+        let port = port_at_side(self.a, self.b, side);
+        let mut writer = TraceWriter {
+            outbox: self.outbox,
+            names: self.names,
+        };
+        writer.write_free(port, packet);
         Ok(())
     }
 
     fn fire(&mut self, _alloc: Global, side: Side) -> Result<(), NoteEnd>
         ensures taken { OnOk result
-            (WritesNotes K.written K.faults self.old (Fire side ∷ []) self.new) }
+            (WritesNotes self.old (Fire side ∷ []) self.new) }
         ensures stopped { OnErr result (self.new ≡ self.old) }
         ensures cause { IsErrOf result NoteEnd.Failed → Rose 0 0 }
         ensures counts { ¬ IsErrOf result NoteEnd.Failed → ◌≡◌ {A = ℕ} 0 0 }
         ensures never_falls { 0 ≤ 0 }
         ensures always { IsOk result }
     {
-        write_fire(self.outbox, self.names, port_at_side(self.a, self.b, side));
+        let port = port_at_side(self.a, self.b, side);
+        let mut writer = TraceWriter {
+            outbox: self.outbox,
+            names: self.names,
+        };
+        writer.write_fire(port);
         Ok(())
     }
 }

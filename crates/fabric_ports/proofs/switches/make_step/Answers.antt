@@ -1,27 +1,20 @@
-use Rattle.std.proofs.Common.{◌≡◌, ℕ, true, List, Option, Some, sym, ap, ◌∙◌, subst, refl}
-use Rattle.rio_chars.specs.Written.{Writes}
-use Rattle.rio_chars.specs.declared.outbox.Outbox.{Outbox}
+use Rattle.std.proofs.Common.{◌≡◌, ℕ, true, Some, sym, ap, ◌∙◌, subst, refl}
+use Rattle.trace_lines.specs.Writing.{Adds}
+use Rattle.trace_lines.specs.declared.writer.TraceWriter.{TraceWriter}
 use Rattle.rio_packets.specs.LinkForm.{Passes}
 use Rattle.switch_core.specs.declared.switch.Step.{Step}
 use Rattle.switch_core.specs.SwitchSteps.{step_of, switch_after}
 use Rattle.switch_core.proofs.GoingLaws.{dropped_is, moved_is}
-use Rattle.fabric_model.specs.Steps.{Move, Drop, Answer, ByDevice}
-use Rattle.trace_lines.specs.Lines.{Stepped}
-use Rattle.trace_lines.specs.Text.{trace_text}
 use Rattle.fabric_ports.specs.Switching.{faces_at, AreForms, is_step, written_lines, Wrote}
-use Rattle.fabric_ports.proofs.FaceLaws.{port}
-use Rattle.fabric_ports.proofs.SendLaws.{one_line}
 use Rattle.fabric_ports.proofs.switches.make_step.Goals as goal
 
 -- the step is what was written
-wrote_as : {names : List (List ℕ)} {node : ℕ} {K : Type 0} {written : K → Option (List ℕ)}
-    {faults : K → ℕ} {old new : Outbox K} (step told : Step) → step ≡ told → AreForms told
-    → is_step told ≡ true
-    → Writes written faults old new (trace_text names (written_lines node told))
-    → Wrote names node step written faults old new true
-wrote_as {names} {node} {K} {written} {faults} {old} {new} step told is forms one prints =
-    subst (λ (s : Step). Wrote names node s written faults old new true) (sym is)
-    (record { forms = forms; is = sym one; prints = prints })
+wrote_as : {node : ℕ} {K : Type 0} {old new : TraceWriter K} (step told : Step) → step ≡ told
+    → AreForms told → is_step told ≡ true → Adds old new (written_lines node told)
+    → Wrote node step old new true
+wrote_as {node} {K} {old} {new} step told is forms one adds =
+    subst (λ (s : Step). Wrote node s old new true) (sym is)
+    (record { forms = forms; is = sym one; adds = adds })
 
 pub returns-in-Nowhere-clause-lists : goal.returns-in-Nowhere-clause-lists
 returns-in-Nowhere-clause-lists g c = c.pass_on.ensures.faces c.args.registers.now c.requires.goes
@@ -40,9 +33,7 @@ returns-in-Nowhere-clause-wrote g c =
     (dropped_is device (faces_at c.args.own.now) c.args.going
     c.requires.goes packet c.packet-packet.ensures c.in-Nowhere.is)
     c.show_form.ensures refl
-    (one_line c.args.names.now
-    (Stepped (ByDevice (Drop (port c.args.node c.args.going.port) packet)))
-    (rw c.port_at-from.ensures at c.write_drop.ensures))
+    (rw c.port_at-from.ensures at c.write_drop.ensures)
 
 pub returns-in-Port-clause-lists : goal.returns-in-Port-clause-lists
 returns-in-Port-clause-lists g c =
@@ -62,10 +53,7 @@ returns-in-Port-clause-wrote g c =
     (moved_is device (faces_at c.args.own.now) c.args.going
     c.requires.goes packet c.packet-packet.ensures c.in-Port.to c.in-Port.is).0
     c.show_form.ensures refl
-    (one_line c.args.names.now
-    (Stepped (ByDevice (Move (port c.args.node c.args.going.port) (port c.args.node c.in-Port.to)
-    packet)))
-    (rw (c.port_at-from.ensures, c.port_at.ensures) at c.write_move.ensures))
+    (rw (c.port_at-from.ensures, c.port_at.ensures) at c.write_move.ensures)
 
 pub returns-in-RegisterUnit-clause-wrote : goal.returns-in-RegisterUnit-clause-wrote
 returns-in-RegisterUnit-clause-wrote g c =
@@ -75,7 +63,4 @@ returns-in-RegisterUnit-clause-wrote g c =
     let passes = subst Passes (sym c.copy-request.ensures.same) c.show_form.ensures in
     wrote_as (step_of device (faces_at c.args.own.now)) _
     (c.answer-response.ensures.step request held) (passes, c.show_form-in-RegisterUnit.ensures) refl
-    (one_line c.args.names.now
-    (Stepped (ByDevice (Answer (port c.args.node c.args.going.port) request
-    c.answer-response.result)))
-    (rw c.port_at-from.ensures at c.write_answer.ensures))
+    (rw c.port_at-from.ensures at c.write_answer.ensures)

@@ -2,5 +2,5 @@ use Rattle.fabric_replay.specs.Going.{Going}
 use Rattle.fabric_replay.proofs.replaying.tell_trace.Given as goal
 
 abbrev pub invariant-loop-numbered : goal.invariant-loop-numbered
-invariant-loop-numbered g l = Going g.K.Sink.written g.K.Sink.faults l.initial.outbox l.outbox
-    l.script.names.items l.script.lines.items l.numbered-index l.fabric
+invariant-loop-numbered g l =
+    Going l.initial.writer l.writer l.script.lines.items l.numbered-index l.fabric

@@ -25,7 +25,7 @@ loop-line-preserved g c =
     let line = c.line-item.result in
     let names : c.as_slice.result.now ≡ script.names.items = search rules in
     let here : line ≡ get_or script.lines.items i line = search rules in
-    let Told = Writes g.K.Sink.written g.K.Sink.faults in
+    let Told = Writes in
     let written = subst
     (λ ns. Told c.loop-line.outbox c.write_line.new.outbox (line_text ns line.line)) names
     c.write_line.ensures in

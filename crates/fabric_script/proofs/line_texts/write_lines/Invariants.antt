@@ -5,5 +5,5 @@ use Rattle.fabric_script.proofs.line_texts.write_lines.Given as goal
 
 abbrev pub invariant-loop-line : goal.invariant-loop-line
 invariant-loop-line g l =
-    Writes g.K.Sink.written g.K.Sink.faults l.initial.outbox l.outbox
+    Writes l.initial.outbox l.outbox
     (script_text l.script.names.items (take l.line-index l.script.lines.items))

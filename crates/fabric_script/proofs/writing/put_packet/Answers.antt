@@ -1,7 +1,6 @@
-use Rattle.std.proofs.Common.{◌≡◌, ℕ, Bool, true, false, List, [], ◌∷◌, ◌++◌, Option, refl, sym, ap, ◌∙◌, subst}
+use Rattle.std.proofs.Common.{◌≡◌, ℕ, Bool, true, false, List, [], ◌∷◌, ◌++◌, refl, sym, ap, ◌∙◌, subst}
 use Rattle.std.specs.Fmt.{decimal}
-use Rattle.rio_chars.specs.Written.{Writes}
-use Rattle.rio_chars.specs.declared.outbox.Outbox.{Outbox}
+use Rattle.rio_chars.specs.Written.{Outgoing, Writes}
 use Rattle.fabric_script.specs.declared.given_packets.Contents.{Contents}
 use Rattle.fabric_script.specs.declared.given_packets.Contents.TheVariants as Of
 use Rattle.fabric_script.specs.declared.given_packets.GivenPacket.{GivenPacket}
@@ -34,16 +33,16 @@ given_texts names node prio false dest (Of.Read head) = refl
 given_texts names node prio false dest (Of.Write head value) = refl
 
 -- they are told, where this stands behind the IDs
-told : {K : Type 0} {written : K → Option (List ℕ)} {faults : K → ℕ} {a b : Outbox K}
+told : {a b : Outgoing}
     (names : List (List ℕ)) (given : GivenPacket) (contents : Contents)
     → given.contents ≡ contents
-    → Writes written faults a b (after_words []
+    → Writes a b (after_words []
     (name_of names given.node ∷ decimal given.prio ∷ contents_texts given.dest contents))
-    → Writes written faults a b (after_words [] (value_texts names (line_giving given)))
-told {written} {faults} {a} {b} names given contents is h =
+    → Writes a b (after_words [] (value_texts names (line_giving given)))
+told {a} {b} names given contents is h =
     let texts = given_texts names given.node given.prio given.large given.dest given.contents
     ∙ ap (λ c. name_of names given.node ∷ decimal given.prio ∷ contents_texts given.dest c) is in
-    subst (λ ts. Writes written faults a b (after_words [] ts)) (sym texts) h
+    subst (λ ts. Writes a b (after_words [] ts)) (sym texts) h
 
 pub returns-in-Data : goal.returns-in-Data
 returns-in-Data g c =

@@ -6,5 +6,5 @@ use Rattle.host_enumerate.proofs.map_lines.write_devices.Given as goal
 
 abbrev pub invariant-loop-device : goal.invariant-loop-device
 invariant-loop-device g l =
-    Writes g.K.Sink.written g.K.Sink.faults l.initial.outbox l.outbox
+    Writes l.initial.outbox l.outbox
     (flat_map device_text (take l.device-index l.devices))

@@ -6,5 +6,5 @@ use Rattle.host_enumerate.proofs.map_lines.write_entries.Given as goal
 
 abbrev pub invariant-loop-entry : goal.invariant-loop-entry
 invariant-loop-entry g l =
-    Writes g.K.Sink.written g.K.Sink.faults l.initial.outbox l.outbox
+    Writes l.initial.outbox l.outbox
     (flat_map entry_text (take l.entry-index l.entries))

@@ -6,5 +6,5 @@ use Rattle.host_enumerate.proofs.map_lines.write_ports.Given as goal
 
 abbrev pub invariant-loop-port : goal.invariant-loop-port
 invariant-loop-port g l =
-    Writes g.K.Sink.written g.K.Sink.faults l.initial.outbox l.outbox
+    Writes l.initial.outbox l.outbox
     (flat_map port_behind_point (take l.port-index l.ports))

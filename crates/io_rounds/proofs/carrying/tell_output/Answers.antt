@@ -8,7 +8,7 @@ use Rattle.io_rounds.proofs.carrying.tell_output.Goals as goal
 
 pub loop-numbered-init : goal.loop-numbered-init
 loop-numbered-init g c =
-    lines_begin g.K.Sink.written g.K.Sink.faults c.args.output.now
+    lines_begin c.args.output.now
     c.args.script.now.script.names.items c.args.script.now.script.lines.items
     c.args.script.now.lines.items c.args.course.now c.requires.begins
 
@@ -18,7 +18,7 @@ carry-requires g c =
     let i = c.loop-numbered.numbered-index in
     let item = c.numbered-item.result in
     subst (λ n. MayBegin n c.loop-numbered.course item.io) (sym c.deref.ensures.value)
-    (line_may g.K.Sink.written g.K.Sink.faults c.args.output.now
+    (line_may c.args.output.now
     c.args.script.now.script.names.items c.args.script.now.script.lines.items io i item
     c.loop-numbered.output c.loop-numbered.course
     (item_within io _ i c.deref-numbered-items.ensures.value c.loop-numbered-test.true)
@@ -33,14 +33,14 @@ returns-in_err-carry-clause-front g c =
     let i = c.loop-numbered.numbered-index in
     let item = c.numbered-item.result in
     let done = c.loop-numbered.invariant in
-    subst (λ n. IoStopped g.K.Sink.written g.K.Sink.faults c.args.output.now c.carry.new.output n
+    subst (λ n. IoStopped c.args.output.now c.carry.new.output n
     script (first_state names io)) c.deref.ensures.value
     (c.in_err-carry.ensures.ended script c.args.output.now (first_state names io) done.state
     (lines_from io (i + 1))
-    (subst (λ n. IoAt g.K.Sink.written g.K.Sink.faults c.args.output.now c.loop-numbered.output n
+    (subst (λ n. IoAt c.args.output.now c.loop-numbered.output n
     script (first_state names io) done.state c.loop-numbered.course) (sym c.deref.ensures.value)
     done.at)
-    (line_next g.K.Sink.written g.K.Sink.faults c.args.output.now names script io i item
+    (line_next c.args.output.now names script io i item
     c.loop-numbered.output c.loop-numbered.course
     (item_within io _ i c.deref-numbered-items.ensures.value c.loop-numbered-test.true)
     (item_here io _ i item c.deref-numbered-items.ensures.value c.numbered-item.is) done))
@@ -54,14 +54,14 @@ returns-then-failed-clause-front g c =
     let item = c.numbered-item.result in
     let done = c.loop-numbered.invariant in
     arrived_stopped
-    (subst (λ n. IoArrived g.K.Sink.written g.K.Sink.faults c.args.output.now c.carry.new.output n
+    (subst (λ n. IoArrived c.args.output.now c.carry.new.output n
     script (first_state names io) (lines_from io (i + 1)) c.carry.new.self) c.deref.ensures.value
     (c.in_ok-carry.ensures.done script c.args.output.now (first_state names io) done.state
     (lines_from io (i + 1))
-    (subst (λ n. IoAt g.K.Sink.written g.K.Sink.faults c.args.output.now c.loop-numbered.output n
+    (subst (λ n. IoAt c.args.output.now c.loop-numbered.output n
     script (first_state names io) done.state c.loop-numbered.course) (sym c.deref.ensures.value)
     done.at)
-    (line_next g.K.Sink.written g.K.Sink.faults c.args.output.now names script io i item
+    (line_next c.args.output.now names script io i item
     c.loop-numbered.output c.loop-numbered.course
     (item_within io _ i c.deref-numbered-items.ensures.value c.loop-numbered-test.true)
     (item_here io _ i item c.deref-numbered-items.ensures.value c.numbered-item.is) done)))
@@ -75,7 +75,7 @@ returns-clause-done g c =
     let whole : length io ≤ c.loop-numbered.numbered-index =
     omega (arith, ap length c.deref-numbered-items.ensures.value, c.loop-numbered-test.false) in
     finishes done.at
-    (lines_end g.K.Sink.written g.K.Sink.faults c.args.output.now names script io
+    (lines_end c.args.output.now names script io
     c.loop-numbered.numbered-index c.loop-numbered.output c.loop-numbered.course whole done)
     c.write.ensures
 
@@ -88,6 +88,6 @@ returns-clause-front g c =
     let whole : length io ≤ c.loop-numbered.numbered-index =
     omega (arith, ap length c.deref-numbered-items.ensures.value, c.loop-numbered-test.false) in
     arrived_stopped (finishes done.at
-    (lines_end g.K.Sink.written g.K.Sink.faults c.args.output.now names script io
+    (lines_end c.args.output.now names script io
     c.loop-numbered.numbered-index c.loop-numbered.output c.loop-numbered.course whole done)
     c.write.ensures)

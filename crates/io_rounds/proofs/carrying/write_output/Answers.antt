@@ -9,7 +9,7 @@ pub returns-then-failed-clause-write_fault : goal.returns-then-failed-clause-wri
 returns-then-failed-clause-write_fault g c =
     let stop = stop_flushed c.tell_output-end.ensures.front c.flush.ensures.written in
     λ is. (
-      Writes-rose _ _ c.args.output.now _ stop.state.output c.requires.fine stop.told
+      Writes-rose c.args.output.now _ stop.state.output c.requires.fine stop.told
           (sym c.failed.ensures ∙ c.if-failed.true),
       driven_front c.requires.empty stop,
     )

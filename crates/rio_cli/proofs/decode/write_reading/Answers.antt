@@ -13,14 +13,14 @@ no_items (x ∷ xs) few = absurd (omega arith)
 
 pub loop-left-init : goal.loop-left-init
 loop-left-init g c =
-    Going-begin _ _ c.args.outbox.now c.args.chars.now _
+    Going-begin c.args.outbox.now c.args.chars.now _
     (ap (λ (f : Framing). f.place) c.new-framer.ensures)
 
 pub loop-left-preserved : goal.loop-left-preserved
 loop-left-preserved g c =
     let run = c.read_run-count in
     let there : 0 < length c.loop-left.left.now = search rules in
-    Going-read _ _ c.args.outbox.now c.args.chars.now c.loop-left.place c.loop-left.left.now _
+    Going-read c.args.outbox.now c.args.chars.now c.loop-left.place c.loop-left.left.now _
     c.loop-left.framer.place run.result.0 run.result.1 run.new.self
     run.ensures.count run.ensures.told run.ensures.state
     (take_rest c.loop-left.left.now run.result.0) (run.ensures.some there) c.loop-left.invariant
@@ -32,13 +32,13 @@ returns-then-failed-clause-write_fault g c = λ failed.
     let begun = c.args.outbox.now in
     let there : 0 < length c.loop-left.left.now = search rules in
     let more =
-    Going-read _ _ begun c.args.chars.now c.loop-left.place c.loop-left.left.now _
+    Going-read begun c.args.chars.now c.loop-left.place c.loop-left.left.now _
     c.loop-left.framer.place run.result.0 run.result.1 run.new.self
     run.ensures.count run.ensures.told run.ensures.state
     (take_rest c.loop-left.left.now run.result.0) (run.ensures.some there) c.loop-left.invariant
     c.write_told.ensures in (
-      Writes-rose _ _ begun _ (flat_map placed_text more.found) c.requires.fine more.told failed,
-      Going-front _ _ begun c.args.chars.now _ _ c.requires.empty more,
+      Writes-rose begun _ (flat_map placed_text more.found) c.requires.fine more.told failed,
+      Going-front begun c.args.chars.now _ _ c.requires.empty more,
     )
 
 pub returns-clause-done : goal.returns-clause-done
@@ -47,9 +47,9 @@ returns-clause-done g c = λ fine.
     let few : length c.loop-left.left.now ≤ 0 = search rules in
     let none = no_items c.loop-left.left.now few in
     let told =
-    Going-end _ _ begun c.args.chars.now c.loop-left.place c.loop-left.left.now _ none
+    Going-end begun c.args.chars.now c.loop-left.place c.loop-left.left.now _ none
     c.loop-left.invariant c.at_rest.ensures c.write_end.ensures c.flush.ensures.written in
-    Writes-whole _ _ begun _ (whole_text c.args.chars.now) c.requires.empty told fine
+    Writes-whole begun _ (whole_text c.args.chars.now) c.requires.empty told fine
     c.flush.ensures.empty
 
 pub returns-clause-write_fault : goal.returns-clause-write_fault
@@ -59,8 +59,8 @@ returns-clause-write_fault g c = λ failed.
     let few : length c.loop-left.left.now ≤ 0 = search rules in
     let none = no_items c.loop-left.left.now few in
     let told =
-    Going-end _ _ begun c.args.chars.now c.loop-left.place c.loop-left.left.now _ none
+    Going-end begun c.args.chars.now c.loop-left.place c.loop-left.left.now _ none
     c.loop-left.invariant c.at_rest.ensures c.write_end.ensures c.flush.ensures.written in (
-      Writes-rose _ _ begun _ text c.requires.fine told failed,
-      Writes-front _ _ begun _ text c.requires.empty told,
+      Writes-rose begun _ text c.requires.fine told failed,
+      Writes-front begun _ text c.requires.empty told,
     )

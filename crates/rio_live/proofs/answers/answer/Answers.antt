@@ -7,14 +7,12 @@ returns-in_err-going-in-Event-clause-breaks g c =
     on_err c.from_residual-in_err-going-in-Event.result
     (λ taken holds.
     let takes = rw c.in-Event.is at (c.in_ok-take.ensures taken holds) in
-    breaks_event g.K.Sink.written g.K.Sink.faults taken c.args.number c.args.line.now
+    breaks_event taken c.args.number c.args.line.now
     c.args.outbox.now c.happen.new.outbox c.take.new.self c.in-Event.event takes
     (c.in_err-going-in-Event.ensures.short taken c.args.line.now takes.0 takes.2))
 
 pub returns-clause-answered : goal.returns-clause-answered
 returns-clause-answered g c = λ taken holds.
-    let written = g.K.Sink.written in
-    let faults = g.K.Sink.faults in
     let number = c.args.number in
     let line = c.args.line.now in
     let out = c.args.outbox.now in
@@ -23,29 +21,29 @@ returns-clause-answered g c = λ taken holds.
     let read = c.in_ok-take.ensures taken holds in
     elim c.match-branch-2.branch [
       | in-Quiet w ↦
-          rw (w.live-is, w.going-is) (answered_quiet written faults taken number line out next
+          rw (w.live-is, w.going-is) (answered_quiet taken number line out next
           mid (rw w.in-Quiet.is at read) (rw w.outbox-is at c.write.ensures))
       | in-Refused w ↦
-          rw (w.live-is, w.going-is) (answered_refused written faults taken number line out
+          rw (w.live-is, w.going-is) (answered_refused taken number line out
           w.write_refused.new.outbox next mid w.in-Refused.reason (rw w.in-Refused.is at read)
           w.write_refused.ensures (rw w.outbox-is at c.write.ensures))
       | in-Event+in_ok-going-in-Event+in-Send-1 w ↦
           let takes = rw w.in-Event.is at read in
-          rw (w.live-is, w.going-is) (answered_event written faults taken number line out
+          rw (w.live-is, w.going-is) (answered_event taken number line out
           w.happen.new.outbox next mid w.happen.new.live w.in-Event.event
           w.in_ok-going-in-Event.going takes
           (w.in_ok-going-in-Event.ensures.happens taken line takes.0 takes.2)
           (rw w.outbox-is at c.write.ensures))
       | in-Event+in_ok-going-in-Event+in-Send16-1 w ↦
           let takes = rw w.in-Event.is at read in
-          rw (w.live-is, w.going-is) (answered_event written faults taken number line out
+          rw (w.live-is, w.going-is) (answered_event taken number line out
           w.happen.new.outbox next mid w.happen.new.live w.in-Event.event
           w.in_ok-going-in-Event.going takes
           (w.in_ok-going-in-Event.ensures.happens taken line takes.0 takes.2)
           (rw w.outbox-is at c.write.ensures))
       | in-Event+in_ok-going-in-Event+in-Endpoint-1 w ↦
           let takes = rw w.in-Event.is at read in
-          rw (w.live-is, w.going-is) (answered_event written faults taken number line out
+          rw (w.live-is, w.going-is) (answered_event taken number line out
           w.happen.new.outbox next mid w.happen.new.live w.in-Event.event
           w.in_ok-going-in-Event.going takes
           (w.in_ok-going-in-Event.ensures.happens taken line takes.0 takes.2)

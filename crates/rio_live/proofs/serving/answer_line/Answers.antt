@@ -6,18 +6,16 @@ use Rattle.rio_live.proofs.serving.answer_line.Goals as goal
 
 pub returns-clause-answered : goal.returns-clause-answered
 returns-clause-answered g c =
-    let written = g.K.Sink.written in
-    let faults = g.K.Sink.faults in
     let out = c.args.outbox.now in
     let mid = c.answer-answered.new.outbox in
     let next = c.flush.new.self in
     let live = c.answer-answered.new.live in
     on_each
     (λ going. (taken : Taken) → LiveHolds c.args.live.now taken
-    → LineAnswered written faults taken c.args.number c.args.line.now out mid live going)
+    → LineAnswered taken c.args.number c.args.line.now out mid live going)
     (λ going. (taken : Taken) → LiveHolds c.args.live.now taken
-    → LineAnswered written faults taken c.args.number c.args.line.now out next live going)
+    → LineAnswered taken c.args.number c.args.line.now out next live going)
     c.answer-answered.result
-    (λ going was taken holds. answered_whole written faults taken c.args.number
+    (λ going was taken holds. answered_whole taken c.args.number
     c.args.line.now out mid next live going (was taken holds) c.flush.ensures.written)
     c.answer-answered.ensures.answered

@@ -11,7 +11,7 @@ use Rattle.rio_live.proofs.serving.serve_lines.Goals as goal
 pub loop-number-init : goal.loop-number-init
 loop-number-init g c = record {
   course =
-      Course-begin g.K.Sink.written g.K.Sink.faults c.args.outbox.now
+      Course-begin c.args.outbox.now
       (g.S.Source.left c.args.source.now) (g.S.Source.faults c.args.source.now) c.args.live.now
       c.args.input.now c.requires.holds c.requires.input;
   same = refl;
@@ -23,7 +23,7 @@ pub returns-in-Err-clause-serves : goal.returns-in-Err-clause-serves
 returns-in-Err-clause-serves g c =
     let h = c.loop-number.invariant in
     let stop = c.in-Err.ensures.stops in
-    Course-closed g.K.Sink.written g.K.Sink.faults c.args.outbox.now
+    Course-closed c.args.outbox.now
     (g.S.Source.left c.args.source.now) (g.S.Source.faults c.args.source.now)
     c.end_lines.new.outbox c.loop-number.input stop.0 (g.S.Source.faults c.loop-number.source)
     (g.S.Source.faults c.read_line.new.source) c.in-Err.end c.end_lines.result h.course
@@ -35,7 +35,7 @@ returns-then-failed-clause-serves g c =
     let read = c.in_default.ensures.read in
     let answered = rw c.as_slice.ensures.value at c.answer_line-answered.ensures.answered in
     let breaks = rw c.as_slice.ensures.value at c.answer_line-answered.ensures.breaks in
-    Course-failed g.K.Sink.written g.K.Sink.faults c.args.outbox.now
+    Course-failed c.args.outbox.now
     (g.S.Source.left c.args.source.now) (g.S.Source.faults c.args.source.now)
     c.answer_line-answered.new.outbox c.answer_line-answered.new.live
     c.loop-number.input c.read_line.new.self c.read_line.new.line.items read.0
@@ -51,7 +51,7 @@ loop-number-preserved g c =
     let answered =
     as_ok
     (λ going. (t : Taken) → LiveHolds c.loop-number.live t
-    → LineAnswered g.K.Sink.written g.K.Sink.faults t (c.loop-number.number + 1)
+    → LineAnswered t (c.loop-number.number + 1)
     c.read_line.new.line.items c.loop-number.outbox c.answer_line-answered.new.outbox
     c.answer_line-answered.new.live going)
     c.answer_line-answered.result c.in-Ok-On.field-0 Goings.On c.in-Ok-On.is
@@ -59,7 +59,7 @@ loop-number-preserved g c =
     (rw c.as_slice.ensures.value at c.answer_line-answered.ensures.answered) in
     record {
       course =
-          Course-line g.K.Sink.written g.K.Sink.faults c.args.outbox.now
+          Course-line c.args.outbox.now
           (g.S.Source.left c.args.source.now) (g.S.Source.faults c.args.source.now)
           c.loop-number.input c.read_line.new.self c.read_line.new.line.items read.0
           (g.S.Source.faults c.loop-number.source) (g.S.Source.faults c.read_line.new.source)
@@ -77,13 +77,13 @@ returns-in-Ok-Undetected-clause-serves g c =
     let answered =
     as_ok
     (λ going. (t : Taken) → LiveHolds c.loop-number.live t
-    → LineAnswered g.K.Sink.written g.K.Sink.faults t (c.loop-number.number + 1)
+    → LineAnswered t (c.loop-number.number + 1)
     c.read_line.new.line.items c.loop-number.outbox c.answer_line-answered.new.outbox
     c.answer_line-answered.new.live going)
     c.answer_line-answered.result c.in-Ok-Undetected.field-0 Goings.Undetected c.in-Ok-Undetected.is
     (rw c.in-Ok-Undetected.is at c.in-Ok-Undetected.field-0-is)
     (rw c.as_slice.ensures.value at c.answer_line-answered.ensures.answered) in
-    Course-undetected g.K.Sink.written g.K.Sink.faults c.args.outbox.now
+    Course-undetected c.args.outbox.now
     (g.S.Source.left c.args.source.now) (g.S.Source.faults c.args.source.now)
     c.loop-number.input c.read_line.new.self c.read_line.new.line.items read.0
     (g.S.Source.faults c.loop-number.source) (g.S.Source.faults c.read_line.new.source)
@@ -96,7 +96,7 @@ returns-in-Err-answered-clause-serves g c =
     let h = c.loop-number.invariant in
     let read = c.in_default.ensures.read in
     let breaks = rw c.as_slice.ensures.value at c.in-Err-answered.ensures.breaks in
-    Course-no_memory g.K.Sink.written g.K.Sink.faults c.args.outbox.now
+    Course-no_memory c.args.outbox.now
     (g.S.Source.left c.args.source.now) (g.S.Source.faults c.args.source.now)
     c.loop-number.input c.read_line.new.self c.read_line.new.line.items read.0
     (g.S.Source.faults c.loop-number.source) (g.S.Source.faults c.read_line.new.source)
@@ -108,7 +108,7 @@ pub returns-clause-serves : goal.returns-clause-serves
 returns-clause-serves g c =
     let h = c.loop-number.invariant in
     let all : c.loop-number.number ≡ 2 ^ 32 - 1 = omega arith in
-    Course-done g.K.Sink.written g.K.Sink.faults c.args.outbox.now
+    Course-done c.args.outbox.now
     (g.S.Source.left c.args.source.now) (g.S.Source.faults c.args.source.now)
     c.loop-number.input (g.S.Source.faults c.loop-number.source) c.end_trace.result h.course
     c.requires.empty c.requires.fine c.end_trace.ensures.empty all c.end_trace.ensures.written

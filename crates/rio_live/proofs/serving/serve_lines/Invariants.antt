@@ -4,12 +4,12 @@ use Rattle.rio_live.proofs.serving.serve_lines.Given as goal
 
 abbrev pub invariant-loop-number : goal.invariant-loop-number
 invariant-loop-number g l = record {
-  course : Course g.K.Sink.written g.K.Sink.faults l.initial.outbox l.outbox l.live
+  course : Course l.initial.outbox l.outbox l.live
       (g.S.Source.left l.initial.source) (g.S.Source.left l.source) l.input l.number
       (g.S.Source.faults l.initial.source) (g.S.Source.faults l.source);
-  same : l.outbox.sink.ghost_name ≡ l.initial.outbox.sink.ghost_name;
+  same : l.outbox.sink ≡ l.initial.outbox.sink;
   fine : l.outbox.failed ≡ false;
-  empty : l.outbox.buffer.now ≡ [];
+  empty : l.outbox.waiting ≡ [];
 }
 
 abbrev pub decreases-loop-number : goal.decreases-loop-number

@@ -5,7 +5,7 @@ use Rattle.rio_port.proofs.answers.take_chars.Given as goal
 
 abbrev pub invariant-loop-left : goal.invariant-loop-left
 invariant-loop-left g l =
-    IsTold g.K.Sink.written g.K.Sink.faults l.initial.outbox l.outbox
+    IsTold l.initial.outbox l.outbox
     (answers_chars l.initial.port l.initial.chars) (answers_chars l.port l.left)
 
 abbrev pub decreases-loop-left : goal.decreases-loop-left

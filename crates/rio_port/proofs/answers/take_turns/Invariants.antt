@@ -4,7 +4,7 @@ use Rattle.rio_port.proofs.answers.take_turns.Given as goal
 
 abbrev pub invariant-loop-left : goal.invariant-loop-left
 invariant-loop-left g l =
-    IsTold g.K.Sink.written g.K.Sink.faults l.initial.outbox l.outbox
+    IsTold l.initial.outbox l.outbox
     (answers_turns l.initial.port l.initial.count) (answers_turns l.port l.left)
 
 abbrev pub decreases-loop-left : goal.decreases-loop-left

@@ -5,5 +5,4 @@ use Rattle.rio_port.proofs.answers.write_freed.Given as goal
 
 abbrev pub invariant-loop-packet : goal.invariant-loop-packet
 invariant-loop-packet g l =
-    Writes g.K.Sink.written g.K.Sink.faults l.initial.outbox l.outbox
-    (freed_text (take l.packet-index l.freed))
+    Writes l.initial.outbox l.outbox (freed_text (take l.packet-index l.freed))

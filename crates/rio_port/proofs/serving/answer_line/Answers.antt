@@ -8,7 +8,7 @@ pub returns-clause-answer : goal.returns-clause-answer
 returns-clause-answer g c =
     let given = asked_answer c.args.port.now c.in_ok-asked.asked in
     let Whole : List ℕ → Type 0 =
-    λ text. Writes g.K.Sink.written g.K.Sink.faults c.args.outbox.now c.flush.new.self text in (
+    λ text. Writes c.args.outbox.now c.flush.new.self text in (
       given,
       record { asked = c.in_ok-asked.asked; reads = c.in_ok-asked.ensures; is = refl },
       c.answer.ensures.port,

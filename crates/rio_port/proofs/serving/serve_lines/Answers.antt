@@ -8,9 +8,8 @@ use Rattle.rio_port.proofs.serving.serve_lines.Goals as goal
 pub loop-count-init : goal.loop-count-init
 loop-count-init g c = record {
   served =
-      Served-begin g.K.Sink.written g.K.Sink.faults c.args.outbox.now c.args.port.now
-      (g.S.Source.left c.args.source.now) (g.S.Source.faults c.args.source.now) c.args.input.now
-      c.requires.input;
+      Served-begin c.args.outbox.now c.args.port.now (g.S.Source.left c.args.source.now)
+      (g.S.Source.faults c.args.source.now) c.args.input.now c.requires.input;
   same = refl;
   fine = c.requires.fine;
   empty = c.requires.empty;
@@ -25,7 +24,7 @@ returns-in-Err-clause-serves g c =
       answer = h.served.answer;
       answers = h.served.answers;
       serves =
-          Going-stops g.K.Sink.written g.K.Sink.faults c.args.outbox.now
+          Going-stops c.args.outbox.now
           (g.S.Source.left c.args.source.now) (g.S.Source.faults c.args.source.now) (2 ^ 64 - 1)
           c.loop-count.input stop.0 (g.S.Source.faults c.loop-count.source)
           (g.S.Source.faults c.read_line.new.source) c.in-Err.end h.served.lines
@@ -37,7 +36,7 @@ returns-in_default-answer_line-clause-serves g c =
     let h = c.loop-count.invariant in
     let read = c.in_default.ensures.read in
     let now =
-    Served-read g.K.Sink.written g.K.Sink.faults c.args.outbox.now c.args.port.now
+    Served-read c.args.outbox.now c.args.port.now
     (g.S.Source.left c.args.source.now) (g.S.Source.faults c.args.source.now) c.loop-count.input
     read.0 (with_feed c.read_line.new.line.items ++ c.read_line.new.self)
     (g.S.Source.faults c.loop-count.source) (g.S.Source.faults c.read_line.new.source)
@@ -47,7 +46,7 @@ returns-in_default-answer_line-clause-serves g c =
       answer = now.answer;
       answers = now.answers;
       serves =
-          Going-no_memory g.K.Sink.written g.K.Sink.faults c.args.outbox.now
+          Going-no_memory c.args.outbox.now
           (g.S.Source.left c.args.source.now) (g.S.Source.faults c.args.source.now) (2 ^ 64 - 1)
           (with_feed c.read_line.new.line.items ++ c.read_line.new.self)
           (g.S.Source.faults c.read_line.new.source) now.lines now.answer.text now.going
@@ -61,11 +60,10 @@ returns-then-failed-clause-serves g c =
     let line = c.read_line.new.line.items in
     let given = c.in-Ok.ensures.answer in
     let now =
-    Served-line g.K.Sink.written g.K.Sink.faults c.args.outbox.now c.args.port.now
-    (g.S.Source.left c.args.source.now) (g.S.Source.faults c.args.source.now) c.loop-count.input
-    c.read_line.new.self line read.0 (g.S.Source.faults c.loop-count.source)
-    (g.S.Source.faults c.read_line.new.source) given.0 h.served read.1 read.2
-    c.in_default.ensures.line
+    Served-line c.args.outbox.now c.args.port.now (g.S.Source.left c.args.source.now)
+    (g.S.Source.faults c.args.source.now) c.loop-count.input c.read_line.new.self line read.0
+    (g.S.Source.faults c.loop-count.source) (g.S.Source.faults c.read_line.new.source) given.0
+    h.served read.1 read.2 c.in_default.ensures.line
     (subst (λ text. AnswersLine c.loop-count.port text given.0) c.as_slice.ensures.value given.1)
     given.2 given.3 c.in_default.ensures.counts in
     record {
@@ -73,7 +71,7 @@ returns-then-failed-clause-serves g c =
       answer = now.answer;
       answers = now.answers;
       serves =
-          Going-fault g.K.Sink.written g.K.Sink.faults c.args.outbox.now
+          Going-fault c.args.outbox.now
           (g.S.Source.left c.args.source.now) (g.S.Source.faults c.args.source.now) (2 ^ 64 - 1)
           c.read_line.new.self (g.S.Source.faults c.read_line.new.source) now.lines
           now.answer.text now.going c.requires.empty c.requires.fine
@@ -88,11 +86,10 @@ loop-count-preserved g c =
     let given = c.in-Ok.ensures.answer in
     record {
       served =
-          Served-line g.K.Sink.written g.K.Sink.faults c.args.outbox.now c.args.port.now
-          (g.S.Source.left c.args.source.now) (g.S.Source.faults c.args.source.now)
-          c.loop-count.input c.read_line.new.self line read.0
-          (g.S.Source.faults c.loop-count.source) (g.S.Source.faults c.read_line.new.source)
-          given.0 h.served read.1 read.2 c.in_default.ensures.line
+          Served-line c.args.outbox.now c.args.port.now (g.S.Source.left c.args.source.now)
+          (g.S.Source.faults c.args.source.now) c.loop-count.input c.read_line.new.self line read.0
+          (g.S.Source.faults c.loop-count.source) (g.S.Source.faults c.read_line.new.source) given.0
+          h.served read.1 read.2 c.in_default.ensures.line
           (subst (λ text. AnswersLine c.loop-count.port text given.0) c.as_slice.ensures.value
           given.1)
           given.2 given.3 c.in_default.ensures.counts;
@@ -110,7 +107,7 @@ returns-clause-serves g c =
       answer = h.served.answer;
       answers = h.served.answers;
       serves =
-          Going-done g.K.Sink.written g.K.Sink.faults c.args.outbox.now
+          Going-done c.args.outbox.now
           (g.S.Source.left c.args.source.now) (g.S.Source.faults c.args.source.now) (2 ^ 64 - 1)
           c.loop-count.input (g.S.Source.faults c.loop-count.source) h.served.lines
           h.served.answer.text h.served.going c.requires.empty h.fine h.empty all;

@@ -4,12 +4,12 @@ use Rattle.rio_port.proofs.serving.serve_lines.Given as goal
 
 abbrev pub invariant-loop-count : goal.invariant-loop-count
 invariant-loop-count g l = record {
-  served : Served g.K.Sink.written g.K.Sink.faults l.initial.outbox l.outbox l.initial.port l.port
+  served : Served l.initial.outbox l.outbox l.initial.port l.port
       (g.S.Source.left l.initial.source) (g.S.Source.left l.source) l.input l.count
       (g.S.Source.faults l.initial.source) (g.S.Source.faults l.source);
-  same : l.outbox.sink.ghost_name ≡ l.initial.outbox.sink.ghost_name;
+  same : l.outbox.sink ≡ l.initial.outbox.sink;
   fine : l.outbox.failed ≡ false;
-  empty : l.outbox.buffer.now ≡ [];
+  empty : l.outbox.waiting ≡ [];
 }
 
 abbrev pub decreases-loop-count : goal.decreases-loop-count

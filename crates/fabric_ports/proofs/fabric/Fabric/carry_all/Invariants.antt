@@ -9,5 +9,4 @@ use Rattle.fabric_ports.proofs.fabric.Fabric.carry_all.Given as goal
 abbrev pub invariant-loop-place : goal.invariant-loop-place
 invariant-loop-place g l = (from : Seen) (lines : List TraceLine) → Stands from lines l.fn.self
     → Ran (λ s block. CarryAll (take l.place from.network.links) (g.N.Noise.edits l.fn.noise)
-    (g.N.Noise.edits l.noise) s block) l.names
-    g.K.Sink.written g.K.Sink.faults l.fn.outbox l.outbox from lines (Ok l.self)
+    (g.N.Noise.edits l.noise) s block) l.fn.writer l.writer from lines (Ok l.self)

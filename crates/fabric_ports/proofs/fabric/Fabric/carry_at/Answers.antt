@@ -1,4 +1,4 @@
-use Rattle.std.proofs.Common.{sym, subst, ◌∙◌, Ok}
+use Rattle.std.proofs.Common.{sym, subst, ◌∙◌}
 use Rattle.fabric_trace.specs.Fold.{seen}
 use Rattle.fabric_ports.specs.Carrying.{LinkCarries}
 use Rattle.fabric_ports.proofs.IdleLinks.{idle_carries}
@@ -12,10 +12,6 @@ returns-then-is_idle-clause-done g c = λ from lines stands.
     let b = c.args.ends.1 in
     let is = sym (c.is_idle.ensures (seen from lines) a b stands.shows c.requires.at)
     ∙ c.if-is_idle.true in
-    ran_as g.K.Sink.written g.K.Sink.faults c.args.names.now Nothing
-    (LinkCarries c.args.ends edits edits) c.args.outbox.now c.args.outbox.now from lines
-    (Ok c.args.self.now)
+    ran_as Nothing (LinkCarries c.args.ends edits edits) _ _ from lines _
     (λ block none. subst (LinkCarries c.args.ends edits edits (seen from lines)) (sym none)
-    (idle_carries edits (seen from lines) a b is))
-    (ran_nothing g.K.Sink.written g.K.Sink.faults c.args.names.now c.args.outbox.now from lines
-    c.args.self.now stands)
+    (idle_carries edits (seen from lines) a b is)) (ran_nothing _ from lines _ stands)

@@ -1,12 +1,9 @@
 use Rattle.std.proofs.Common.{refl}
 use Rattle.fabric_model.specs.Network.{port_of}
-use Rattle.fabric_model.specs.Steps.{Leave, Answer, AtNode, ByDevice}
-use Rattle.trace_lines.specs.Lines.{Full, Empty, Stepped, Lacked}
 use Rattle.switch_core.specs.declared.endpoint.Collected.TheVariants as Collects
 use Rattle.fabric_ports.proofs.CollectLaws.{did_collect}
 use Rattle.fabric_ports.proofs.DeviceLaws.{kind_read}
 use Rattle.fabric_ports.proofs.NodeLaws.{device_read, has_both, port_read}
-use Rattle.fabric_ports.proofs.SendLaws.{one_line}
 use Rattle.fabric_ports.proofs.fabric.Fabric.collect.Goals as goal
 
 pub endpoint_collect-requires : goal.endpoint_collect-requires
@@ -20,7 +17,7 @@ endpoint_collect-requires g c =
 pub returns-in-Left : goal.returns-in-Left
 returns-in-Left g c = λ s shows sent by.
     let packet = c.in-Left.packet in
-    did_collect c.args.names.now _ _ _ _ s c.args.self.now _ c.args.node
+    did_collect _ _ s c.args.self.now _ c.args.node
     c.index_mut-registers.result.now c.endpoint_collect.new.registers c.index_mut.result.now
     c.endpoint_collect.new.port (Collects.Left packet) _ shows sent c.requires.endpoint
     (device_read c.args.self.now.devices.items c.args.node c.from.result c.requires.endpoint.device
@@ -39,14 +36,13 @@ returns-in-Left g c = λ s shows sent by.
     (has_both c.args.self.now (port_of c.args.node) c.from.result c.args.node c.place-place.result
     c.endpoint_collect.new.registers c.endpoint_collect.new.port c.place-place.ensures.place
     c.from.ensures)
-    refl (one_line c.args.names.now (Stepped (AtNode (Leave c.args.node packet)))
-    c.write_leave.ensures)
+    refl c.write_leave.ensures
 
 pub returns-in-Answered : goal.returns-in-Answered
 returns-in-Answered g c = λ s shows sent by.
     let request = c.in-Answered.request in
     let response = c.in-Answered.response in
-    did_collect c.args.names.now _ _ _ _ s c.args.self.now _ c.args.node
+    did_collect _ _ s c.args.self.now _ c.args.node
     c.index_mut-registers.result.now c.endpoint_collect.new.registers c.index_mut.result.now
     c.endpoint_collect.new.port (Collects.Answered request response) _ shows sent
     c.requires.endpoint
@@ -66,12 +62,11 @@ returns-in-Answered g c = λ s shows sent by.
     (has_both c.args.self.now (port_of c.args.node) c.from.result c.args.node c.place-place.result
     c.endpoint_collect.new.registers c.endpoint_collect.new.port c.place-place.ensures.place
     c.from.ensures)
-    refl (one_line c.args.names.now
-    (Stepped (ByDevice (Answer (port_of c.args.node) request response))) c.write_answer.ensures)
+    refl c.write_answer.ensures
 
 pub returns-in-Empty : goal.returns-in-Empty
 returns-in-Empty g c = λ s shows sent by.
-    did_collect c.args.names.now _ _ _ _ s c.args.self.now _ c.args.node
+    did_collect _ _ s c.args.self.now _ c.args.node
     c.index_mut-registers.result.now c.endpoint_collect.new.registers c.index_mut.result.now
     c.endpoint_collect.new.port Collects.Empty _ shows sent c.requires.endpoint
     (device_read c.args.self.now.devices.items c.args.node c.from.result c.requires.endpoint.device
@@ -90,11 +85,11 @@ returns-in-Empty g c = λ s shows sent by.
     (has_both c.args.self.now (port_of c.args.node) c.from.result c.args.node c.place-place.result
     c.endpoint_collect.new.registers c.endpoint_collect.new.port c.place-place.ensures.place
     c.from.ensures)
-    refl (one_line c.args.names.now (Lacked Empty) c.write_empty.ensures)
+    refl c.write_lack.ensures
 
 pub returns-in-Full : goal.returns-in-Full
 returns-in-Full g c = λ s shows sent by.
-    did_collect c.args.names.now _ _ _ _ s c.args.self.now _ c.args.node
+    did_collect _ _ s c.args.self.now _ c.args.node
     c.index_mut-registers.result.now c.endpoint_collect.new.registers c.index_mut.result.now
     c.endpoint_collect.new.port Collects.Full _ shows sent c.requires.endpoint
     (device_read c.args.self.now.devices.items c.args.node c.from.result c.requires.endpoint.device
@@ -113,4 +108,4 @@ returns-in-Full g c = λ s shows sent by.
     (has_both c.args.self.now (port_of c.args.node) c.from.result c.args.node c.place-place.result
     c.endpoint_collect.new.registers c.endpoint_collect.new.port c.place-place.ensures.place
     c.from.ensures)
-    refl (one_line c.args.names.now (Lacked Full) c.write_full.ensures)
+    refl c.write_lack-in-Full.ensures

@@ -7,8 +7,7 @@ use Rattle.fabric_ports.proofs.fabric.Fabric.collect_all.Goals as goal
 
 pub loop-self-init : goal.loop-self-init
 loop-self-init g c = λ from lines stands.
-    gather_begins g.K.Sink.written g.K.Sink.faults c.args.names.now c.args.outbox.now from lines
-    c.args.self.now c.args.node stands
+    gather_begins _ from lines _ c.args.node stands
 
 pub holds-requires-clause-shown : goal.holds-requires-clause-shown
 holds-requires-clause-shown g c =
@@ -21,6 +20,11 @@ holds-requires-clause-endpoint g c =
     let known = c.requires.stands in
     let ran = c.loop-self.invariant known.0 known.1 known.2 in
     endpoint_on c.args.node known.2 ran.ends.1 c.requires.endpoint
+
+pub collect-requires-clause-named : goal.collect-requires-clause-named
+collect-requires-clause-named g c =
+    let known = c.requires.stands in
+    rw (c.loop-self.invariant known.0 known.1 known.2).ends.0.names c.requires.named
 
 pub collect-requires-clause-shown : goal.collect-requires-clause-shown
 collect-requires-clause-shown g c =
@@ -37,8 +41,7 @@ collect-requires-clause-endpoint g c =
 pub returns : goal.returns
 returns g c = λ from lines stands.
     let ran = c.loop-self.invariant from lines stands in
-    gather_rests g.K.Sink.written g.K.Sink.faults c.args.names.now c.args.outbox.now
-    c.loop-self.outbox from lines c.loop-self.self c.args.node ran
+    gather_rests _ _ from lines _ c.args.node ran
     (endpoint_on c.args.node stands ran.ends.1 c.requires.endpoint)
     (sym (c.holds.ensures (seen from (lines ++ ran.block)) ran.ends.1.shows)
     ∙ c.loop-self-test.false)
@@ -47,9 +50,7 @@ pub returns-in-Full : goal.returns-in-Full
 returns-in-Full g c = λ from lines stands.
     let ran = c.loop-self.invariant from lines stands in
     let good = good_behind ran.ends.1.ready ran.ends.1.made in
-    gather_stops g.K.Sink.written g.K.Sink.faults c.args.names.now c.args.outbox.now
-    c.loop-self.outbox c.collect.new.outbox from lines c.loop-self.self c.collect.new.self
-    c.args.node c.collect.result ran c.in-Full.is
+    gather_stops _ _ _ from lines _ _ c.args.node c.collect.result ran c.in-Full.is
     (c.collect.ensures (seen from (lines ++ ran.block)) ran.ends.1.shows ran.ends.1.sent
     (good_by_priority good))
 
@@ -60,8 +61,7 @@ loop-self-smaller g c =
     let s = seen known.0 (known.1 ++ ran.block) in
     let good = good_behind ran.ends.1.ready ran.ends.1.made in
     let did = c.collect.ensures s ran.ends.1.shows ran.ends.1.sent (good_by_priority good) in
-    gathered_fewer s c.loop-self.self c.collect.new.self c.args.node did.block c.collect.result good
-    ran.ends.1.shows did.shows
+    gathered_fewer s _ _ c.args.node did.block c.collect.result good ran.ends.1.shows did.shows
     (endpoint_on c.args.node known.2 ran.ends.1 c.requires.endpoint)
     (sym (c.holds.ensures s ran.ends.1.shows) ∙ c.loop-self-test.true) did.is.0 did.is.1
     c.in_default.not-Full
@@ -71,8 +71,6 @@ loop-self-preserved g c = λ from lines stands.
     let ran = c.loop-self.invariant from lines stands in
     let s = seen from (lines ++ ran.block) in
     let good = good_behind ran.ends.1.ready ran.ends.1.made in
-    gather_more g.K.Sink.written g.K.Sink.faults c.args.names.now c.args.outbox.now
-    c.loop-self.outbox c.collect.new.outbox from lines c.loop-self.self c.collect.new.self
-    c.args.node c.collect.result ran
+    gather_more _ _ _ from lines _ _ c.args.node c.collect.result ran
     (sym (c.holds.ensures s ran.ends.1.shows) ∙ c.loop-self-test.true) c.in_default.not-Full
     (c.collect.ensures s ran.ends.1.shows ran.ends.1.sent (good_by_priority good))

@@ -8,8 +8,7 @@ use Rattle.fabric_ports.proofs.fabric.Fabric.collect_all.Given as goal
 
 abbrev pub invariant-loop-self : goal.invariant-loop-self
 invariant-loop-self g l = (from : Seen) (lines : List TraceLine) → Stands from lines l.fn.self
-    → Ran (CollectsFirst l.node) l.names g.K.Sink.written g.K.Sink.faults l.fn.outbox l.outbox from
-    lines (Ok l.self)
+    → Ran (CollectsFirst l.node) l.fn.writer l.writer from lines (Ok l.self)
 
 abbrev pub decreases-loop-self : goal.decreases-loop-self
 decreases-loop-self g l = held_at l.self l.node

@@ -20,6 +20,17 @@ index-requires g c =
     (c.loop-node.invariant known.0 known.1 known.2).ends.1 (omega (arith, end, test)) in
     search rules
 
+pub collect_all-requires-clause-named : goal.collect_all-requires-clause-named
+collect_all-requires-clause-named g c =
+    let known = c.requires.stands in
+    let end = c.len-node-end.ensures in
+    let test = c.loop-node-test.true in
+    let named = c.requires.named in
+    let counted : vec_len c.args.self.now.devices ≡ length c.args.self.now.devices.items =
+    search rules in
+    rw (c.loop-node.invariant known.0 known.1 known.2).ends.0.names
+    (omega (arith, end, test, named, counted))
+
 pub collect_all-requires-clause-endpoint : goal.collect_all-requires-clause-endpoint
 collect_all-requires-clause-endpoint g c =
     let known = c.requires.stands in
@@ -46,39 +57,29 @@ loop-node-preserved g c = λ from lines stands.
           let other : c.loop-node.node ≢ c.args.host = omega (arith, from_is, ne) in
           let node = next_node c.loop-node.node c.index.result.now false stands ran.ends.1
           c.index.ensures within (sym c.is_switch.ensures ∙ w.if-not-is_switch.true) in
-          rw (w.self-is, w.outbox-is)
-          (nodes_on g.K.Sink.written g.K.Sink.faults c.args.names.now (CollectNodes c.args.host)
-          (others_append c.args.host) from lines c.args.self.now c.loop-node.self
-          c.args.self.now.devices.items stands
-          (Collects c.loop-node.node) c.args.outbox.now c.loop-node.outbox w.collect_all.new.outbox
-          w.collect_all.new.self c.loop-node.node false node
+          rw (w.self-is, w.writer-is) (nodes_on (CollectNodes c.args.host)
+          (others_append c.args.host) from lines _ _ c.args.self.now.devices.items stands
+          (Collects c.loop-node.node) _ _ _ _ c.loop-node.node false node
           (λ s block own. node_collects c.args.host node.device c.loop-node.node s block
           (λ i. node.is i || ne_eqb c.loop-node.node c.args.host other i) own) ran
           (w.collect_all.ensures from (lines ++ ran.block) ran.ends.1))
       | else-not-is_switch w ↦
-          rw (w.self-is, w.outbox-is)
-          (elim w.else-not-is_switch.branch [
+          rw (w.self-is, w.writer-is) (elim w.else-not-is_switch.branch [
             | else-not-is_switch-via-then-not-is_switch+else-node-from v ↦
                 let from_is = v.from.ensures in
                 let eq = v.if-node-from.false in
                 let host : c.loop-node.node ≡ c.args.host = omega (arith, from_is, eq) in
                 let node = next_node c.loop-node.node c.index.result.now false stands ran.ends.1
                 c.index.ensures within (sym c.is_switch.ensures ∙ v.if-not-is_switch.true) in
-                nodes_none g.K.Sink.written g.K.Sink.faults c.args.names.now
-                (CollectNodes c.args.host)
-                (others_append c.args.host) from lines c.args.self.now c.loop-node.self
-                c.args.self.now.devices.items stands
-                c.args.outbox.now c.loop-node.outbox c.loop-node.node false node
+                nodes_none (CollectNodes c.args.host) (others_append c.args.host) from lines _ _
+                c.args.self.now.devices.items stands _ _ c.loop-node.node false node
                 (λ s block own. node_rests c.args.host node.device c.loop-node.node s block
                 (λ i. node.is i || eq-eqb c.loop-node.node c.args.host host i) own) ran
             | else-not-is_switch-via-else-not-is_switch v ↦
                 let node = next_node c.loop-node.node c.index.result.now true stands ran.ends.1
                 c.index.ensures within (sym c.is_switch.ensures ∙ v.if-not-is_switch.false) in
-                nodes_none g.K.Sink.written g.K.Sink.faults c.args.names.now
-                (CollectNodes c.args.host)
-                (others_append c.args.host) from lines c.args.self.now c.loop-node.self
-                c.args.self.now.devices.items stands
-                c.args.outbox.now c.loop-node.outbox c.loop-node.node true node
+                nodes_none (CollectNodes c.args.host) (others_append c.args.host) from lines _ _
+                c.args.self.now.devices.items stands _ _ c.loop-node.node true node
                 (λ s block own. node_rests c.args.host node.device c.loop-node.node s block
                 (λ i. node.is i || (c.loop-node.node == c.args.host)) own) ran
           ])
@@ -90,9 +91,7 @@ returns g c = λ from lines stands.
     let test = c.loop-node-test.false in
     let counted : vec_len c.args.self.now.devices ≡ length c.args.self.now.devices.items =
     search rules in
-    nodes_all g.K.Sink.written g.K.Sink.faults c.args.names.now (CollectNodes c.args.host)
-    (others_append c.args.host) from lines c.args.self.now c.loop-node.self
-    (take c.loop-node.node c.args.self.now.devices.items) stands c.args.outbox.now
-    c.loop-node.outbox
+    nodes_all (CollectNodes c.args.host) (others_append c.args.host) from lines _ _
+    (take c.loop-node.node c.args.self.now.devices.items) stands _ _
     (take_all c.loop-node.node c.args.self.now.devices.items (omega (arith, end, test, counted)))
     (c.loop-node.invariant from lines stands)

@@ -33,6 +33,10 @@ act-requires-clause-some g c =
     asks_some c.in-AtLink.port c.in-AtLink.action
     (subst IsInRange c.in-AtLink.ensures c.requires.may.happens.range)
 
+pub act-requires-clause-named : goal.act-requires-clause-named
+act-requires-clause-named g c =
+    rw c.write_begun.ensures.names c.requires.may.names_suffice
+
 pub edit-requires : goal.edit-requires
 edit-requires g c =
     let may = c.requires.may in
@@ -44,9 +48,8 @@ edit-requires g c =
 pub returns-in_ok-act-in-AtLink-clause-done : goal.returns-in_ok-act-in-AtLink-clause-done
 returns-in_ok-act-in-AtLink-clause-done g c = λ from lines stands.
     ran_evented c.args.line.now (line_for c.in-AtLink.port c.in-AtLink.action)
-    (IsAnsweredBlock c.args.line.now Other) c.args.names.now
-    g.K.Sink.written g.K.Sink.faults c.args.outbox.now c.write_begun.new.outbox
-    c.act.new.outbox from lines c.args.self.now (Ok c.act.new.self) c.in-AtLink.ensures
+    (IsAnsweredBlock c.args.line.now Other) c.args.writer.now c.write_begun.new.self
+    c.act.new.writer from lines c.args.self.now (Ok c.act.new.self) c.in-AtLink.ensures
     (begun_same (seen from lines) c.in-AtLink.port c.in-AtLink.action)
     (λ block own. (
       own.0,
@@ -59,14 +62,13 @@ pub returns-in_err-act-in-AtLink-clause-ended : goal.returns-in_err-act-in-AtLin
 returns-in_err-act-in-AtLink-clause-ended g c =
     handed_on c.from_residual.result c.in_err-act-in-AtLink.field-0.0
     (λ end. (from : Seen) (lines : List TraceLine) → Stands from lines c.args.self.now
-    → Evented c.args.line.now (IsOwnBlock c.args.line.now) c.args.names.now g.K.Sink.written
-    g.K.Sink.faults c.args.outbox.now c.act.new.outbox from lines (Err end))
+    → Evented c.args.line.now (IsOwnBlock c.args.line.now) c.args.writer.now c.act.new.writer from
+    lines (Err end))
     c.from_residual.ensures.1
     (λ from lines stands.
     ran_evented c.args.line.now (line_for c.in-AtLink.port c.in-AtLink.action)
-    (IsOwnBlock c.args.line.now) c.args.names.now
-    g.K.Sink.written g.K.Sink.faults c.args.outbox.now c.write_begun.new.outbox
-    c.act.new.outbox from lines c.args.self.now (Err c.in_err-act-in-AtLink.field-0.0)
+    (IsOwnBlock c.args.line.now) c.args.writer.now c.write_begun.new.self
+    c.act.new.writer from lines c.args.self.now (Err c.in_err-act-in-AtLink.field-0.0)
     c.in-AtLink.ensures (begun_same (seen from lines) c.in-AtLink.port c.in-AtLink.action)
     (λ block own. own) stands
     c.write_begun.ensures (c.in_err-act-in-AtLink.ensures.ended from))
@@ -74,9 +76,8 @@ returns-in_err-act-in-AtLink-clause-ended g c =
 pub returns-in_ok-run-in-Run-clause-done : goal.returns-in_ok-run-in-Run-clause-done
 returns-in_ok-run-in-Run-clause-done g c = λ from lines stands.
     ran_evented c.args.line.now (Run c.in-Run.n)
-    (IsAnsweredBlock c.args.line.now Other) c.args.names.now
-    g.K.Sink.written g.K.Sink.faults c.args.outbox.now c.write_begun.new.outbox
-    c.run.new.outbox from lines c.args.self.now (Ok c.run.new.self) c.in-Run.ensures
+    (IsAnsweredBlock c.args.line.now Other) c.args.writer.now c.write_begun.new.self
+    c.run.new.writer from lines c.args.self.now (Ok c.run.new.self) c.in-Run.ensures
     refl
     (λ block own. (
       own.0,
@@ -88,14 +89,13 @@ pub returns-in_err-run-in-Run-clause-ended : goal.returns-in_err-run-in-Run-clau
 returns-in_err-run-in-Run-clause-ended g c =
     handed_on c.from_residual-in_err-run-in-Run.result c.in_err-run-in-Run.field-0.0
     (λ end. (from : Seen) (lines : List TraceLine) → Stands from lines c.args.self.now
-    → Evented c.args.line.now (IsOwnBlock c.args.line.now) c.args.names.now g.K.Sink.written
-    g.K.Sink.faults c.args.outbox.now c.run.new.outbox from lines (Err end))
+    → Evented c.args.line.now (IsOwnBlock c.args.line.now) c.args.writer.now c.run.new.writer from
+    lines (Err end))
     c.from_residual-in_err-run-in-Run.ensures.1
     (λ from lines stands.
-    ran_evented c.args.line.now (Run c.in-Run.n) (IsOwnBlock c.args.line.now) c.args.names.now
-    g.K.Sink.written g.K.Sink.faults c.args.outbox.now c.write_begun.new.outbox
-    c.run.new.outbox from lines c.args.self.now (Err c.in_err-run-in-Run.field-0.0)
-    c.in-Run.ensures refl (λ block own. own) stands
+    ran_evented c.args.line.now (Run c.in-Run.n) (IsOwnBlock c.args.line.now) c.args.writer.now
+    c.write_begun.new.self c.run.new.writer from lines c.args.self.now
+    (Err c.in_err-run-in-Run.field-0.0) c.in-Run.ensures refl (λ block own. own) stands
     c.write_begun.ensures (c.in_err-run-in-Run.ensures.ended from))
 
 pub returns-in_ok-edit-in-Edit-clause-done : goal.returns-in_ok-edit-in-Edit-clause-done
@@ -104,11 +104,11 @@ returns-in_ok-edit-in-Edit-clause-done g c = λ from lines stands.
     let is = c.in-Edit.ensures in
     let port = c.in-Edit.port in
     let edit = c.in-Edit.edit in
-    evented c.args.line.now c.args.names.now _ _ _ _ _ from lines
+    evented c.args.line.now _ _ _ from lines
     (edited_by s (Some (port, edit_asked edit))) c.args.self.now c.edit.new.self Other _
     (ap (λ (l : Line). edited_by s (edit_of l)) is ∙ ap (edited_by s) (edit_of_line port edit))
     stands c.write_begun.ensures
-    (c.in_ok-edit-in-Edit.ensures.done c.args.names.now from lines stands)
+    (c.in_ok-edit-in-Edit.ensures.done from lines stands)
     (λ block own. (
       subst (λ (l : Line). IsBlock s l block) (sym is) own,
       subst (λ (l : Line). Other ≡ happened l block) (sym is) (edit_answers port edit block),
@@ -118,20 +118,19 @@ pub returns-in_err-edit-in-Edit-clause-ended : goal.returns-in_err-edit-in-Edit-
 returns-in_err-edit-in-Edit-clause-ended g c =
     handed_on c.from_residual-in_err-edit-in-Edit.result c.in_err-edit-in-Edit.field-0.0
     (λ end. (from : Seen) (lines : List TraceLine) → Stands from lines c.args.self.now
-    → Evented c.args.line.now (IsOwnBlock c.args.line.now) c.args.names.now g.K.Sink.written
-    g.K.Sink.faults c.args.outbox.now c.edit.new.outbox from lines (Err end))
+    → Evented c.args.line.now (IsOwnBlock c.args.line.now) c.args.writer.now c.edit.new.writer from
+    lines (Err end))
     c.from_residual-in_err-edit-in-Edit.ensures.1
     (λ from lines stands.
-    edit_unmade c.args.line.now c.in-Edit.port c.in-Edit.edit c.args.names.now g.K.Sink.written
-    g.K.Sink.faults c.args.outbox.now c.write_begun.new.outbox c.edit.new.outbox from lines
-    c.in_err-edit-in-Edit.field-0.0 c.in-Edit.ensures c.write_begun.ensures
-    c.in_err-edit-in-Edit.ensures.ended)
+    edit_unmade c.args.line.now c.in-Edit.port c.in-Edit.edit c.args.writer.now
+    c.write_begun.new.self c.edit.new.writer from lines c.in_err-edit-in-Edit.field-0.0
+    c.in-Edit.ensures c.write_begun.ensures c.in_err-edit-in-Edit.ensures.ended)
 
 pub returns-in-Move-clause-done : goal.returns-in-Move-clause-done
 returns-in-Move-clause-done g c = λ from lines stands.
     let s = seen from lines in
     let is = c.in-Move.ensures in
-    evented c.args.line.now c.args.names.now _ _ _ _ _ from lines s c.args.self.now
+    evented c.args.line.now _ _ _ from lines s c.args.self.now
     c.step_or_none.new.self Other _ (ap (λ (l : Line). edited_by s (edit_of l)) is) stands
     c.write_begun.ensures
     (c.step_or_none.ensures s stands.shows stands.sent
@@ -145,7 +144,7 @@ pub returns-in-Collect-clause-done : goal.returns-in-Collect-clause-done
 returns-in-Collect-clause-done g c = λ from lines stands.
     let s = seen from lines in
     let is = c.in-Collect.ensures in
-    evented c.args.line.now c.args.names.now _ _ _ _ _ from lines s c.args.self.now
+    evented c.args.line.now _ _ _ from lines s c.args.self.now
     c.collect.new.self c.collect.result _ (ap (λ (l : Line). edited_by s (edit_of l)) is) stands
     c.write_begun.ensures
     (c.collect.ensures s stands.shows stands.sent
@@ -166,7 +165,7 @@ returns-in-Give-clause-done g c = λ from lines stands.
     (takes_it.there (seen may.from may.lines).network may.happens.there) in
     let ids = ids_are c.args.self.now s given.node c.from.result c.index.result.now stands.shows
     end.device c.from.ensures c.index.ensures in
-    evented c.args.line.now c.args.names.now _ _ _ _ _ from lines s c.args.self.now c.send.new.self
+    evented c.args.line.now _ _ _ from lines s c.args.self.now c.send.new.self
     c.send.result _ (ap (edited_by s) takes_it.edits) stands c.write_begun.ensures
     (c.send.ensures s stands.shows stands.sent)
     (sent_block s c.args.line.now given.node _ c.packet_of-packet.result c.send.result takes_it

@@ -1,23 +1,15 @@
-use Rattle.std.proofs.Common.{◌++◌, List, sym, subst, arith, ◌∙◌, Ok, Err}
-use Rattle.fabric_ask.specs.Asks.{AskRounds}
+use Rattle.std.proofs.Common.{◌++◌, length, sym, arith, ◌∙◌}
 use Rattle.fabric_trace.specs.Fold.{seen}
-use Rattle.fabric_trace.specs.Known.{Seen}
-use Rattle.trace_lines.specs.Lines.{TraceLine}
 use Rattle.fabric_trace.proofs.Traces.Existing.{ready_on}
-use Rattle.fabric_ports.specs.Fetching.{RoundsLeave}
-use Rattle.fabric_ports.specs.Ran.{Ran}
-use Rattle.fabric_ports.specs.Standing.{Stands}
 use Rattle.fabric_ports.proofs.GatherLaws.{endpoint_on}
-use Rattle.fabric_ports.proofs.LeaveLaws.{end_known, end_named}
+use Rattle.fabric_ports.proofs.LeaveLaws.{end_known, end_named, named_on}
 use Rattle.fabric_ports.proofs.FetchLaws.{unheld_none, unheld_more, fetched_none, fetched, fetch_ends}
 use Rattle.fabric_ports.proofs.RanLaws.{handed_on}
-use Rattle.fabric_ports.proofs.SettlingLaws.{devices_stay}
 use Rattle.fabric_ports.proofs.fabric.Fabric.fetch.Goals as goal
 
 pub loop-init : goal.loop-init
 loop-init g c = λ from lines stands.
-    unheld_none g.K.Sink.written g.K.Sink.faults c.args.names.now c.args.host c.args.outbox.now from
-    lines c.args.self.now (g.N.Noise.edits c.args.noise.now) stands
+    unheld_none c.args.host _ from lines _ _ stands
 
 pub ask_round-requires-clause-stands : goal.ask_round-requires-clause-stands
 ask_round-requires-clause-stands g c =
@@ -28,23 +20,19 @@ ask_round-requires-clause-stands g c =
 pub ask_round-requires-clause-named : goal.ask_round-requires-clause-named
 ask_round-requires-clause-named g c =
     let known = c.requires.stands in
-    let same = devices_stay known.2 (c.loop.invariant known.0 known.1 known.2).ends.1 in
-    let named = c.requires.named in
-    omega (arith, same, named)
+    named_on known.2 (c.loop.invariant known.0 known.1 known.2) c.requires.named
+
+pub ask_round-requires-clause-few : goal.ask_round-requires-clause-few
+ask_round-requires-clause-few g c =
+    let known = c.requires.stands in
+    rw (c.loop.invariant known.0 known.1 known.2).ends.0.names c.requires.few
 
 pub returns-in_err-ask_round-clause-ended : goal.returns-in_err-ask_round-clause-ended
 returns-in_err-ask_round-clause-ended g c =
-    handed_on c.from_residual.result c.in_err-ask_round.field-0.0
-    (λ end. (from : Seen) (lines : List TraceLine) → Stands from lines c.args.self.now
-    → Ran (AskRounds c.args.host c.args.rounds (g.N.Noise.edits c.args.noise.now))
-    c.args.names.now g.K.Sink.written g.K.Sink.faults c.args.outbox.now c.ask_round.new.outbox from
-    lines (Err end))
-    c.from_residual.ensures.1
+    handed_on c.from_residual.result c.in_err-ask_round.field-0.0 _ c.from_residual.ensures.1
     (λ from lines stands.
     (let ran = c.loop.invariant from lines stands in
-    fetch_ends g.K.Sink.written g.K.Sink.faults c.args.names.now c.args.host c.args.outbox.now
-    c.loop.outbox c.ask_round.new.outbox from lines c.args.self.now c.loop.self c.loop.counter
-    c.args.rounds (g.N.Noise.edits c.args.noise.now) (g.N.Noise.edits c.loop.noise)
+    fetch_ends c.args.host _ _ _ from lines _ _ c.loop.counter c.args.rounds _ _
     c.in_err-ask_round.field-0.0 c.loop-test.true stands
     (end_known c.args.host stands c.requires.endpoint) ran
     (c.in_err-ask_round.ensures.ended from (lines ++ ran.block) ran.ends.1)))
@@ -65,7 +53,12 @@ holds-requires-clause-endpoint g c =
 
 pub collect-requires-clause-named : goal.collect-requires-clause-named
 collect-requires-clause-named g c =
-    end_named c.args.self.now c.args.names.now c.args.host c.requires.named c.requires.endpoint
+    let known = c.requires.stands in
+    let ran = c.loop.invariant known.0 known.1 known.2 in
+    let round = c.in_ok-ask_round.ensures.done known.0 (known.1 ++ ran.block) ran.ends.1 in
+    end_named c.ask_round.new.self (length c.ask_round.new.writer.names.now) c.args.host
+    (named_on ran.ends.1 round (named_on known.2 ran c.requires.named))
+    (endpoint_on c.args.host known.2 round.ends.1 c.requires.endpoint)
 
 pub collect-requires-clause-shown : goal.collect-requires-clause-shown
 collect-requires-clause-shown g c =
@@ -87,15 +80,8 @@ returns-then-holds-clause-done g c = λ from lines stands.
     let round = c.in_ok-ask_round.ensures.done from (lines ++ ran.block) ran.ends.1 in
     let t = seen from ((lines ++ ran.block) ++ round.block) in
     let ready = ready_on round.ends.1.ready round.ends.1.made in
-    subst (λ left. Ran (RoundsLeave c.args.host c.args.rounds
-    (g.N.Noise.edits c.args.noise.now) left) c.args.names.now g.K.Sink.written g.K.Sink.faults
-    c.args.outbox.now c.collect.new.outbox from lines (Ok c.collect.new.self))
-    (sym c.left_of.ensures)
-    (fetched g.K.Sink.written g.K.Sink.faults c.args.names.now c.args.host c.args.outbox.now
-    c.loop.outbox c.ask_round.new.outbox c.collect.new.outbox from lines c.args.self.now c.loop.self
-    c.ask_round.new.self c.collect.new.self c.loop.counter c.args.rounds
-    (g.N.Noise.edits c.args.noise.now) (g.N.Noise.edits c.loop.noise)
-    (g.N.Noise.edits c.ask_round.new.noise) c.collect.result c.loop-test.true stands
+    rw c.left_of.ensures (fetched c.args.host _ _ _ _ from lines _ _
+    _ _ c.loop.counter c.args.rounds _ _ _ c.collect.result c.loop-test.true stands
     (end_known c.args.host stands c.requires.endpoint) ran round
     (sym (c.holds.ensures t round.ends.1.shows) ∙ c.if-holds.true)
     (c.collect.ensures t round.ends.1.shows round.ends.1.sent ready.by_priority))
@@ -105,16 +91,11 @@ loop-preserved g c = λ from lines stands.
     let ran = c.loop.invariant from lines stands in
     let round = c.in_ok-ask_round.ensures.done from (lines ++ ran.block) ran.ends.1 in
     let t = seen from ((lines ++ ran.block) ++ round.block) in
-    unheld_more g.K.Sink.written g.K.Sink.faults c.args.names.now c.args.host c.args.outbox.now
-    c.loop.outbox c.ask_round.new.outbox from lines c.args.self.now c.loop.self
-    c.ask_round.new.self c.loop.counter (g.N.Noise.edits c.args.noise.now)
-    (g.N.Noise.edits c.loop.noise) (g.N.Noise.edits c.ask_round.new.noise) stands ran round
+    unheld_more c.args.host _ _ _ from lines _ _ _ c.loop.counter _ _ _ stands ran round
     (sym (c.holds.ensures t round.ends.1.shows) ∙ c.if-holds.false)
 
 pub returns-clause-done : goal.returns-clause-done
 returns-clause-done g c = λ from lines stands.
-    fetched_none g.K.Sink.written g.K.Sink.faults c.args.names.now c.args.host c.args.outbox.now
-    c.loop.outbox from lines c.args.self.now c.loop.self c.loop.counter c.args.rounds
-    (g.N.Noise.edits c.args.noise.now) (g.N.Noise.edits c.loop.noise) (omega arith) stands
-    (end_known c.args.host stands c.requires.endpoint)
+    fetched_none c.args.host _ _ from lines _ _ c.loop.counter c.args.rounds
+    _ _ (omega arith) stands (end_known c.args.host stands c.requires.endpoint)
     (c.loop.invariant from lines stands)

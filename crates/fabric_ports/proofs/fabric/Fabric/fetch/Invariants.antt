@@ -8,5 +8,5 @@ use Rattle.fabric_ports.proofs.fabric.Fabric.fetch.Given as goal
 
 abbrev pub invariant-loop : goal.invariant-loop
 invariant-loop g l = (from : Seen) (lines : List TraceLine) → Stands from lines l.fn.self
-    → Ran (Unheld l.host l.counter (g.N.Noise.edits l.fn.noise) (g.N.Noise.edits l.noise)) l.names
-    g.K.Sink.written g.K.Sink.faults l.fn.outbox l.outbox from lines (Ok l.self)
+    → Ran (Unheld l.host l.counter (g.N.Noise.edits l.fn.noise) (g.N.Noise.edits l.noise))
+    l.fn.writer l.writer from lines (Ok l.self)

@@ -9,5 +9,4 @@ use Rattle.fabric_ports.proofs.fabric.Fabric.run.Given as goal
 
 abbrev pub invariant-loop : goal.invariant-loop
 invariant-loop g l = (from : Seen) (lines : List TraceLine) → Stands from lines l.fn.self
-    → Ran (Rounds IsSettle l.counter) l.names g.K.Sink.written g.K.Sink.faults l.fn.outbox
-    l.outbox from lines (Ok l.self)
+    → Ran (Rounds IsSettle l.counter) l.fn.writer l.writer from lines (Ok l.self)

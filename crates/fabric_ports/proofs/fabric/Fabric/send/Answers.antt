@@ -26,8 +26,8 @@ returns-then-not-out_room g c = λ s shows sent.
     room_is s.network (port_of c.args.node) (prio_of c.args.packet) few
     ∙ ap (λ (p : PortState). nat_lt (length (list_at p.queued (prio_of c.args.packet))) 16) at
     ∙ le-ltb _ _ none in
-    did_full c.args.names.now _ _ _ _ s c.args.self.now c.args.node c.args.packet shows sent room
-    c.write_full.ensures
+    did_full _ _ s c.args.self.now c.args.node c.args.packet shows sent room
+    c.write_lack.ensures
 
 pub returns : goal.returns
 returns g c = λ s shows sent.
@@ -46,7 +46,7 @@ returns g c = λ s shows sent.
     room_is s.network (port_of c.args.node) (prio_of c.args.packet) few
     ∙ ap (λ (p : PortState). nat_lt (length (list_at p.queued (prio_of c.args.packet))) 16) at
     ∙ lt-ltb _ _ some in
-    did_take c.args.names.now _ _ _ _ s c.args.self.now c.args.node c.args.packet
+    did_take _ _ s c.args.self.now c.args.node c.args.packet
     (with_port c.args.self.now c.place-place.result c.out_put.new.self) c.index_mut.result.now
     c.out_put.new.self shows sent room few c.requires.endpoint at
     (has_port c.args.self.now (port_of c.args.node) c.args.node c.place-place.result

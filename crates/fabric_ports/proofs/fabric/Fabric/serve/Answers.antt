@@ -8,8 +8,12 @@ use Rattle.fabric_ports.proofs.fabric.Fabric.serve.Goals as goal
 
 pub loop-init : goal.loop-init
 loop-init g c = λ from lines stands.
-    serves_begin g.K.Sink.written g.K.Sink.faults c.args.names.now c.args.outbox.now from lines
-    c.args.self.now c.args.node stands
+    serves_begin c.args.writer.now from lines c.args.self.now c.args.node stands
+
+pub step-requires-clause-named : goal.step-requires-clause-named
+step-requires-clause-named g c =
+    let known = c.requires.stands in
+    rw (c.loop.invariant known.0 known.1 known.2).ends.0.names c.requires.named
 
 pub step-requires-clause-switch : goal.step-requires-clause-switch
 step-requires-clause-switch g c =
@@ -32,9 +36,8 @@ pub loop-preserved : goal.loop-preserved
 loop-preserved g c = λ from lines stands.
     let ran = c.loop.invariant from lines stands in
     let good = good_behind ran.ends.1.ready ran.ends.1.made in
-    serves_more g.K.Sink.written g.K.Sink.faults c.args.names.now c.args.outbox.now c.loop.outbox
-    c.step.new.outbox from lines c.loop.self c.step.new.self c.args.node c.step.result
-    c.loop-test.true ran
+    serves_more c.args.writer.now c.loop.writer c.step.new.writer from lines c.loop.self
+    c.step.new.self c.args.node c.step.result c.loop-test.true ran
     (c.step.ensures (seen from (lines ++ ran.block)) ran.ends.1.shows ran.ends.1.sent
     (good_by_priority good))
 
@@ -42,8 +45,7 @@ pub returns : goal.returns
 returns g c = λ from lines stands.
     let ran = c.loop.invariant from lines stands in
     let good = good_behind ran.ends.1.ready ran.ends.1.made in
-    serves_end g.K.Sink.written g.K.Sink.faults c.args.names.now c.args.outbox.now c.loop.outbox
-    c.step.new.outbox from lines c.loop.self c.step.new.self c.args.node c.step.result
-    c.loop-test.false ran
+    serves_end c.args.writer.now c.loop.writer c.step.new.writer from lines c.loop.self
+    c.step.new.self c.args.node c.step.result c.loop-test.false ran
     (c.step.ensures (seen from (lines ++ ran.block)) ran.ends.1.shows ran.ends.1.sent
     (good_by_priority good))

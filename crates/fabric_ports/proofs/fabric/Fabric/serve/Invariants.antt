@@ -8,8 +8,7 @@ use Rattle.fabric_ports.proofs.fabric.Fabric.serve.Given as goal
 
 abbrev pub invariant-loop : goal.invariant-loop
 invariant-loop g l = (from : Seen) (lines : List TraceLine) → Stands from lines l.fn.self
-    → Ran (ServesFirst l.node) l.names g.K.Sink.written g.K.Sink.faults l.fn.outbox l.outbox from
-    lines (Ok l.self)
+    → Ran (ServesFirst l.node) l.fn.writer l.writer from lines (Ok l.self)
 
 abbrev pub decreases-loop : goal.decreases-loop
 decreases-loop g l = held_by l.self l.node

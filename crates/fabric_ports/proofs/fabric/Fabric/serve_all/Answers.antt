@@ -32,6 +32,15 @@ serve-requires-clause-switch g c =
       kind = sym c.is_switch.ensures ∙ c.if-is_switch.true;
     }
 
+pub serve-requires-clause-named : goal.serve-requires-clause-named
+serve-requires-clause-named g c =
+    let known = c.requires.stands in
+    let end = c.len-node-end.ensures in
+    let test = c.loop-node-test.true in
+    let named = c.requires.named in
+    rw (c.loop-node.invariant known.0 known.1 known.2).ends.0.names
+    (omega (arith, end, test, named))
+
 pub loop-node-preserved : goal.loop-node-preserved
 loop-node-preserved g c = λ from lines stands.
     let ran = c.loop-node.invariant from lines stands in
@@ -42,20 +51,19 @@ loop-node-preserved g c = λ from lines stands.
       | then-is_switch w ↦
           let node = next_node c.loop-node.node c.index.result.now true stands ran.ends.1
           c.index.ensures within (sym c.is_switch.ensures ∙ w.if-is_switch.true) in
-          rw (w.self-is, w.outbox-is)
-          (nodes_on g.K.Sink.written g.K.Sink.faults c.args.names.now ServeNodes nodes_append from
-          lines c.args.self.now c.loop-node.self c.args.self.now.devices.items stands
-          (Serves c.loop-node.node) c.args.outbox.now c.loop-node.outbox w.serve.new.outbox
-          w.serve.new.self c.loop-node.node true node
+          rw (w.self-is, w.writer-is)
+          (nodes_on ServeNodes nodes_append from lines c.args.self.now c.loop-node.self
+          c.args.self.now.devices.items stands (Serves c.loop-node.node) c.args.writer.now
+          c.loop-node.writer w.serve.new.writer w.serve.new.self c.loop-node.node true node
           (λ s block own. node_serves node.device c.loop-node.node s block node.is own) ran
           (w.serve.ensures from (lines ++ ran.block) ran.ends.1))
       | else-is_switch w ↦
           let node = next_node c.loop-node.node c.index.result.now false stands ran.ends.1
           c.index.ensures within (sym c.is_switch.ensures ∙ w.if-is_switch.false) in
-          rw (w.self-is, w.outbox-is)
-          (nodes_none g.K.Sink.written g.K.Sink.faults c.args.names.now ServeNodes nodes_append from
-          lines c.args.self.now c.loop-node.self c.args.self.now.devices.items stands
-          c.args.outbox.now c.loop-node.outbox c.loop-node.node false node
+          rw (w.self-is, w.writer-is)
+          (nodes_none ServeNodes nodes_append from lines c.args.self.now c.loop-node.self
+          c.args.self.now.devices.items stands c.args.writer.now c.loop-node.writer c.loop-node.node
+          false node
           (λ s block own. node_rests node.device c.loop-node.node s block node.is own) ran)
     ]
 
@@ -65,8 +73,8 @@ returns g c = λ from lines stands.
     let test = c.loop-node-test.false in
     let counted : vec_len c.args.self.now.devices ≡ length c.args.self.now.devices.items =
     search rules in
-    nodes_all g.K.Sink.written g.K.Sink.faults c.args.names.now ServeNodes nodes_append from lines
-    c.args.self.now c.loop-node.self (take c.loop-node.node c.args.self.now.devices.items) stands
-    c.args.outbox.now c.loop-node.outbox
+    nodes_all ServeNodes nodes_append from lines c.args.self.now c.loop-node.self
+    (take c.loop-node.node c.args.self.now.devices.items) stands c.args.writer.now
+    c.loop-node.writer
     (take_all c.loop-node.node c.args.self.now.devices.items (omega (arith, end, test, counted)))
     (c.loop-node.invariant from lines stands)

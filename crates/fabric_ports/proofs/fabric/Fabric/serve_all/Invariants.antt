@@ -8,5 +8,5 @@ use Rattle.fabric_ports.proofs.fabric.Fabric.serve_all.Given as goal
 
 abbrev pub invariant-loop-node : goal.invariant-loop-node
 invariant-loop-node g l = (from : Seen) (lines : List TraceLine) → Stands from lines l.fn.self
-    → Ran (λ s block. ServeNodes 0 (take l.node l.fn.self.devices.items) s block) l.names
-    g.K.Sink.written g.K.Sink.faults l.fn.outbox l.outbox from lines (Ok l.self)
+    → Ran (λ s block. ServeNodes 0 (take l.node l.fn.self.devices.items) s block)
+    l.fn.writer l.writer from lines (Ok l.self)

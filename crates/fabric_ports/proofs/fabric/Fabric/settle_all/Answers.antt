@@ -34,27 +34,26 @@ settle_link-requires-clause-linked g c =
 pub settle_link-requires-clause-named : goal.settle_link-requires-clause-named
 settle_link-requires-clause-named g c =
     let known = c.requires.stands in
-    let same = devices_stay known.2 (c.loop-place.invariant known.0 known.1 known.2).ends.1 in
+    let ran = c.loop-place.invariant known.0 known.1 known.2 in
+    let same = devices_stay known.2 ran.ends.1 in
     let named = c.requires.named in
-    omega (arith, same, named)
+    rw ran.ends.0.names (omega (arith, same, named))
 
 pub returns-in_err-settle_link-clause-ended : goal.returns-in_err-settle_link-clause-ended
 returns-in_err-settle_link-clause-ended g c =
     handed_on c.from_residual.result c.in_err-settle_link.field-0.0
     (λ end. (from : Seen) (lines : List TraceLine) → Stands from lines c.args.self.now
-    → Ran LinksSettle c.args.names.now g.K.Sink.written g.K.Sink.faults c.args.outbox.now
-    c.settle_link.new.outbox from lines (Err end))
+    → Ran LinksSettle c.args.writer.now c.settle_link.new.writer from lines (Err end))
     c.from_residual.ensures.1
     (λ from lines stands.
     (let ran = c.loop-place.invariant from lines stands in
     let end = c.len-place-end.ensures in
     let test = c.loop-place-test.true in
     let within = cables_within c.loop-place.place stands ran.ends.1 (omega (arith, end, test)) in
-    settled_short g.K.Sink.written g.K.Sink.faults c.args.names.now c.args.outbox.now
-    c.loop-place.outbox c.settle_link.new.outbox from lines c.args.self.now c.loop-place.self
-    c.loop-place.place (ends_of c.index.result.now) c.in_err-settle_link.field-0.0 stands
-    (next_link c.loop-place.place c.index.result.now ran.ends.1 c.index.ensures
-    within) ran
+    settled_short c.args.writer.now c.loop-place.writer c.settle_link.new.writer from lines
+    c.args.self.now c.loop-place.self c.loop-place.place (ends_of c.index.result.now)
+    c.in_err-settle_link.field-0.0 stands
+    (next_link c.loop-place.place c.index.result.now ran.ends.1 c.index.ensures within) ran
     (c.in_err-settle_link.ensures.ended from (lines ++ ran.block) ran.ends.1)))
 
 pub loop-place-preserved : goal.loop-place-preserved
@@ -63,11 +62,10 @@ loop-place-preserved g c = λ from lines stands.
     let end = c.len-place-end.ensures in
     let test = c.loop-place-test.true in
     let within = cables_within c.loop-place.place stands ran.ends.1 (omega (arith, end, test)) in
-    settled_more g.K.Sink.written g.K.Sink.faults c.args.names.now c.args.outbox.now
-    c.loop-place.outbox c.settle_link.new.outbox from lines c.args.self.now c.loop-place.self
-    c.settle_link.new.self c.loop-place.place (ends_of c.index.result.now) stands
-    (next_link c.loop-place.place c.index.result.now ran.ends.1 c.index.ensures
-    within) ran
+    settled_more c.args.writer.now c.loop-place.writer c.settle_link.new.writer from lines
+    c.args.self.now c.loop-place.self c.settle_link.new.self c.loop-place.place
+    (ends_of c.index.result.now) stands
+    (next_link c.loop-place.place c.index.result.now ran.ends.1 c.index.ensures within) ran
     (c.in_ok-settle_link.ensures.done from (lines ++ ran.block) ran.ends.1)
 
 pub loop-place-preserved-then-is_idle : goal.loop-place-preserved-then-is_idle
@@ -78,9 +76,8 @@ loop-place-preserved-then-is_idle g c = λ from lines stands.
     let within = cables_within c.loop-place.place stands ran.ends.1 (omega (arith, end, test)) in
     let cables = c.loop-place.self.cables.items in
     let cable = cable_there cables c.loop-place.place within in
-    settled_idle g.K.Sink.written g.K.Sink.faults c.args.names.now c.args.outbox.now
-    c.loop-place.outbox from lines c.args.self.now c.loop-place.self c.loop-place.place
-    (ends_of cable.0) stands
+    settled_idle c.args.writer.now c.loop-place.writer from lines c.args.self.now c.loop-place.self
+    c.loop-place.place (ends_of cable.0) stands
     (next_link c.loop-place.place cable.0 ran.ends.1 cable.1 within) ran
     (sym (c.is_idle.ensures (seen from (lines ++ ran.block)) cable.0.a cable.0.b ran.ends.1.shows
     (ends_at cables c.loop-place.place cable.0 within cable.1))
@@ -109,7 +106,7 @@ returns-clause-done g c = λ from lines stands.
     let many : length from.network.links ≡ length c.args.self.now.cables.items =
     sym (ap (λ l. length l) (links_stand stands))
     ∙ length-map c.args.self.now.cables.items ends_of in
-    settled_all g.K.Sink.written g.K.Sink.faults c.args.names.now c.args.outbox.now
-    c.loop-place.outbox from lines c.loop-place.self (take c.loop-place.place from.network.links)
+    settled_all c.args.writer.now c.loop-place.writer from lines c.loop-place.self
+    (take c.loop-place.place from.network.links)
     (take_all c.loop-place.place from.network.links (omega (arith, end, test, counted, many)))
     (c.loop-place.invariant from lines stands)

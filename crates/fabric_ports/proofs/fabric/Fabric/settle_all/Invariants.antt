@@ -9,5 +9,5 @@ use Rattle.fabric_ports.proofs.fabric.Fabric.settle_all.Given as goal
 
 abbrev pub invariant-loop-place : goal.invariant-loop-place
 invariant-loop-place g l = (from : Seen) (lines : List TraceLine) → Stands from lines l.fn.self
-    → Ran (λ s block. SettleAll IsSettle (take l.place from.network.links) s block) l.names
-    g.K.Sink.written g.K.Sink.faults l.fn.outbox l.outbox from lines (Ok l.self)
+    → Ran (λ s block. SettleAll IsSettle (take l.place from.network.links) s block)
+    l.fn.writer l.writer from lines (Ok l.self)

@@ -11,12 +11,11 @@ pub returns-in_err-act-clause-ended : goal.returns-in_err-act-clause-ended
 returns-in_err-act-clause-ended g c =
     handed_on c.from_residual.result c.in_err-act.field-0.0
     (λ end. (from : Seen) (lines : List TraceLine) → Stands from lines c.args.self.now
-    → Ran (Blocks (Settle c.args.port)) c.args.names.now g.K.Sink.written g.K.Sink.faults
-    c.args.outbox.now c.act.new.outbox from lines (Err end))
+    → Ran (Blocks (Settle c.args.port)) c.args.writer.now c.act.new.writer from lines (Err end))
     c.from_residual.ensures.1 c.in_err-act.ensures.ended
 
 pub returns-then-failed-clause-ended : goal.returns-then-failed-clause-ended
 returns-then-failed-clause-ended g c = λ from lines stands.
-    failed_behind g.K.Sink.written g.K.Sink.faults c.args.names.now (Blocks (Settle c.args.port))
-    c.args.outbox.now c.act.new.outbox from lines c.act.new.self
-    (sym c.failed.ensures ∙ c.if-failed.true) (c.in_ok-act.ensures.done from lines stands)
+    failed_behind (Blocks (Settle c.args.port)) c.args.writer.now c.act.new.writer from lines
+    c.act.new.self (sym c.failed.ensures ∙ c.if-failed.true)
+    (c.in_ok-act.ensures.done from lines stands)

@@ -72,11 +72,11 @@ returns g c = λ s shows sent by.
     (step_of device (faces_at (own_ports l c.index-first.result.now device.ports))))
     c.deref_mut.ensures.value c.step_from.ensures.made in
     let wrote = subst
-    (λ (l : List PortState). Wrote c.args.names.now c.args.node
+    (λ (l : List PortState). Wrote c.args.node
     (step_of device (faces_at (own_ports l c.index-first.result.now device.ports)))
-    g.K.Sink.written g.K.Sink.faults c.args.outbox.now c.step_from.new.outbox c.step_from.result)
+    c.args.writer.now c.step_from.new.writer c.step_from.result)
     c.deref_mut.ensures.value c.step_from.ensures.wrote in
-    did_step c.args.names.now _ _ _ _ s c.args.self.now
+    did_step _ _ s c.args.self.now
     (with_ports c.args.self.now c.from-2.result c.step_from.new.registers
     c.step_from.new.ports)
     c.args.node c.index-first.result.now device c.step_from.new.registers step
@@ -97,4 +97,4 @@ returns g c = λ s shows sent by.
       cables = refl;
       cable_at = refl;
     })
-    wrote.forms wrote.is wrote.prints
+    wrote.forms wrote.is wrote.adds

@@ -10,9 +10,7 @@ returns-then-length-eq0-clause-done g c = λ from lines stands.
     let same = c.length-length.ensures from lines stands in
     let none : length ((seen from lines).wires c.args.port).chars ≡ 0 =
     omega (arith, test, same) in
-    stir_empty g.K.Sink.written g.K.Sink.faults c.args.names.now c.args.port
-    (g.N.Noise.edits c.args.noise.now) (g.N.Noise.edits c.args.noise.now) c.args.outbox.now from
-    lines c.args.self.now refl none stands
+    stir_empty c.args.port _ _ _ from lines _ refl none stands
 
 pub returns-in-Some-clause-done : goal.returns-in-Some-clause-done
 returns-in-Some-clause-done g c =
@@ -22,9 +20,7 @@ returns-in-Some-clause-done g c =
     let same = c.length-length.ensures from lines stands in
     let some : 0 < length ((seen from lines).wires c.args.port).chars =
     omega (arith, test, same) in
-    stir_some g.K.Sink.written g.K.Sink.faults c.args.names.now c.args.port
-    (g.N.Noise.edits c.args.noise.now) (g.N.Noise.edits c.next.new.self) c.args.outbox.now
-    c.edit_aloud.new.outbox from lines c.edit_aloud.new.self c.in-Some.edit c.in-Some.ensures some
+    stir_some c.args.port _ _ _ _ from lines _ c.in-Some.edit c.in-Some.ensures some
     (own from lines stands)))
     c.edit_aloud.ensures.done
 
@@ -36,14 +32,10 @@ returns-in-Some-clause-ended g c =
     let same = c.length-length.ensures from lines stands in
     let some : 0 < length ((seen from lines).wires c.args.port).chars =
     omega (arith, test, same) in
-    stir_ends g.K.Sink.written g.K.Sink.faults c.args.names.now c.args.port
-    (g.N.Noise.edits c.args.noise.now) (g.N.Noise.edits c.next.new.self) c.args.outbox.now
-    c.edit_aloud.new.outbox from lines c.in-Some.edit end c.in-Some.ensures some
+    stir_ends c.args.port _ _ _ _ from lines c.in-Some.edit end c.in-Some.ensures some
     (own from lines stands)))
     c.edit_aloud.ensures.ended
 
 pub returns-in-None-clause-done : goal.returns-in-None-clause-done
 returns-in-None-clause-done g c = λ from lines stands.
-    stir_none g.K.Sink.written g.K.Sink.faults c.args.names.now c.args.port
-    (g.N.Noise.edits c.args.noise.now) (g.N.Noise.edits c.next.new.self) c.args.outbox.now from
-    lines c.args.self.now c.in-None.ensures stands
+    stir_none c.args.port _ _ _ from lines _ c.in-None.ensures stands

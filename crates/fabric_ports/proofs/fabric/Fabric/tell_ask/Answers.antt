@@ -1,4 +1,4 @@
-use Rattle.std.proofs.Common.{◌++◌, Err, arith}
+use Rattle.std.proofs.Common.{◌++◌, length, Err, arith}
 use Rattle.fabric_ask.specs.Asks.{AskRounds, most_rounds}
 use Rattle.fabric_trace.specs.Blocks.{Asks}
 use Rattle.fabric_trace.specs.Fold.{seen}
@@ -11,7 +11,7 @@ use Rattle.fabric_ports.proofs.fabric.Fabric.tell_ask.Goals as goal
 
 pub send-requires-clause-named : goal.send-requires-clause-named
 send-requires-clause-named g c =
-    end_named c.args.self.now c.args.names.now c.args.host c.requires.named
+    end_named c.args.self.now (length c.args.writer.now.names.now) c.args.host c.requires.named
     (host_at c.requires.can.2)
 
 pub send-requires-clause-shown : goal.send-requires-clause-shown
@@ -24,10 +24,8 @@ send-requires-clause-endpoint g c = host_at c.requires.can.2
 pub fetch-requires-clause-stands : goal.fetch-requires-clause-stands
 fetch-requires-clause-stands g c =
     let can = c.requires.can in
-    let first = asked g.K.Sink.written g.K.Sink.faults c.args.names.now c.args.host
-    c.args.request.now c.args.outbox.now c.send.new.outbox can.0
-    can.1 c.args.self.now c.send.new.self c.write_request.result c.send.result can.2
-    c.write_request.ensures.form
+    let first = asked c.args.host c.args.request.now _ _ can.0
+    can.1 _ _ c.write_request.result c.send.result can.2 c.write_request.ensures.form
     (c.send.ensures (seen can.0 can.1) can.2.stands.shows can.2.stands.sent) in
     (can.0, can.1 ++ first.block, first.ends.1)
 
@@ -36,8 +34,15 @@ unfolding fetch-requires-clause-stands
 fetch-requires-clause-named g c =
     let can = c.requires.can in
     let same = devices_stay can.2.stands (fetch-requires-clause-stands g c).2 in
+    let did = c.send.ensures (seen can.0 can.1) can.2.stands.shows can.2.stands.sent in
     let named = c.requires.named in
-    omega (arith, same, named)
+    rw did.adds.names (omega (arith, same, named))
+
+pub fetch-requires-clause-few : goal.fetch-requires-clause-few
+fetch-requires-clause-few g c =
+    let can = c.requires.can in
+    let did = c.send.ensures (seen can.0 can.1) can.2.stands.shows can.2.stands.sent in
+    rw did.adds.names c.requires.few
 
 pub fetch-requires-clause-endpoint : goal.fetch-requires-clause-endpoint
 unfolding fetch-requires-clause-stands
@@ -49,27 +54,19 @@ pub returns-clause-done : goal.returns-clause-done
 returns-clause-done g c =
     if_ok c.fetch.result
     (λ left done from lines can.
-    (let first = asked g.K.Sink.written g.K.Sink.faults c.args.names.now c.args.host
-    c.args.request.now c.args.outbox.now c.send.new.outbox from
-    lines c.args.self.now c.send.new.self c.write_request.result c.send.result can
-    c.write_request.ensures.form
+    (let first = asked c.args.host c.args.request.now _ _ from
+    lines _ _ c.write_request.result c.send.result can c.write_request.ensures.form
     (c.send.ensures (seen from lines) can.stands.shows can.stands.sent) in
-    asked_whole g.K.Sink.written g.K.Sink.faults c.args.names.now c.args.host c.args.request.now
-    (g.N.Noise.edits c.args.noise.now) c.args.outbox.now c.send.new.outbox c.fetch.new.outbox from
-    lines c.send.new.self c.fetch.new.self left first
+    asked_whole c.args.host c.args.request.now _ _ _ _ from lines _ _ left first
     (done from (lines ++ first.block) first.ends.1))) c.fetch.ensures.done
 
 pub returns-clause-ended : goal.returns-clause-ended
 returns-clause-ended g c =
     if_err c.fetch.result
     (λ end ended from lines can.
-    (let first = asked g.K.Sink.written g.K.Sink.faults c.args.names.now c.args.host
-    c.args.request.now c.args.outbox.now c.send.new.outbox from
-    lines c.args.self.now c.send.new.self c.write_request.result c.send.result can
-    c.write_request.ensures.form
+    (let first = asked c.args.host c.args.request.now _ _ from
+    lines _ _ c.write_request.result c.send.result can c.write_request.ensures.form
     (c.send.ensures (seen from lines) can.stands.shows can.stands.sent) in
-    ran_both g.K.Sink.written g.K.Sink.faults c.args.names.now
-    (λ s block. Asks s c.args.host c.args.request.now block)
-    (AskRounds c.args.host most_rounds (g.N.Noise.edits c.args.noise.now)) c.args.outbox.now
-    c.send.new.outbox c.fetch.new.outbox from lines c.send.new.self (Err end) first
+    ran_both (λ s block. Asks s c.args.host c.args.request.now block)
+    (AskRounds c.args.host most_rounds _) _ _ _ from lines _ (Err end) first
     (ended from (lines ++ first.block) first.ends.1))) c.fetch.ensures.ended

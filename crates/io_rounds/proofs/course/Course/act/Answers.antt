@@ -1,5 +1,4 @@
-use Rattle.std.proofs.Common.{None, refl}
-use Rattle.rio_chars.specs.declared.plain.PlainSink.{PlainSink}
+use Rattle.std.proofs.Common.{refl}
 use Rattle.fabric_trace.specs.Runs.{start}
 use Rattle.io_rounds.proofs.EventLaws.{follows, only_wanting, acted}
 use Rattle.io_rounds.proofs.course.Course.act.Goals as goal
@@ -11,12 +10,11 @@ event-requires c =
 pub want_of-requires : goal.want_of-requires
 want_of-requires c =
     let may = c.requires in
-    only_wanting c.args.names.now c.args.self.now c.args.line.now (λ (s : PlainSink). None)
-    (λ (s : PlainSink). 0) c.args.self.now.trace c.event.new.outbox c.in-Err.end may
+    only_wanting c.args.names.now c.args.self.now c.args.line.now c.in-Err.end may
     (c.in-Err.ensures.ended (start may.script) may.trace may.holds.stands)
 
 pub returns-in-Ok : goal.returns-in-Ok
 returns-in-Ok c = λ script events trace stations holds.
     acted c.args.names.now script events trace stations c.args.line.now c.args.self.now _
-    c.in-Ok.what
-    _ _ _ _ holds c.requires.kind (c.in-Ok.ensures.done (start script) trace holds.stands) refl refl
+    c.in-Ok.what holds c.requires.kind (c.in-Ok.ensures.done (start script) trace holds.stands) refl
+    refl

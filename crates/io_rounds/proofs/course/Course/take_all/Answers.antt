@@ -11,7 +11,7 @@ take-requires g c =
     let tasks = Fetch c.args.node ∷ [] in
     let arrived = c.loop.invariant may.way.script c.args.output.now (state_of may.way tasks)
     (state_of may.way tasks) []
-    (at_itself g.K.Sink.written g.K.Sink.faults c.args.output.now may.way tasks) refl in
+    (at_itself c.args.output.now may.way tasks) refl in
     record { way = underway arrived.at.holds; named = may.named; endpoint = may.endpoint }
 
 pub returns-in_err-take-clause-ended : goal.returns-in_err-take-clause-ended
@@ -33,7 +33,7 @@ loop-smaller g c =
     let tasks = Fetch c.args.node ∷ [] in
     let arrived = c.loop.invariant may.way.script c.args.output.now (state_of may.way tasks)
     (state_of may.way tasks) []
-    (at_itself g.K.Sink.written g.K.Sink.faults c.args.output.now may.way tasks) refl in
+    (at_itself c.args.output.now may.way tasks) refl in
     let more : c.in_ok-take.field-0 ≡ true = search rules in
     taken_smaller may.endpoint more arrived
     (c.in_ok-take.ensures.done may.way.script c.args.output.now (state_of may.way tasks)

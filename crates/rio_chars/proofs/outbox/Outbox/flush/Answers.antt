@@ -4,5 +4,7 @@ use Rattle.rio_chars.proofs.outbox.Outbox.flush.Goals as goal
 
 pub returns-clause-written : goal.returns-clause-written
 returns-clause-written g c =
-    Writes-wrote _ _ c.args.self.now _ [] c.as_slice.result.now refl c.clear.ensures
-    (append-nil c.args.self.now.buffer.now ∙ sym c.as_slice.ensures) c.write_unless-self.ensures
+    rw (← c.self.view_is)
+    (Writes-wrote _ _ [] c.as_slice.result.now refl c.clear.ensures
+    (append-nil c.self.inside.buffer.now ∙ sym c.as_slice.ensures)
+    c.write_unless-self-inside.ensures)

@@ -1,9 +1,11 @@
-use Rattle.std.proofs.Common.{ℕ, List, ◌++◌, ap, refl}
+use Rattle.std.proofs.Common.{◌≡◌, [], ◌++◌, ap, refl, ◌∙◌}
 use Rattle.rio_chars.proofs.WrittenLaws.{Writes-wrote}
 use Rattle.rio_chars.proofs.outbox.Outbox.pass.Goals as goal
 
 pub returns : goal.returns
 returns g c =
     let bytes = c.args.bytes.now in
-    Writes-wrote _ _ c.args.self.now _ bytes bytes refl c.requires
-    (ap (λ (l : List ℕ). l ++ bytes) c.requires) c.write_unless-self.ensures
+    let none : c.self.inside.buffer.now ≡ [] = ap (λ o. o.waiting) c.self.view_is ∙ c.requires in
+    rw (← c.self.view_is)
+    (Writes-wrote _ _ bytes bytes refl none (ap (λ l. l ++ bytes) none)
+    c.write_unless-self-inside.ensures)

@@ -7,7 +7,7 @@ use Rattle.rio_chars.proofs.outbox.Outbox.write_chars.Given as goal
 abbrev pub invariant-loop-left : goal.invariant-loop-left
 invariant-loop-left g l =
     (done : List Char) × (l.initial.chars ≡ done ++ l.left)
-    × Writes g.K.Sink.written g.K.Sink.faults l.initial.self l.self (spaced_chars done)
+    × Writes l.initial.self l.self (spaced_chars done)
 
 abbrev pub decreases-loop-left : goal.decreases-loop-left
 decreases-loop-left g l = length l.left

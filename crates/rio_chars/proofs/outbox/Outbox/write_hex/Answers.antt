@@ -6,7 +6,7 @@ use Rattle.rio_chars.proofs.WrittenLaws.{Writes-nil, Writes-then}
 use Rattle.rio_chars.proofs.outbox.Outbox.write_hex.Goals as goal
 
 pub loop-rest-init : goal.loop-rest-init
-loop-rest-init g c = ([], refl, Writes-nil _ _ c.args.self.now)
+loop-rest-init g c = ([], refl, Writes-nil c.args.self.now)
 
 pub loop-rest-preserved : goal.loop-rest-preserved
 loop-rest-preserved g c =
@@ -15,7 +15,7 @@ loop-rest-preserved g c =
     let done = loop.invariant.0 in
     let part = c.split_at.result.0.now in
     let Whole : List ℕ → Type 0 =
-    λ text. Writes g.K.Sink.written g.K.Sink.faults c.args.self.now call.new.self text in (
+    λ text. Writes c.args.self.now call.new.self text in (
       done ++ part,
       loop.invariant.1
           ∙ ap (λ (l : List ℕ). done ++ l) c.split_at.ensures.by_index.0
@@ -29,6 +29,6 @@ returns g c =
     let call = c.write_hex_part-2 in
     let done = loop.invariant.0 in
     let Whole : List ℕ → Type 0 =
-    λ text. Writes g.K.Sink.written g.K.Sink.faults c.args.self.now call.new.self text in
+    λ text. Writes c.args.self.now call.new.self text in
     subst Whole (sym (ap hex_of loop.invariant.1 ∙ hex_of-append done loop.rest.now))
     (Writes-then _ _ loop.invariant.2 call.ensures)

@@ -1,8 +1,9 @@
-use Rattle.std.proofs.Common.{[], refl}
+use Rattle.std.proofs.Common.{[]}
 use Rattle.rio_chars.proofs.WrittenLaws.{Writes-then, Writes-kept}
 use Rattle.rio_chars.proofs.outbox.Outbox.write_long.Goals as goal
 
 pub returns-then-bytes-le-ROOM : goal.returns-then-bytes-le-ROOM
 returns-then-bytes-le-ROOM g c =
-    Writes-then [] c.args.bytes.now c.flush.ensures.written
-    (Writes-kept _ _ c.flush.new.self _ c.args.bytes.now refl c.append.ensures refl)
+    let bytes = c.args.bytes.now in
+    Writes-then [] bytes c.flush.ensures.written
+    (rw (← c.self.view_is) (Writes-kept _ _ bytes c.append.ensures))

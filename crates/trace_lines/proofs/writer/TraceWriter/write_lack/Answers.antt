@@ -1,0 +1,9 @@
+use Rattle.std.proofs.Common.{refl}
+use Rattle.rio_chars.proofs.WrittenLaws.{Writes-then}
+use Rattle.trace_lines.specs.AddsLaws.{Adds-line}
+use Rattle.trace_lines.proofs.writer.TraceWriter.write_lack.Goals as goal
+
+pub returns : goal.returns
+returns g c =
+    Adds-line _ refl refl
+    (Writes-then _ _ (rw c.lack_text.ensures at c.write.ensures) c.write-2.ensures)

@@ -1,9 +1,0 @@
-use Rattle.rio_chars.proofs.WrittenLaws.{Writes-then}
-use Rattle.trace_lines.proofs.WritingLaws.{Writes-packet}
-use Rattle.trace_lines.proofs.writing.write_move.Goals as goal
-
-pub returns : goal.returns
-returns g c =
-    let from = Writes-then _ _ (Writes-then _ _ c.write.ensures c.write_port.ensures)
-    c.write-2.ensures in
-    Writes-packet _ _ c.args.packet.now from c.write_port-2.ensures c.write_packet.ensures
