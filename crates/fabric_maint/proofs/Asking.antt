@@ -204,11 +204,22 @@ moved old fabric noise sink undetected = record old {
 module _ {N K : Type 0} (edits : N → List Edit) (written : K → Option (List ℕ))
     (old : FabricMaint N K) (whole : StandsWhole old) (fabric : Fabric) (noise : N) (sink : K)
     (undetected dest hops : ℕ) (access : Access)
-    (low : access_offset access < 2 ^ 24) (asked : Request) (response : Response)
-    (request_is : asked ≡ request_for (registers_in old old.host).base_id old.tid dest hops access)
-    (replied : (t : Seen) → CanAsk old.host t [] old.fabric.now → Replied (names_of old)
-    (written old.sink.now) (written sink) old.host asked (edits old.noise.now) t []
-    fabric response) where
+    (low : access_offset access < 2 ^ 24) (asked : Request) (response : Response) (id : ℕ)
+    (id_is : id ≡ (registers_in old old.host).base_id)
+    (asks : asked ≡ request_for id old.tid dest hops access)
+    (names : List (List ℕ)) (named : names ≡ names_of old)
+    (answers : (t : Seen) (lines : List TraceLine) → CanAsk old.host t lines old.fabric.now
+    → Replied names (written old.sink.now) (written sink) old.host asked (edits old.noise.now) t
+    lines fabric response) where
+  request_is : asked ≡ request_for (registers_in old old.host).base_id old.tid dest hops access
+  request_is = asks ∙ ap (λ (i : ℕ). request_for i old.tid dest hops access) id_is
+
+  replied : (t : Seen) → CanAsk old.host t [] old.fabric.now → Replied (names_of old)
+      (written old.sink.now) (written sink) old.host asked (edits old.noise.now) t [] fabric
+      response
+  replied t can = subst (λ (ns : List (List ℕ)). Replied ns (written old.sink.now) (written sink)
+      old.host asked (edits old.noise.now) t [] fabric response) named (answers t [] can)
+
   by_request : (t : Seen) → CanAsk old.host t [] old.fabric.now → Replied (names_of old)
       (written old.sink.now) (written sink) old.host
       (request_for (registers_in old old.host).base_id old.tid dest hops access)

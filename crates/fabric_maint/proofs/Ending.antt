@@ -102,28 +102,47 @@ module _ {N K : Type 0} (edits : N → List Edit) (written : K → Option (List 
     (undetected dest hops : ℕ) (access : Access)
     (low : access_offset access < 2 ^ 24) (short : hops < 256) (at : PortRef)
     (is : IsAnswered (topology_in old) (registers_in old) dest hops access at) (asked : Request)
-    (request_is : asked ≡ request_for (registers_in old old.host).base_id old.tid dest hops access)
+    (id : ℕ) (id_is : id ≡ (registers_in old old.host).base_id)
+    (asks : asked ≡ request_for id old.tid dest hops access)
+    (names : List (List ℕ)) (named : names ≡ names_of old) (end : AskEnd)
+    (ended : (t : Seen) (lines : List TraceLine) → CanAsk old.host t lines old.fabric.now
+    → AskEnds names (written old.sink.now) (written sink) old.host asked (edits old.noise.now) t
+    lines end)
   where
+    request_is : asked ≡ request_for (registers_in old old.host).base_id old.tid dest hops access
+    request_is = asks ∙ ap (λ (i : ℕ). request_for i old.tid dest hops access) id_is
+
+    ends : (t : Seen) → CanAsk old.host t [] old.fabric.now → AskEnds (names_of old)
+        (written old.sink.now) (written sink) old.host asked (edits old.noise.now) t [] end
+    ends t can = subst (λ (ns : List (List ℕ)). AskEnds ns (written old.sink.now) (written sink)
+        old.host asked (edits old.noise.now) t [] end) named (ended t [] can)
+
     abbrev request : Request
     request = request_for (registers_in old old.host).base_id old.tid dest hops access
 
     -- it may not be that no response comes
-    never_lost : (names : List (List ℕ)) (before after : Option (List ℕ)) (given : List Edit)
-        → Lost names before after old.host asked given whole.s [] → ⊥
-    never_lost names before after given lost =
-        let gone = subst (λ (r : Request). Lost names before after old.host r given whole.s [])
-        request_is lost in
+    never_lost : Lost (names_of old) (written old.sink.now) (written sink) old.host asked
+        (edits old.noise.now) whole.s [] → ⊥
+    never_lost lost =
+        let gone = subst (λ (r : Request). Lost (names_of old) (written old.sink.now)
+        (written sink) old.host r (edits old.noise.now) whole.s []) request_is lost in
         gone.lost at (trip_at old whole dest hops access at is whole.s whole.rests.can)
 
     -- so it ends for another reason
-    pub some_end : (names : List (List ℕ)) (before after : Option (List ℕ)) (given : List Edit)
-        (end : AskEnd) → AskEnds names before after old.host asked given whole.s [] end
-        → IsSome (end_for end)
-    some_end names before after given Unanswered lost =
-        absurd (never_lost names before after given lost)
-    some_end names before after given (Undetected port event) misled = refl
-    some_end names before after given WriteFault unwritten = refl
-    some_end names before after given NoMemory broken = refl
+    other_end : (other : AskEnd) → AskEnds (names_of old) (written old.sink.now) (written sink)
+        old.host asked (edits old.noise.now) whole.s [] other → IsSome (end_for other)
+    other_end Unanswered lost = absurd (never_lost lost)
+    other_end (Undetected port event) misled = refl
+    other_end WriteFault unwritten = refl
+    other_end NoMemory broken = refl
+
+    pub some_end : IsSome (end_for end)
+    some_end = other_end end (ends whole.s whole.rests.can)
+
+    part : (t : Seen) → CanAsk old.host t [] old.fabric.now → ToldPart (names_of old)
+        (written old.sink.now) (written sink) old.host asked (edits old.noise.now) t
+    part t can = of_end (names_of old) (written old.sink.now) (written sink) old.host asked
+        (edits old.noise.now) t end some_end (ends t can)
 
     -- whatever came of the lines, they may stand where they do
     lines_at : (given : List Edit) (t : Seen) (block : List TraceLine)
@@ -138,12 +157,10 @@ module _ {N K : Type 0} (edits : N → List Edit) (written : K → Option (List 
         few : 0 < 4
         few = omega arith
 
-    leaves_off : (part : (t : Seen) → CanAsk old.host t [] old.fabric.now → ToldPart (names_of old)
-        (written old.sink.now) (written sink) old.host asked (edits old.noise.now) t)
-        → (s : Seen) (origin : FabricMaint N K)
+    leaves_off : (s : Seen) (origin : FabricMaint N K)
         → MaintRestsAt origin.host s origin.fabric.now → Went edits written s origin old
         → AskLeftOff edits written s origin (moved old fabric noise sink undetected)
-    leaves_off part s origin rests went =
+    leaves_off s origin rests went =
         let own = part went.end went.rests.can in
         let own_lines = lines_at (edits old.noise.now) went.end own.block went.rests.can own.is in
         record {
@@ -164,13 +181,11 @@ module _ {N K : Type 0} (edits : N → List Edit) (written : K → Option (List 
         }
 
     -- whoever has followed so far leaves off here
-    pub abandons_at : (faults : K → ℕ) → ((t : Seen) → CanAsk old.host t [] old.fabric.now
-        → ToldPart (names_of old) (written old.sink.now) (written sink) old.host asked
-        (edits old.noise.now) t)
-        → (origin : FabricMaint N K) → faults old.sink.now ≤ faults sink
+    pub abandons_at : (faults : K → ℕ) (origin : FabricMaint N K)
+        → faults old.sink.now ≤ faults sink
         → Followed edits written faults origin old
         → Abandoned edits written faults origin (moved old fabric noise sink undetected)
-    abandons_at faults part origin more followed = record {
+    abandons_at faults origin more followed = record {
       never_falls = let before = followed.never_falls in omega (arith, before, more);
       same = record {
         script = followed.same.script;
@@ -179,7 +194,7 @@ module _ {N K : Type 0} (edits : N → List Edit) (written : K → Option (List 
         noise = followed.same.noise;
         sink = followed.same.sink;
       };
-      left = λ s rests. leaves_off part s origin rests (followed.went s rests);
+      left = λ s rests. leaves_off s origin rests (followed.went s rests);
     }
 
     pub meets : (port : PortRef) (event : Event)
@@ -202,25 +217,33 @@ module _ {N K : Type 0} (edits : N → List Edit) (written : K → Option (List 
     }
 
     -- no count changes but that of its cause
-    pub causes : (faults : K → ℕ) (end : AskEnd) (given : MaintEnd) → Some given ≡ end_for end
-        → undetected ≡ count_after old.undetected end
+    caused : (faults : K → ℕ) (other : AskEnd) (given : MaintEnd) → Some given ≡ end_for other
+        → undetected ≡ count_after old.undetected other
         → AskEnds (names_of old) (written old.sink.now) (written sink) old.host asked
-        (edits old.noise.now) whole.s [] end
-        → (end ≡ WriteFault → Rose (faults old.sink.now) (faults sink))
-        → ((end ≡ WriteFault → ⊥) → faults sink ≡ faults old.sink.now)
+        (edits old.noise.now) whole.s [] other
+        → (other ≡ WriteFault → Rose (faults old.sink.now) (faults sink))
+        → ((other ≡ WriteFault → ⊥) → faults sink ≡ faults old.sink.now)
         → IsCaused (old.undetected, undetected) (faults old.sink.now, faults sink)
         (HasMet edits written (moved old fabric noise sink undetected)) given
-    causes faults Unanswered given is count ends fault stays = absurd cc
-    causes faults (Undetected port event) given is count misled fault stays =
+    caused faults Unanswered given is count ends fault stays = absurd cc
+    caused faults (Undetected port event) given is count misled fault stays =
         subst (IsCaused (old.undetected, undetected) (faults old.sink.now, faults sink)
         (HasMet edits written (moved old fabric noise sink undetected)))
         (sym (same_Some given (maint.Undetected port event) is))
         (meets port event misled, rose old.undetected undetected count, stays (λ same. cc))
-    causes faults WriteFault given is count unwritten fault stays =
+    caused faults WriteFault given is count unwritten fault stays =
         subst (IsCaused (old.undetected, undetected) (faults old.sink.now, faults sink)
         (HasMet edits written (moved old fabric noise sink undetected)))
         (sym (same_Some given maint.WriteFault is)) (fault refl, count)
-    causes faults NoMemory given is count broken fault stays =
+    caused faults NoMemory given is count broken fault stays =
         subst (IsCaused (old.undetected, undetected) (faults old.sink.now, faults sink)
         (HasMet edits written (moved old fabric noise sink undetected)))
         (sym (same_Some given maint.NoMemory is)) (count, stays (λ same. cc))
+
+    pub causes : (faults : K → ℕ) (given : MaintEnd) → Some given ≡ end_for end
+        → undetected ≡ count_after old.undetected end
+        → (end ≡ WriteFault → Rose (faults old.sink.now) (faults sink))
+        → ((end ≡ WriteFault → ⊥) → faults sink ≡ faults old.sink.now)
+        → IsCaused (old.undetected, undetected) (faults old.sink.now, faults sink)
+        (HasMet edits written (moved old fabric noise sink undetected)) given
+    causes faults given is count = caused faults end given is count (ends whole.s whole.rests.can)

@@ -15,7 +15,7 @@ use Rattle.host_enumerate.specs.Checking.{IsNewFabric}
 use Rattle.host_enumerate.specs.Devised.{IsHost, devices_of, links_of}
 use Rattle.host_enumerate.proofs.NewFabrics.{devised_fabric}
 use Rattle.fabric_maint.specs.Asked.{AskedNothing}
-use Rattle.fabric_maint.specs.Going.{names_of, registers_in, StandsFor, StandsWhole, Followed}
+use Rattle.fabric_maint.specs.Going.{StandsFor, Followed}
 use Rattle.fabric_maint.specs.declared.maint.FabricMaint.{FabricMaint}
 use Rattle.fabric_maint.proofs.Leading.{leads_none}
 use Rattle.fabric_maint.proofs.Starting.{start_devices, start_links, rests_new}
@@ -41,7 +41,7 @@ module _ (names : List (List ℕ)) (lines : List Numbered) (node : ℕ) (fabric 
     (passes : ScriptPasses names lines) (host : IsHost (devices_of lines) (links_of lines) node)
     (stands : Stands (start lines) [] fabric)
     (named : length fabric.devices.items ≡ length names) where
-  new_here : IsNewFabric (devices_of lines) (links_of lines) node
+  pub new_here : IsNewFabric (devices_of lines) (links_of lines) node
   new_here = devised_fabric names lines node passes host
 
   pub devices_here : fabric.devices.items ≡ devices_of lines
@@ -67,24 +67,3 @@ module _ (names : List (List ℕ)) (lines : List Numbered) (node : ℕ) (fabric 
         (topology_of (devices_of lines) (links_of lines) node) (registers_of devices))
         (sym (start_devices lines)) new_here.fits;
   }
-
-module _ {N K : Type 0} (maint : FabricMaint N K)
-    (passes : ScriptPasses (names_of maint) maint.script.now.lines.items)
-    (host : IsHost (devices_of maint.script.now.lines.items)
-    (links_of maint.script.now.lines.items) maint.host)
-    (stands : Stands (start maint.script.now.lines.items) [] maint.fabric.now)
-    (named : length maint.fabric.now.devices.items ≡ length (names_of maint)) where
-  pub new_is : IsNewFabric (devices_of maint.script.now.lines.items)
-      (links_of maint.script.now.lines.items) maint.host
-  new_is = devised_fabric (names_of maint) maint.script.now.lines.items maint.host passes host
-
-  pub registers_are : registers_in maint ≡ registers_of (devices_of maint.script.now.lines.items)
-  registers_are =
-      ap registers_of
-      (devices_here (names_of maint) maint.script.now.lines.items maint.host maint.fabric.now passes
-      host stands named)
-
-  pub new_whole : StandsWhole maint
-  new_whole =
-      new_stands (names_of maint) maint.script.now.lines.items maint.host maint.fabric.now passes
-      host stands named

@@ -79,15 +79,7 @@ impl<'a, N: Noise, K: Sink> FabricMaint<'a, N, K> {
         ensures first { result.tid ≡ 0 }
         ensures none { result.undetected ≡ 0 }
     {
-        FabricMaint {
-            fabric,
-            script,
-            host,
-            noise,
-            sink,
-            tid: 0,
-            undetected: 0,
-        }
+        FabricMaint::resting(fabric, script, host, noise, sink)
     }
 
     /// A fabric of a script that rests, as one that was asked, and a host of it. It can be asked.

@@ -1,15 +1,12 @@
-use Rattle.std.proofs.Common.{◌≡◌, ◌<◌, ℕ, List, [], length, Err, arith, refl, ap, ◌∙◌, subst}
+use Rattle.std.proofs.Common.{◌≡◌, [], length, Err, arith, refl, ap, ◌∙◌}
 use Rattle.std.specs.Result.{IsErrOf}
 use Rattle.maint_packets.specs.declared.request.Request.{Request}
 use Rattle.maint_packets.specs.declared.response.Response.{Response}
-use Rattle.fabric_trace.specs.Known.{Seen}
-use Rattle.fabric_ports.specs.Asking.{CanAsk, Replied, AskEnds}
 use Rattle.fabric_ports.specs.declared.asking.AskEnd.{AskEnd}
 use Rattle.fabric_ports.specs.declared.asking.AskEnd.TheVariants.{WriteFault}
-use Rattle.fabric_maint.specs.Going.{names_of}
 use Rattle.fabric_maint.specs.Requests.{request_for, answer_in}
 use Rattle.fabric_maint.proofs.Asking.{asks_on, asked_whole, asked_answer, asked_registers}
-use Rattle.fabric_maint.proofs.Ending.{ToldPart, of_end, some_end, abandons_at, causes}
+use Rattle.fabric_maint.proofs.Ending.{some_end, abandons_at, causes}
 use Rattle.fabric_maint.proofs.maint.FabricMaintMaint.ask.Goals as goal
 
 of_err : (end other : AskEnd) → IsErrOf {T = Response} {E = AskEnd} (Err end) other → end ≡ other
@@ -55,88 +52,51 @@ ask-asked-requires-clause-offset g c =
 
 pub end_for-requires : goal.end_for-requires
 end_for-requires g c =
-    let old = c.args.self.now in
-    let is = c.request_for-request.ensures.value
-    ∙ ap (λ id. request_for id old.tid c.args.dest c.args.hops c.args.access) c.host_id.ensures in
-    let short : c.args.hops < 256 = omega (arith, c.ranges.hops.fits) in
-    some_end g.N.Noise.edits g.K.Sink.written old c.requires.whole c.ask-asked.new.self
+    some_end g.N.Noise.edits g.K.Sink.written c.args.self.now c.requires.whole c.ask-asked.new.self
     c.ask-asked.new.noise c.ask-asked.new.sink 0 c.args.dest c.args.hops c.args.access
-    c.requires.offset short c.requires.answered.0 c.requires.answered.1
-    c.request_for-request.result is c.as_slice.result.now (g.K.Sink.written old.sink.now)
-    (g.K.Sink.written c.ask-asked.new.sink) (g.N.Noise.edits old.noise.now) c.in-Err.end
-    (c.in-Err.ensures.ended c.requires.whole.s [] c.requires.whole.rests.can)
+    c.requires.offset (omega (arith, c.ranges.hops.fits)) c.requires.answered.0
+    c.requires.answered.1 c.request_for-request.result c.host_id.result c.host_id.ensures
+    c.request_for-request.ensures.value c.as_slice.result.now c.as_slice.ensures.value
+    c.in-Err.end c.in-Err.ensures.ended
 
 pub returns-in-Ok-clause-answer : goal.returns-in-Ok-clause-answer
 returns-in-Ok-clause-answer g c at answers =
-    let old = c.args.self.now in
+    let id = c.host_id.ensures in
     let is = c.request_for-request.ensures.value
-    ∙ ap (λ id. request_for id old.tid c.args.dest c.args.hops c.args.access) c.host_id.ensures in
-    let replied : (t : Seen) → CanAsk old.host t [] old.fabric.now → Replied (names_of old)
-    (g.K.Sink.written old.sink.now) (g.K.Sink.written c.ask-asked.new.sink) old.host
-    c.request_for-request.result (g.N.Noise.edits old.noise.now) t [] c.ask-asked.new.self
-    c.in-Ok.response = λ t can. subst (λ (names : List (List ℕ)). Replied names
-    (g.K.Sink.written old.sink.now) (g.K.Sink.written c.ask-asked.new.sink) old.host
-    c.request_for-request.result (g.N.Noise.edits old.noise.now) t [] c.ask-asked.new.self
-    c.in-Ok.response) c.as_slice.ensures.value (c.in-Ok.ensures.replied t [] can) in
-    c.answer_in.ensures
-    ∙ ap (λ (r : Request). answer_in c.in-Ok.response r.offset) is
-    ∙ asked_answer g.N.Noise.edits g.K.Sink.written old c.requires.whole c.ask-asked.new.self
-    c.ask-asked.new.noise c.ask-asked.new.sink old.undetected c.args.dest c.args.hops c.args.access
-    c.requires.offset c.request_for-request.result c.in-Ok.response is replied at answers
+    ∙ ap (λ i. request_for i c.args.self.now.tid c.args.dest c.args.hops c.args.access) id in
+    c.answer_in.ensures ∙ ap (λ (r : Request). answer_in c.in-Ok.response r.offset) is
+    ∙ asked_answer g.N.Noise.edits g.K.Sink.written c.args.self.now c.requires.whole c.ask-asked.new.self
+    c.ask-asked.new.noise c.ask-asked.new.sink c.args.self.now.undetected c.args.dest c.args.hops
+    c.args.access c.requires.offset c.request_for-request.result c.in-Ok.response c.host_id.result
+    c.host_id.ensures c.request_for-request.ensures.value c.as_slice.result.now
+    c.as_slice.ensures.value c.in-Ok.ensures.replied at answers
 
 pub returns-in-Ok-clause-registers : goal.returns-in-Ok-clause-registers
 returns-in-Ok-clause-registers g c at answers =
-    let old = c.args.self.now in
-    let is = c.request_for-request.ensures.value
-    ∙ ap (λ id. request_for id old.tid c.args.dest c.args.hops c.args.access) c.host_id.ensures in
-    let replied : (t : Seen) → CanAsk old.host t [] old.fabric.now → Replied (names_of old)
-    (g.K.Sink.written old.sink.now) (g.K.Sink.written c.ask-asked.new.sink) old.host
-    c.request_for-request.result (g.N.Noise.edits old.noise.now) t [] c.ask-asked.new.self
-    c.in-Ok.response = λ t can. subst (λ (names : List (List ℕ)). Replied names
-    (g.K.Sink.written old.sink.now) (g.K.Sink.written c.ask-asked.new.sink) old.host
-    c.request_for-request.result (g.N.Noise.edits old.noise.now) t [] c.ask-asked.new.self
-    c.in-Ok.response) c.as_slice.ensures.value (c.in-Ok.ensures.replied t [] can) in
-    asked_registers g.N.Noise.edits g.K.Sink.written old c.requires.whole c.ask-asked.new.self
-    c.ask-asked.new.noise c.ask-asked.new.sink old.undetected c.args.dest c.args.hops c.args.access
-    c.requires.offset c.request_for-request.result c.in-Ok.response is replied at answers
+    asked_registers g.N.Noise.edits g.K.Sink.written c.args.self.now c.requires.whole c.ask-asked.new.self
+    c.ask-asked.new.noise c.ask-asked.new.sink c.args.self.now.undetected c.args.dest c.args.hops
+    c.args.access c.requires.offset c.request_for-request.result c.in-Ok.response c.host_id.result
+    c.host_id.ensures c.request_for-request.ensures.value c.as_slice.result.now
+    c.as_slice.ensures.value c.in-Ok.ensures.replied at answers
 
 pub returns-in-Ok-clause-topology : goal.returns-in-Ok-clause-topology
 returns-in-Ok-clause-topology g c = refl
 
 pub returns-in-Ok-clause-whole : goal.returns-in-Ok-clause-whole
 returns-in-Ok-clause-whole g c =
-    let old = c.args.self.now in
-    let is = c.request_for-request.ensures.value
-    ∙ ap (λ id. request_for id old.tid c.args.dest c.args.hops c.args.access) c.host_id.ensures in
-    let replied : (t : Seen) → CanAsk old.host t [] old.fabric.now → Replied (names_of old)
-    (g.K.Sink.written old.sink.now) (g.K.Sink.written c.ask-asked.new.sink) old.host
-    c.request_for-request.result (g.N.Noise.edits old.noise.now) t [] c.ask-asked.new.self
-    c.in-Ok.response = λ t can. subst (λ (names : List (List ℕ)). Replied names
-    (g.K.Sink.written old.sink.now) (g.K.Sink.written c.ask-asked.new.sink) old.host
-    c.request_for-request.result (g.N.Noise.edits old.noise.now) t [] c.ask-asked.new.self
-    c.in-Ok.response) c.as_slice.ensures.value (c.in-Ok.ensures.replied t [] can) in
-    asked_whole g.N.Noise.edits g.K.Sink.written old c.requires.whole c.ask-asked.new.self
-    c.ask-asked.new.noise c.ask-asked.new.sink old.undetected c.args.dest c.args.hops c.args.access
-    c.requires.offset c.request_for-request.result c.in-Ok.response is replied
-    c.requires.answered.0 c.requires.answered.1
+    asked_whole g.N.Noise.edits g.K.Sink.written c.args.self.now c.requires.whole c.ask-asked.new.self
+    c.ask-asked.new.noise c.ask-asked.new.sink c.args.self.now.undetected c.args.dest c.args.hops
+    c.args.access c.requires.offset c.request_for-request.result c.in-Ok.response c.host_id.result
+    c.host_id.ensures c.request_for-request.ensures.value c.as_slice.result.now
+    c.as_slice.ensures.value c.in-Ok.ensures.replied c.requires.answered.0 c.requires.answered.1
 
 pub returns-in-Ok-clause-follows : goal.returns-in-Ok-clause-follows
 returns-in-Ok-clause-follows g c origin followed =
-    let old = c.args.self.now in
-    let is = c.request_for-request.ensures.value
-    ∙ ap (λ id. request_for id old.tid c.args.dest c.args.hops c.args.access) c.host_id.ensures in
-    let replied : (t : Seen) → CanAsk old.host t [] old.fabric.now → Replied (names_of old)
-    (g.K.Sink.written old.sink.now) (g.K.Sink.written c.ask-asked.new.sink) old.host
-    c.request_for-request.result (g.N.Noise.edits old.noise.now) t [] c.ask-asked.new.self
-    c.in-Ok.response = λ t can. subst (λ (names : List (List ℕ)). Replied names
-    (g.K.Sink.written old.sink.now) (g.K.Sink.written c.ask-asked.new.sink) old.host
-    c.request_for-request.result (g.N.Noise.edits old.noise.now) t [] c.ask-asked.new.self
-    c.in-Ok.response) c.as_slice.ensures.value (c.in-Ok.ensures.replied t [] can) in
-    asks_on g.N.Noise.edits g.K.Sink.written old c.requires.whole c.ask-asked.new.self
-    c.ask-asked.new.noise c.ask-asked.new.sink old.undetected c.args.dest c.args.hops c.args.access
-    c.requires.offset c.request_for-request.result c.in-Ok.response is replied g.K.Sink.faults
-    origin
-    c.ask-asked.ensures.never_falls followed
+    asks_on g.N.Noise.edits g.K.Sink.written c.args.self.now c.requires.whole c.ask-asked.new.self
+    c.ask-asked.new.noise c.ask-asked.new.sink c.args.self.now.undetected c.args.dest c.args.hops
+    c.args.access c.requires.offset c.request_for-request.result c.in-Ok.response c.host_id.result
+    c.host_id.ensures c.request_for-request.ensures.value c.as_slice.result.now
+    c.as_slice.ensures.value c.in-Ok.ensures.replied g.K.Sink.faults origin c.ask-asked.ensures.never_falls followed
 
 pub returns-in-Ok-clause-undetected : goal.returns-in-Ok-clause-undetected
 returns-in-Ok-clause-undetected g c = refl
@@ -149,46 +109,22 @@ returns-in-Err-clause-topology g c = refl
 
 pub returns-in-Err-clause-leaves : goal.returns-in-Err-clause-leaves
 returns-in-Err-clause-leaves g c origin followed =
-    let old = c.args.self.now in
-    let is = c.request_for-request.ensures.value
-    ∙ ap (λ id. request_for id old.tid c.args.dest c.args.hops c.args.access) c.host_id.ensures in
-    let short : c.args.hops < 256 = omega (arith, c.ranges.hops.fits) in
-    let some = some_end g.N.Noise.edits g.K.Sink.written old c.requires.whole c.ask-asked.new.self
-    c.ask-asked.new.noise c.ask-asked.new.sink 0 c.args.dest c.args.hops c.args.access
-    c.requires.offset short c.requires.answered.0 c.requires.answered.1
-    c.request_for-request.result is c.as_slice.result.now (g.K.Sink.written old.sink.now)
-    (g.K.Sink.written c.ask-asked.new.sink) (g.N.Noise.edits old.noise.now) c.in-Err.end
-    (c.in-Err.ensures.ended c.requires.whole.s [] c.requires.whole.rests.can) in
-    let part : (t : Seen) → CanAsk old.host t [] old.fabric.now → ToldPart (names_of old)
-    (g.K.Sink.written old.sink.now) (g.K.Sink.written c.ask-asked.new.sink) old.host
-    c.request_for-request.result (g.N.Noise.edits old.noise.now) t = λ t can.
-    of_end (names_of old) (g.K.Sink.written old.sink.now) (g.K.Sink.written c.ask-asked.new.sink)
-    old.host c.request_for-request.result (g.N.Noise.edits old.noise.now) t c.in-Err.end some
-    (subst (λ (names : List (List ℕ)). AskEnds names
-    (g.K.Sink.written old.sink.now) (g.K.Sink.written c.ask-asked.new.sink) old.host
-    c.request_for-request.result (g.N.Noise.edits old.noise.now) t [] c.in-Err.end)
-    c.as_slice.ensures.value (c.in-Err.ensures.ended t [] can)) in
-    abandons_at g.N.Noise.edits g.K.Sink.written old c.requires.whole c.ask-asked.new.self
-    c.ask-asked.new.noise c.ask-asked.new.sink c.count_after-self.result c.args.dest c.args.hops
-    c.args.access c.requires.offset short c.requires.answered.0 c.requires.answered.1
-    c.request_for-request.result is g.K.Sink.faults part origin
+    abandons_at g.N.Noise.edits g.K.Sink.written c.args.self.now c.requires.whole c.ask-asked.new.self
+    c.ask-asked.new.noise c.ask-asked.new.sink c.count_after-self.result c.args.dest c.args.hops c.args.access
+    c.requires.offset (omega (arith, c.ranges.hops.fits)) c.requires.answered.0
+    c.requires.answered.1 c.request_for-request.result c.host_id.result c.host_id.ensures
+    c.request_for-request.ensures.value c.as_slice.result.now c.as_slice.ensures.value
+    c.in-Err.end c.in-Err.ensures.ended g.K.Sink.faults origin
     c.ask-asked.ensures.never_falls followed
 
 pub returns-in-Err-clause-cause : goal.returns-in-Err-clause-cause
 returns-in-Err-clause-cause g c =
-    let old = c.args.self.now in
-    let is = c.request_for-request.ensures.value
-    ∙ ap (λ id. request_for id old.tid c.args.dest c.args.hops c.args.access) c.host_id.ensures in
-    let short : c.args.hops < 256 = omega (arith, c.ranges.hops.fits) in
-    causes g.N.Noise.edits g.K.Sink.written old c.requires.whole c.ask-asked.new.self
-    c.ask-asked.new.noise c.ask-asked.new.sink c.count_after-self.result c.args.dest c.args.hops
-    c.args.access c.requires.offset short c.requires.answered.0 c.requires.answered.1
-    c.request_for-request.result is g.K.Sink.faults c.in-Err.end c.end_for.result c.end_for.ensures
+    causes g.N.Noise.edits g.K.Sink.written c.args.self.now c.requires.whole c.ask-asked.new.self
+    c.ask-asked.new.noise c.ask-asked.new.sink c.count_after-self.result c.args.dest c.args.hops c.args.access
+    c.requires.offset (omega (arith, c.ranges.hops.fits)) c.requires.answered.0
+    c.requires.answered.1 c.request_for-request.result c.host_id.result c.host_id.ensures
+    c.request_for-request.ensures.value c.as_slice.result.now c.as_slice.ensures.value
+    c.in-Err.end c.in-Err.ensures.ended g.K.Sink.faults c.end_for.result c.end_for.ensures
     c.count_after-self.ensures
-    (subst (λ (names : List (List ℕ)). AskEnds names
-    (g.K.Sink.written old.sink.now) (g.K.Sink.written c.ask-asked.new.sink) old.host
-    c.request_for-request.result (g.N.Noise.edits old.noise.now) c.requires.whole.s [] c.in-Err.end)
-    c.as_slice.ensures.value
-    (c.in-Err.ensures.ended c.requires.whole.s [] c.requires.whole.rests.can))
     (λ same. c.in-Err.ensures.write_fault (ap Err same))
     (λ apart. c.in-Err.ensures.counts (λ same. apart (of_err c.in-Err.end WriteFault same)))
