@@ -1,5 +1,6 @@
 -- What calls of an outbox tell, one after the other.
-use Rattle.std.proofs.Common.{◌≡◌, ℕ, List, [], ◌∷◌, ◌++◌, Option, None, Some, IsSome, refl, sym, ap, subst, append-nil}
+use Rattle.std.proofs.Common.{◌≡◌, ℕ, List, [], ◌∷◌, ◌++◌, Option, None, Some, IsSome, refl, sym, ap, subst, append-nil, append_assoc}
+use Rattle.std.specs.Prelude.{codes}
 use Rattle.std.specs.List.{flat_map}
 use Rattle.rio_chars.specs.Written.{Outgoing, Writes}
 use Rattle.rio_chars.proofs.WrittenLaws.{Writes-then}
@@ -11,6 +12,19 @@ use Rattle.rio_framer.specs.Framing.{ended_of}
 use Rattle.rio_framer.specs.Giving.{listed, told_of_events}
 use Rattle.rio_framer.specs.declared.events.Told.TheVariants as told
 use Rattle.rio_cli.specs.Decoding.{placed_text}
+
+regrouped : (a b c d e : List ℕ)
+    → a ++ (32 ∷ b) ++ ((32 ∷ c) ++ (32 ∷ d) ++ (32 ∷ e) ++ (10 ∷ []))
+    ≡ a ++ (32 ∷ []) ++ b ++ (32 ∷ []) ++ c ++ (32 ∷ []) ++ d ++ (32 ∷ []) ++ e ++ (10 ∷ [])
+regrouped a b c d e = simp append_assoc
+
+-- the fields of a symbol, as they are told and as they stand in a trace
+pub fields-regrouped : (a b c d e : List ℕ)
+    → codes " symbol" ++ (codes " " ++ a ++ (codes " " ++ b))
+    ++ (codes " " ++ c ++ (codes " " ++ d) ++ (codes " " ++ e) ++ codes "\n")
+    ≡ codes " " ++ (codes "symbol " ++ a ++ codes " " ++ b ++ codes " " ++ c ++ codes " " ++ d
+    ++ codes " " ++ e) ++ codes "\n"
+fields-regrouped a b c d e = ap (λ l. codes " symbol " ++ l) (regrouped a b c d e)
 
 -- the lines of the first event and of the second
 pub listed-parts : (n : ℕ) (first : Option Event) (second : Option Fields)

@@ -7,14 +7,13 @@ use Rattle.std.specs.Io.KnownBytes.{Appends}
 use Rattle.host_enumerate.specs.MapTexts.{spaced}
 use Rattle.rio_chars.specs.CharText.{char_text_of, HasByte}
 use Rattle.rio_chars.specs.Fronts.{AppendsFront}
-use Rattle.rio_chars.specs.HexText.{hex_of}
 use Rattle.rio_chars.specs.declared.chars.Char.{Char}
-use Rattle.rio_symbols.specs.Fields.{Fields}
 use Rattle.rio_packets.specs.CauseNumbers.{number_of}
 use Rattle.rio_packets.specs.declared.cause.Cause.{Cause}
 use Rattle.link_model.specs.declared.event.Event.{Event}
 use Rattle.link_model.specs.declared.event.Event.TheVariants.{Ctl, Pkt, Bad}
 use Rattle.link_model.specs.Reading.{Reads, Plain, IsReading, IsCut}
+use Rattle.trace_lines.specs.Text.{event_text}
 
 -- what stands between two spaces that follow each other is no word
 abbrev pub is_word : List ℕ → Bool
@@ -58,23 +57,15 @@ pub record BadWordAt (bytes : List ℕ) (line : ℕ) : Type 0 where
   pub bad : ¬ AreSpelled (words_in_line text)
   pub place : line ≡ length before + 1
 
--- the line of a symbol, behind its place: stype0, its two parameters, stype1 and cmd
-abbrev pub symbol_text : Fields → List ℕ
-symbol_text s = codes " symbol" ++ spaced s.s0 ++ spaced s.p0 ++ spaced s.p1 ++ spaced s.s1
-    ++ spaced s.cmd ++ codes "\n"
-
--- the line of a packet, behind its place: its ackID, and its bytes with none
-abbrev pub event_packet_text : ℕ → List ℕ → List ℕ
-event_packet_text ack packet =
-    codes " packet" ++ spaced ack ++ codes " " ++ hex_of packet ++ codes "\n"
-
 -- the line of what is neither, behind its place: its cause
 abbrev pub bad_text : Cause → List ℕ
 bad_text cause = codes " bad" ++ spaced (number_of cause) ++ codes "\n"
 
+-- the line of an event, behind its place: a symbol and a packet have the texts that they have in a
+-- trace
 abbrev pub event_told_text : Event → List ℕ
-event_told_text (Ctl symbol) = symbol_text symbol
-event_told_text (Pkt ack packet) = event_packet_text ack packet
+event_told_text (Ctl symbol) = codes " " ++ event_text (Ctl symbol) ++ codes "\n"
+event_told_text (Pkt ack packet) = codes " " ++ event_text (Pkt ack packet) ++ codes "\n"
 event_told_text (Bad cause) = bad_text cause
 
 -- the line of an event at its place

@@ -6,8 +6,9 @@ ghost use Rattle.rio_chars.specs.HexText.{hex_of};
 ghost use Rattle.rio_chars.specs.Written.{Writes};
 ghost use Rattle.rio_symbols.specs.Fields.{Fields};
 ghost use Rattle.link_model.specs.Reading.{placed};
+ghost use Rattle.link_model.specs.declared.event.Event.TheVariants.{Ctl, Pkt};
 ghost use Rattle.rio_framer.specs.Giving.{listed, events_by};
-ghost use Rattle.rio_cli.specs.Decoding.{symbol_text, event_packet_text, bad_text, placed_text, end_text};
+ghost use Rattle.rio_cli.specs.Decoding.{event_told_text, bad_text, placed_text, end_text};
 
 use crate::places::{digit_and_number, number_and_digits, write_number, write_place};
 use link_model::Event;
@@ -49,7 +50,7 @@ fn write_ended<K: Sink>(outbox: &mut Outbox<K>, place: u32, framer: &Framer)
 /// Tells the line of a symbol.
 fn write_symbol<K: Sink>(outbox: &mut Outbox<K>, place: u32, symbol: &Symbol)
     ensures { Writes outbox.old outbox.new
-        (decimal place ++ symbol_text symbol.now) }
+        (decimal place ++ event_told_text (Ctl symbol.now)) }
 {
     write_place(outbox, place);
     write_fields(outbox, symbol);
@@ -58,7 +59,7 @@ fn write_symbol<K: Sink>(outbox: &mut Outbox<K>, place: u32, symbol: &Symbol)
 /// Tells what stands behind the place: the word and the five fields.
 #[inline(always)]
 fn write_fields<K: Sink>(outbox: &mut Outbox<K>, symbol: &Symbol)
-    ensures { Writes outbox.old outbox.new (symbol_text symbol.now) }
+    ensures { Writes outbox.old outbox.new (event_told_text (Ctl symbol.now)) }
 {
     outbox.write_short(b" symbol\n", 7);
     let (front, count) = digit_and_number(symbol.s0, symbol.p0);
@@ -70,7 +71,7 @@ fn write_fields<K: Sink>(outbox: &mut Outbox<K>, symbol: &Symbol)
 /// Tells the line of a packet.
 fn write_packet<K: Sink>(outbox: &mut Outbox<K>, place: u32, ack: u8, packet: &[u8])
     ensures { Writes outbox.old outbox.new
-        (decimal place ++ event_packet_text ack packet.now) }
+        (decimal place ++ event_told_text (Pkt ack packet.now)) }
 {
     write_place(outbox, place);
     write_form(outbox, ack, packet);
@@ -78,7 +79,7 @@ fn write_packet<K: Sink>(outbox: &mut Outbox<K>, place: u32, ack: u8, packet: &[
 
 /// Tells what stands behind the place: the word, the ackID and the bytes.
 fn write_form<K: Sink>(outbox: &mut Outbox<K>, ack: u8, packet: &[u8])
-    ensures { Writes outbox.old outbox.new (event_packet_text ack packet.now) }
+    ensures { Writes outbox.old outbox.new (event_told_text (Pkt ack packet.now)) }
 {
     outbox.write_short(b" packet\n", 7);
     write_number(outbox, ack);

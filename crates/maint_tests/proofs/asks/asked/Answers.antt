@@ -1,4 +1,4 @@
-use Rattle.std.proofs.Common.{[], codes, length, Ok, arith, sym, ap, ◌∙◌, subst}
+use Rattle.std.proofs.Common.{[], codes, length, arith, sym, ap, ◌∙◌, subst}
 use Rattle.fabric_trace.specs.Runs.{start}
 use Rattle.host_enumerate.specs.Devised.{devices_of, links_of}
 use Rattle.host_enumerate.specs.Hosts.{FindsHost}

@@ -1,4 +1,4 @@
-use Rattle.std.proofs.Common.{Ok, Err, inl, inr, ap, subst}
+use Rattle.std.proofs.Common.{Err, ap}
 use Rattle.io_rounds.proofs.IoFitting.{script_fits}
 use Rattle.rio_cli.specs.declared.command.Command.TheVariants.{Io}
 use Rattle.rio_cli.specs.declared.status.Status.TheVariants.{Script}

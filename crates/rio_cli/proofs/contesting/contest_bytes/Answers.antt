@@ -1,7 +1,7 @@
 use Rattle.std.proofs.Common.{◌+◌, Ok, Err, ap}
 use Rattle.rio_cli.specs.declared.command.Command.TheVariants.{Contest}
 use Rattle.rio_cli.specs.declared.status.Status.TheVariants.{Script}
-use Rattle.rio_cli.specs.Contesting.{HasHosts, IsRefusedForTwo, HitForTwo}
+use Rattle.rio_cli.specs.Contesting.{HasHosts, HitForTwo}
 use Rattle.rio_cli.proofs.AnswerLaws.{says_line, RefusesBytes-line}
 use Rattle.rio_cli.proofs.ContestLaws.{finds_as, no_hosts, says_contest}
 use Rattle.rio_cli.proofs.contesting.contest_bytes.Goals as goal
