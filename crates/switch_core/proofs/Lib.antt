@@ -3,4 +3,5 @@ pub mod OrderLaws
 pub mod RequestLaws
 pub mod StepLaws
 pub mod GoingLaws
+pub mod FirstSteps
 pub mod CollectLaws

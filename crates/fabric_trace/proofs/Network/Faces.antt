@@ -24,9 +24,10 @@ use Rattle.switch_core.specs.declared.endpoint.Collected.{Collected}
 use Rattle.switch_core.specs.declared.endpoint.Collected.TheVariants as Collects
 use Rattle.switch_core.specs.Faces.{Face, face_at, head_of, has_room}
 use Rattle.switch_core.specs.Order.{least_first}
-use Rattle.switch_core.specs.SwitchSteps.{answer_step, step_to, step_of_head, step_at, first_step, step_of}
+use Rattle.switch_core.specs.SwitchSteps.{answer_step, step_to, step_of}
 use Rattle.switch_core.specs.EndpointSteps.{first_held, collected_of, collected_head, collected}
-use Rattle.switch_core.proofs.OrderLaws.{least_first-is, greatest_first-is}
+use Rattle.switch_core.proofs.FirstSteps.{first_step_by}
+use Rattle.switch_core.proofs.OrderLaws.{greatest_first-is}
 use Rattle.switch_core.proofs.RequestLaws.{request_there}
 use Rattle.fabric_script.specs.declared.ports.PortRef.{PortRef}
 use Rattle.fabric_model.specs.Laws.Priorities.{ByPriority}
@@ -233,31 +234,15 @@ module _ (net : Network) (node : ℕ) (device : Registers) (by : ByPriority net)
             (sym (face_is net node device to (port_there device packet to next))) ∙ made.0,
       )
 
-  head_needs : (port r : ℕ) (head : Option (List ℕ)) (step : switch.Step) → port < device.ports
-      → head_of (face_at (faces_in net node device) port) r ≡ head
-      → step_of_head device (faces_in net node device) port head ≡ Some step
-      → StepNeeds net node step
-  head_needs port r None step there head is = absurd cc
-  head_needs port r (Some packet) step there head is =
+  -- a switch's step has what it needs
+  pub step_needs : StepNeeds net node (step_of device (faces_in net node device))
+  step_needs = first_step_by (StepNeeds net node) device (faces_in net node device) tt
+      (λ port r packet step there head is.
       let p : PortRef = record { node = node; port = port } in
       let own : head_of (face_in net p) r ≡ Some packet =
       ap (λ (f : Face). head_of f r) (sym (face_is net node device port there)) ∙ head in
       to_needs port packet (next_of device packet) step there (head_held net p r packet by own) refl
-      is
-
-  first_needs : (found : Option switch.Step) → first_step device (faces_in net node device) ≡ found
-      → StepNeeds net node (unwrap_or found Nothing)
-  first_needs None is = tt
-  first_needs (Some step) is =
-      let faces = faces_in net node device in
-      let of_prio = greatest_first-is (λ prio. least_first (step_at device faces prio) device.ports)
-      4 step is in
-      let at = least_first-is (step_at device faces of_prio.0) device.ports step of_prio.2 in
-      head_needs at.0 of_prio.0 (head_of (face_at faces at.0) of_prio.0) step at.1 refl at.2
-
-  -- a switch's step has what it needs
-  pub step_needs : StepNeeds net node (step_of device (faces_in net node device))
-  step_needs = first_needs (first_step device (faces_in net node device)) refl
+      is)
 
 -- ---- an endpoint
 

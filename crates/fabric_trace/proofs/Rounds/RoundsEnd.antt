@@ -13,9 +13,8 @@ use Rattle.maint_packets.specs.Answers.{request_answered}
 use Rattle.switch_core.specs.declared.switch.Step as switch
 use Rattle.switch_core.specs.declared.switch.Step.TheVariants.{Moved, Dropped, Answered, Nothing}
 use Rattle.switch_core.specs.Faces.{Face, face_at, head_of, has_room}
-use Rattle.switch_core.specs.Order.{least_first}
-use Rattle.switch_core.specs.SwitchSteps.{answer_step, step_to, step_of_head, step_at, first_step, step_of}
-use Rattle.switch_core.proofs.OrderLaws.{least_first-is, greatest_first-is}
+use Rattle.switch_core.specs.SwitchSteps.{answer_step, step_to, step_of}
+use Rattle.switch_core.proofs.FirstSteps.{first_step_by}
 use Rattle.fabric_script.specs.declared.ports.PortRef.{PortRef}
 use Rattle.fabric_model.specs.Steps.{DeviceStep, Move, Drop, Answer, ByDevice, after}
 use Rattle.fabric_model.proofs.Emptying.{packets_at, step_empties}
@@ -63,23 +62,10 @@ module _ (device : Registers) (faces : List Face) where
       by_room device (has_room (face_at faces to) (prio_of packet)) (Moved port to packet) step
       there is
 
-  head_there : (port : ℕ) (head : Option (List ℕ)) (step : switch.Step) → port < device.ports
-      → step_of_head device faces port head ≡ Some step → IsOfPort device.ports step
-  head_there port None step there is = absurd cc
-  head_there port (Some packet) step there is = to_there port packet (next_of device packet) step
-      there is
-
-  first_there : (found : Option switch.Step) → first_step device faces ≡ found
-      → IsOfPort device.ports (unwrap_or found Nothing)
-  first_there None is = tt
-  first_there (Some step) is =
-      let of_prio = greatest_first-is (λ prio. least_first (step_at device faces prio) device.ports)
-      4 step is in
-      let at = least_first-is (step_at device faces of_prio.0) device.ports step of_prio.2 in
-      head_there at.0 (head_of (face_at faces at.0) of_prio.0) step at.1 at.2
-
   step_there : IsOfPort device.ports (step_of device faces)
-  step_there = first_there (first_step device faces) refl
+  step_there = first_step_by (IsOfPort device.ports) device faces tt
+      (λ port prio packet step there head is.
+      to_there port packet (next_of device packet) step there is)
 
 -- it is one of more ports too
 of_more : (ports more : ℕ) (made : switch.Step) → ports ≤ more → IsOfPort ports made

@@ -16,9 +16,8 @@ use Rattle.maint_packets.proofs.AnswerLaws.{responses_pass}
 use Rattle.switch_core.specs.declared.switch.Step as switch
 use Rattle.switch_core.specs.declared.switch.Step.TheVariants.{Moved, Dropped, Answered, Nothing}
 use Rattle.switch_core.specs.Faces.{Face, face_at, head_of, has_room}
-use Rattle.switch_core.specs.Order.{least_first}
-use Rattle.switch_core.specs.SwitchSteps.{answer_step, step_to, step_of_head, step_at, first_step, step_of}
-use Rattle.switch_core.proofs.OrderLaws.{least_first-is, greatest_first-is}
+use Rattle.switch_core.specs.SwitchSteps.{answer_step, step_to, step_of}
+use Rattle.switch_core.proofs.FirstSteps.{first_step_by}
 use Rattle.fabric_script.specs.declared.ports.PortRef.{PortRef}
 use Rattle.fabric_model.specs.Network.{Network, IsSwitch}
 use Rattle.fabric_model.specs.Laws.Forms.{IsFormed}
@@ -73,33 +72,16 @@ module _ (s : Seen) (node : ℕ) (device : Registers) (good : IsGood s) (formed 
       (Moved port to packet) step is in
       subst ResponseHasForm made.1 tt
 
-  head_form : (port r : ℕ) (head : Option (List ℕ)) (step : switch.Step) → port < device.ports
-      → head_of (face_at (faces_in s.network node device) port) r ≡ head
-      → step_of_head device (faces_in s.network node device) port head ≡ Some step
-      → ResponseHasForm step
-  head_form port r None step there head is = absurd cc
-  head_form port r (Some packet) step there head is =
-      let p : PortRef = record { node = node; port = port } in
-      let own : head_of (face_in s.network p) r ≡ Some packet =
-      ap (λ (f : Face). head_of f r) (sym (face_is s.network node device port there))
-      ∙ head in
-      to_form port packet (next_of device packet) step there
-      (passes_first s good p packet
-      (head_held s.network p r packet (good_by_priority good) own).first) is
-
-  first_form : (found : Option switch.Step) → first_step device (faces_in s.network node device)
-      ≡ found → ResponseHasForm (unwrap_or found Nothing)
-  first_form None is = tt
-  first_form (Some step) is =
-      let faces = faces_in s.network node device in
-      let of_prio = greatest_first-is (λ prio. least_first (step_at device faces prio) device.ports)
-      4 step is in
-      let at = least_first-is (step_at device faces of_prio.0) device.ports step of_prio.2 in
-      head_form at.0 of_prio.0 (head_of (face_at faces at.0) of_prio.0) step at.1 refl at.2
-
   -- what a switch makes is in its link form
   pub step_form : ResponseHasForm (step_of device (faces_in s.network node device))
-  step_form = first_form (first_step device (faces_in s.network node device)) refl
+  step_form = first_step_by ResponseHasForm device (faces_in s.network node device) tt
+      (λ port r packet step there head is.
+      let p : PortRef = record { node = node; port = port } in
+      let own : head_of (face_in s.network p) r ≡ Some packet =
+      ap (λ (f : Face). head_of f r) (sym (face_is s.network node device port there)) ∙ head in
+      to_form port packet (next_of device packet) step there
+      (passes_first s good p packet
+      (head_held s.network p r packet (good_by_priority good) own).first) is)
 
 -- A switch has a move, if only the one that no packet of it can go.
 pub move_exists : (s : Seen) (node : ℕ) → IsGood s → IsFormed s.network → IsSwitch s.network node
