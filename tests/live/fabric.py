@@ -97,12 +97,12 @@ def ends(program):
     for text, wanted in [(b"", b"end\n"), (b"endpoint A 1", b"end\n"), (b"\n#\nstop\nrun", b"ok\nok\nrefused 1\nok\nend\n")]:
         ended(program, text, wanted, 0)
     ended(program, b"stop\n", b"", 2, "replay")
-    unsent = b"endpoint A 1\nendpoint B 2\nlink A.0 B.0\n" + b"".join(
+    undetected = b"endpoint A 1\nendpoint B 2\nlink A.0 B.0\n" + b"".join(
         b"insert A.0 %d %s\n" % place for place in enumerate([b"k1c", b"d00", b"dff", b"d16"])
     )
     last = b"> deliver A.0 4\ngot B.0 k1c d00 dff d16\nundetected 8 B.0 symbol 0 0 31 7 0\nok\n"
-    blocks = b"".join(b"> " + line + b"\nok\n" for line in unsent.split(b"\n")[3:-1])
-    ended(program, unsent + b"deliver A.0 4\ncollect B\n", b"ok\n" * 3 + blocks + last, 7)
+    blocks = b"".join(b"> " + line + b"\nok\n" for line in undetected.split(b"\n")[3:-1])
+    ended(program, undetected + b"deliver A.0 4\ncollect B\n", b"ok\n" * 3 + blocks + last, 7)
 
 
 def long_lines(program):

@@ -25,12 +25,12 @@ use Rattle.fabric_ask.proofs.Uncollected.{nothing_leaves}
 use Rattle.fabric_ask.proofs.AskEnds.{ends_nowhere, comes_back, not_returning, replied}
 
 module _ (host : ℕ) (request : Request) (noise : List Edit) (s : Seen) (lines : List TraceLine)
-    (good : IsGood s) (none : s.unfaithful ≡ None) (clear : IsClear s.network)
+    (good : IsGood s) (none : s.undetected ≡ None) (clear : IsClear s.network)
     (laid : IsLaid s.network.registers s.network.links host)
     (within : AllByRecursion IsWithin s.network.registers) (low : request.hop < 256)
     (reads : (packet : List ℕ) → LinkForm (request_body request) packet
     → request_of packet ≡ Some request)
-    (ask : IsAsk host request noise s lines) (still : (seen s lines).unfaithful ≡ None) where
+    (ask : IsAsk host request noise s lines) (still : (seen s lines).undetected ≡ None) where
   abbrev way_there : Option PortRef
   way_there = walk (topology_of s.network.registers s.network.links host)
       (registers_of s.network.registers) request.dest request.hop (port_of host)

@@ -54,12 +54,12 @@ use Rattle.fabric_ask.proofs.Asking.{IsHeard, is_heard, IsHome, comes_home, hold
 use Rattle.fabric_ask.proofs.Hosting.{leaves_is, one_line, left_not_asked, has_room_out}
 
 module _ (host : ℕ) (request : Request) (noise : List Edit) (s : Seen) (lines : List TraceLine)
-    (good : IsGood s) (none : s.unfaithful ≡ None) (clear : IsClear s.network)
+    (good : IsGood s) (none : s.undetected ≡ None) (clear : IsClear s.network)
     (laid : IsLaid s.network.registers s.network.links host)
     (within : AllByRecursion IsWithin s.network.registers) (low : request.hop < 256)
     (reads : (packet : List ℕ) → LinkForm (request_body request) packet
     → request_of packet ≡ Some request)
-    (ask : IsAsk host request noise s lines) (still : (seen s lines).unfaithful ≡ None) where
+    (ask : IsAsk host request noise s lines) (still : (seen s lines).undetected ≡ None) where
   abbrev topo : Topology
   topo = topology_of s.network.registers s.network.links host
 
@@ -125,8 +125,8 @@ module _ (host : ℕ) (request : Request) (noise : List Edit) (s : Seen) (lines 
   first_nothing : CollectsNothing host parts.first
   first_nothing = never_by host first_is (tt, tt)
 
-  behind : (seen t parts.rest).unfaithful ≡ None
-  behind = sym (ap (λ (x : Seen). x.unfaithful) parts.after) ∙ still
+  behind : (seen t parts.rest).undetected ≡ None
+  behind = sym (ap (λ (x : Seen). x.undetected) parts.after) ∙ still
 
   on : IsOn parts.own.packet request.dest request.hop
   on = on_request parts.own.packet request passes asked
@@ -266,9 +266,9 @@ module _ (host : ℕ) (request : Request) (noise : List Edit) (s : Seen) (lines 
         unasked = ap is_request h.response
             ∙ response_asks (response_bytes response) response response_read
 
-        u_behind : (seen u h.rest).unfaithful ≡ None
-        u_behind = sym (ap (λ (x : Seen). x.unfaithful) (seen-append t h.front h.rest))
-            ∙ ap (λ (l : List TraceLine). (seen t l).unfaithful) (sym h.whole) ∙ behind
+        u_behind : (seen u h.rest).undetected ≡ None
+        u_behind = sym (ap (λ (x : Seen). x.undetected) (seen-append t h.front h.rest))
+            ∙ ap (λ (l : List TraceLine). (seen t l).undetected) (sym h.whole) ∙ behind
 
         enough : 255 < h.rounds_left
         enough = let e = h.enough in omega (arith, e)

@@ -50,7 +50,7 @@ pub record IsHeard (host rounds : ℕ) (s : Seen) (lines : List TraceLine) (at :
   pub whole : lines ≡ front ++ rest
   pub made : Made s front
   pub nothing : CollectsNothing host front
-  pub still : (seen s front).unfaithful ≡ None
+  pub still : (seen s front).undetected ≡ None
   pub links : (seen s front).network.links ≡ s.network.links
   pub item : Item
   pub response : item.now ≡ response_bytes (request_answered device request at.port).response
@@ -186,7 +186,7 @@ pub record IsHome (host dest left : ℕ) (s : Seen) (lines : List TraceLine) (pa
   pub whole : lines ≡ front ++ rest
   pub made : Made s front
   pub nothing : CollectsNothing host front
-  pub still : (seen s front).unfaithful ≡ None
+  pub still : (seen s front).undetected ≡ None
   pub item : Item
   pub moves : ℕ
   pub same_packet : IsAfterMoves packet moves item.now
@@ -211,11 +211,11 @@ holds_it host t item only few = lt-ltb 0 (held t.network (port_of host)) some
 module _ (host dest : ℕ) (regs : List Registers) (links : List (PortRef × PortRef))
     (laid : IsLaid regs links host) where
   pub comes_home : (rounds : ℕ) (noise : List Edit) (s : Seen) (lines : List TraceLine)
-      (at : PortRef) (item : Item) → 255 < rounds → IsGood s → s.unfaithful ≡ None
+      (at : PortRef) (item : Item) → 255 < rounds → IsGood s → s.undetected ≡ None
       → s.network.registers ≡ regs → s.network.links ≡ links → IsOnly s.network (Waits at) item
       → IsOn item.now dest 255
       → walk (topology_of regs links host) (registers_of regs) dest 255 at ≡ Some (port_of host)
-      → AskRounds host rounds noise s lines → (seen s lines).unfaithful ≡ None
+      → AskRounds host rounds noise s lines → (seen s lines).undetected ≡ None
       → IsHome host dest (hops_left (topology_of regs links host) (registers_of regs) dest 255 at)
       s lines item.now
   comes_home rounds noise s lines at item below good none same_regs same_links only on ends
@@ -252,11 +252,11 @@ module _ (host dest : ℕ) (regs : List Registers) (links : List (PortRef × Por
 
   -- a response that comes to another device is not collected by the host
   pub lost_response : (rounds : ℕ) (noise : List Edit) (s : Seen) (lines : List TraceLine)
-      (at end : PortRef) (item : Item) → 255 < rounds → IsGood s → s.unfaithful ≡ None
+      (at end : PortRef) (item : Item) → 255 < rounds → IsGood s → s.undetected ≡ None
       → s.network.registers ≡ regs → s.network.links ≡ links → IsOnly s.network (Waits at) item
       → IsOn item.now dest 255 → is_request item.now ≡ false
       → walk (topology_of regs links host) (registers_of regs) dest 255 at ≡ Some end
-      → end.node ≢ host → AskRounds host rounds noise s lines → (seen s lines).unfaithful ≡ None
+      → end.node ≢ host → AskRounds host rounds noise s lines → (seen s lines).undetected ≡ None
       → CollectsNothing host lines
   lost_response rounds noise s lines at end item below good none same_regs same_links only on
       not_asked ends away rounds_are still = by_place a.final
@@ -270,9 +270,9 @@ module _ (host dest : ℕ) (regs : List Registers) (links : List (PortRef × Por
       no_response = none_answers a.mid end a.passed.now
           ((moves_same item.now a.passed.now a.moves a.same_packet).1 ∙ not_asked)
 
-      behind : (seen (seen s a.front) a.rest).unfaithful ≡ None
-      behind = sym (ap (λ (x : Seen). x.unfaithful) (seen-append s a.front a.rest))
-          ∙ ap (λ (l : List TraceLine). (seen s l).unfaithful) (sym a.whole) ∙ still
+      behind : (seen (seen s a.front) a.rest).undetected ≡ None
+      behind = sym (ap (λ (x : Seen). x.undetected) (seen-append s a.front a.rest))
+          ∙ ap (λ (l : List TraceLine). (seen s l).undetected) (sym a.whole) ∙ still
 
       by_clear : IsClear (seen s a.front).network → CollectsNothing host lines
       by_clear clear =

@@ -15,7 +15,7 @@ use Rattle.fabric_model.proofs.Nodes.{few_prio}
 use Rattle.fabric_trace.proofs.Network.Walks.{peers_round}
 use Rattle.fabric_trace.specs.Blocks.{take_lines, Asks, pumps}
 use Rattle.fabric_trace.specs.Fold.{seen}
-use Rattle.fabric_trace.specs.Known.{Found, Seen}
+use Rattle.fabric_trace.specs.Known.{UndetectedAt, Seen}
 use Rattle.trace_lines.specs.Lines.{Full, TraceLine, Stepped, Lacked, steps_of}
 use Rattle.fabric_trace.specs.Parts.{Done, PartSteps, PartLacks}
 use Rattle.fabric_trace.specs.Ready.{IsReady}
@@ -38,7 +38,7 @@ pub record ExistsLeft (s : Seen) (Is : List Edit → List TraceLine → Type 0) 
   pub left : List Edit
   pub exists : Exists s (Is left)
 
-pub carry_exists : (noise : List Edit) (s : Seen) (a b : PortRef) → IsGood s → s.unfaithful ≡ None
+pub carry_exists : (noise : List Edit) (s : Seen) (a b : PortRef) → IsGood s → s.undetected ≡ None
     → ArePeers s.network.links a b → ExistsLeft s (λ left. IsCarry noise left s a b)
 carry_exists noise s a b good none peers =
     let one = pumps s a 1 b in
@@ -83,7 +83,7 @@ carry_exists noise s a b good none peers =
     }
 
 pub carry_all_exist : (links all : List (PortRef × PortRef)) (noise : List Edit) (s : Seen)
-    → IsGood s → s.unfaithful ≡ None → s.network.links ≡ all → AreFound all links
+    → IsGood s → s.undetected ≡ None → s.network.links ≡ all → AreFound all links
     → ExistsLeft s (λ left. CarryAll links noise left s)
 carry_all_exist [] all noise s good none same found = record {
   left = noise;
@@ -93,12 +93,13 @@ carry_all_exist (link ∷ links) all noise s good none same found =
     let peers = link_peers s.network.links link.0 link good.proper
     (ap (λ l. link_in l link.0) same ∙ found.0) in
     let own = carry_exists noise s link.0 link.1 good none peers in
-    by_still (seen s own.exists.lines).unfaithful own refl
+    by_still (seen s own.exists.lines).undetected own refl
     (λ t g n same2. carry_all_exist links all own.left t g n same2 found.1)
   where
-    by_still : (o : Option Found) (own : ExistsLeft s (λ left. IsCarry noise left s link.0 link.1))
-        → (seen s own.exists.lines).unfaithful ≡ o
-        → ((t : Seen) → IsGood t → t.unfaithful ≡ None → t.network.links ≡ all
+    by_still : (o : Option UndetectedAt)
+        (own : ExistsLeft s (λ left. IsCarry noise left s link.0 link.1))
+        → (seen s own.exists.lines).undetected ≡ o
+        → ((t : Seen) → IsGood t → t.undetected ≡ None → t.network.links ≡ all
         → ExistsLeft t (λ left. CarryAll links own.left left t))
         → ExistsLeft s (λ left. CarryAll (link ∷ links) noise left s)
     by_still (Some f) own is again = record {
@@ -145,14 +146,14 @@ carry_all_exist (link ∷ links) all noise s good none same found =
 
 -- ---- rounds
 
-pub handles_exist : (host : ℕ) (s : Seen) → IsReady s → s.unfaithful ≡ None
+pub handles_exist : (host : ℕ) (s : Seen) → IsReady s → s.undetected ≡ None
     → Exists s (Handles host s)
 handles_exist host s ready none =
     joined_exist s (λ first. ServeNodes 0 s.network.registers s first)
     (λ t rest. CollectNodes host 0 t.network.registers t rest) (serve_all_exist s ready)
     (λ first made still. all_others_exist host (seen s first) (ready_on ready made) still)
 
-pub round_exists : (host : ℕ) (noise : List Edit) (s : Seen) → IsReady s → s.unfaithful ≡ None
+pub round_exists : (host : ℕ) (noise : List Edit) (s : Seen) → IsReady s → s.undetected ≡ None
     → ExistsLeft s (λ left. AskRound host noise left s)
 round_exists host noise s ready none =
     let good = good_of ready in
@@ -166,8 +167,8 @@ round_exists host noise s ready none =
     }
 
 by_held : (host n : ℕ) (left : List Edit) (t : Seen) (held : Bool) → IsReady t
-    → t.unfaithful ≡ None → IsEndpoint t.network host
-    → ((t : Seen) → IsReady t → t.unfaithful ≡ None → IsEndpoint t.network host
+    → t.undetected ≡ None → IsEndpoint t.network host
+    → ((t : Seen) → IsReady t → t.undetected ≡ None → IsEndpoint t.network host
     → Exists t (AskRounds host n left t))
     → Exists t (λ rest. MatchBool held (IsCollect t.network host rest)
     (AskRounds host n left t rest))
@@ -180,7 +181,7 @@ by_held host n left t true ready none endpoint again =
     }
 by_held host n left t false ready none endpoint again = again t ready none endpoint
 
-pub rounds_exist : (host n : ℕ) (noise : List Edit) (s : Seen) → IsReady s → s.unfaithful ≡ None
+pub rounds_exist : (host n : ℕ) (noise : List Edit) (s : Seen) → IsReady s → s.undetected ≡ None
     → IsEndpoint s.network host → Exists s (AskRounds host n noise s)
 rounds_exist host zero noise s ready none endpoint =
     record { lines = []; is = refl; made = Done refl }
@@ -195,7 +196,7 @@ rounds_exist host (suc n) noise s ready none endpoint =
     record { lines = all.lines; is = (round.left, all.is); made = all.made }
 
 -- What follows a round.
-pub more_exists : (host n : ℕ) (left : List Edit) (t : Seen) → IsReady t → t.unfaithful ≡ None
+pub more_exists : (host n : ℕ) (left : List Edit) (t : Seen) → IsReady t → t.undetected ≡ None
     → IsEndpoint t.network host
     → Exists t (λ rest. MatchBool (holds_some host t) (IsCollect t.network host rest)
     (AskRounds host n left t rest))
@@ -237,7 +238,7 @@ takes_exist s host request packet endpoint form =
     }
 
 pub ask_exists : (host : ℕ) (request : Request) (noise : List Edit) (s : Seen) (packet : List ℕ)
-    → IsReady s → s.unfaithful ≡ None → IsEndpoint s.network host
+    → IsReady s → s.undetected ≡ None → IsEndpoint s.network host
     → LinkForm (request_body request) packet → Exists s (IsAsk host request noise s)
 ask_exists host request noise s packet ready none endpoint form =
     joined_exist s (Asks s host request) (AskRounds host most_rounds noise)

@@ -1,4 +1,4 @@
--- In rounds without edits no event is unfaithful.
+-- In rounds without edits no event is undetected.
 use Rattle.std.proofs.Common.{◌≡◌, ℕ, zero, suc, ◌||◌, ◌==◌, Bool, true, false, List, [], ◌∷◌, ◌++◌, Some, None, refl, sym, ap, ◌∙◌, subst}
 use Rattle.link_model.specs.Places.{place_after, at_rest}
 use Rattle.link_model.specs.Said.{said}
@@ -44,10 +44,10 @@ AllCalm s = (a b : PortRef) → peer_in s.network.links a ≡ Some b → IsCalm 
 
 -- lines behind which nothing was found, and the link is calm
 pub record StaysCalm (s : Seen) (a b : PortRef) (lines : List TraceLine) : Type 0 where
-  pub still : (seen s lines).unfaithful ≡ None
+  pub still : (seen s lines).undetected ≡ None
   pub calm : IsCalm (link_at (seen s lines) a b)
 
-turn_calm : (s : Seen) (a b : PortRef) → IsGood s → s.unfaithful ≡ None
+turn_calm : (s : Seen) (a b : PortRef) → IsGood s → s.undetected ≡ None
     → ArePeers s.network.links a b → IsCalm (link_at s a b) → StaysCalm s a b (pumps s a 1 b)
 turn_calm s a b good none peers calm =
     let r = pump_reaches s a b 1 good none peers in
@@ -58,7 +58,7 @@ turn_calm s a b good none peers calm =
           (turns_calm 1 (link_at s a b) (good.links none a b peers.there).sound.port_a calm);
     }
 
-settle_calm : (s : Seen) (a b : PortRef) (block : List TraceLine) → IsGood s → s.unfaithful ≡ None
+settle_calm : (s : Seen) (a b : PortRef) (block : List TraceLine) → IsGood s → s.undetected ≡ None
     → ArePeers s.network.links a b → IsCalm (link_at s a b) → IsSettle s a b block
     → StaysCalm s a b block
 settle_calm s a b block good none peers calm settles =
@@ -66,14 +66,14 @@ settle_calm s a b block good none peers calm settles =
     let all = acts_calm settles.acts (link_at s a b) (good.links none a b peers.there).sound calm in
     let there = r.there all.m all.there in
     record {
-      still = ap (λ (l : List TraceLine). (seen s l).unfaithful) settles.lines ∙ there.0;
+      still = ap (λ (l : List TraceLine). (seen s l).undetected) settles.lines ∙ there.0;
       calm = subst IsCalm (sym (ap (λ (l : List TraceLine). link_at (seen s l) a b) settles.lines
           ∙ there.1)) all.calm;
     }
 
 -- one link, without an edit
 module _ (left : List Edit) (s : Seen) (a b : PortRef) (lines : List TraceLine) (good : IsGood s)
-    (none : s.unfaithful ≡ None) (peers : ArePeers s.network.links a b)
+    (none : s.undetected ≡ None) (peers : ArePeers s.network.links a b)
     (calm : IsCalm (link_at s a b)) (is : IsCarry [] left s a b lines) where
   abbrev u1 : Seen
   u1 = seen s is.one
@@ -132,7 +132,7 @@ module _ (left : List Edit) (s : Seen) (a b : PortRef) (lines : List TraceLine) 
 
   pub carry_calm : StaysCalm s a b lines
   carry_calm = record {
-    still = ap (λ (x : Seen). x.unfaithful) lines_end ∙ last.still;
+    still = ap (λ (x : Seen). x.undetected) lines_end ∙ last.still;
     calm =
         subst (λ x. IsCalm (link_at x a b)) (sym lines_end) last.calm;
   }
@@ -204,13 +204,13 @@ after_link s t a b proper peers others own all c d peer =
 
 -- nothing was found in these lines, and all links are calm; no edit is left
 pub record AllStay (left : List Edit) (s : Seen) (lines : List TraceLine) : Type 0 where
-  pub still : (seen s lines).unfaithful ≡ None
+  pub still : (seen s lines).undetected ≡ None
   pub calm : AllCalm (seen s lines)
   pub none_left : left ≡ []
   pub made : Made s lines
 
 pub links_calm : (all links : List (PortRef × PortRef)) (left : List Edit) (s : Seen)
-    (lines : List TraceLine) → IsGood s → s.unfaithful ≡ None → s.network.links ≡ all
+    (lines : List TraceLine) → IsGood s → s.undetected ≡ None → s.network.links ≡ all
     → AreFound all links → AllCalm s → CarryAll links [] left s lines → AllStay left s lines
 links_calm all [] left s lines good none same found calm carry =
     subst (λ l. AllStay left s l) (sym carry.0)
@@ -237,7 +237,7 @@ links_calm all (link ∷ links) left s lines good none same found calm carry =
     (subst (λ m. CarryAll links m left t rest) empty more) in
     let after : seen s lines ≡ seen t rest = ap (seen s) joined.2 ∙ seen-append s first rest in
     record {
-      still = ap (λ (x : Seen). x.unfaithful) after ∙ behind.still;
+      still = ap (λ (x : Seen). x.undetected) after ∙ behind.still;
       calm = subst AllCalm (sym after) behind.calm;
       none_left = behind.none_left;
       made = made_by joined.2 (made-append carried.local.made behind.made);
@@ -246,7 +246,7 @@ links_calm all (link ∷ links) left s lines good none same found calm carry =
 -- ---- rounds
 
 pub steps_still : (s : Seen) (lines : List TraceLine) → OnlySteps lines
-    → (seen s lines).unfaithful ≡ s.unfaithful
+    → (seen s lines).undetected ≡ s.undetected
 unfolding OnlySteps
 steps_still s [] only = refl
 steps_still s (Stepped step ∷ lines) only = steps_still (seen_line s (Stepped step)) lines only
@@ -256,7 +256,7 @@ steps_still s (Lacked lack ∷ lines) only = steps_still s lines only
 steps_still s (Ended ∷ lines) only = absurd only
 steps_still s (Undetected n q e ∷ lines) only = absurd only
 
-pub collects_made : {s : Seen} {node : ℕ} {lines : List TraceLine} → IsGood s → s.unfaithful ≡ None
+pub collects_made : {s : Seen} {node : ℕ} {lines : List TraceLine} → IsGood s → s.undetected ≡ None
     → CollectsAll s node lines → Made s lines
 collects_made {s} {node} {lines} good none (CollectRests move is) = Done is
 collects_made {s} {node} {lines} good none (CollectStops move is) =
@@ -266,20 +266,20 @@ collects_made {s} {node} {lines} good none (CollectGoes step rest move is more) 
     made_by is (made-append one (collects_made (made_keeps good one).good none more))
 
 joined_made : (First : List TraceLine → Type 0) (More : Seen → List TraceLine → Type 0) (s : Seen)
-    (lines : List TraceLine) → IsGood s → s.unfaithful ≡ None
+    (lines : List TraceLine) → IsGood s → s.undetected ≡ None
     → ((first : List TraceLine) → First first → Made s first × OnlySteps first)
-    → ((t : Seen) (rest : List TraceLine) → IsGood t → t.unfaithful ≡ None → More t rest
+    → ((t : Seen) (rest : List TraceLine) → IsGood t → t.undetected ≡ None → More t rest
     → Made t rest) → Joined First More s lines → Made s lines
 joined_made First More s lines good none one more joined =
     let own = one joined.0 joined.3 in
     let t = seen s joined.0 in
-    let still : t.unfaithful ≡ None = steps_still s joined.0 own.1 ∙ none in
+    let still : t.undetected ≡ None = steps_still s joined.0 own.1 ∙ none in
     made_by joined.2 (made-append own.0
     (more t joined.1 (made_keeps good own.0).good still
     (subst (λ f. Follows f (More t) NamesNothing joined.1) still joined.4)))
 
 pub serve_made : (devices : List Registers) (k : ℕ) (s : Seen) (lines : List TraceLine) → IsGood s
-    → s.unfaithful ≡ None → ServeNodes k devices s lines → Made s lines
+    → s.undetected ≡ None → ServeNodes k devices s lines → Made s lines
 serve_made [] k s lines good none is = Done is
 serve_made (device ∷ devices) k s lines good none is =
     by_test (is_switch device)
@@ -289,7 +289,7 @@ serve_made (device ∷ devices) k s lines good none is =
     (λ more. serve_made devices (suc k) s lines good none more) is
 
 pub collect_made : (host : ℕ) (devices : List Registers) (k : ℕ) (s : Seen) (lines : List TraceLine)
-    → IsGood s → s.unfaithful ≡ None → CollectNodes host k devices s lines → Made s lines
+    → IsGood s → s.undetected ≡ None → CollectNodes host k devices s lines → Made s lines
 collect_made host [] k s lines good none is = Done is
 collect_made host (device ∷ devices) k s lines good none is =
     by_test (is_switch device || (k == host))
@@ -298,7 +298,7 @@ collect_made host (device ∷ devices) k s lines good none is =
     (λ first own. (collects_made good none own, collects_steps own))
     (λ t rest g still more. collect_made host devices (suc k) t rest g still more) joined) is
 
-pub handles_made : (host : ℕ) (s : Seen) (lines : List TraceLine) → IsGood s → s.unfaithful ≡ None
+pub handles_made : (host : ℕ) (s : Seen) (lines : List TraceLine) → IsGood s → s.undetected ≡ None
     → Handles host s lines → Made s lines
 handles_made host s lines good none handles =
     joined_made (λ first. ServeNodes 0 s.network.registers s first)
@@ -311,7 +311,7 @@ handles_made host s lines good none handles =
     (λ t rest g still more. collect_made host t.network.registers 0 t rest g still more) handles
 
 pub round_calm : (host : ℕ) (left : List Edit) (s : Seen) (lines : List TraceLine) → IsGood s
-    → s.unfaithful ≡ None → AllCalm s → AskRound host [] left s lines → AllStay left s lines
+    → s.undetected ≡ None → AllCalm s → AskRound host [] left s lines → AllStay left s lines
 round_calm host left s lines good none calm joined =
     let first = joined.0 in
     let rest = joined.1 in
@@ -327,7 +327,7 @@ round_calm host left s lines good none calm joined =
     (made_keeps kept.good made).legal in
     let after : seen s lines ≡ seen t rest = ap (seen s) joined.2 ∙ seen-append s first rest in
     record {
-      still = ap (λ (x : Seen). x.unfaithful) after ∙ steps_still t rest steps ∙ carried.still;
+      still = ap (λ (x : Seen). x.undetected) after ∙ steps_still t rest steps ∙ carried.still;
       calm = subst AllCalm (sym after) (λ a b peer. calm_same t (seen t rest) a b
           (steps_same t rest a steps) (steps_same t rest b steps)
           (carried.calm a b (subst (λ l. peer_in l a ≡ Some b) links peer)));
@@ -336,17 +336,17 @@ round_calm host left s lines good none calm joined =
     }
 
 collect_still : (t : Seen) (node : ℕ) (made : Collected)
-    → (seen t (collect_lines node made)).unfaithful ≡ t.unfaithful
+    → (seen t (collect_lines node made)).undetected ≡ t.undetected
 collect_still t node (Collects.Left packet) = refl
 collect_still t node (Collects.Answered request response) = refl
 collect_still t node Collects.Empty = refl
 collect_still t node Collects.Full = refl
 
--- In an ask without edits nothing unfaithful is found.
-pub rounds_still : (host n : ℕ) (s : Seen) (lines : List TraceLine) → IsGood s → s.unfaithful ≡ None
-    → AllCalm s → AskRounds host n [] s lines → (seen s lines).unfaithful ≡ None
+-- In an ask without edits nothing undetected is found.
+pub rounds_still : (host n : ℕ) (s : Seen) (lines : List TraceLine) → IsGood s → s.undetected ≡ None
+    → AllCalm s → AskRounds host n [] s lines → (seen s lines).undetected ≡ None
 rounds_still host zero s lines good none calm asks =
-    ap (λ (l : List TraceLine). (seen s l).unfaithful) asks ∙ none
+    ap (λ (l : List TraceLine). (seen s l).undetected) asks ∙ none
 rounds_still host (suc k) s lines good none calm asks =
     let left = asks.0 in
     let joined = asks.1 in
@@ -356,12 +356,12 @@ rounds_still host (suc k) s lines good none calm asks =
     let round = round_calm host left s first good none calm joined.3 in
     let more : GoesOn host k left t rest =
     subst (λ f. Follows f (GoesOn host k left t) NamesNothing rest) round.still joined.4 in
-    let behind : (seen t rest).unfaithful ≡ None =
+    let behind : (seen t rest).undetected ≡ None =
     by_test (holds_some host t)
-    (λ (is : IsCollect t.network host rest). ap (λ (l : List TraceLine). (seen t l).unfaithful)
+    (λ (is : IsCollect t.network host rest). ap (λ (l : List TraceLine). (seen t l).undetected)
     is.lines ∙ collect_still t host (collected is.device (face_in t.network (port_of host)))
     ∙ round.still)
     (λ (asks2 : AskRounds host k left t rest). rounds_still host k t rest
     (made_keeps good round.made).good round.still round.calm
     (subst (λ l. AskRounds host k l t rest) round.none_left asks2)) more in
-    ap (λ (x : Seen). x.unfaithful) (ap (seen s) joined.2 ∙ seen-append s first rest) ∙ behind
+    ap (λ (x : Seen). x.undetected) (ap (seen s) joined.2 ∙ seen-append s first rest) ∙ behind

@@ -107,12 +107,12 @@ local_turned s a b lines local = record {
 -- lines that leave a state good, and in which no event was found not to be sent
 pub record KeepsOn (s : Seen) (a b : PortRef) (lines : List TraceLine) : Type 0 where
   pub local : IsLocal s a b lines
-  pub still : (seen s lines).unfaithful ≡ None
+  pub still : (seen s lines).undetected ≡ None
   pub good : IsGood (seen s lines)
   pub peers : ArePeers (seen s lines).network.links a b
 
 goes_on : (s : Seen) (a b : PortRef) (lines : List TraceLine) → IsGood s
-    → ArePeers s.network.links a b → IsLocal s a b lines → (seen s lines).unfaithful ≡ None
+    → ArePeers s.network.links a b → IsLocal s a b lines → (seen s lines).undetected ≡ None
     → KeepsOn s a b lines
 goes_on s a b lines good peers local still =
     let kept = made_keeps good local.made in
@@ -125,7 +125,7 @@ goes_on s a b lines good peers local still =
 
 -- ---- turns, edits and settling
 
-pub turn_goes : (s : Seen) (a b : PortRef) → IsGood s → s.unfaithful ≡ None
+pub turn_goes : (s : Seen) (a b : PortRef) → IsGood s → s.undetected ≡ None
     → ArePeers s.network.links a b → KeepsOn s a b (pumps s a 1 b)
 turn_goes s a b good none peers =
     let r = pump_reaches s a b 1 good none peers in
@@ -162,7 +162,7 @@ edit_is p (Edit.Alter place ch) = refl
 edit_is p (Edit.Erase place n) = refl
 edit_is p (Edit.Insert place ch) = refl
 
-edit_goes : (s : Seen) (a b : PortRef) (edit : Edit) → IsGood s → s.unfaithful ≡ None
+edit_goes : (s : Seen) (a b : PortRef) (edit : Edit) → IsGood s → s.undetected ≡ None
     → ArePeers s.network.links a b → KeepsOn s a b (Begun (edit_line a edit) ∷ [])
 edit_goes s a b edit good none peers =
     let is = edit_is a edit in
@@ -170,22 +170,22 @@ edit_goes s a b edit good none peers =
       made = one_part (PartBegins (edit_line a edit) refl);
       at = tt;
       others = subst (λ o. AreOthers s (edited_by s o) a b) (sym is) (edit_others s a b edit);
-    }) (ap (λ o. (edited_by s o).unfaithful) is ∙ none)
+    }) (ap (λ o. (edited_by s o).undetected) is ∙ none)
 
-nothing_goes : (s : Seen) (a b : PortRef) → IsGood s → s.unfaithful ≡ None
+nothing_goes : (s : Seen) (a b : PortRef) → IsGood s → s.undetected ≡ None
     → ArePeers s.network.links a b → KeepsOn s a b []
 nothing_goes s a b good none peers =
     goes_on s a b [] good peers (record { made = Done refl; at = tt; others = others_here s a b })
     none
 
-by_test : (s : Seen) (a b : PortRef) (edit : Edit) (test : Bool) → IsGood s → s.unfaithful ≡ None
+by_test : (s : Seen) (a b : PortRef) (edit : Edit) (test : Bool) → IsGood s → s.undetected ≡ None
     → ArePeers s.network.links a b → KeepsOn s a b
     (if test then Begun (edit_line a edit) ∷ [] else [])
 by_test s a b edit true good none peers = edit_goes s a b edit good none peers
 by_test s a b edit false good none peers = nothing_goes s a b good none peers
 
 by_chars : (s : Seen) (a b : PortRef) (edit : Edit) (noise : List Edit) (chars : List Char)
-    (empty : Bool) → IsGood s → s.unfaithful ≡ None → ArePeers s.network.links a b
+    (empty : Bool) → IsGood s → s.undetected ≡ None → ArePeers s.network.links a b
     → KeepsOn s a b (let r : List TraceLine × List Edit =
     if empty then ([], edit ∷ noise) else (edit_lines a edit chars, noise) in r.0)
 by_chars s a b edit noise chars true good none peers = nothing_goes s a b good none peers
@@ -193,7 +193,7 @@ by_chars s a b edit noise chars false good none peers =
     by_test s a b edit (fits edit chars && not (is_idle edit)) good none peers
 
 pub stirred_goes : (s : Seen) (a b : PortRef) (noise : List Edit) (chars : List Char) → IsGood s
-    → s.unfaithful ≡ None → ArePeers s.network.links a b → KeepsOn s a b (stirred noise a chars).0
+    → s.undetected ≡ None → ArePeers s.network.links a b → KeepsOn s a b (stirred noise a chars).0
 stirred_goes s a b [] chars good none peers = nothing_goes s a b good none peers
 stirred_goes s a b (edit ∷ noise) chars good none peers =
     by_chars s a b edit noise chars (has_none chars) good none peers
@@ -204,12 +204,12 @@ goes_then s a b xs ys first rest =
     let joined = seen-append s xs ys in
     record {
       local = local_on s a b xs ys first.local rest.local;
-      still = ap (λ (t : Seen). t.unfaithful) joined ∙ rest.still;
+      still = ap (λ (t : Seen). t.undetected) joined ∙ rest.still;
       good = subst IsGood (sym joined) rest.good;
       peers = subst (λ (t : Seen). ArePeers t.network.links a b) (sym joined) rest.peers;
     }
 
-settle_local : (s : Seen) (a b : PortRef) (block : List TraceLine) → IsGood s → s.unfaithful ≡ None
+settle_local : (s : Seen) (a b : PortRef) (block : List TraceLine) → IsGood s → s.undetected ≡ None
     → ArePeers s.network.links a b → IsSettle s a b block → IsLocal s a b block
 settle_local s a b block good none peers settles =
     let reach = acts_reach settles.acts s a b good none peers in
@@ -223,7 +223,7 @@ settle_local s a b block good none peers settles =
 -- A link has carried what it can.
 pub record HasCarried (s : Seen) (a b : PortRef) (lines : List TraceLine) : Type 0 where
   pub local : IsLocal s a b lines
-  pub rests : (seen s lines).unfaithful ≡ None → IsSettled (link_at (seen s lines) a b)
+  pub rests : (seen s lines).undetected ≡ None → IsSettled (link_at (seen s lines) a b)
 
 settle_after : (s : Seen) (a b : PortRef) (front block : List TraceLine) → KeepsOn s a b front
     → IsSettle (seen s front) a b block → HasCarried s a b (front ++ block)
@@ -235,12 +235,12 @@ settle_after s a b front block goes settles =
           (settle_local t a b block goes.good goes.still goes.peers settles);
       rests = λ still. subst (λ (x : Seen). IsSettled (link_at x a b)) (sym joined)
           (settles_rest t a b block goes.good goes.still goes.peers settles
-          (ap (λ (x : Seen). x.unfaithful) (sym joined) ∙ still));
+          (ap (λ (x : Seen). x.undetected) (sym joined) ∙ still));
     }
 
 -- the lines before a link settles
 module _ (noise left : List Edit) (s : Seen) (a b : PortRef) (lines : List TraceLine)
-    (good : IsGood s) (none : s.unfaithful ≡ None) (peers : ArePeers s.network.links a b)
+    (good : IsGood s) (none : s.undetected ≡ None) (peers : ArePeers s.network.links a b)
     (is : IsCarry noise left s a b lines) where
   abbrev t1 : Seen
   t1 = seen s is.one

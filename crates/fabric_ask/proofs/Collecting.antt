@@ -218,7 +218,7 @@ not_full net node waiting lent is =
 -- ---- one endpoint
 
 pub collect_lines_made : (s : Seen) (node : ℕ) (block : List TraceLine) → IsGood s
-    → s.unfaithful ≡ None → IsCollect s.network node block → Made s block
+    → s.undetected ≡ None → IsCollect s.network node block → Made s block
 collect_lines_made s node block good none is = block_made (Collect node) s block good none is
 
 pub collects_none : (s : Seen) (node : ℕ) (lines : List TraceLine) → IsGood s → NoneHeld s.network
@@ -243,7 +243,7 @@ collects_other s node lines q item good only other (CollectGoes step rest move i
     absurd (other (sym (is_one s.network q (port_of node) item first.0 only first.1).0))
 
 collects_own : (s : Seen) (node : ℕ) (lines : List TraceLine) (q : PortRef) (item : Item) → IsGood s
-    → s.unfaithful ≡ None → IsOnly s.network (Held q) item → Passes item.now → q ≡ port_of node
+    → s.undetected ≡ None → IsOnly s.network (Held q) item → Passes item.now → q ≡ port_of node
     → CollectsAll s node lines → HasRun s lines (HandledAs s.network q item)
 collects_own s node lines q item good still only passes here (CollectRests move is) =
     absurd (endpoint_rests s.network node q item only (few_prio item.now passes) here move)
@@ -269,7 +269,7 @@ pub collect_quiet : (host : ℕ) (devices : List Registers) (k : ℕ) (s : Seen)
     (lines : List TraceLine)
     → ((node : ℕ) (own : List TraceLine) → k ≤ node → (node == host) ≡ false
     → CollectsAll s node own → own ≡ []) → CollectNodes host k devices s lines
-    → (seen s lines).unfaithful ≡ None → lines ≡ []
+    → (seen s lines).undetected ≡ None → lines ≡ []
 collect_quiet host [] k s lines quiet collects still = collects
 collect_quiet host (device ∷ devices) k s lines quiet collects still =
     by_both (is_switch device) (k == host) refl collects
@@ -280,7 +280,7 @@ collect_quiet host (device ∷ devices) k s lines quiet collects still =
         → MatchBool (kind || own) (CollectNodes host (suc k) devices s lines)
         (Joined (CollectsAll s k) (CollectNodes host (suc k) devices) s lines)
         → ((rest : List TraceLine) → ⊤ → CollectNodes host (suc k) devices s rest
-        → (seen s rest).unfaithful ≡ None → rest ≡ []) → lines ≡ []
+        → (seen s rest).undetected ≡ None → rest ≡ []) → lines ≡ []
     by_both true own is more again = again lines tt more still
     by_both false true is more again = again lines tt more still
     by_both false false is joined again =
@@ -291,7 +291,7 @@ collect_quiet host (device ∷ devices) k s lines quiet collects still =
         nothing_by parts.first parts.rest lines parts.whole first
         (again parts.rest tt (subst (λ x. CollectNodes host (suc k) devices x parts.rest) here
         parts.more)
-        (sym (ap (λ (x : Seen). x.unfaithful) (parts.after ∙ ap (λ x. seen x parts.rest) here))
+        (sym (ap (λ (x : Seen). x.undetected) (parts.after ∙ ap (λ x. seen x parts.rest) here))
         ∙ still))
 
 -- The endpoint that has received the packet collects it, and no other has anything to collect.
@@ -299,9 +299,9 @@ pub collect_endpoint : (host n : ℕ) (devices : List Registers) (k : ℕ) (s : 
     (lines : List TraceLine) (q : PortRef) (item : Item) (device : Registers)
     → slice_get devices n ≡ Some device → is_switch device ≡ false → q.node ≡ n + k
     → (q.node == host) ≡ false
-    → IsGood s → s.unfaithful ≡ None → IsOnly s.network (Held q) item → Passes item.now
+    → IsGood s → s.undetected ≡ None → IsOnly s.network (Held q) item → Passes item.now
     → q ≡ port_of q.node → CollectNodes host k devices s lines
-    → (seen s lines).unfaithful ≡ None → HasRun s lines (HandledAs s.network q item)
+    → (seen s lines).undetected ≡ None → HasRun s lines (HandledAs s.network q item)
 collect_endpoint host n [] k s lines q item device stands kind here away good none only passes port
     collects still = absurd cc
 collect_endpoint host zero (head ∷ devices) k s lines q item device stands kind here away good none
@@ -319,7 +319,7 @@ collect_endpoint host zero (head ∷ devices) k s lines q item device stands kin
     let rest = collect_quiet host devices (suc k) (seen s parts.first) parts.rest
     (λ other more above apart. collects_none (seen s parts.first) other more own.good
     (none_held s.network (seen s parts.first).network q item own.is)) parts.more
-    (sym (ap (λ (x : Seen). x.unfaithful) parts.after) ∙ still) in
+    (sym (ap (λ (x : Seen). x.undetected) parts.after) ∙ still) in
     subst (λ l. HasRun s l (HandledAs s.network q item))
     (sym (parts.whole ∙ ap (λ (l : List TraceLine). parts.first ++ l) rest
     ∙ append-nil parts.first)) own
@@ -339,4 +339,4 @@ collect_endpoint host (suc n) (head ∷ devices) k s lines q item device stands 
     (collect_endpoint host n devices (suc k) s parts.rest q item device stands kind
     (omega (arith, here)) away good none only passes port
     (subst (λ x. CollectNodes host (suc k) devices x parts.rest) there parts.more)
-    (ap (λ (l : List TraceLine). (seen s l).unfaithful) (sym lines_are) ∙ still))) collects
+    (ap (λ (l : List TraceLine). (seen s l).undetected) (sym lines_are) ∙ still))) collects

@@ -9,7 +9,7 @@ use Rattle.fabric_script.specs.declared.ports.PortRef.{PortRef}
 use Rattle.fabric_model.specs.Network.{Item, Network, same_port, peer_in, link_in}
 use Rattle.fabric_model.proofs.Peers.{ArePeers, port_is, same_port-refl, link_peers, some_is}
 use Rattle.fabric_trace.specs.Fold.{seen}
-use Rattle.fabric_trace.specs.Known.{Found, Seen, link_at}
+use Rattle.fabric_trace.specs.Known.{UndetectedAt, Seen, link_at}
 use Rattle.trace_lines.specs.Lines.{TraceLine, steps_of}
 use Rattle.fabric_trace.specs.Links.{IsLink}
 use Rattle.fabric_trace.specs.Parts.{Made, Done}
@@ -118,10 +118,10 @@ module _ (s t : Seen) (a b p : PortRef) (item : Item) (peers : ArePeers s.networ
 -- ---- what may follow
 
 -- nothing was found in lines of which nothing was found behind
-found_stays : (s : Seen) (more : List TraceLine) (found : Found) → s.unfaithful ≡ Some found
-    → more ≡ [] → (seen s more).unfaithful ≡ None → ⊥
+found_stays : (s : Seen) (more : List TraceLine) (found : UndetectedAt) → s.undetected ≡ Some found
+    → more ≡ [] → (seen s more).undetected ≡ None → ⊥
 found_stays s more found is none still =
-    absurd (cc (is, ap (λ (l : List TraceLine). (seen s l).unfaithful) none ∙ refl, still))
+    absurd (cc (is, ap (λ (l : List TraceLine). (seen s l).undetected) none ∙ refl, still))
 
 -- Of joined lines behind which nothing was found: nothing was found in the first, and the rest
 -- follow.
@@ -131,19 +131,19 @@ pub record Split (First : List TraceLine → Type 0) (More : Seen → List Trace
   pub rest : List TraceLine
   pub whole : lines ≡ first ++ rest
   pub own : First first
-  pub still : (seen s first).unfaithful ≡ None
+  pub still : (seen s first).undetected ≡ None
   pub more : More (seen s first) rest
   pub after : seen s lines ≡ seen (seen s first) rest
 
 pub split : (First : List TraceLine → Type 0) (More : Seen → List TraceLine → Type 0) (s : Seen)
-    (lines : List TraceLine) → Joined First More s lines → (seen s lines).unfaithful ≡ None
+    (lines : List TraceLine) → Joined First More s lines → (seen s lines).undetected ≡ None
     → Split First More s lines
-split First More s lines joined still = by_found (seen s joined.0).unfaithful refl joined.4
+split First More s lines joined still = by_found (seen s joined.0).undetected refl joined.4
   where
     after : seen s lines ≡ seen (seen s joined.0) joined.1
     after = ap (seen s) joined.2 ∙ seen-append s joined.0 joined.1
 
-    by_found : (found : Option Found) → (seen s joined.0).unfaithful ≡ found
+    by_found : (found : Option UndetectedAt) → (seen s joined.0).undetected ≡ found
         → Follows found (More (seen s joined.0)) NamesNothing joined.1 → Split First More s lines
     by_found None is follows = record {
       first = joined.0;
@@ -157,7 +157,7 @@ split First More s lines joined still = by_found (seen s joined.0).unfaithful re
     }
     by_found (Some found) is none = absurd
         (found_stays (seen s joined.0) joined.1 found is none
-        (sym (ap (λ (t : Seen). t.unfaithful) after) ∙ still))
+        (sym (ap (λ (t : Seen). t.undetected) after) ∙ still))
 
 -- ---- one link after another
 
@@ -221,12 +221,12 @@ pub record FirstCarried (all : List (PortRef × PortRef)) (link : PortRef × Por
   pub own : HasCarried s link.0 link.1 parts.first
   pub kept : IsKept s parts.first
   pub links : (seen s parts.first).network.links ≡ all
-  pub still : (seen (seen s parts.first) parts.rest).unfaithful ≡ None
+  pub still : (seen (seen s parts.first) parts.rest).undetected ≡ None
 
 pub first_carried : (all : List (PortRef × PortRef)) (link : PortRef × PortRef)
     (more : List (PortRef × PortRef)) (noise left : List Edit) (s : Seen) (lines : List TraceLine)
-    → IsGood s → s.unfaithful ≡ None → s.network.links ≡ all → AreFound all (link ∷ more)
-    → CarryAll (link ∷ more) noise left s lines → (seen s lines).unfaithful ≡ None
+    → IsGood s → s.undetected ≡ None → s.network.links ≡ all → AreFound all (link ∷ more)
+    → CarryAll (link ∷ more) noise left s lines → (seen s lines).undetected ≡ None
     → FirstCarried all link more noise left s lines
 first_carried all link more noise left s lines good none same found carry still =
     let parts = split (IsCarry noise carry.0 s link.0 link.1) (CarryAll more carry.0 left) s lines
@@ -241,7 +241,7 @@ first_carried all link more noise left s lines good none same found carry still 
       own = own;
       kept = made_keeps good own.local.made;
       links = own.local.others.links ∙ same;
-      still = sym (ap (λ (x : Seen). x.unfaithful) parts.after) ∙ still;
+      still = sym (ap (λ (x : Seen). x.undetected) parts.after) ∙ still;
     }
 
 -- what the others run to is there behind the first
@@ -260,10 +260,10 @@ run_on first Is rest = record {
 module _ (all : List (PortRef × PortRef)) where
   -- where it was received before, it stays there
   pub held_stays : (links : List (PortRef × PortRef)) (noise left : List Edit) (s : Seen)
-      (lines : List TraceLine) (q : PortRef) (item : Item) → IsGood s → s.unfaithful ≡ None
+      (lines : List TraceLine) (q : PortRef) (item : Item) → IsGood s → s.undetected ≡ None
       → s.network.links ≡ all → AreFound all links
       → IsOnly s.network (Held q) item → CarryAll links noise left s lines
-      → (seen s lines).unfaithful ≡ None → HasRun s lines (λ net. net ≡ s.network)
+      → (seen s lines).undetected ≡ None → HasRun s lines (λ net. net ≡ s.network)
   held_stays [] noise left s lines q item good none same found only carry still =
       subst (λ l. HasRun s l (λ net. net ≡ s.network)) (sym carry.0)
       (record { made = Done refl; good = good; links = refl; is = refl })
@@ -281,10 +281,10 @@ module _ (all : List (PortRef × PortRef)) where
 
   -- one that waits goes over its link
   pub waits_run : (links : List (PortRef × PortRef)) (noise left : List Edit) (s : Seen)
-      (lines : List TraceLine) (p : PortRef) (item : Item) → IsGood s → s.unfaithful ≡ None
+      (lines : List TraceLine) (p : PortRef) (item : Item) → IsGood s → s.undetected ≡ None
       → s.network.links ≡ all → AreFound all links
       → IsOnly s.network (Waits p) item → prio_of item.now < 4 → CarryAll links noise left s lines
-      → (seen s lines).unfaithful ≡ None → HasRun s lines (Ran links s.network p item)
+      → (seen s lines).undetected ≡ None → HasRun s lines (Ran links s.network p item)
   waits_run [] noise left s lines p item good none same found only few carry still =
       subst (λ l. HasRun s l (Ran [] s.network p item)) (sym carry.0)
       (record { made = Done refl; good = good; links = refl; is = Stuck tt refl })
@@ -307,8 +307,8 @@ module _ (all : List (PortRef × PortRef)) where
       t = seen s first.parts.first
 
       by_link : ((mid : List Edit) (u : Seen) (more : List TraceLine) → IsGood u
-          → u.unfaithful ≡ None → u.network.links ≡ all → IsOnly u.network (Waits p) item
-          → CarryAll links mid left u more → (seen u more).unfaithful ≡ None
+          → u.undetected ≡ None → u.network.links ≡ all → IsOnly u.network (Waits p) item
+          → CarryAll links mid left u more → (seen u more).undetected ≡ None
           → HasRun u more (Ran links u.network p item))
           → Crossed link.0 link.1 s.network p item t.network
           → HasRun s lines (Ran (link ∷ links) s.network p item)
@@ -334,9 +334,9 @@ module _ (all : List (PortRef × PortRef)) where
 
   -- where nothing is, nothing is carried
   pub clear_stays : (links : List (PortRef × PortRef)) (noise left : List Edit) (s : Seen)
-      (lines : List TraceLine) → IsGood s → s.unfaithful ≡ None → s.network.links ≡ all
+      (lines : List TraceLine) → IsGood s → s.undetected ≡ None → s.network.links ≡ all
       → AreFound all links
-      → IsClear s.network → CarryAll links noise left s lines → (seen s lines).unfaithful ≡ None
+      → IsClear s.network → CarryAll links noise left s lines → (seen s lines).undetected ≡ None
       → HasRun s lines (λ net. net ≡ s.network)
   clear_stays [] noise left s lines good none same found clear carry still =
       subst (λ l. HasRun s l (λ net. net ≡ s.network)) (sym carry.0)

@@ -64,14 +64,14 @@ collect_exists s node ready endpoint = by_device (slice_get s.network.registers 
 
 -- what an endpoint of a state with fewer received packets collects
 abbrev CollectsBelow : ℕ → ℕ → Type 0
-CollectsBelow node n = (t : Seen) → IsReady t → t.unfaithful ≡ None → IsEndpoint t.network node
+CollectsBelow node n = (t : Seen) → IsReady t → t.undetected ≡ None → IsEndpoint t.network node
     → held t.network (port_of node) < n → Exists t (CollectsAll t node)
 
 pub stays_endpoint : (s : Seen) (node : ℕ) (lines : List TraceLine) → IsEndpoint s.network node
     → IsEndpoint (seen s lines).network node
 stays_endpoint s node lines is = (seen_board lines s).kinds node ∙ is
 
-collects_on : (s : Seen) (node n : ℕ) (step : Step) → IsReady s → s.unfaithful ≡ None
+collects_on : (s : Seen) (node n : ℕ) (step : Step) → IsReady s → s.undetected ≡ None
     → IsEndpoint s.network node
     → held (seen_line s (Stepped step)).network (port_of node) + 1
     ≡ held s.network (port_of node) → held s.network (port_of node) < suc n
@@ -135,7 +135,7 @@ collects_below node (suc n) s ready none endpoint below =
     }
 
 -- An endpoint collects all it can.
-pub collects_exist : (s : Seen) (node : ℕ) → IsReady s → s.unfaithful ≡ None
+pub collects_exist : (s : Seen) (node : ℕ) → IsReady s → s.undetected ≡ None
     → IsEndpoint s.network node → Exists s (CollectsAll s node)
 collects_exist s node ready none endpoint =
     collects_below node (suc (held s.network (port_of node))) s ready none endpoint
@@ -143,7 +143,7 @@ collects_exist s node ready none endpoint =
 
 -- Of these devices, one endpoint after another but the host.
 pub others_exist : (host : ℕ) (devices : List Registers) (node : ℕ) (kinds : ℕ → Option Bool)
-    (s : Seen) → IsReady s → s.unfaithful ≡ None → ((n : ℕ) → switch_at s.network n ≡ kinds n)
+    (s : Seen) → IsReady s → s.undetected ≡ None → ((n : ℕ) → switch_at s.network n ≡ kinds n)
     → AreKinds kinds node devices → Exists s (CollectNodes host node devices s)
 others_exist host [] node kinds s ready none same are =
     record { lines = []; is = refl; made = Done refl }
@@ -152,7 +152,7 @@ others_exist host (device ∷ devices) node kinds s ready none same are =
     (λ t r n still. others_exist host devices (suc node) kinds t r n still are.1)
   where
     by_test : (kind own : Bool) → is_switch device ≡ kind
-        → ((t : Seen) → IsReady t → t.unfaithful ≡ None
+        → ((t : Seen) → IsReady t → t.undetected ≡ None
         → ((n : ℕ) → switch_at t.network n ≡ kinds n)
         → Exists t (CollectNodes host (suc node) devices t))
         → Exists s (λ lines. MatchBool (kind || own) (CollectNodes host (suc node) devices s lines)
@@ -166,7 +166,7 @@ others_exist host (device ∷ devices) node kinds s ready none same are =
         (λ n. (seen_board first s).kinds n ∙ same n))
 
 -- All endpoints but the host.
-pub all_others_exist : (host : ℕ) (s : Seen) → IsReady s → s.unfaithful ≡ None
+pub all_others_exist : (host : ℕ) (s : Seen) → IsReady s → s.undetected ≡ None
     → Exists s (CollectNodes host 0 s.network.registers s)
 all_others_exist host s ready none =
     others_exist host s.network.registers 0 (switch_at s.network) s ready none (λ n. refl)

@@ -101,7 +101,7 @@ nothing_by first rest lines whole one two = whole ∙ (λ i. one i ++ two i)
 -- no switch from one on makes a step
 pub serve_quiet : (devices : List Registers) (k : ℕ) (s : Seen) (lines : List TraceLine)
     → ((node : ℕ) (own : List TraceLine) → k ≤ node → ServesAll s node own → own ≡ [])
-    → ServeNodes k devices s lines → (seen s lines).unfaithful ≡ None → lines ≡ []
+    → ServeNodes k devices s lines → (seen s lines).undetected ≡ None → lines ≡ []
 serve_quiet [] k s lines quiet serves still = serves
 serve_quiet (device ∷ devices) k s lines quiet serves still =
     by_test (is_switch device)
@@ -113,7 +113,7 @@ serve_quiet (device ∷ devices) k s lines quiet serves still =
     (serve_quiet devices (suc k) s parts.rest
     (λ node own above. quiet node own (omega (arith, above)))
     (subst (λ x. ServeNodes (suc k) devices x parts.rest) here parts.more)
-    (sym (ap (λ (x : Seen). x.unfaithful) (parts.after ∙ ap (λ x. seen x parts.rest) here))
+    (sym (ap (λ (x : Seen). x.undetected) (parts.after ∙ ap (λ x. seen x parts.rest) here))
     ∙ still)))
     (λ more. serve_quiet devices (suc k) s lines
     (λ node own above. quiet node own (omega (arith, above))) more still) serves
@@ -124,7 +124,7 @@ pub serve_switch : (n : ℕ) (devices : List Registers) (k : ℕ) (s : Seen) (li
     → is_switch device ≡ true → q.node ≡ n + k
     → IsGood s → IsOnly s.network (Held q) item → Passes item.now
     → IsDevicePort s.network.registers q
-    → ServeNodes k devices s lines → (seen s lines).unfaithful ≡ None
+    → ServeNodes k devices s lines → (seen s lines).undetected ≡ None
     → HasRun s lines (HandledAs s.network q item)
 serve_switch n [] k s lines q item device stands kind here good only passes port serves still =
     absurd cc
@@ -140,7 +140,7 @@ serve_switch zero (head ∷ devices) k s lines q item device stands kind here go
     let rest = serve_quiet devices (suc k) (seen s parts.first) parts.rest
     (λ node more above. serves_none (seen s parts.first) node more own.good
     (none_held s.network (seen s parts.first).network q item own.is)) parts.more
-    (sym (ap (λ (x : Seen). x.unfaithful) parts.after) ∙ still) in
+    (sym (ap (λ (x : Seen). x.undetected) parts.after) ∙ still) in
     subst (λ l. HasRun s l (HandledAs s.network q item))
     (sym (parts.whole ∙ ap (λ (l : List TraceLine). parts.first ++ l) rest
     ∙ append-nil parts.first)) own
@@ -158,21 +158,21 @@ serve_switch (suc n) (head ∷ devices) k s lines q item device stands kind here
     (serve_switch n devices (suc k) s parts.rest q item device stands kind (omega (arith, here))
     good only passes port (subst (λ x. ServeNodes (suc k) devices x parts.rest) there
     parts.more)
-    (ap (λ (l : List TraceLine). (seen s l).unfaithful) (sym lines_are) ∙ still)))
+    (ap (λ (l : List TraceLine). (seen s l).undetected) (sym lines_are) ∙ still)))
     (λ more. serve_switch n devices (suc k) s lines q item device stands kind (omega (arith, here))
     good only passes port more still) serves
 
 -- No switch makes a step where an endpoint has received the packet, or nothing is received.
 pub serve_endpoint : (devices : List Registers) (s : Seen) (lines : List TraceLine) (q : PortRef)
     (item : Item) → IsGood s → IsOnly s.network (Held q) item → IsEndpoint s.network q.node
-    → ServeNodes 0 devices s lines → (seen s lines).unfaithful ≡ None → lines ≡ []
+    → ServeNodes 0 devices s lines → (seen s lines).undetected ≡ None → lines ≡ []
 serve_endpoint devices s lines q item good only endpoint serves still =
     serve_quiet devices 0 s lines (λ node own above. serves_other s node own q item good only
     (λ switch same. two_kinds (switch_at s.network node)
     (subst (λ n. switch_at s.network n ≡ Some false) same endpoint) switch)) serves still
 
 pub serve_nothing : (devices : List Registers) (s : Seen) (lines : List TraceLine) → IsGood s
-    → NoneHeld s.network → ServeNodes 0 devices s lines → (seen s lines).unfaithful ≡ None
+    → NoneHeld s.network → ServeNodes 0 devices s lines → (seen s lines).undetected ≡ None
     → lines ≡ []
 serve_nothing devices s lines good none serves still =
     serve_quiet devices 0 s lines (λ node own above. serves_none s node own good none) serves still

@@ -30,8 +30,8 @@ use Rattle.fabric_ask.proofs.Traveling.{nothing_holds, kind_endpoint, EndsThere,
 
 -- a round in which there is no packet
 clear_round : (host : ℕ) (noise left : List Edit) (s : Seen) (lines : List TraceLine) → IsGood s
-    → s.unfaithful ≡ None → IsClear s.network → AskRound host noise left s lines
-    → (seen s lines).unfaithful ≡ None → HasRun s lines (λ net. net ≡ s.network)
+    → s.undetected ≡ None → IsClear s.network → AskRound host noise left s lines
+    → (seen s lines).undetected ≡ None → HasRun s lines (λ net. net ≡ s.network)
 clear_round host noise left s lines good none clear round still =
     let parts = split (CarryAll s.network.links noise left s) (Handles host) s lines round still in
     let run = clear_stays s.network.links s.network.links noise left s parts.first good none refl
@@ -39,7 +39,7 @@ clear_round host noise left s lines good none clear round still =
     let t = seen s parts.first in
     let rest = handles_nothing host t parts.rest run.good
     (λ q r. ap (λ (n : Network). n.received q r) run.is ∙ clear.received q r) parts.more
-    (sym (ap (λ (x : Seen). x.unfaithful) parts.after) ∙ still) in
+    (sym (ap (λ (x : Seen). x.undetected) parts.after) ∙ still) in
     let whole : lines ≡ parts.first = parts.whole ∙ ap (λ (l : List TraceLine). parts.first ++ l)
     rest ∙ append-nil parts.first in
     run_of s lines (λ net. net ≡ s.network) good (made_by whole run.made)
@@ -51,8 +51,8 @@ pub record StaysClear (host : ℕ) (s : Seen) (lines : List TraceLine) : Type 0 
   pub nothing : CollectsNothing host lines
 
 pub clear_rounds : (host n : ℕ) (noise : List Edit) (s : Seen) (lines : List TraceLine) → IsGood s
-    → s.unfaithful ≡ None → IsEndpoint s.network host → IsClear s.network
-    → AskRounds host n noise s lines → (seen s lines).unfaithful ≡ None → StaysClear host s lines
+    → s.undetected ≡ None → IsEndpoint s.network host → IsClear s.network
+    → AskRounds host n noise s lines → (seen s lines).undetected ≡ None → StaysClear host s lines
 clear_rounds host zero noise s lines good none is clear asks still = record {
   same = ap (λ (l : List TraceLine). (seen s l).network) asks;
   nothing = never_none host lines asks;
@@ -70,7 +70,7 @@ clear_rounds host (suc k) noise s lines good none is clear asks still =
     let endpoint : IsEndpoint t.network host =
     subst (λ (n : Network). IsEndpoint n host) (sym run.is) is in
     let more = clear_rounds host k left t parts.rest run.good parts.still endpoint there rounds
-    (sym (ap (λ (x : Seen). x.unfaithful) parts.after) ∙ still) in
+    (sym (ap (λ (x : Seen). x.undetected) parts.after) ∙ still) in
     record {
       same = ap (λ (x : Seen). x.network) parts.after ∙ more.same ∙ run.is;
       nothing = never_by host parts.whole (never-append host parts.first parts.rest
@@ -125,11 +125,11 @@ module _ (host dest : ℕ) (regs : List Registers) (links : List (PortRef × Por
 
   -- The packet never comes to the host.
   pub never_comes : (n rounds : ℕ) (noise : List Edit) (s : Seen) (lines : List TraceLine)
-      (p : PortRef) (item : Item) → IsGood s → s.unfaithful ≡ None → s.network.registers ≡ regs
+      (p : PortRef) (item : Item) → IsGood s → s.undetected ≡ None → s.network.registers ≡ regs
       → s.network.links ≡ links
       → IsOnly s.network (Waits p) item → IsOn item.now dest n
       → walk (topology_of regs links host) (registers_of regs) dest n p ≡ None
-      → AskRounds host rounds noise s lines → (seen s lines).unfaithful ≡ None
+      → AskRounds host rounds noise s lines → (seen s lines).undetected ≡ None
       → CollectsNothing host lines
   never_comes n zero noise s lines p item good none same_regs same_links only on ends asks still =
       never_none host lines asks
@@ -149,8 +149,8 @@ module _ (host dest : ℕ) (regs : List Registers) (links : List (PortRef × Por
           (subst (λ r. IsLaid r s.network.links host) (sym same_regs)
           (subst (λ l. IsLaid regs l host) (sym same_links) laid)) parts.own parts.still
 
-      behind : (seen (seen s parts.first) parts.rest).unfaithful ≡ None
-      behind = sym (ap (λ (x : Seen). x.unfaithful) parts.after) ∙ still
+      behind : (seen (seen s parts.first) parts.rest).undetected ≡ None
+      behind = sym (ap (λ (x : Seen). x.undetected) parts.after) ∙ still
 
       more : holds_some host (seen s parts.first) ≡ false
           → AskRounds host k asks.0 (seen s parts.first)

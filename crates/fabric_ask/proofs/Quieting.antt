@@ -11,7 +11,7 @@ use Rattle.fabric_model.specs.Steps.{Step, ByDevice}
 use Rattle.fabric_model.specs.Laws.Proper.{AreProper}
 use Rattle.fabric_model.proofs.Peers.{apart_back}
 use Rattle.fabric_trace.specs.Fold.{seen_line, seen}
-use Rattle.fabric_trace.specs.Known.{Found, Wire, Seen, link_at}
+use Rattle.fabric_trace.specs.Known.{UndetectedAt, Wire, Seen, link_at}
 use Rattle.fabric_trace.specs.Views.{Half}
 use Rattle.trace_lines.specs.Lines.{Full, TraceLine, Begun, Stepped, Signed, Lacked, Ended, Undetected}
 use Rattle.fabric_trace.specs.Rounds.{Follows, NamesNothing, Joined, ServesAll, ServeRests, ServeGoes, ServeNodes}
@@ -108,9 +108,10 @@ joined_steps : (First : List TraceLine → Type 0) (More : Seen → List TraceLi
     → Joined First More s lines → OnlySteps lines
 joined_steps First More s lines one more joined =
     steps_by joined.2 (steps-append joined.0 joined.1 (one joined.0 joined.3)
-    (by_found (seen s joined.0).unfaithful joined.4))
+    (by_found (seen s joined.0).undetected joined.4))
   where
-    by_found : (found : Option Found) → Follows found (More (seen s joined.0)) NamesNothing joined.1
+    by_found : (found : Option UndetectedAt)
+        → Follows found (More (seen s joined.0)) NamesNothing joined.1
         → OnlySteps joined.1
     by_found None follows = more (seen s joined.0) joined.1 follows
     by_found (Some found) is = steps_none joined.1 is
@@ -189,9 +190,9 @@ away_none (link ∷ links) c none = by_tests (same_port link.0 c) (same_port lin
 module _ (all : List (PortRef × PortRef)) where
   -- a port at none of the links keeps its wire and its half
   away_stays : (links : List (PortRef × PortRef)) (noise left : List Edit) (s : Seen)
-      (lines : List TraceLine) (c : PortRef) → IsGood s → s.unfaithful ≡ None
+      (lines : List TraceLine) (c : PortRef) → IsGood s → s.undetected ≡ None
       → s.network.links ≡ all → AreFound all links → AreAway links c
-      → CarryAll links noise left s lines → (seen s lines).unfaithful ≡ None
+      → CarryAll links noise left s lines → (seen s lines).undetected ≡ None
       → IsSamePort s (seen s lines) c
   away_stays [] noise left s lines c good none same found away carry still =
       subst (λ l. IsSamePort s (seen s l) c) (sym carry.0) (record { wire = refl; half = refl })
@@ -207,9 +208,9 @@ module _ (all : List (PortRef × PortRef)) where
 
   -- all links that have carried are quiet
   carried_quiet : (links : List (PortRef × PortRef)) (noise left : List Edit) (s : Seen)
-      (lines : List TraceLine) → IsGood s → s.unfaithful ≡ None → s.network.links ≡ all
+      (lines : List TraceLine) → IsGood s → s.undetected ≡ None → s.network.links ≡ all
       → AreFound all links → AreProper links
-      → CarryAll links noise left s lines → (seen s lines).unfaithful ≡ None
+      → CarryAll links noise left s lines → (seen s lines).undetected ≡ None
       → AreQuiet links (seen s lines)
   carried_quiet [] noise left s lines good none same found proper carry still = tt
   carried_quiet (link ∷ links) noise left s lines good none same found proper carry still =
@@ -230,7 +231,7 @@ module _ (all : List (PortRef × PortRef)) where
 
 -- After a round every link is quiet.
 pub round_quiet : (host : ℕ) (noise left : List Edit) (s : Seen) (lines : List TraceLine) → IsGood s
-    → s.unfaithful ≡ None → AskRound host noise left s lines → (seen s lines).unfaithful ≡ None
+    → s.undetected ≡ None → AskRound host noise left s lines → (seen s lines).undetected ≡ None
     → AreQuiet s.network.links (seen s lines)
 round_quiet host noise left s lines good none round still =
     let parts = split (CarryAll s.network.links noise left s) (Handles host) s lines round still in

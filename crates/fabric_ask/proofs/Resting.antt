@@ -10,7 +10,7 @@ use Rattle.fabric_model.specs.Steps.{Leave, AtNode, Take}
 use Rattle.fabric_model.proofs.Nodes.{few_prio}
 use Rattle.fabric_trace.specs.Blocks.{Asks}
 use Rattle.fabric_trace.specs.Fold.{seen, seen_line}
-use Rattle.fabric_trace.specs.Known.{Seen, Found}
+use Rattle.fabric_trace.specs.Known.{Seen, UndetectedAt}
 use Rattle.trace_lines.specs.Lines.{TraceLine, Stepped, steps_of, Full, Lacked}
 use Rattle.fabric_trace.specs.Parts.{Made, PartSteps, PartLacks}
 use Rattle.fabric_trace.specs.Served.{collect_lines}
@@ -43,7 +43,7 @@ pub record IsTaken (host : ℕ) (s : Seen) (first : List TraceLine) : Type 0 whe
   pub nothing : CollectsNothing host first
   pub good : IsGood (seen s first)
   pub endpoint : IsEndpoint (seen s first).network host
-  pub sent : s.unfaithful ≡ None → (seen s first).unfaithful ≡ None
+  pub sent : s.undetected ≡ None → (seen s first).undetected ≡ None
   pub links : (seen s first).network.links ≡ s.network.links
 
 pub asks_apart : (s : Seen) (host : ℕ) (request : Request) (first : List TraceLine) → IsGood s
@@ -55,13 +55,13 @@ asks_apart s host request first good endpoint own =
     passes = Passes-from_form (request_body request) own.packet own.form
 
     whole : (line : TraceLine) → first ≡ line ∷ [] → Made s first → CollectsNothing host (line ∷ [])
-        → (seen_line s line).unfaithful ≡ s.unfaithful → IsTaken host s first
+        → (seen_line s line).undetected ≡ s.undetected → IsTaken host s first
     whole line is made nothing same = record {
       made = made;
       nothing = subst (CollectsNothing host) (sym is) nothing;
       good = (made_keeps good made).good;
       endpoint = made_endpoint host s first good made endpoint;
-      sent = λ none. ap (λ (l : List TraceLine). (seen s l).unfaithful) is ∙ same ∙ none;
+      sent = λ none. ap (λ (l : List TraceLine). (seen s l).undetected) is ∙ same ∙ none;
       links = legal_links s.network (steps_of first) (seen s first).network
           (made_keeps good made).legal;
     }
@@ -87,7 +87,7 @@ asks_apart s host request first good endpoint own =
 module _ (host : ℕ) (request : Request) (noise : List Edit) (s : Seen) (lines : List TraceLine)
     (good : IsGood s) (endpoint : IsEndpoint s.network host)
     (ask : IsAsk host request noise s lines)
-    (still : (seen s lines).unfaithful ≡ None) where
+    (still : (seen s lines).undetected ≡ None) where
   parts : Split (Asks s host request) (AskRounds host most_rounds noise) s lines
   parts = split (Asks s host request) (AskRounds host most_rounds noise) s lines ask still
 
@@ -123,7 +123,7 @@ module _ (host : ℕ) (request : Request) (noise : List Edit) (s : Seen) (lines 
 -- ---- the registers of the host
 
 collect_still : (s : Seen) (node : ℕ) (made : Collected)
-    → (seen s (collect_lines node made)).unfaithful ≡ s.unfaithful
+    → (seen s (collect_lines node made)).undetected ≡ s.undetected
 collect_still s node (Collects.Left packet) = refl
 collect_still s node (Collects.Answered request response) = refl
 collect_still s node Collects.Empty = refl
@@ -136,12 +136,12 @@ pub record AnswersNothing (host : ℕ) (s : Seen) (lines : List TraceLine) : Typ
 
 -- In an ask they answer nothing if it is replied to where every event that was acted on was sent.
 pub ask_answers_nothing : (host : ℕ) (request : Request) (noise : List Edit) (at : PortRef)
-    (s : Seen) (lines : List TraceLine) → IsGood s → s.unfaithful ≡ None
+    (s : Seen) (lines : List TraceLine) → IsGood s → s.undetected ≡ None
     → IsEndpoint s.network host → IsAsk host request noise s lines
-    → ((seen s lines).unfaithful ≡ None → IsReplied host s lines at request)
+    → ((seen s lines).undetected ≡ None → IsReplied host s lines at request)
     → AnswersNothing host s lines
 ask_answers_nothing host request noise at s lines good none endpoint ask replied =
-    by_found (seen s lines).unfaithful refl
+    by_found (seen s lines).undetected refl
   where
     first : List TraceLine
     first = ask.0
@@ -152,17 +152,18 @@ ask_answers_nothing host request noise at s lines good none endpoint ask replied
     taken : IsTaken host s first
     taken = asks_apart s host request first good endpoint ask.3
 
-    still : (seen s first).unfaithful ≡ None
+    still : (seen s first).undetected ≡ None
     still = taken.sent none
 
     more : AskRounds host most_rounds noise (seen s first) rest
-    more = subst (λ (f : Option Found). Follows f (AskRounds host most_rounds noise (seen s first))
+    more = subst (λ (f : Option UndetectedAt). Follows f
+        (AskRounds host most_rounds noise (seen s first))
         NamesNothing rest) still ask.4
 
     after : seen s lines ≡ seen (seen s first) rest
     after = ap (seen s) ask.2 ∙ seen-append s first rest
 
-    by_end : (Some_found : (seen (seen s first) rest).unfaithful ≡ None → ⊥)
+    by_end : (Some_found : (seen (seen s first) rest).undetected ≡ None → ⊥)
         → (IsApart host (seen s first) rest) ⊎ CollectsLast host (seen s first) rest
         → AnswersNothing host s lines
     by_end found (inl apart) = record {
@@ -171,13 +172,14 @@ ask_answers_nothing host request noise at s lines good none endpoint ask replied
       made = made_by ask.2 (made-append taken.made apart.made);
     }
     by_end found (inr last) =
-        absurd (found (ap (λ (l : List TraceLine). (seen (seen s first) l).unfaithful) last.whole
-        ∙ ap (λ (x : Seen). x.unfaithful) (seen-append (seen s first) last.front last.last)
-        ∙ ap (λ (l : List TraceLine). (seen (seen (seen s first) last.front) l).unfaithful)
+        absurd (found (ap (λ (l : List TraceLine). (seen (seen s first) l).undetected) last.whole
+        ∙ ap (λ (x : Seen). x.undetected) (seen-append (seen s first) last.front last.last)
+        ∙ ap (λ (l : List TraceLine). (seen (seen (seen s first) last.front) l).undetected)
         last.collect.lines
         ∙ collect_still (seen (seen s first) last.front) host _ ∙ last.still))
 
-    by_found : (o : Option Found) → (seen s lines).unfaithful ≡ o → AnswersNothing host s lines
+    by_found : (o : Option UndetectedAt) → (seen s lines).undetected ≡ o
+        → AnswersNothing host s lines
     by_found None is =
         let own = replied is in
         record {
@@ -188,6 +190,6 @@ ask_answers_nothing host request noise at s lines good none endpoint ask replied
         }
     by_found (Some found) is =
         by_end (λ same. let bad : None ≡ Some found = sym same
-        ∙ sym (ap (λ (x : Seen). x.unfaithful) after) ∙ is in absurd cc)
+        ∙ sym (ap (λ (x : Seen). x.undetected) after) ∙ is in absurd cc)
         (rounds_apart host most_rounds noise (seen s first) rest taken.good still taken.endpoint
         more)

@@ -40,10 +40,10 @@ clash registers n m device stands kind endpoint same =
     absurd cc
 
 module _ (host : ℕ) (s : Seen) (lines : List TraceLine) (q p : PortRef) (item : Item)
-    (good : IsGood s) (none : s.unfaithful ≡ None) (only : IsOnly s.network (Held q) item)
+    (good : IsGood s) (none : s.undetected ≡ None) (only : IsOnly s.network (Held q) item)
     (passes : Passes item.now)
     (laid : IsLaid s.network.registers s.network.links host)
-    (peer : peer_in s.network.links q ≡ Some p) (still : (seen s lines).unfaithful ≡ None)
+    (peer : peer_in s.network.links q ≡ Some p) (still : (seen s lines).undetected ≡ None)
     (parts : Split (λ first. ServeNodes 0 s.network.registers s first)
     (λ t rest. CollectNodes host 0 t.network.registers t rest) s lines) where
   by_switch : (port : IsDevicePort s.network.registers q) → is_switch port.device ≡ true
@@ -55,7 +55,7 @@ module _ (host : ℕ) (s : Seen) (lines : List TraceLine) (q p : PortRef) (item 
       let rest = collect_quiet host t.network.registers 0 t parts.rest
       (λ node more above apart. collects_none t node more own.good
       (none_held s.network t.network q item own.is)) parts.more
-      (sym (ap (λ (x : Seen). x.unfaithful) parts.after) ∙ still) in
+      (sym (ap (λ (x : Seen). x.undetected) parts.after) ∙ still) in
       let whole : lines ≡ parts.first = parts.whole ∙ ap (λ (l : List TraceLine). parts.first ++ l)
       rest ∙ append-nil parts.first in
       let away : q.node ≢ host = λ same. clash s.network.registers q.node host port.device
@@ -84,8 +84,8 @@ module _ (host : ℕ) (s : Seen) (lines : List TraceLine) (q p : PortRef) (item 
       more = subst (λ (x : Seen). CollectNodes host 0 x.network.registers x parts.rest) there
           parts.more
 
-      behind : (seen s parts.rest).unfaithful ≡ None
-      behind = ap (λ (l : List TraceLine). (seen s l).unfaithful) (sym lines_are) ∙ still
+      behind : (seen s parts.rest).undetected ≡ None
+      behind = ap (λ (l : List TraceLine). (seen s l).undetected) (sym lines_are) ∙ still
 
       by_host : (own : Bool) → (q.node == host) ≡ own
           → HasRun s lines (Handled host s.network q item)
@@ -120,7 +120,7 @@ module _ (host : ℕ) (s : Seen) (lines : List TraceLine) (q p : PortRef) (item 
 
 -- nothing is to be handled
 pub handles_nothing : (host : ℕ) (s : Seen) (lines : List TraceLine) → IsGood s → NoneHeld s.network
-    → Handles host s lines → (seen s lines).unfaithful ≡ None → lines ≡ []
+    → Handles host s lines → (seen s lines).undetected ≡ None → lines ≡ []
 handles_nothing host s lines good none handles still =
     let parts = split (λ first. ServeNodes 0 s.network.registers s first)
     (λ t rest. CollectNodes host 0 t.network.registers t rest) s lines handles still in
@@ -133,15 +133,15 @@ handles_nothing host s lines good none handles still =
     first in
     lines_are ∙ collect_quiet host s.network.registers 0 s parts.rest
     (λ node own above apart. collects_none s node own good none) more
-    (ap (λ (l : List TraceLine). (seen s l).unfaithful) (sym lines_are) ∙ still)
+    (ap (λ (l : List TraceLine). (seen s l).undetected) (sym lines_are) ∙ still)
 
 -- ---- a round
 
 module _ (host : ℕ) (noise left : List Edit) (s : Seen) (lines : List TraceLine) (p : PortRef)
-    (item : Item) (good : IsGood s) (none : s.unfaithful ≡ None)
+    (item : Item) (good : IsGood s) (none : s.undetected ≡ None)
     (only : IsOnly s.network (Waits p) item) (passes : Passes item.now)
     (laid : IsLaid s.network.registers s.network.links host)
-    (round : AskRound host noise left s lines) (still : (seen s lines).unfaithful ≡ None) where
+    (round : AskRound host noise left s lines) (still : (seen s lines).undetected ≡ None) where
   abbrev parts : Split (CarryAll s.network.links noise left s) (Handles host) s lines
   parts = split (CarryAll s.network.links noise left s) (Handles host) s lines round still
 
@@ -152,8 +152,8 @@ module _ (host : ℕ) (noise left : List Edit) (s : Seen) (lines : List TraceLin
   carried = waits_run s.network.links s.network.links noise left s parts.first p item good none refl
       (all_found s.network.links good.proper) only (few_prio item.now passes) parts.own parts.still
 
-  behind : (seen t parts.rest).unfaithful ≡ None
-  behind = sym (ap (λ (x : Seen). x.unfaithful) parts.after) ∙ still
+  behind : (seen t parts.rest).undetected ≡ None
+  behind = sym (ap (λ (x : Seen). x.undetected) parts.after) ∙ still
 
   by_ran : Ran s.network.links s.network p item t.network
       → HasRun s lines (Rounded host s.network p item)

@@ -1,11 +1,11 @@
--- In an ask without edits no event is unfaithful.
+-- In an ask without edits no event is undetected.
 use Rattle.std.proofs.Common.{◌≡◌, ℕ, Bool, true, false, List, [], ◌∷◌, Option, Some, None, refl, sym, ap, ◌∙◌, subst, if◌then◌else◌}
 use Rattle.link_machine.specs.States.{LinkState, turned_round}
 use Rattle.fabric_script.specs.declared.ports.PortRef.{PortRef}
 use Rattle.fabric_model.specs.Network.{same_port, port_of, peer_in, room_out}
 use Rattle.fabric_model.proofs.Peers.{port_is}
 use Rattle.fabric_trace.specs.Fold.{seen}
-use Rattle.fabric_trace.specs.Known.{Found, Seen, link_at}
+use Rattle.fabric_trace.specs.Known.{UndetectedAt, Seen, link_at}
 use Rattle.trace_lines.specs.Lines.{Full, TraceLine, Stepped, Lacked}
 use Rattle.fabric_trace.specs.Parts.{Made, PartSteps, PartLacks}
 use Rattle.fabric_model.specs.Steps.{Take, AtNode}
@@ -55,12 +55,12 @@ quiet_at (link ∷ links) s a b quiet peer =
         (subst (λ p. IsQuiet (link_at s link.1 p)) end (quiet_round quiet.0))
     by_ends false false first second is later = later is
 
--- In an ask without edits, from a state whose links are at rest, no event is unfaithful.
+-- In an ask without edits, from a state whose links are at rest, no event is undetected.
 pub ask_still : (host : ℕ) (request : Request) (s : Seen) (lines : List TraceLine) → IsGood s
-    → s.unfaithful ≡ None → AreQuiet s.network.links s → IsAsk host request [] s lines
-    → (seen s lines).unfaithful ≡ None
+    → s.undetected ≡ None → AreQuiet s.network.links s → IsAsk host request [] s lines
+    → (seen s lines).undetected ≡ None
 ask_still host request s lines good none quiet ask =
-    ap (λ (x : Seen). x.unfaithful) (ap (seen s) ask.2 ∙ seen-append s first rest) ∙ behind
+    ap (λ (x : Seen). x.undetected) (ap (seen s) ask.2 ∙ seen-append s first rest) ∙ behind
   where
     first : List TraceLine
     first = ask.0
@@ -77,14 +77,14 @@ ask_still host request s lines good none quiet ask =
     by_room : (room : Bool) → first ≡ (if room
         then Stepped (AtNode (Take host ask.3.packet)) ∷ [] else Lacked Full ∷ [])
         → room_out s.network (port_of host) (prio_of ask.3.packet) ≡ room
-        → IsGood t × ((t.unfaithful ≡ None) × AllCalm t)
+        → IsGood t × ((t.undetected ≡ None) × AllCalm t)
     by_room true is room =
         let passes = Passes-from_form (request_body request) ask.3.packet ask.3.form in
         let made : Made s first = made_by is (one_part (PartSteps (Take host ask.3.packet)
         (ask.3.endpoint, passes, room) (few_prio ask.3.packet passes) refl)) in (
           (made_keeps good made).good,
           (
-            ap (λ (l : List TraceLine). (seen s l).unfaithful) is ∙ none,
+            ap (λ (l : List TraceLine). (seen s l).undetected) is ∙ none,
             subst (λ (l : List TraceLine). AllCalm (seen s l)) (sym is)
                 (λ a b peer. let own = calm a b peer in record {
                   to_b = record { rests = own.to_b.rests; found = own.to_b.found };
@@ -96,15 +96,16 @@ ask_still host request s lines good none quiet ask =
         let made : Made s first = made_by is (one_part (PartLacks Full refl)) in (
           (made_keeps good made).good,
           (
-            ap (λ (l : List TraceLine). (seen s l).unfaithful) is ∙ none,
+            ap (λ (l : List TraceLine). (seen s l).undetected) is ∙ none,
             subst (λ (l : List TraceLine). AllCalm (seen s l)) (sym is) calm,
           ),
         )
 
-    taken : IsGood t × ((t.unfaithful ≡ None) × AllCalm t)
+    taken : IsGood t × ((t.undetected ≡ None) × AllCalm t)
     taken = by_room (room_out s.network (port_of host) (prio_of ask.3.packet)) ask.3.lines refl
 
-    behind : (seen t rest).unfaithful ≡ None
+    behind : (seen t rest).undetected ≡ None
     behind = rounds_still host most_rounds t rest taken.0 taken.1.0 taken.1.1
-        (subst (λ (f : Option Found). Follows f (AskRounds host most_rounds [] t) NamesNothing rest)
+        (subst (λ (f : Option UndetectedAt).
+        Follows f (AskRounds host most_rounds [] t) NamesNothing rest)
         taken.1.0 ask.4)

@@ -63,7 +63,7 @@ arrival_behind host rounds dest h left s first rest lines at item whole run noth
           ∙ sym (append_assoc first a.front a.rest);
       made = made-append run.made a.made;
       nothing = never-append host first a.front nothing a.nothing;
-      still = ap (λ (x : Seen). x.unfaithful) joined ∙ a.still;
+      still = ap (λ (x : Seen). x.undetected) joined ∙ a.still;
       links = ap (λ (x : Seen). x.network.links) joined ∙ a.links ∙ run.links;
       passed = a.passed;
       moves = suc a.moves;
@@ -212,7 +212,7 @@ module _ (host dest : ℕ) (regs : List Registers) (links : List (PortRef × Por
   arrival_here : (n k : ℕ) (left : List Edit) (s : Seen) (first rest lines : List TraceLine)
       (q at : PortRef) (item : Item) (mid : Network) → lines ≡ first ++ rest
       → {Is : Network → Type 0} → HasRun s first Is → CollectsNothing host first
-      → (seen s first).unfaithful ≡ None
+      → (seen s first).undetected ≡ None
       → IsOn item.now dest n → mid.registers ≡ s.network.registers
       → FinalAt host mid q item n (seen s first).network
       → GoesOn host k left (seen s first) rest → q ≡ at
@@ -242,7 +242,7 @@ module _ (host dest : ℕ) (regs : List Registers) (links : List (PortRef × Por
       }
 
   module _ (n k : ℕ) (noise left : List Edit) (s : Seen) (lines : List TraceLine) (p at : PortRef)
-      (item : Item) (good : IsGood s) (none : s.unfaithful ≡ None)
+      (item : Item) (good : IsGood s) (none : s.undetected ≡ None)
       (same_regs : s.network.registers ≡ regs)
       (same_links : s.network.links ≡ links)
       (on : IsOn item.now dest n) (ends : walk topo table dest n p ≡ Some at)
@@ -325,10 +325,10 @@ module _ (host dest : ℕ) (regs : List Registers) (links : List (PortRef × Por
 
   -- The packet comes where its walk ends.
   pub travels : (n rounds : ℕ) (noise : List Edit) (s : Seen) (lines : List TraceLine)
-      (p at : PortRef) (item : Item) → n < rounds → IsGood s → s.unfaithful ≡ None
+      (p at : PortRef) (item : Item) → n < rounds → IsGood s → s.undetected ≡ None
       → s.network.registers ≡ regs → s.network.links ≡ links
       → IsOnly s.network (Waits p) item → IsOn item.now dest n → walk topo table dest n p ≡ Some at
-      → AskRounds host rounds noise s lines → (seen s lines).unfaithful ≡ None
+      → AskRounds host rounds noise s lines → (seen s lines).undetected ≡ None
       → HasCome host rounds dest n (hops_left topo table dest n p) s lines at item
   travels n zero noise s lines p at item below good none same_regs same_links only on ends asks
       still = absurd (omega arith)
@@ -346,4 +346,4 @@ module _ (host dest : ℕ) (regs : List Registers) (links : List (PortRef × Por
       travels h k left (seen s parts.first) parts.rest (port_at q.node to) at (moved_item item)
       (omega (arith, below, next)) run.good parts.still same2 (run.links ∙ same_links) only2
       (on_moves item.now dest h (subst (IsOn item.now dest) next on)) ends2 rounds
-      (sym (ap (λ (x : Seen). x.unfaithful) parts.after) ∙ still))
+      (sym (ap (λ (x : Seen). x.undetected) parts.after) ∙ still))

@@ -8,7 +8,7 @@ use Rattle.fabric_model.specs.Steps.{Hold, Free, Leave, Move, Drop, Answer, Devi
 use Rattle.fabric_model.proofs.Flows.{switches_stay, two_kinds}
 use Rattle.fabric_model.proofs.Peers.{link_peers}
 use Rattle.fabric_trace.specs.Fold.{seen}
-use Rattle.fabric_trace.specs.Known.{Found, Seen}
+use Rattle.fabric_trace.specs.Known.{UndetectedAt, Seen}
 use Rattle.trace_lines.specs.Lines.{TraceLine, Begun, Stepped, Signed, Lacked, Ended, Undetected, steps_of}
 use Rattle.fabric_trace.specs.Parts.{Made, Done}
 use Rattle.fabric_trace.specs.Served.{IsCollect}
@@ -59,13 +59,13 @@ apart_then host s first rest lines whole own more = record {
 joined_never : (host : ℕ) (First : List TraceLine → Type 0) (More : Seen → List TraceLine → Type 0)
     (s : Seen) (lines : List TraceLine) → Joined First More s lines
     → ((first : List TraceLine) → First first → CollectsNothing host first)
-    → ((first rest : List TraceLine) → First first → (seen s first).unfaithful ≡ None
+    → ((first rest : List TraceLine) → First first → (seen s first).undetected ≡ None
     → More (seen s first) rest → CollectsNothing host rest) → CollectsNothing host lines
 joined_never host First More s lines joined own later =
     never_by host joined.2 (never-append host joined.0 joined.1 (own joined.0 joined.3)
-    (by_found (seen s joined.0).unfaithful refl joined.4))
+    (by_found (seen s joined.0).undetected refl joined.4))
   where
-    by_found : (found : Option Found) → (seen s joined.0).unfaithful ≡ found
+    by_found : (found : Option UndetectedAt) → (seen s joined.0).undetected ≡ found
         → Follows found (More (seen s joined.0)) NamesNothing joined.1
         → CollectsNothing host joined.1
     by_found None is more = later joined.0 joined.1 joined.3 is more
@@ -74,13 +74,13 @@ joined_never host First More s lines joined own later =
 joined_apart : (host : ℕ) (First : List TraceLine → Type 0) (More : Seen → List TraceLine → Type 0)
     (s : Seen) (lines : List TraceLine) → Joined First More s lines
     → ((first : List TraceLine) → First first → IsApart host s first)
-    → ((first rest : List TraceLine) → First first → (seen s first).unfaithful ≡ None
+    → ((first rest : List TraceLine) → First first → (seen s first).undetected ≡ None
     → More (seen s first) rest → IsApart host (seen s first) rest) → IsApart host s lines
 joined_apart host First More s lines joined own later =
     apart_then host s joined.0 joined.1 lines joined.2 (own joined.0 joined.3)
-    (by_found (seen s joined.0).unfaithful refl joined.4)
+    (by_found (seen s joined.0).undetected refl joined.4)
   where
-    by_found : (found : Option Found) → (seen s joined.0).unfaithful ≡ found
+    by_found : (found : Option UndetectedAt) → (seen s joined.0).undetected ≡ found
         → Follows found (More (seen s joined.0)) NamesNothing joined.1
         → IsApart host (seen s joined.0) joined.1
     by_found None is more = later joined.0 joined.1 joined.3 is more
@@ -171,7 +171,7 @@ module _ (host : ℕ) where
   makes_never net node step away (Answering packet response at needs) =
       subst (λ x. IsElsewhere host (Stepped x)) (sym at) away
 
-  collects_never : {s : Seen} {node : ℕ} {lines : List TraceLine} → IsGood s → s.unfaithful ≡ None
+  collects_never : {s : Seen} {node : ℕ} {lines : List TraceLine} → IsGood s → s.undetected ≡ None
       → node ≢ host → CollectsAll s node lines → CollectsNothing host lines
   collects_never {s} {node} {lines} good none away (CollectRests move at) =
       never_none host lines at
@@ -198,7 +198,7 @@ module _ (host : ℕ) where
       (λ more. serve_never devices (suc k) s lines good is more) at
 
   collect_never : (devices : List Registers) (k : ℕ) (s : Seen) (lines : List TraceLine) → IsGood s
-      → s.unfaithful ≡ None → CollectNodes host k devices s lines → CollectsNothing host lines
+      → s.undetected ≡ None → CollectNodes host k devices s lines → CollectsNothing host lines
   collect_never [] k s lines good none at = never_none host lines at
   collect_never (device ∷ devices) k s lines good none at =
       by_both (is_switch device) (k == host) refl at
@@ -207,7 +207,7 @@ module _ (host : ℕ) where
       by_both : (kind own : Bool) → (k == host) ≡ own
           → MatchBool (kind || own) (CollectNodes host (suc k) devices s lines)
           (Joined (CollectsAll s k) (CollectNodes host (suc k) devices) s lines)
-          → ((rest : List TraceLine) (t : Seen) → IsGood t → t.unfaithful ≡ None
+          → ((rest : List TraceLine) (t : Seen) → IsGood t → t.undetected ≡ None
           → CollectNodes host (suc k) devices t rest → CollectsNothing host rest)
           → CollectsNothing host lines
       by_both true own test more again = again lines s good none more
@@ -221,7 +221,7 @@ module _ (host : ℕ) where
           again rest (seen s first) (made_keeps good (collects_made good none own)).good still more)
 
   pub carry_apart : (all links : List (PortRef × PortRef)) (noise left : List Edit) (s : Seen)
-      (lines : List TraceLine) → IsGood s → s.unfaithful ≡ None → s.network.links ≡ all
+      (lines : List TraceLine) → IsGood s → s.undetected ≡ None → s.network.links ≡ all
       → AreFound all links → CarryAll links noise left s lines → IsApart host s lines
   carry_apart all [] noise left s lines good none same found carry = record {
     nothing = never_none host lines carry.0;
@@ -241,7 +241,7 @@ module _ (host : ℕ) where
       carry_apart all links mid left (seen s first) rest (made_keeps good local.made).good still
       (local.others.links ∙ same) found.1 more)
 
-  handles_apart : (s : Seen) (lines : List TraceLine) → IsGood s → s.unfaithful ≡ None
+  handles_apart : (s : Seen) (lines : List TraceLine) → IsGood s → s.undetected ≡ None
       → IsEndpoint s.network host → Handles host s lines → IsApart host s lines
   handles_apart s lines good none is handles = record {
     nothing = joined_never host (λ first. ServeNodes 0 s.network.registers s first)
@@ -256,7 +256,7 @@ module _ (host : ℕ) where
 
   -- in a round
   pub round_apart : (noise left : List Edit) (s : Seen) (lines : List TraceLine) → IsGood s
-      → s.unfaithful ≡ None → IsEndpoint s.network host → AskRound host noise left s lines
+      → s.undetected ≡ None → IsEndpoint s.network host → AskRound host noise left s lines
       → IsApart host s lines
   round_apart noise left s lines good none is round =
       joined_apart host (CarryAll s.network.links noise left s) (Handles host) s lines round
@@ -270,7 +270,7 @@ module _ (host : ℕ) where
 
   -- in rounds after none of which the host holds a packet
   pub unheld_apart : (n : ℕ) (noise left : List Edit) (s : Seen) (lines : List TraceLine)
-      → IsGood s → s.unfaithful ≡ None → IsEndpoint s.network host
+      → IsGood s → s.undetected ≡ None → IsEndpoint s.network host
       → Unheld host n noise left s lines → IsApart host s lines
   unheld_apart zero noise left s lines good none is unheld = record {
     nothing = never_none host lines unheld.0;
@@ -292,7 +292,7 @@ module _ (host : ℕ) where
     pub last : List TraceLine
     pub whole : lines ≡ front ++ last
     pub apart : IsApart host s front
-    pub still : (seen s front).unfaithful ≡ None
+    pub still : (seen s front).undetected ≡ None
     pub held : holds_some host (seen s front) ≡ true
     pub quiet : AreQuiet s.network.links (seen s front)
     pub collect : IsCollect (seen s front).network host last
@@ -311,7 +311,7 @@ module _ (host : ℕ) where
         whole = whole ∙ ap (λ (l : List TraceLine). first ++ l) more.whole
             ∙ sym (append_assoc first more.front more.last);
         apart = apart_then host s first more.front (first ++ more.front) refl own more.apart;
-        still = ap (λ (x : Seen). x.unfaithful) joined ∙ more.still;
+        still = ap (λ (x : Seen). x.undetected) joined ∙ more.still;
         held = ap (holds_some host) joined ∙ more.held;
         quiet = subst (AreQuiet s.network.links) (sym joined)
             (subst (λ l. AreQuiet l (seen (seen s first) more.front)) links more.quiet);
@@ -321,7 +321,7 @@ module _ (host : ℕ) where
 
   -- In the rounds of an ask it collects nothing, or at their end alone.
   pub rounds_apart : (n : ℕ) (noise : List Edit) (s : Seen) (lines : List TraceLine) → IsGood s
-      → s.unfaithful ≡ None → IsEndpoint s.network host → AskRounds host n noise s lines
+      → s.undetected ≡ None → IsEndpoint s.network host → AskRounds host n noise s lines
       → (IsApart host s lines) ⊎ CollectsLast s lines
   rounds_apart zero noise s lines good none is asks =
       inl (record { nothing = never_none host lines asks; made = made_by asks (Done refl) })
@@ -333,7 +333,7 @@ module _ (host : ℕ) where
       let kept = made_keeps good own.made in
       let links = legal_links s.network (steps_of first) (seen s first).network kept.legal in
       collects_behind s first rest lines asks.1.2 links own
-      (by_found (seen s first).unfaithful refl asks.1.4
+      (by_found (seen s first).undetected refl asks.1.4
       (λ still held more. inr (record {
         front = [];
         last = rest;
@@ -348,12 +348,12 @@ module _ (host : ℕ) where
       (λ still more. rounds_apart n left (seen s first) rest (made_keeps good own.made).good still
       (made_endpoint s first good own.made is) more))
     where
-      by_found : (found : Option Found) → (seen s asks.1.0).unfaithful ≡ found
+      by_found : (found : Option UndetectedAt) → (seen s asks.1.0).undetected ≡ found
           → Follows found (GoesOn host n asks.0 (seen s asks.1.0)) NamesNothing asks.1.1
-          → ((seen s asks.1.0).unfaithful ≡ None → holds_some host (seen s asks.1.0) ≡ true
+          → ((seen s asks.1.0).undetected ≡ None → holds_some host (seen s asks.1.0) ≡ true
           → IsCollect (seen s asks.1.0).network host asks.1.1
           → (IsApart host (seen s asks.1.0) asks.1.1) ⊎ CollectsLast (seen s asks.1.0) asks.1.1)
-          → ((seen s asks.1.0).unfaithful ≡ None
+          → ((seen s asks.1.0).undetected ≡ None
           → AskRounds host n asks.0 (seen s asks.1.0) asks.1.1
           → (IsApart host (seen s asks.1.0) asks.1.1) ⊎ CollectsLast (seen s asks.1.0) asks.1.1)
           → (IsApart host (seen s asks.1.0) asks.1.1) ⊎ CollectsLast (seen s asks.1.0) asks.1.1

@@ -36,7 +36,7 @@ pub record HasCome (host rounds dest hops left : ℕ) (s : Seen) (lines : List T
   pub whole : lines ≡ front ++ rest
   pub made : Made s front
   pub nothing : CollectsNothing host front
-  pub still : (seen s front).unfaithful ≡ None
+  pub still : (seen s front).undetected ≡ None
   pub links : (seen s front).network.links ≡ s.network.links
   pub passed : Item
   pub moves : ℕ

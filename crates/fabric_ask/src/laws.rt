@@ -25,21 +25,21 @@ ghost use Rattle.fabric_ask.specs.Quiet.{AreQuiet};
 /// packet leaves at the host in the end only then.
 pub fn asks_are_answered()
     ensures replied { (host : ℕ) (request : Request) (noise : List Edit) (s : Seen)
-        (lines : List TraceLine) (at : PortRef) → IsReady s → s.unfaithful ≡ None
+        (lines : List TraceLine) (at : PortRef) → IsReady s → s.undetected ≡ None
         → IsClear s.network → IsLaid s.network.registers s.network.links host
         → request.hop < 256
         → ((packet : List ℕ) → LinkForm (request_body request) packet
         → request_of packet ≡ Some request)
-        → IsAsk host request noise s lines → (seen s lines).unfaithful ≡ None
+        → IsAsk host request noise s lines → (seen s lines).undetected ≡ None
         → IsRoundTrip s.network.registers s.network.links host request at
         → IsReplied host s lines at request }
     ensures only_then { (host : ℕ) (request : Request) (noise : List Edit) (s : Seen)
-        (lines front : List TraceLine) (packet : List ℕ) → IsReady s → s.unfaithful ≡ None
+        (lines front : List TraceLine) (packet : List ℕ) → IsReady s → s.undetected ≡ None
         → IsClear s.network → IsLaid s.network.registers s.network.links host
         → request.hop < 256
         → ((packet : List ℕ) → LinkForm (request_body request) packet
         → request_of packet ≡ Some request)
-        → IsAsk host request noise s lines → (seen s lines).unfaithful ≡ None
+        → IsAsk host request noise s lines → (seen s lines).undetected ≡ None
         → lines ≡ front ++ Stepped (AtNode (Leave host packet)) ∷ []
         → (at : PortRef) × IsRoundTrip s.network.registers s.network.links host request at }
 {}
@@ -48,15 +48,15 @@ pub fn asks_are_answered()
 /// without a link. All links are at rest then, and the host collects nothing.
 pub fn a_round_carries_the_packet()
     ensures carried { (host : ℕ) (noise left : List Edit) (s : Seen) (lines : List TraceLine)
-        (p : PortRef) (item : Item) → IsReady s → s.unfaithful ≡ None
+        (p : PortRef) (item : Item) → IsReady s → s.undetected ≡ None
         → IsOnly s.network (Waits p) item → Passes item.now
         → IsLaid s.network.registers s.network.links host → AskRound host noise left s lines
-        → (seen s lines).unfaithful ≡ None → Rounded host s.network p item (seen s lines).network }
+        → (seen s lines).undetected ≡ None → Rounded host s.network p item (seen s lines).network }
     ensures quiet { (host : ℕ) (noise left : List Edit) (s : Seen) (lines : List TraceLine)
-        → IsReady s → s.unfaithful ≡ None → AskRound host noise left s lines
-        → (seen s lines).unfaithful ≡ None → AreQuiet s.network.links (seen s lines) }
+        → IsReady s → s.undetected ≡ None → AskRound host noise left s lines
+        → (seen s lines).undetected ≡ None → AreQuiet s.network.links (seen s lines) }
     ensures uncollected { (host : ℕ) (noise left : List Edit) (s : Seen) (lines : List TraceLine)
-        → IsReady s → s.unfaithful ≡ None → IsEndpoint s.network host
+        → IsReady s → s.undetected ≡ None → IsEndpoint s.network host
         → AskRound host noise left s lines → CollectsNothing host lines }
 {}
 
@@ -77,15 +77,15 @@ pub fn a_host_has_its_own_registers()
 /// meet.
 pub fn asks_have_lines()
     ensures { (host : ℕ) (request : Request) (noise : List Edit) (s : Seen) (packet : List ℕ)
-        → IsReady s → s.unfaithful ≡ None → IsEndpoint s.network host
+        → IsReady s → s.undetected ≡ None → IsEndpoint s.network host
         → LinkForm (request_body request) packet
         → (lines : List TraceLine) × IsAsk host request noise s lines }
 {}
 
 /// Where no edit is made, and all links are at rest before, every event that is acted on in an ask
 /// was sent.
-pub fn without_edits_nothing_is_unsent()
+pub fn without_edits_nothing_is_undetected()
     ensures { (host : ℕ) (request : Request) (s : Seen) (lines : List TraceLine) → IsReady s
-        → s.unfaithful ≡ None → AreQuiet s.network.links s → IsAsk host request [] s lines
-        → (seen s lines).unfaithful ≡ None }
+        → s.undetected ≡ None → AreQuiet s.network.links s → IsAsk host request [] s lines
+        → (seen s lines).undetected ≡ None }
 {}

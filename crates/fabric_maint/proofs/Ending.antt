@@ -15,7 +15,7 @@ use Rattle.trace_lines.specs.Text.{trace_text}
 use Rattle.fabric_ask.specs.Asks.{IsAsk}
 use Rattle.fabric_ask.proofs.Resting.{AnswersNothing}
 use Rattle.fabric_ports.specs.declared.fabric.Fabric.{Fabric}
-use Rattle.fabric_ports.specs.Asking.{CanAsk, Lost, Misled, Broken, Unwritten, AskEnds}
+use Rattle.fabric_ports.specs.Asking.{CanAsk, Lost, AskedUndetected, AskedFront, AskedTextFront, AskEnds}
 use Rattle.fabric_ports.specs.declared.asking.AskEnd.{AskEnd}
 use Rattle.fabric_ports.specs.declared.asking.AskEnd.TheVariants.{Unanswered, Undetected, WriteFault, NoMemory}
 use Rattle.host_enumerate.specs.declared.maint.Access.{Access}
@@ -24,7 +24,7 @@ use Rattle.host_enumerate.specs.declared.maint.MaintEnd.TheVariants as maint
 use Rattle.host_enumerate.specs.Causes.{IsCaused}
 use Rattle.host_enumerate.specs.Accesses.{access_offset, IsAnswered}
 use Rattle.fabric_maint.specs.AskEnds.{count_after, end_for}
-use Rattle.fabric_maint.specs.Going.{names_of, topology_in, registers_in, MaintRestsAt, StandsWhole, Went, Followed, Partly, AskLeftOff, Abandoned, HasMet}
+use Rattle.fabric_maint.specs.Going.{names_of, topology_in, registers_in, MaintRestsAt, StandsWhole, Went, Followed, FrontTold, WentFront, FollowedFront, HasMet}
 use Rattle.fabric_maint.specs.Requests.{request_for}
 use Rattle.fabric_maint.specs.declared.maint.FabricMaint.{FabricMaint}
 use Rattle.fabric_maint.proofs.Asking.{good_request, ask_of, trip_at, moved}
@@ -32,7 +32,7 @@ use Rattle.fabric_maint.proofs.Leading.{ask_lines, made_more}
 use Rattle.fabric_maint.proofs.Told.{text_more}
 
 -- A front of the text of an ask was told.
-pub record ToldPart (names : List (List ℕ)) (before after : Option (List ℕ)) (host : ℕ)
+pub record ToldAskFront (names : List (List ℕ)) (before after : Option (List ℕ)) (host : ℕ)
     (request : Request) (noise : List Edit) (t : Seen) : Type 0 where
   pub block : List TraceLine
   pub bytes : List ℕ
@@ -43,51 +43,52 @@ pub record ToldPart (names : List (List ℕ)) (before after : Option (List ℕ))
 
 module _ {names : List (List ℕ)} {before after : Option (List ℕ)} {host : ℕ} {request : Request}
     {noise : List Edit} {t : Seen} where
-  pub of_misled : {port : PortRef} {event : Event}
-      → Misled names before after host request noise t [] port event
-      → ToldPart names before after host request noise t
-  of_misled misled = record {
-    block = misled.block;
-    bytes = trace_text names misled.block;
+  pub of_undetected : {port : PortRef} {event : Event}
+      → AskedUndetected names before after host request noise t [] port event
+      → ToldAskFront names before after host request noise t
+  of_undetected exposed = record {
+    block = exposed.block;
+    bytes = trace_text names exposed.block;
     rest = [];
-    is = misled.is;
-    told = misled.told;
-    whole = sym (append-nil (trace_text names misled.block));
+    is = exposed.is;
+    told = exposed.told;
+    whole = sym (append-nil (trace_text names exposed.block));
   }
 
-  pub of_broken : Broken names before after host request noise t []
-      → ToldPart names before after host request noise t
-  of_broken broken = record {
-    block = broken.block;
-    bytes = trace_text names broken.front;
-    rest = trace_text names broken.rest;
-    is = broken.is;
-    told = broken.told;
-    whole = ap (trace_text names) broken.whole
-        ∙ sym (text_more names broken.front broken.rest);
+  pub of_front : AskedFront names before after host request noise t []
+      → ToldAskFront names before after host request noise t
+  of_front told_front = record {
+    block = told_front.block;
+    bytes = trace_text names told_front.front;
+    rest = trace_text names told_front.rest;
+    is = told_front.is;
+    told = told_front.told;
+    whole = ap (trace_text names) told_front.whole
+        ∙ sym (text_more names told_front.front told_front.rest);
   }
 
-  pub of_unwritten : Unwritten names before after host request noise t []
-      → ToldPart names before after host request noise t
-  of_unwritten unwritten = record {
-    block = unwritten.block;
-    bytes = unwritten.told.front;
-    rest = unwritten.told.rest;
-    is = unwritten.is;
-    told = unwritten.told.told;
-    whole = unwritten.told.whole;
+  pub of_text_front : AskedTextFront names before after host request noise t []
+      → ToldAskFront names before after host request noise t
+  of_text_front told_text_front = record {
+    block = told_text_front.block;
+    bytes = told_text_front.told.front;
+    rest = told_text_front.told.rest;
+    is = told_text_front.is;
+    told = told_text_front.told.told;
+    whole = told_text_front.told.whole;
   }
 
 -- each end is for one of these reasons, unless no response came
 pub of_end : (names : List (List ℕ)) (before after : Option (List ℕ)) (host : ℕ)
     (request : Request) (noise : List Edit) (t : Seen) (end : AskEnd) → IsSome (end_for end)
     → AskEnds names before after host request noise t [] end
-    → ToldPart names before after host request noise t
+    → ToldAskFront names before after host request noise t
 of_end names before after host request noise t Unanswered some lost = absurd cc
-of_end names before after host request noise t (Undetected port event) some misled =
-    of_misled misled
-of_end names before after host request noise t WriteFault some unwritten = of_unwritten unwritten
-of_end names before after host request noise t NoMemory some broken = of_broken broken
+of_end names before after host request noise t (Undetected port event) some exposed =
+    of_undetected exposed
+of_end names before after host request noise t WriteFault some told_text_front =
+    of_text_front told_text_front
+of_end names before after host request noise t NoMemory some told_front = of_front told_front
 
 -- a count that goes up, or stands at its greatest
 rose : (before after : ℕ) → after ≡ min (before + 1) (2 ^ 64 - 1) → Rose before after
@@ -132,14 +133,14 @@ module _ {N K : Type 0} (edits : N → List Edit) (written : K → Option (List 
     other_end : (other : AskEnd) → AskEnds (names_of old) (written old.sink.now) (written sink)
         old.host asked (edits old.noise.now) whole.s [] other → IsSome (end_for other)
     other_end Unanswered lost = absurd (never_lost lost)
-    other_end (Undetected port event) misled = refl
-    other_end WriteFault unwritten = refl
-    other_end NoMemory broken = refl
+    other_end (Undetected port event) exposed = refl
+    other_end WriteFault told_text_front = refl
+    other_end NoMemory told_front = refl
 
     pub some_end : IsSome (end_for end)
     some_end = other_end end (ends whole.s whole.rests.can)
 
-    part : (t : Seen) → CanAsk old.host t [] old.fabric.now → ToldPart (names_of old)
+    part : (t : Seen) → CanAsk old.host t [] old.fabric.now → ToldAskFront (names_of old)
         (written old.sink.now) (written sink) old.host asked (edits old.noise.now) t
     part t can = of_end (names_of old) (written old.sink.now) (written sink) old.host asked
         (edits old.noise.now) t end some_end (ends t can)
@@ -159,7 +160,7 @@ module _ {N K : Type 0} (edits : N → List Edit) (written : K → Option (List 
 
     leaves_off : (s : Seen) (origin : FabricMaint N K)
         → MaintRestsAt origin.host s origin.fabric.now → Went edits written s origin old
-        → AskLeftOff edits written s origin (moved old fabric noise sink undetected)
+        → WentFront edits written s origin (moved old fabric noise sink undetected)
     leaves_off s origin rests went =
         let own = part went.end went.rests.can in
         let own_lines = lines_at (edits old.noise.now) went.end own.block went.rests.can own.is in
@@ -173,7 +174,7 @@ module _ {N K : Type 0} (edits : N → List Edit) (written : K → Option (List 
           told = Appends-trans (written origin.sink.now) (written old.sink.now)
               (written sink) (trace_text (names_of old) went.lines) own.bytes went.told
               own.told;
-          begun = Partly asked own.block own.rest
+          begun = FrontTold asked own.block own.rest
               (ask_of old whole dest hops access edits old.noise.now went.end own.block asked
               request_is low went.rests.can own.is)
               (made_more old.host s went.end went.lines own.block rests.can.stands.ready went.leads
@@ -184,7 +185,7 @@ module _ {N K : Type 0} (edits : N → List Edit) (written : K → Option (List 
     pub abandons_at : (faults : K → ℕ) (origin : FabricMaint N K)
         → faults old.sink.now ≤ faults sink
         → Followed edits written faults origin old
-        → Abandoned edits written faults origin (moved old fabric noise sink undetected)
+        → FollowedFront edits written faults origin (moved old fabric noise sink undetected)
     abandons_at faults origin more followed = record {
       never_falls = let before = followed.never_falls in omega (arith, before, more);
       same = record {
@@ -198,22 +199,22 @@ module _ {N K : Type 0} (edits : N → List Edit) (written : K → Option (List 
     }
 
     pub meets : (port : PortRef) (event : Event)
-        → Misled (names_of old) (written old.sink.now) (written sink) old.host asked
+        → AskedUndetected (names_of old) (written old.sink.now) (written sink) old.host asked
         (edits old.noise.now) whole.s [] port event
         → HasMet edits written (moved old fabric noise sink undetected) port event
-    meets port event misled = record {
+    meets port event exposed = record {
       s = whole.s;
       tid = old.tid;
       request = asked;
-      block = misled.block;
+      block = exposed.block;
       ready = whole.rests.can.stands.ready;
       sent = whole.rests.can.stands.sent;
       quiet = whole.rests.quiet;
-      is = ask_of old whole dest hops access edits old.noise.now whole.s misled.block asked
-          request_is low whole.rests.can misled.is;
-      found = misled.found;
+      is = ask_of old whole dest hops access edits old.noise.now whole.s exposed.block asked
+          request_is low whole.rests.can exposed.is;
+      found = exposed.found;
       before = written old.sink.now;
-      told = misled.told;
+      told = exposed.told;
     }
 
     -- no count changes but that of its cause
@@ -226,16 +227,16 @@ module _ {N K : Type 0} (edits : N → List Edit) (written : K → Option (List 
         → IsCaused (old.undetected, undetected) (faults old.sink.now, faults sink)
         (HasMet edits written (moved old fabric noise sink undetected)) given
     caused faults Unanswered given is count ends fault stays = absurd cc
-    caused faults (Undetected port event) given is count misled fault stays =
+    caused faults (Undetected port event) given is count exposed fault stays =
         subst (IsCaused (old.undetected, undetected) (faults old.sink.now, faults sink)
         (HasMet edits written (moved old fabric noise sink undetected)))
         (sym (same_Some given (maint.Undetected port event) is))
-        (meets port event misled, rose old.undetected undetected count, stays (λ same. cc))
-    caused faults WriteFault given is count unwritten fault stays =
+        (meets port event exposed, rose old.undetected undetected count, stays (λ same. cc))
+    caused faults WriteFault given is count told_text_front fault stays =
         subst (IsCaused (old.undetected, undetected) (faults old.sink.now, faults sink)
         (HasMet edits written (moved old fabric noise sink undetected)))
         (sym (same_Some given maint.WriteFault is)) (fault refl, count)
-    caused faults NoMemory given is count broken fault stays =
+    caused faults NoMemory given is count told_front fault stays =
         subst (IsCaused (old.undetected, undetected) (faults old.sink.now, faults sink)
         (HasMet edits written (moved old fabric noise sink undetected)))
         (sym (same_Some given maint.NoMemory is)) (count, stays (λ same. cc))

@@ -98,7 +98,7 @@ host_device host s is = go (slice_get s.network.registers host) refl
 
 -- ---- where no ask was made
 
-pub leads_none : (host : ℕ) (s : Seen) → s.unfaithful ≡ None → IsEndpoint s.network host
+pub leads_none : (host : ℕ) (s : Seen) → s.undetected ≡ None → IsEndpoint s.network host
     → LeadsTo host s [] s
 leads_none host s sent is =
     let own = host_device host s is in
@@ -134,11 +134,11 @@ module _ (host : ℕ) (s end : Seen) (lines block : List TraceLine) (ready : IsR
   end_more = ap (λ (x : Seen). seen x block) leads.end_is
       ∙ seen_own host leads.device leads.kind mid block never
 
-  pub leads_more : (seen end block).unfaithful ≡ None
+  pub leads_more : (seen end block).undetected ≡ None
       → LeadsTo host s (lines ++ block) (seen end block)
   leads_more still = record {
     made = made_more;
-    sent = ap (λ (x : Seen). x.unfaithful) more ∙ sym (ap (λ (x : Seen). x.unfaithful) end_more)
+    sent = ap (λ (x : Seen). x.undetected) more ∙ sym (ap (λ (x : Seen). x.undetected) end_more)
         ∙ still;
     endpoint = subst (λ (x : Seen). IsEndpoint x.network host) (sym more)
         (made_endpoint host mid block (good_of (ready_on ready leads.made)) made_behind

@@ -37,7 +37,7 @@ pub data Asked {N : Type 0} (edits : N → List Edit) (host : ℕ) (s : Seen) (t
       → Asked edits host s tid lines t next
   AskedMore : {lines : List TraceLine} {t : Seen} {next : ℕ} (before block : List TraceLine)
       (u : Seen) (number : ℕ) (request : Request) → Asked edits host s tid before u number
-      → IsAskOf edits host u number request block → (seen u block).unfaithful ≡ None
+      → IsAskOf edits host u number request block → (seen u block).undetected ≡ None
       → lines ≡ before ++ block → t ≡ seen u block → next ≡ (number + 1) % 256
       → Asked edits host s tid lines t next
   Owns : {lines : List TraceLine} {t : Seen} {next : ℕ} (u : Seen) (device : Registers)

@@ -81,7 +81,7 @@ pub record MaintIsSame {N K : Type 0} (old new : FabricMaint N K) : Type 0 where
 -- lead to a second state, but for the registers of the host, which is an endpoint.
 pub record LeadsTo (host : ℕ) (s : Seen) (lines : List TraceLine) (end : Seen) : Type 0 where
   pub made : Made s lines
-  pub sent : (seen s lines).unfaithful ≡ None
+  pub sent : (seen s lines).undetected ≡ None
   pub endpoint : IsEndpoint (seen s lines).network host
   pub device : Registers
   pub kind : is_switch device ≡ false
@@ -109,16 +109,17 @@ pub record Followed {N K : Type 0} (edits : N → List Edit) (written : K → Op
 
 -- What was told of an ask that has no answer: nothing, or a front of the text of its lines, which
 -- may stand in a trace behind those before.
-pub data AskBegun {N : Type 0} (edits : N → List Edit) (host : ℕ) (names : List (List ℕ)) (s : Seen)
+pub data FrontOfAsk {N : Type 0} (edits : N → List Edit) (host : ℕ) (names : List (List ℕ))
+    (s : Seen)
     (before : List TraceLine) (end : Seen) (tid : ℕ) (bytes : List ℕ) : Type 0 where
-  NothingTold : bytes ≡ [] → AskBegun edits host names s before end tid bytes
-  Partly : (request : Request) (block : List TraceLine) (rest : List ℕ)
+  NothingTold : bytes ≡ [] → FrontOfAsk edits host names s before end tid bytes
+  FrontTold : (request : Request) (block : List TraceLine) (rest : List ℕ)
       → IsAskOf edits host end tid request block → Made s (before ++ block)
-      → trace_text names block ≡ bytes ++ rest → AskBegun edits host names s before end tid bytes
+      → trace_text names block ≡ bytes ++ rest → FrontOfAsk edits host names s before end tid bytes
 
 -- From a state a host has made asks, and the sink was told their text and then a front of the text
 -- of one more, up to where that stopped.
-pub record AskLeftOff {N K : Type 0} (edits : N → List Edit) (written : K → Option (List ℕ))
+pub record WentFront {N K : Type 0} (edits : N → List Edit) (written : K → Option (List ℕ))
     (s : Seen) (old new : FabricMaint N K) : Type 0 where
   pub lines : List TraceLine
   pub end : Seen
@@ -128,16 +129,16 @@ pub record AskLeftOff {N K : Type 0} (edits : N → List Edit) (written : K → 
   pub bytes : List ℕ
   pub told : Appends (written old.sink.now) (written new.sink.now)
       (trace_text (names_of new) lines ++ bytes)
-  pub begun : AskBegun edits new.host (names_of new) s lines end tid bytes
+  pub begun : FrontOfAsk edits new.host (names_of new) s lines end tid bytes
 
 -- From whatever state the first stands for, the host has left off at the second. The count of write
 -- faults of its sink has not fallen.
-pub record Abandoned {N K : Type 0} (edits : N → List Edit) (written : K → Option (List ℕ))
+pub record FollowedFront {N K : Type 0} (edits : N → List Edit) (written : K → Option (List ℕ))
     (faults : K → ℕ) (old new : FabricMaint N K) : Type 0 where
   pub same : MaintIsSame old new
   pub never_falls : faults old.sink.now ≤ faults new.sink.now
   pub left : (s : Seen) → MaintRestsAt old.host s old.fabric.now
-      → AskLeftOff edits written s old new
+      → WentFront edits written s old new
 
 -- The last lines that the sink was told are those of an ask, from a state in which all links were
 -- at rest and every event that was acted on had been sent. In it this port acted on this event,
@@ -149,9 +150,9 @@ pub record HasMet {N K : Type 0} (edits : N → List Edit) (written : K → Opti
   pub request : Request
   pub block : List TraceLine
   pub ready : IsReady s
-  pub sent : s.unfaithful ≡ None
+  pub sent : s.undetected ≡ None
   pub quiet : AreQuiet s.network.links s
   pub is : IsAskOf edits maint.host s tid request block
-  pub found : (seen s block).unfaithful ≡ Some (record { port = port; event = event })
+  pub found : (seen s block).undetected ≡ Some (record { port = port; event = event })
   pub before : Option (List ℕ)
   pub told : Appends before (written maint.sink.now) (trace_text (names_of maint) block)

@@ -8,7 +8,7 @@ use Rattle.fabric_map.specs.Fitting.{Fits}
 use Rattle.fabric_map.specs.Plain.{registers_of}
 use Rattle.host_enumerate.proofs.NewFabrics.{devised_fabric}
 use Rattle.trace_lines.specs.Text.{trace_text}
-use Rattle.fabric_maint.specs.Going.{names_of, topology_in, registers_in, StandsWhole, Followed, NothingTold, Abandoned}
+use Rattle.fabric_maint.specs.Going.{names_of, topology_in, registers_in, StandsWhole, Followed, NothingTold, FollowedFront}
 use Rattle.fabric_maint.specs.declared.maint.FabricMaint.{FabricMaint}
 
 pub has_topology : {N K : Type 0} (maint : FabricMaint N K) → StandsWhole maint
@@ -26,7 +26,7 @@ shows_kinds maint whole =
 -- whoever has come so far may leave off there
 pub abandons : {N K : Type 0} (edits : N → List Edit) (written : K → Option (List ℕ))
     (faults : K → ℕ) (origin maint : FabricMaint N K) → Followed edits written faults origin maint
-    → Abandoned edits written faults origin maint
+    → FollowedFront edits written faults origin maint
 abandons edits written faults origin maint followed = record {
   same = followed.same;
   never_falls = followed.never_falls;

@@ -6,7 +6,7 @@ ghost use Rattle.fabric_trace.specs.Runs.{start};
 ghost use Rattle.fabric_ports.specs.Standing.{Stands};
 ghost use Rattle.host_enumerate.specs.Devised.{IsHost, devices_of, links_of};
 ghost use Rattle.host_enumerate.specs.Underway.{AreUntagged};
-ghost use Rattle.fabric_maint.specs.Going.{topology_in, registers_in, MaintRestsAt, StandsFor, StandsWhole, HasMet, Followed, Abandoned};
+ghost use Rattle.fabric_maint.specs.Going.{topology_in, registers_in, MaintRestsAt, StandsFor, StandsWhole, HasMet, Followed, FollowedFront};
 
 use crate::ends::{count_after, end_for};
 use crate::requests::{answer_in, request_for};
@@ -158,7 +158,7 @@ impl<'a, N: Noise, K: Sink> Maint for FabricMaint<'a, N, K> {
 
     ghost Follows = { Followed N.edits K.written K.faults };
 
-    ghost Leaves = { Abandoned N.edits K.written K.faults };
+    ghost Leaves = { FollowedFront N.edits K.written K.faults };
 
     ghost follows_leaves = { abandons N.edits K.written K.faults };
 

@@ -34,7 +34,7 @@ use Rattle.fabric_ask.proofs.Answering.{is_replied, goes_there}
 use Rattle.fabric_ask.proofs.OnWay.{on_request, hop_low}
 use Rattle.fabric_ask.proofs.Laying.{laid_heard}
 use Rattle.fabric_ask.proofs.Uncollected.{nothing_answers, answers-append}
-use Rattle.fabric_ports.specs.Asking.{CanAsk, Returns, Replied, AskEnds, Unwritten}
+use Rattle.fabric_ports.specs.Asking.{CanAsk, Returns, Replied, AskEnds, AskedTextFront}
 use Rattle.fabric_ports.specs.Fetching.{NoneLeaves, AskLeaves, response_or_end, response_in, ask_answer}
 use Rattle.fabric_ports.specs.Ran.{AddsFront, Ran}
 use Rattle.fabric_ports.specs.declared.answers.FabricEnd.{FabricEnd}
@@ -131,7 +131,7 @@ module _ (names : List (List ℕ)) (before after : Option (List ℕ)) (host : �
       low : request.hop < 256
       low = low_hop request ran.is.0.3.packet sendable ran.is.0.3.form
 
-      still : (seen (seen from lines) ran.block).unfaithful ≡ None
+      still : (seen (seen from lines) ran.block).undetected ≡ None
       still = still_behind lines ran.block ran.ends.1
 
       there : (at : PortRef) → Returns (seen from lines).network host request at
@@ -255,7 +255,7 @@ module _ (names : List (List ℕ)) (before after : Option (List ℕ)) (host : �
     told_short : (block : List TraceLine) → IsAsk host request noise (seen from lines) block
         → (short : AddsFront a b block)
         → AppendsFront before after (trace_text names short.front)
-        → Unwritten names before after host request noise from lines
+        → AskedTextFront names before after host request noise from lines
     told_short block is short front = record {
       block = block;
       told = subst (λ (l : List TraceLine). AppendsFront before after (trace_text names l))
@@ -272,7 +272,7 @@ module _ (names : List (List ℕ)) (before after : Option (List ℕ)) (host : �
     told_answers (Ok left) ran whole =
         told_whole left ran (whole ran.block ran.ends.0)
     told_answers (Err (Ends.Undetected port event)) ran whole =
-        let found = sym (ap (λ (t : Seen). t.unfaithful) (seen-append from lines ran.block))
+        let found = sym (ap (λ (t : Seen). t.undetected) (seen-append from lines ran.block))
         ∙ ran.ends.1 in
         let apart = ask_found host request noise (seen from lines) ran.block
         (good_behind can.stands.ready can.stands.made) can.stands.sent ran.is
@@ -306,7 +306,7 @@ module _ (names : List (List ℕ)) (before after : Option (List ℕ)) (host : �
         → IsTold a b host request noise from lines new told
         → ((block : List TraceLine) → Adds a b block
         → AppendsFront before after (trace_text names block))
-        → Unwritten names before after host request noise from lines
+        → AskedTextFront names before after host request noise from lines
     told_fails (Ok left) ran front = record {
       block = ran.block;
       told = front ran.block ran.ends.0;

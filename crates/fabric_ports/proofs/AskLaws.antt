@@ -14,7 +14,7 @@ use Rattle.fabric_model.specs.Network.{port_of, room_out, IsEndpoint}
 use Rattle.fabric_model.specs.Steps.{Take, Leave, AtNode}
 use Rattle.fabric_trace.specs.Blocks.{take_lines, Asks}
 use Rattle.fabric_trace.specs.Fold.{seen}
-use Rattle.fabric_trace.specs.Known.{Found, Seen}
+use Rattle.fabric_trace.specs.Known.{UndetectedAt, Seen}
 use Rattle.trace_lines.specs.Lines.{Full, TraceLine, Stepped, Lacked}
 use Rattle.fabric_trace.specs.Parts.{PartSteps, PartLacks}
 use Rattle.fabric_trace.specs.Rounds.{Follows, NamesNothing}
@@ -45,7 +45,7 @@ use Rattle.fabric_ports.proofs.RanLaws.{ran_joined}
 -- what is known of the lines where a packet is to be taken
 record IsTaking (host : ℕ) (s : Seen) (lines : List TraceLine) : Type 0 where
   apart : IsApart host s lines
-  same : (seen s lines).unfaithful ≡ s.unfaithful
+  same : (seen s lines).undetected ≡ s.undetected
 
 taking : (host : ℕ) (s : Seen) (packet : List ℕ) (lines : List TraceLine)
     → IsEndpoint s.network host → Passes packet → lines ≡ take_lines s host packet
@@ -66,7 +66,7 @@ taking host s packet lines endpoint passes is =
                 (PartSteps (Take host packet) (endpoint, passes, room) (few_prio packet passes)
                 refl));
           };
-          same = ap (λ (l : List TraceLine). (seen s l).unfaithful) same;
+          same = ap (λ (l : List TraceLine). (seen s l).undetected) same;
         }
     by_room false room =
         let same : lines ≡ Lacked Full ∷ [] =
@@ -77,7 +77,7 @@ taking host s packet lines endpoint passes is =
             nothing = never_by host same (tt, tt);
             made = made_by same (one_part (PartLacks Full refl));
           };
-          same = ap (λ (l : List TraceLine). (seen s l).unfaithful) same;
+          same = ap (λ (l : List TraceLine). (seen s l).undetected) same;
         }
 
 asking : (host : ℕ) (s : Seen) (request : Request) (lines : List TraceLine)
@@ -133,7 +133,7 @@ module _ {K : Type 0} (host : ℕ) (request : Request) where
           y,
           refl,
           own,
-          subst (λ (f : Option Found). Follows f
+          subst (λ (f : Option UndetectedAt). Follows f
               (AskRounds host most_rounds noise (seen (seen from lines) x)) NamesNothing y)
               (sym still)
               more.0,
@@ -152,7 +152,7 @@ pub record LastOf (host : ℕ) (s : Seen) (lines : List TraceLine) : Type 0 wher
   pub whole : lines ≡ front ++ last
   pub apart : IsApart host s front
   pub quiet : AreQuiet s.network.links (seen s front)
-  pub still : (seen s front).unfaithful ≡ None
+  pub still : (seen s front).undetected ≡ None
   pub collect : IsCollect (seen s front).network host last
 
 -- lines that the host collects change no wire and no half, and nothing is found in them
@@ -164,18 +164,18 @@ collect_steps host Collects.Empty = tt
 collect_steps host Collects.Full = tt
 
 collect_calm : (host : ℕ) (t : Seen) (told : Collected)
-    → (seen t (collect_lines host told)).unfaithful ≡ t.unfaithful
+    → (seen t (collect_lines host told)).undetected ≡ t.undetected
 collect_calm host t (Collects.Left packet) = refl
 collect_calm host t (Collects.Answered request response) = refl
 collect_calm host t Collects.Empty = refl
 collect_calm host t Collects.Full = refl
 
 last_calm : (host : ℕ) (s : Seen) (lines : List TraceLine) → LastOf host s lines
-    → (seen s lines).unfaithful ≡ None
+    → (seen s lines).undetected ≡ None
 last_calm host s lines own =
-    ap (λ (l : List TraceLine). (seen s l).unfaithful) own.whole
-    ∙ ap (λ (t : Seen). t.unfaithful) (seen-append s own.front own.last)
-    ∙ ap (λ (l : List TraceLine). (seen (seen s own.front) l).unfaithful) own.collect.lines
+    ap (λ (l : List TraceLine). (seen s l).undetected) own.whole
+    ∙ ap (λ (t : Seen). t.undetected) (seen-append s own.front own.last)
+    ∙ ap (λ (l : List TraceLine). (seen (seen s own.front) l).undetected) own.collect.lines
     ∙ collect_calm host (seen s own.front) _ ∙ own.still
 
 -- the links stay at rest while the host collects
@@ -193,7 +193,7 @@ last_quiet host s lines own =
     (subst (AreQuiet s.network.links) (sym whole) same)
 
 module _ (host : ℕ) (request : Request) (noise : List Edit) (s : Seen) (lines : List TraceLine)
-    (good : IsGood s) (none : s.unfaithful ≡ None) (ask : IsAsk host request noise s lines) where
+    (good : IsGood s) (none : s.undetected ≡ None) (ask : IsAsk host request noise s lines) where
   abbrev first : List TraceLine
   first = ask.0
 
@@ -208,7 +208,7 @@ module _ (host : ℕ) (request : Request) (noise : List Edit) (s : Seen) (lines 
 
   -- the lines behind the first, which took the request
   more : AskRounds host most_rounds noise (seen s first) rest
-  more = subst (λ (f : Option Found). Follows f
+  more = subst (λ (f : Option UndetectedAt). Follows f
       (AskRounds host most_rounds noise (seen s first)) NamesNothing rest)
       (own.same ∙ none) ask.4
 
@@ -226,7 +226,7 @@ module _ (host : ℕ) (request : Request) (noise : List Edit) (s : Seen) (lines 
         quiet = subst (AreQuiet s.network.links) (sym joined)
             (subst (λ l. AreQuiet l (seen (seen s first) last.front)) (seen_board first s).links
             last.quiet);
-        still = ap (λ (x : Seen). x.unfaithful) joined ∙ last.still;
+        still = ap (λ (x : Seen). x.undetected) joined ∙ last.still;
         collect = subst (λ (x : Seen). IsCollect x.network host last.last) (sym joined)
             last.collect;
       })
@@ -261,7 +261,7 @@ module _ (host : ℕ) (request : Request) (noise : List Edit) (s : Seen) (lines 
           }
 
   -- and none at all where an event was found that was not sent
-  pub ask_found : (found : Found) → (seen s lines).unfaithful ≡ Some found
+  pub ask_found : (found : UndetectedAt) → (seen s lines).undetected ≡ Some found
       → IsApart host s lines
   ask_found found is = by_last ask_last
     where

@@ -6,7 +6,7 @@ use Rattle.fabric_script.specs.declared.ports.PortRef.{PortRef}
 use Rattle.fabric_model.specs.Network.{link_in}
 use Rattle.fabric_model.proofs.Peers.{link_peers}
 use Rattle.fabric_trace.specs.Fold.{seen}
-use Rattle.fabric_trace.specs.Known.{Found, Seen}
+use Rattle.fabric_trace.specs.Known.{UndetectedAt, Seen}
 use Rattle.trace_lines.specs.Lines.{TraceLine}
 use Rattle.fabric_trace.specs.Parts.{Made, Done}
 use Rattle.fabric_trace.specs.Ready.{IsReady}
@@ -30,7 +30,7 @@ use Rattle.fabric_ports.proofs.CarryLaws.{open_behind, left_first}
 use Rattle.fabric_ports.proofs.CarriedLaws.{ran_left}
 
 carry_append : (xs ys : List (PortRef × PortRef)) (noise middle left : List Edit) (s : Seen)
-    (lines : List TraceLine) → s.unfaithful ≡ None
+    (lines : List TraceLine) → s.undetected ≡ None
     → Both (CarryAll xs noise middle) (CarryAll ys middle left) s lines
     → CarryAll (xs ++ ys) noise left s lines
 carry_append [] ys noise middle left s lines still both =
@@ -75,7 +75,7 @@ carries_made {from} link noise left ready found lines block made sent own =
     own).local.made
 
 all_made : (links all : List (PortRef × PortRef)) (noise left : List Edit) (s : Seen)
-    (lines : List TraceLine) → IsGood s → s.unfaithful ≡ None → s.network.links ≡ all
+    (lines : List TraceLine) → IsGood s → s.undetected ≡ None → s.network.links ≡ all
     → AreFound all links → CarryAll links noise left s lines → Made s lines
 all_made [] all noise left s lines good still same found own = Done own.0
 all_made (link ∷ links) all noise left s lines good still same found own =
@@ -85,14 +85,14 @@ all_made (link ∷ links) all noise left s lines good still same found own =
     let first = (has_carried noise own.0 s link.0 link.1 both.0 good still peers both.3).local.made
     in
     let t = seen s both.0 in
-    made_by both.2 (made-append first (by_found both.0 both.1 own.0 t.unfaithful refl both.4 first
+    made_by both.2 (made-append first (by_found both.0 both.1 own.0 t.undetected refl both.4 first
     (λ rest g still2 same2 more. all_made links all own.0 left t rest g still2 same2 found.1
     more)))
   where
-    by_found : (first rest : List TraceLine) (next : List Edit) (o : Option Found)
-        → (seen s first).unfaithful ≡ o
+    by_found : (first rest : List TraceLine) (next : List Edit) (o : Option UndetectedAt)
+        → (seen s first).undetected ≡ o
         → Follows o (CarryAll links next left (seen s first)) NamesNothing rest → Made s first
-        → ((lines : List TraceLine) → IsGood (seen s first) → (seen s first).unfaithful ≡ None
+        → ((lines : List TraceLine) → IsGood (seen s first) → (seen s first).undetected ≡ None
         → (seen s first).network.links ≡ all → CarryAll links next left (seen s first) lines
         → Made (seen s first) lines) → Made (seen s first) rest
     by_found first rest next None is more made again =

@@ -5,7 +5,7 @@ use Rattle.fabric_script.specs.declared.ports.PortRef.{PortRef}
 use Rattle.fabric_model.specs.Network.{link_in}
 use Rattle.fabric_model.proofs.Peers.{ArePeers, link_peers}
 use Rattle.fabric_trace.specs.Fold.{seen}
-use Rattle.fabric_trace.specs.Known.{Found, Seen}
+use Rattle.fabric_trace.specs.Known.{UndetectedAt, Seen}
 use Rattle.trace_lines.specs.Lines.{TraceLine}
 use Rattle.fabric_trace.specs.Parts.{Made}
 use Rattle.fabric_trace.specs.Ready.{IsReady}
@@ -32,13 +32,13 @@ use Rattle.fabric_ports.proofs.SettlingLaws.{Settles, good_behind}
 -- every event that was acted on was sent, and these are the two ends of a link
 pub record IsOpen (s : Seen) (p q : PortRef) : Type 0 where
   pub good : IsGood s
-  pub still : s.unfaithful ≡ None
+  pub still : s.undetected ≡ None
   pub peers : ArePeers s.network.links p q
 
 -- these are the ends of a link behind lines for which a fabric stands
 pub open_behind : {from : Seen} {lines : List TraceLine} (ends : PortRef × PortRef) → IsReady from
     → link_in from.network.links ends.0 ≡ Some ends → Made from lines
-    → (seen from lines).unfaithful ≡ None → IsOpen (seen from lines) ends.0 ends.1
+    → (seen from lines).undetected ≡ None → IsOpen (seen from lines) ends.0 ends.1
 open_behind {from} {lines} ends ready found made sent =
     let good = good_behind ready made in
     record {
@@ -63,7 +63,7 @@ open_round is_open = record {
 -- lines of a link are made of parts, and every event that was acted on was sent
 pub record IsFair (s : Seen) (lines : List TraceLine) : Type 0 where
   pub made : Made s lines
-  pub sent : (seen s lines).unfaithful ≡ None
+  pub sent : (seen s lines).undetected ≡ None
 
 open_on : {s : Seen} {p q : PortRef} {lines : List TraceLine} → IsOpen s p q → IsFair s lines
     → IsOpen (seen s lines) p q
@@ -97,7 +97,8 @@ record IsSplit (P Q : Kind) (s : Seen) (lines : List TraceLine) : Type 0 where
   own : P s first
   more : Q (seen s first) rest
 
-follows_more : (found : Option Found) (More : List TraceLine → Type 0) (rest : List TraceLine)
+follows_more : (found : Option UndetectedAt) (More : List TraceLine → Type 0)
+    (rest : List TraceLine)
     → found ≡ None → Follows found More NamesNothing rest → More rest
 follows_more found More rest still follows =
     subst (λ f. Follows f More NamesNothing rest) still follows
@@ -110,7 +111,7 @@ split P Q s lines fair both = record {
   rest = both.1;
   whole = both.2;
   own = both.3;
-  more = follows_more (seen s both.0).unfaithful (Q (seen s both.0)) both.1
+  more = follows_more (seen s both.0).undetected (Q (seen s both.0)) both.1
       (fair both.0 both.3).sent both.4;
 }
 
@@ -125,8 +126,8 @@ fair_both P Q s lines fair later both =
     let more = later parts.first parts.rest own parts.more in
     record {
       made = made_by parts.whole (made-append own.made more.made);
-      sent = ap (λ l. (seen s l).unfaithful) parts.whole
-          ∙ ap (λ (t : Seen). t.unfaithful) (seen-append s parts.first parts.rest) ∙ more.sent;
+      sent = ap (λ l. (seen s l).undetected) parts.whole
+          ∙ ap (λ (t : Seen). t.undetected) (seen-append s parts.first parts.rest) ∙ more.sent;
     }
 
 both_turn_fair : {s : Seen} {lines : List TraceLine} (ends : PortRef × PortRef)
@@ -196,7 +197,7 @@ carry_is ends noise left s lines is_open both =
 
 -- ---- what is left may be said before
 
-follows_left : (found : Option Found) (More : List Edit → List TraceLine → Type 0)
+follows_left : (found : Option UndetectedAt) (More : List Edit → List TraceLine → Type 0)
     (rest : List TraceLine)
     → Follows found (λ lines. (left : List Edit) × More left lines) NamesNothing rest
     → (left : List Edit) × Follows found (More left) NamesNothing rest
@@ -207,7 +208,7 @@ pub left_first : (P : Kind) (Q : List Edit → Kind) (s : Seen) (lines : List Tr
     → Both P (WithLeft Q) s lines → (left : List Edit) × Both P (Q left) s lines
 left_first P Q s lines both =
     let t = seen s both.0 in
-    let own = follows_left t.unfaithful (λ left. Q left t) both.1 both.4 in
+    let own = follows_left t.undetected (λ left. Q left t) both.1 both.4 in
     (own.0, (both.0, both.1, both.2, both.3, own.1))
 
 -- ---- lines that may stand behind

@@ -133,7 +133,7 @@ pub record WasCollected (device next : Registers) (x y : PortState)
 
 pub did_collect : {K : Type 0} (b b2 : TraceWriter K) (s : Seen) (old new : Fabric) (n : ℕ)
     (device next : Registers) (x y : PortState) (told : Collected) (happens : Happened)
-    → ShowsFabric old s → s.unfaithful ≡ None → IsEndpointAt old.devices.items n
+    → ShowsFabric old s → s.undetected ≡ None → IsEndpointAt old.devices.items n
     → slice_get old.devices.items n ≡ Some device → port_seen s (port_of n) ≡ x
     → WasCollected device next x y told → HasBoth old new n next (port_of n) y
     → happens ≡ answer_collected (collect_lines n told)
@@ -177,6 +177,6 @@ did_collect b b2 s old new n device next x y told happens shows sent at stands
         },
         answers,
       );
-      sent = ap (λ (u : Seen). u.unfaithful) seen_is ∙ sent;
+      sent = ap (λ (u : Seen). u.undetected) seen_is ∙ sent;
       shows = subst (ShowsFabric new) (sym seen_is) showing;
     }

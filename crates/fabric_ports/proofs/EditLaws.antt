@@ -251,6 +251,6 @@ edit_did fabric port place p cable met asked edit same wires becomes answer answ
       block = block;
       adds = adds;
       is = edit_block s port asked block block_is;
-      sent = ap (λ (z : Seen). z.unfaithful) still ∙ stands.sent;
+      sent = ap (λ (z : Seen). z.undetected) still ∙ stands.sent;
       shows = subst (ShowsFabric new_fabric) (sym still) shows;
     }

@@ -141,7 +141,7 @@ evented line b b2 b3 from lines begins old new told Is same stands begun did
       ends = (
         Adds-then begun did.adds,
         stands_on from lines old new line did.block stands all.0
-            (subst (λ (t : Seen). (seen t did.block).unfaithful ≡ None) (sym same) did.sent)
+            (subst (λ (t : Seen). (seen t did.block).undetected ≡ None) (sym same) did.sent)
             (subst (λ (t : Seen). ShowsFabric new (seen t did.block)) (sym same) did.shows),
       );
     }

@@ -5,7 +5,7 @@ use Rattle.trace_lines.specs.declared.writer.TraceWriter.{TraceWriter}
 use Rattle.link_wires.specs.declared.edits.Edit.{Edit}
 use Rattle.fabric_model.specs.Network.{IsEndpoint}
 use Rattle.fabric_trace.specs.Fold.{seen}
-use Rattle.fabric_trace.specs.Known.{Found, Seen}
+use Rattle.fabric_trace.specs.Known.{UndetectedAt, Seen}
 use Rattle.trace_lines.specs.Lines.{TraceLine}
 use Rattle.fabric_trace.specs.Ready.{IsReady}
 use Rattle.fabric_trace.specs.Rounds.{Follows, NamesNothing}
@@ -46,7 +46,7 @@ not_held host n noise t rest held more =
     (sym held) more
 
 pub rounds_behind : (host k m : ℕ) (noise mid : List Edit) (s : Seen) (lines : List TraceLine)
-    → s.unfaithful ≡ None → Both (Unheld host k noise mid) (AskRounds host m mid) s lines
+    → s.undetected ≡ None → Both (Unheld host k noise mid) (AskRounds host m mid) s lines
     → AskRounds host (k + m) noise s lines
 rounds_behind host zero m noise mid s lines still both =
     let same : m ≡ 0 + m = omega arith in
@@ -69,7 +69,7 @@ rounds_behind host (suc k) m noise mid s lines still both =
     )
 
 pub unheld_behind : (host k m : ℕ) (noise mid left : List Edit) (s : Seen)
-    (lines : List TraceLine) → s.unfaithful ≡ None
+    (lines : List TraceLine) → s.undetected ≡ None
     → Both (Unheld host k noise mid) (Unheld host m mid left) s lines
     → Unheld host (k + m) noise left s lines
 unheld_behind host zero m noise mid left s lines still both =
@@ -100,7 +100,7 @@ RoundTo host held noise left s lines =
     AskRound host noise left s lines × (holds_some host (seen s lines) ≡ held)
 
 unheld_one : (host : ℕ) (noise left : List Edit) (s : Seen) (lines : List TraceLine)
-    → (seen s lines).unfaithful ≡ None → RoundTo host false noise left s lines
+    → (seen s lines).undetected ≡ None → RoundTo host false noise left s lines
     → Unheld host 1 noise left s lines
 unheld_one host noise left s lines still round = (
   left,
@@ -109,14 +109,15 @@ unheld_one host noise left s lines still round = (
     [],
     sym (append-nil lines),
     round.0,
-    subst (λ (f : Option Found). Follows f (Stays host 0 left left (seen s lines)) NamesNothing [])
+    subst (λ (f : Option UndetectedAt). Follows f
+        (Stays host 0 left left (seen s lines)) NamesNothing [])
         (sym still) (round.1, (refl, refl)),
   ),
 )
 
 -- the host holds a packet after a round, and collects it
 rounds_held : (host m : ℕ) (noise left : List Edit) (s : Seen) (first rest : List TraceLine)
-    → (seen s first).unfaithful ≡ None → RoundTo host true noise left s first
+    → (seen s first).undetected ≡ None → RoundTo host true noise left s first
     → IsCollect (seen s first).network host rest
     → AskRounds host (suc m) noise s (first ++ rest)
 rounds_held host m noise left s first rest still round collect = (
@@ -126,7 +127,8 @@ rounds_held host m noise left s first rest still round collect = (
     rest,
     refl,
     round.0,
-    subst (λ (f : Option Found). Follows f (Continues host m left (seen s first)) NamesNothing rest)
+    subst (λ (f : Option UndetectedAt). Follows f
+        (Continues host m left (seen s first)) NamesNothing rest)
         (sym still)
         (subst (λ b. MatchBool b (IsCollect (seen s first).network host rest)
         (AskRounds host m left (seen s first) rest)) (sym round.1) collect),
@@ -136,8 +138,8 @@ rounds_held host m noise left s first rest still round collect = (
 -- ---- what follows a round
 
 -- lines behind a round: none if something was found
-after_round : (host m : ℕ) (left : List Edit) (t : Seen) (found : Option Found) → IsReady t
-    → IsEndpoint t.network host → t.unfaithful ≡ found
+after_round : (host m : ℕ) (left : List Edit) (t : Seen) (found : Option UndetectedAt) → IsReady t
+    → IsEndpoint t.network host → t.undetected ≡ found
     → (rest : List TraceLine) × Follows found (Continues host m left t) NamesNothing rest
 after_round host m left t None ready endpoint is =
     let own = more_exists host m left t ready is endpoint in (own.lines, own.is)
@@ -154,7 +156,7 @@ rounds_on host from lines block mid m noise stands is round =
     let ready = ready_on stands.ready stands.made in
     let made = (round_apart host noise round.0 s block (good_of ready) stands.sent is
     round.1).made in
-    let more = after_round host m round.0 t t.unfaithful (ready_on ready made)
+    let more = after_round host m round.0 t t.undetected (ready_on ready made)
     (stays_endpoint s host block is) refl in
     (more.0, (round.0, (block, more.0, refl, round.1, more.1)))
 
@@ -250,7 +252,7 @@ module _ {K : Type 0} (host : ℕ) where
         rest,
         refl,
         first.is,
-        subst (λ (f : Option Found). Follows f (AskRounds host (suc count.0) left
+        subst (λ (f : Option UndetectedAt). Follows f (AskRounds host (suc count.0) left
             (seen s first.block)) NamesNothing rest)
             (sym (still_behind lines first.block first.ends.1))
             (subst (λ (x : Seen). AskRounds host (suc count.0) left x rest) t_is rounds),
@@ -284,7 +286,7 @@ module _ {K : Type 0} (host : ℕ) where
       → Ran (AskRounds host (suc m) noise) b c from lines (Err end)
   round_ends b c from lines mid m noise (Undetected port event) stands is ran =
       let s = seen from lines in
-      let found = sym (ap (λ (t : Seen). t.unfaithful) (seen-append from lines ran.block))
+      let found = sym (ap (λ (t : Seen). t.undetected) (seen-append from lines ran.block))
       ∙ ran.ends.1 in
       record {
         block = ran.block;
@@ -295,7 +297,7 @@ module _ {K : Type 0} (host : ℕ) where
             [],
             sym (append-nil ran.block),
             ran.is.1,
-            subst (λ (f : Option Found). Follows f
+            subst (λ (f : Option UndetectedAt). Follows f
                 (Continues host m ran.is.0 (seen s ran.block)) NamesNothing []) (sym found) refl,
           ),
         );

@@ -17,7 +17,7 @@ use Rattle.trace_lines.specs.Lines.{TraceLine}
 use Rattle.fabric_trace.proofs.Traces.Existing.{ready_on}
 use Rattle.fabric_ask.specs.Asks.{IsAsk}
 use Rattle.fabric_ask.proofs.Beginning.{ask_exists}
-use Rattle.fabric_ports.specs.Asking.{CanAsk, Replied, AskEnds, Unwritten}
+use Rattle.fabric_ports.specs.Asking.{CanAsk, Replied, AskEnds, AskedTextFront}
 use Rattle.fabric_ports.specs.Fetching.{AskLeaves, ask_answer}
 use Rattle.fabric_ports.specs.Ran.{Ran}
 use Rattle.fabric_ports.specs.declared.answers.FabricEnd.{FabricEnd}
@@ -64,7 +64,7 @@ module _ {K : Type 0}
       (flushed_lines block own) went none))
 
   pub front_told : (from : Seen) (lines : List TraceLine) → CanAsk host from lines old
-      → Unwritten a.names.now a.outbox.now.written c.written host request noise from lines
+      → AskedTextFront a.names.now a.outbox.now.written c.written host request noise from lines
   front_told from lines can =
       told_fails a.names.now a.outbox.now.written c.written host request noise from lines old new a
       b can sendable told (tells from lines can)

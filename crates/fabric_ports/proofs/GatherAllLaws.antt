@@ -21,7 +21,7 @@ use Rattle.fabric_ports.proofs.CarryAllLaws.{links_carry_made}
 use Rattle.fabric_ports.proofs.CarriedLaws.{ran_left, with_left}
 
 pub others_append : (host : ℕ) (xs ys : List Registers) (node last : ℕ) (s : Seen)
-    (lines : List TraceLine) → node + length xs ≡ last → s.unfaithful ≡ None
+    (lines : List TraceLine) → node + length xs ≡ last → s.undetected ≡ None
     → Both (CollectNodes host node xs) (CollectNodes host last ys) s lines
     → CollectNodes host node (xs ++ ys) s lines
 others_append host [] ys node last s lines at still both =

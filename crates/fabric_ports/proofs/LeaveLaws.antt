@@ -10,7 +10,7 @@ use Rattle.fabric_model.specs.Network.{Network, port_of, IsEndpoint}
 use Rattle.fabric_model.specs.Steps.{Leave, AtNode, Linked, ByDevice, Take}
 use Rattle.fabric_trace.specs.Fold.{seen}
 use Rattle.fabric_trace.specs.Known.{Seen}
-use Rattle.trace_lines.specs.Lines.{TraceLine, Begun, Stepped, Signed, Lacked, Ended, Undetected as Unsent}
+use Rattle.trace_lines.specs.Lines.{TraceLine, Begun, Stepped, Signed, Lacked, Ended, Undetected as UndetectedLine}
 use Rattle.fabric_trace.specs.Parts.{Made}
 use Rattle.fabric_trace.specs.Served.{face_in, collect_lines, IsCollect}
 use Rattle.fabric_trace.proofs.Parts.Folding.{seen-append}
@@ -56,7 +56,7 @@ elsewhere_stays host (Stepped (ByDevice step)) is = tt
 elsewhere_stays host (Signed sign) is = tt
 elsewhere_stays host (Lacked lack) is = tt
 elsewhere_stays host Ended is = tt
-elsewhere_stays host (Unsent n q e) is = tt
+elsewhere_stays host (UndetectedLine n q e) is = tt
 
 pub nothing_leaves : (host : ℕ) (lines : List TraceLine) → CollectsNothing host lines
     → NoneLeaves host lines
@@ -91,9 +91,9 @@ did_stands stands did made = stands_with did.block stands made did.sent did.show
 
 -- nothing was found in lines for which a fabric stands
 pub still_behind : {from : Seen} {new : Fabric} (lines block : List TraceLine)
-    → Stands from (lines ++ block) new → (seen (seen from lines) block).unfaithful ≡ None
+    → Stands from (lines ++ block) new → (seen (seen from lines) block).undetected ≡ None
 still_behind {from} {new} lines block stands =
-    sym (ap (λ (t : Seen). t.unfaithful) (seen-append from lines block)) ∙ stands.sent
+    sym (ap (λ (t : Seen). t.undetected) (seen-append from lines block)) ∙ stands.sent
 
 -- ---- the host stays an endpoint
 

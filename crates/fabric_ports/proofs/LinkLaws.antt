@@ -163,7 +163,7 @@ known_stands {from} {lines} {fabric} {new} {port} {place} {d} {x} {y} action all
     (block_made (line_for port action) s block k.good k.stands.sent
     (known_block action all k part)) in
     stands_with block k.stands made
-    (ap (λ (z : Seen). z.unfaithful) same ∙ there.0)
+    (ap (λ (z : Seen). z.undetected) same ∙ there.0)
     (subst (ShowsFabric new) (sym same) shows)
 
 -- the event that was not sent is known
@@ -171,13 +171,13 @@ known_found : {from : Seen} {lines : List TraceLine} {fabric : Fabric} {port : P
     {place : LinkPlace} {d : Cable} {x y : PortState} (all : List Act) (side : Side) (e : Event)
     (answer : Acted) → IsKnown from lines fabric port place d x y
     → goes (At (link d.link x y)) all ≡ FoundAt side e
-    → (seen from (lines ++ block_of d.a d.b (link d.link x y) all answer)).unfaithful
+    → (seen from (lines ++ block_of d.a d.b (link d.link x y) all answer)).undetected
     ≡ Some (record { port = port_at_side d.a d.b side; event = e })
 known_found {from} {lines} {d = d} {x} {y} all side e answer k reached =
     let s = seen from lines in
     let l = link d.link x y in
     let noted = lines_of d.a d.b (acts_notes (At l) all) in
-    ap (λ (z : Seen). z.unfaithful)
+    ap (λ (z : Seen). z.undetected)
     (seen-append from lines (block_of d.a d.b l all answer) ∙ lack_seen s noted answer)
     ∙ (known_reaches all k).found side e reached
 

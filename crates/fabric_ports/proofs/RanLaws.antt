@@ -4,7 +4,7 @@ use Rattle.trace_lines.specs.Writing.{Adds}
 use Rattle.trace_lines.specs.declared.writer.TraceWriter.{TraceWriter}
 use Rattle.trace_lines.specs.AddsLaws.{Adds-nil, Adds-then}
 use Rattle.fabric_trace.specs.Fold.{seen}
-use Rattle.fabric_trace.specs.Known.{Found, Seen}
+use Rattle.fabric_trace.specs.Known.{UndetectedAt, Seen}
 use Rattle.trace_lines.specs.Lines.{TraceLine}
 use Rattle.fabric_trace.specs.Parts.{Made}
 use Rattle.fabric_trace.specs.Rounds.{Follows, NamesNothing, Joined}
@@ -25,34 +25,35 @@ Both P Q s lines = Joined (P s) Q s lines
 abbrev pub Nothing : Kind
 Nothing s lines = lines ≡ []
 
-follows_none : (found : Option Found) (More : List TraceLine → Type 0) (rest : List TraceLine)
+follows_none : (found : Option UndetectedAt) (More : List TraceLine → Type 0)
+    (rest : List TraceLine)
     → found ≡ None → More rest → Follows found More NamesNothing rest
 follows_none found More rest is more =
-    subst (λ (f : Option Found). Follows f More NamesNothing rest) (sym is) more
+    subst (λ (f : Option UndetectedAt). Follows f More NamesNothing rest) (sym is) more
 
-follows_nothing : (found : Option Found) → Follows found (λ rest. rest ≡ []) NamesNothing []
+follows_nothing : (found : Option UndetectedAt) → Follows found (λ rest. rest ≡ []) NamesNothing []
 follows_nothing None = refl
 follows_nothing (Some found) = refl
 
 pub joined_both : (P Q : Kind) (s : Seen) (first second : List TraceLine) → P s first
-    → (seen s first).unfaithful ≡ None → Q (seen s first) second → Both P Q s (first ++ second)
+    → (seen s first).undetected ≡ None → Q (seen s first) second → Both P Q s (first ++ second)
 joined_both P Q s first second own still more = (
   first,
   second,
   refl,
   own,
-  follows_none (seen s first).unfaithful (Q (seen s first)) second still more,
+  follows_none (seen s first).undetected (Q (seen s first)) second still more,
 )
 
 -- what is behind may be replaced while nothing was found
-follows_as : (found : Option Found) (More Other : List TraceLine → Type 0)
+follows_as : (found : Option UndetectedAt) (More Other : List TraceLine → Type 0)
     (rest : List TraceLine) → (found ≡ None → More rest → Other rest)
     → Follows found More NamesNothing rest → Follows found Other NamesNothing rest
 follows_as None More Other rest turns more = turns refl more
 follows_as (Some found) More Other rest turns none = none
 
 pub both_as : (P Q R : Kind) (s : Seen) (lines : List TraceLine)
-    → ((t : Seen) (rest : List TraceLine) → t.unfaithful ≡ None → Q t rest → R t rest)
+    → ((t : Seen) (rest : List TraceLine) → t.undetected ≡ None → Q t rest → R t rest)
     → Both P Q s lines → Both P R s lines
 both_as P Q R s lines turns both =
     let t = seen s both.0 in (
@@ -60,7 +61,7 @@ both_as P Q R s lines turns both =
       both.1,
       both.2,
       both.3,
-      follows_as t.unfaithful (Q t) (R t) both.1 (turns t both.1)
+      follows_as t.undetected (Q t) (R t) both.1 (turns t both.1)
           both.4,
     )
 
@@ -68,30 +69,30 @@ both_as P Q R s lines turns both =
 pub both_nothing : (P : Kind) (s : Seen) (lines : List TraceLine) → P s lines
     → Both P Nothing s lines
 both_nothing P s lines own =
-    (lines, [], sym (append-nil lines), own, follows_nothing (seen s lines).unfaithful)
+    (lines, [], sym (append-nil lines), own, follows_nothing (seen s lines).undetected)
 
 -- nothing before
-pub nothing_both : (Q : Kind) (s : Seen) (lines : List TraceLine) → s.unfaithful ≡ None
+pub nothing_both : (Q : Kind) (s : Seen) (lines : List TraceLine) → s.undetected ≡ None
     → Both Nothing Q s lines → Q s lines
 nothing_both Q s lines still both =
     let first = both.3 in
     let rest =
-    subst (λ (l : List TraceLine). Follows (seen s l).unfaithful (Q (seen s l)) NamesNothing
+    subst (λ (l : List TraceLine). Follows (seen s l).undetected (Q (seen s l)) NamesNothing
     both.1) first both.4 in
-    let own = subst (λ (f : Option Found). Follows f (Q s) NamesNothing both.1) still rest in
+    let own = subst (λ (f : Option UndetectedAt). Follows f (Q s) NamesNothing both.1) still rest in
     subst (Q s) (sym (both.2 ∙ ap (λ (l : List TraceLine). l ++ both.1) first)) own
 
-assoc_behind : (Q R : Kind) (t : Seen) (found : Option Found) (second rest : List TraceLine)
-    → t.unfaithful ≡ found → Follows found (Q t) NamesNothing second
-    → Follows (seen t second).unfaithful (R (seen t second)) NamesNothing rest
+assoc_behind : (Q R : Kind) (t : Seen) (found : Option UndetectedAt) (second rest : List TraceLine)
+    → t.undetected ≡ found → Follows found (Q t) NamesNothing second
+    → Follows (seen t second).undetected (R (seen t second)) NamesNothing rest
     → Follows found (Both Q R t) NamesNothing (second ++ rest)
 assoc_behind Q R t None second rest is own more = (second, rest, refl, own, more)
 assoc_behind Q R t (Some found) second rest is none more =
     let behind =
-    subst (λ (l : List TraceLine). Follows (seen t l).unfaithful (R (seen t l)) NamesNothing
+    subst (λ (l : List TraceLine). Follows (seen t l).undetected (R (seen t l)) NamesNothing
     rest) none more in
     let empty : rest ≡ [] =
-    subst (λ (f : Option Found). Follows f (R t) NamesNothing rest) is behind in
+    subst (λ (f : Option UndetectedAt). Follows f (R t) NamesNothing rest) is behind in
     (λ i. none i ++ empty i)
 
 pub both_assoc : (P Q R : Kind) (s : Seen) (lines : List TraceLine) → Both (Both P Q) R s lines
@@ -107,8 +108,8 @@ both_assoc P Q R s lines both =
       second ++ both.1,
       both.2 ∙ ap (λ (l : List TraceLine). l ++ both.1) inner.2 ∙ append_assoc first second both.1,
       inner.3,
-      assoc_behind Q R t t.unfaithful second both.1 refl inner.4
-          (subst (λ (u : Seen). Follows u.unfaithful (R u) NamesNothing both.1) joined both.4),
+      assoc_behind Q R t t.undetected second both.1 refl inner.4
+          (subst (λ (u : Seen). Follows u.undetected (R u) NamesNothing both.1) joined both.4),
     )
 
 -- ---- what may stand behind lines
@@ -116,23 +117,23 @@ both_assoc P Q R s lines both =
 -- behind any lines for which a fabric may stand, there are lines of the kind
 abbrev pub GoesOn : Seen → Kind → Type 0
 GoesOn from Q = (lines : List TraceLine) → Made from lines
-    → (seen from lines).unfaithful ≡ None
+    → (seen from lines).undetected ≡ None
     → (block : List TraceLine) × Q (seen from lines) block
 
 -- lines of the kind behind those are made of parts
 abbrev pub IsMade : Seen → Kind → Type 0
 IsMade from P = (lines block : List TraceLine) → Made from lines
-    → (seen from lines).unfaithful ≡ None → P (seen from lines) block
+    → (seen from lines).undetected ≡ None → P (seen from lines) block
     → Made from (lines ++ block)
 
-more_exists : (Q : Kind) (from : Seen) (lines block : List TraceLine) (found : Option Found)
+more_exists : (Q : Kind) (from : Seen) (lines block : List TraceLine) (found : Option UndetectedAt)
     → GoesOn from Q → Made from (lines ++ block)
-    → (seen (seen from lines) block).unfaithful ≡ found
+    → (seen (seen from lines) block).undetected ≡ found
     → (rest : List TraceLine)
     × Follows found (Q (seen (seen from lines) block)) NamesNothing rest
 more_exists Q from lines block None on made is =
     let joined = seen-append from lines block in
-    let more = on (lines ++ block) made (ap (λ (s : Seen). s.unfaithful) joined ∙ is) in
+    let more = on (lines ++ block) made (ap (λ (s : Seen). s.undetected) joined ∙ is) in
     (more.0, subst (λ (s : Seen). Q s more.0) joined more.1)
 more_exists Q from lines block (Some found) on made is = ([], refl)
 
@@ -141,7 +142,7 @@ both_on : (P Q : Kind) (from : Seen) (lines block : List TraceLine) (old : Fabri
     → IsMade from P → GoesOn from Q → Stands from lines old → P (seen from lines) block
     → (more : List TraceLine) × Both P Q (seen from lines) (block ++ more)
 both_on P Q from lines block old made on stands is =
-    let more = more_exists Q from lines block (seen (seen from lines) block).unfaithful on
+    let more = more_exists Q from lines block (seen (seen from lines) block).undetected on
     (made lines block stands.made stands.sent is) refl in
     (more.0, (block, more.0, refl, is, more.1))
 
@@ -210,7 +211,7 @@ module _ {K : Type 0} where
   )
   writes_behind a b c from lines first told (Err (Undetected port event)) before own = (
     Adds-then before own.0,
-    ap (λ (l : List TraceLine). (seen from l).unfaithful) (sym (append_assoc lines first told))
+    ap (λ (l : List TraceLine). (seen from l).undetected) (sym (append_assoc lines first told))
         ∙ own.1,
   )
   writes_behind a b c from lines first told (Err Failed) before own =
@@ -233,7 +234,7 @@ module _ {K : Type 0} where
   pub ran_joined : (P Q R : Kind) (a b c : TraceWriter K) (from : Seen) (lines : List TraceLine)
       (mid : Fabric) (end : Result Fabric FabricEnd)
       → ((first second : List TraceLine) → P (seen from lines) first
-      → (seen (seen from lines) first).unfaithful ≡ None
+      → (seen (seen from lines) first).undetected ≡ None
       → Q (seen (seen from lines) first) second
       → R (seen from lines) (first ++ second))
       → (first : Ran P a b from lines (Ok mid))
@@ -244,7 +245,7 @@ module _ {K : Type 0} where
       record {
         block = first.block ++ second.block;
         is = join first.block second.block first.is
-            (sym (ap (λ (t : Seen). t.unfaithful) joined) ∙ first.ends.1.sent)
+            (sym (ap (λ (t : Seen). t.undetected) joined) ∙ first.ends.1.sent)
             (subst (λ (t : Seen). Q t second.block) joined second.is);
         ends = writes_behind a b c from lines first.block second.block end first.ends.0 second.ends;
       }
@@ -299,7 +300,7 @@ module _ {K : Type 0} where
       → Ran (Both P Q) a b from lines (Err end)
   ends_first P Q a b from lines old (Undetected port event) made on stands ran =
       let joined = seen-append from lines ran.block in
-      let found = sym (ap (λ (t : Seen). t.unfaithful) joined) ∙ ran.ends.1 in
+      let found = sym (ap (λ (t : Seen). t.undetected) joined) ∙ ran.ends.1 in
       record {
         block = ran.block;
         is = (
@@ -307,7 +308,7 @@ module _ {K : Type 0} where
           [],
           sym (append-nil ran.block),
           ran.is,
-          subst (λ (f : Option Found). Follows f (Q (seen (seen from lines) ran.block))
+          subst (λ (f : Option UndetectedAt). Follows f (Q (seen (seen from lines) ran.block))
               NamesNothing []) (sym found) refl,
         );
         ends = ran.ends;

@@ -34,7 +34,7 @@ nodes_more true A B Q C D s lines switch other both = switch both
 nodes_more false A B Q C D s lines switch other both = other both
 
 pub nodes_append : (xs ys : List Registers) (node last : ℕ) (s : Seen) (lines : List TraceLine)
-    → node + length xs ≡ last → s.unfaithful ≡ None
+    → node + length xs ≡ last → s.undetected ≡ None
     → Both (ServeNodes node xs) (ServeNodes last ys) s lines → ServeNodes node (xs ++ ys) s lines
 nodes_append [] ys node last s lines at still both =
     let same : last ≡ node = omega (arith, at) in
@@ -103,7 +103,7 @@ next_node {from} {lines} {more} {old} {new} k device kind before after at within
 -- nodes, one after another, whatever each does
 module _ {K : Type 0} (Nodes : ℕ → List Registers → Kind)
     (appends : (xs ys : List Registers) (node last : ℕ) (s : Seen) (lines : List TraceLine)
-    → node + length xs ≡ last → s.unfaithful ≡ None
+    → node + length xs ≡ last → s.undetected ≡ None
     → Both (Nodes node xs) (Nodes last ys) s lines → Nodes node (xs ++ ys) s lines)
     (from : Seen) (lines : List TraceLine) (old mid : Fabric) (devices : List Registers)
     (stands : Stands from lines old) where
@@ -145,7 +145,7 @@ module _ {K : Type 0} (Nodes : ℕ → List Registers → Kind)
 
 -- ---- rounds, one after another
 
-pub rounds_append : (m n : ℕ) (s : Seen) (lines : List TraceLine) → s.unfaithful ≡ None
+pub rounds_append : (m n : ℕ) (s : Seen) (lines : List TraceLine) → s.undetected ≡ None
     → Both (Rounds IsSettle m) (Rounds IsSettle n) s lines → Rounds IsSettle (m + n) s lines
 rounds_append zero n s lines still both =
     let same : n ≡ 0 + n = omega arith in
@@ -161,7 +161,7 @@ rounds_append (suc m) n s lines still both =
 
 -- what is known of a link that settles
 settles_come : (s : Seen) (a b : PortRef) (lines : List TraceLine) → IsGood s
-    → s.unfaithful ≡ None → ArePeers s.network.links a b → IsSettle s a b lines
+    → s.undetected ≡ None → ArePeers s.network.links a b → IsSettle s a b lines
     → Made s lines × IsSettle s a b lines
 settles_come s a b lines good sent peers own =
     (link_made s a b lines good sent peers own, own)

@@ -25,7 +25,7 @@ use Rattle.fabric_ports.proofs.NodeLaws.{set_same, HasBoth, port_shows}
 module _ {K : Type 0}
     (b b2 : TraceWriter K) (s : Seen) (old : Fabric) (n : ℕ) (packet : List ℕ) where
   -- there is no room for it
-  pub did_full : ShowsFabric old s → s.unfaithful ≡ None
+  pub did_full : ShowsFabric old s → s.undetected ≡ None
       → room_out s.network (port_of n) (prio_of packet) ≡ false
       → Adds b b2 (Lacked NoRoom ∷ [])
       → Did (λ block. (block ≡ take_lines s n packet)
@@ -43,7 +43,7 @@ module _ {K : Type 0}
   }
 
   -- it is taken
-  pub did_take : (new : Fabric) (x y : PortState) → ShowsFabric old s → s.unfaithful ≡ None
+  pub did_take : (new : Fabric) (x y : PortState) → ShowsFabric old s → s.undetected ≡ None
       → room_out s.network (port_of n) (prio_of packet) ≡ true → prio_of packet < 4
       → (at : IsEndpointAt old.devices.items n) → port_seen s (port_of n) ≡ x
       → HasBoth old new n at.device (port_of n) y

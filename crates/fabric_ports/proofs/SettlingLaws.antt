@@ -97,7 +97,7 @@ switch_stays {from} {lines} {more} {old} {new} before after n is =
 -- ---- links, one after another
 
 pub settle_append : (xs ys : List (PortRef × PortRef)) (s : Seen) (lines : List TraceLine)
-    → s.unfaithful ≡ None → Both (SettleAll IsSettle xs) (SettleAll IsSettle ys) s lines
+    → s.undetected ≡ None → Both (SettleAll IsSettle xs) (SettleAll IsSettle ys) s lines
     → SettleAll IsSettle (xs ++ ys) s lines
 settle_append [] ys s lines still both = nothing_both (SettleAll IsSettle ys) s lines still both
 settle_append (x ∷ xs) ys s lines still both =

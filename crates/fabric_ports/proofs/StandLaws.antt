@@ -19,14 +19,14 @@ use Rattle.fabric_ports.specs.Standing.{Stands}
 -- behind more lines, which are made of parts
 pub stands_with : {from : Seen} {lines : List TraceLine} {old new : Fabric}
     (block : List TraceLine) → Stands from lines old → Made (seen from lines) block
-    → (seen (seen from lines) block).unfaithful ≡ None
+    → (seen (seen from lines) block).undetected ≡ None
     → ShowsFabric new (seen (seen from lines) block) → Stands from (lines ++ block) new
 stands_with {from} {lines} {old} {new} block stands made sent shows =
     let joined = seen-append from lines block in
     record {
       ready = stands.ready;
       made = made-append stands.made made;
-      sent = ap (λ (t : Seen). t.unfaithful) joined ∙ sent;
+      sent = ap (λ (t : Seen). t.undetected) joined ∙ sent;
       shows = subst (ShowsFabric new) (sym joined) shows;
     }
 
@@ -36,14 +36,14 @@ pub stands_begun : (from : Seen) (lines : List TraceLine) (fabric : Fabric) (lin
     → Stands from (lines ++ Begun line ∷ []) fabric
 stands_begun from lines fabric line same stands =
     stands_with (Begun line ∷ []) stands (one_part (PartBegins line refl))
-    (ap (λ (t : Seen). t.unfaithful) same ∙ stands.sent)
+    (ap (λ (t : Seen). t.undetected) same ∙ stands.sent)
     (subst (ShowsFabric fabric) (sym same) stands.shows)
 
 -- behind the lines of an event
 pub stands_on : (from : Seen) (lines : List TraceLine) (old new : Fabric) (line : Line)
     (block : List TraceLine) → Stands from lines old
     → IsBlock (seen from lines) line block
-    → (seen (seen from lines) (Begun line ∷ block)).unfaithful ≡ None
+    → (seen (seen from lines) (Begun line ∷ block)).undetected ≡ None
     → ShowsFabric new (seen (seen from lines) (Begun line ∷ block))
     → Stands from (lines ++ Begun line ∷ block) new
 stands_on from lines old new line block stands is sent shows =

@@ -338,7 +338,7 @@ is_step_by net node Nothing move = (move _ refl, refl)
 
 pub did_step : {K : Type 0} (b b2 : TraceWriter K) (s : Seen) (old new : Fabric) (node first : ℕ)
     (device next : Registers) (step : switch.Step) (result : Bool)
-    → ShowsFabric old s → s.unfaithful ≡ None → ByPriority s.network → is_switch device ≡ true
+    → ShowsFabric old s → s.undetected ≡ None → ByPriority s.network → is_switch device ≡ true
     → HasStepped old new node first device next step → AreForms step → result ≡ is_step step
     → Adds b b2 (written_lines node step)
     → Did (IsSwitchStep s.network node result) b b2 s new
@@ -351,7 +351,7 @@ did_step b b2 s old new node first device next step result shows sent by switche
       is = subst (λ r. IsSwitchStep s.network node r (written_lines node step)) (sym told)
           (is_step_by s.network node step
           (is_move s old new node first device next step shows by switches has forms));
-      sent = ap (λ (u : Seen). u.unfaithful) seen_is ∙ sent;
+      sent = ap (λ (u : Seen). u.undetected) seen_is ∙ sent;
       shows = subst (ShowsFabric new) (sym seen_is)
           (shows_later s old new node first device next step shows by switches has forms);
     }
@@ -367,6 +367,6 @@ did_none b b2 b3 s new node result did told adds =
       block = Lacked NoStep ∷ [];
       adds = Adds-then (subst (λ l. Adds b b2 l) is.1 did.adds) adds;
       is = is.0;
-      sent = subst (λ l. (seen s l).unfaithful ≡ None) is.1 did.sent;
+      sent = subst (λ l. (seen s l).undetected ≡ None) is.1 did.sent;
       shows = subst (λ l. ShowsFabric new (seen s l)) is.1 did.shows;
     }

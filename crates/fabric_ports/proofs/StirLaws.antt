@@ -88,7 +88,7 @@ edit_stands p edit from lines old new true is stands shows =
     let begun = ap (edited_by (seen from lines)) (edit_is p edit) in
     stands_with (Begun (edit_line p edit) ∷ []) stands
     (one_part (PartBegins (edit_line p edit) refl))
-    (ap (λ (t : Seen). t.unfaithful) begun ∙ stands.sent)
+    (ap (λ (t : Seen). t.undetected) begun ∙ stands.sent)
     (subst (ShowsFabric new) (sym begun) shows)
 edit_stands p edit from lines old new false is stands shows =
     let same = still_known (seen from lines) p edit

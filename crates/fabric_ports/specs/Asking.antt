@@ -78,25 +78,26 @@ pub record Lost (names : List (List ℕ)) (written written_after : Option (List 
   pub block : List TraceLine
   pub told : Appends written written_after (trace_text names block)
   pub is : IsAsk host request noise (seen from lines) block
-  pub sent : (seen from (lines ++ block)).unfaithful ≡ None
+  pub sent : (seen from (lines ++ block)).undetected ≡ None
   pub lost : (at : PortRef) → ¬ Returns (seen from lines).network host request at
   pub own : NeverBefore host block
 
 -- The lines of an ask were written, up to an event that was acted on and not sent, which is this
 -- one.
-pub record Misled (names : List (List ℕ)) (written written_after : Option (List ℕ)) (host : ℕ)
+pub record AskedUndetected (names : List (List ℕ)) (written written_after : Option (List ℕ))
+    (host : ℕ)
     (request : Request) (noise : List Edit) (from : Seen) (lines : List TraceLine)
     (port : PortRef) (event : Event) : Type 0 where
   pub block : List TraceLine
   pub told : Appends written written_after (trace_text names block)
   pub is : IsAsk host request noise (seen from lines) block
   pub made : Made from (lines ++ block)
-  pub found : (seen from (lines ++ block)).unfaithful
+  pub found : (seen from (lines ++ block)).undetected
       ≡ Some (record { port = port; event = event })
   pub own : NeverAnswers host block
 
 -- The first lines of an ask were written.
-pub record Broken (names : List (List ℕ)) (written written_after : Option (List ℕ)) (host : ℕ)
+pub record AskedFront (names : List (List ℕ)) (written written_after : Option (List ℕ)) (host : ℕ)
     (request : Request) (noise : List Edit) (from : Seen) (lines : List TraceLine) : Type 0 where
   pub block : List TraceLine
   pub front : List TraceLine
@@ -106,7 +107,8 @@ pub record Broken (names : List (List ℕ)) (written written_after : Option (Lis
   pub whole : block ≡ front ++ rest
 
 -- A front of the text of an ask was written, which may end in a line.
-pub record Unwritten (names : List (List ℕ)) (written written_after : Option (List ℕ)) (host : ℕ)
+pub record AskedTextFront (names : List (List ℕ)) (written written_after : Option (List ℕ))
+    (host : ℕ)
     (request : Request) (noise : List Edit) (from : Seen) (lines : List TraceLine) : Type 0 where
   pub block : List TraceLine
   pub told : AppendsFront written written_after (trace_text names block)
@@ -118,8 +120,8 @@ abbrev pub AskEnds : List (List ℕ) → Option (List ℕ) → Option (List ℕ)
 AskEnds names written after host request noise from lines Unanswered =
     Lost names written after host request noise from lines
 AskEnds names written after host request noise from lines (Undetected port event) =
-    Misled names written after host request noise from lines port event
+    AskedUndetected names written after host request noise from lines port event
 AskEnds names written after host request noise from lines WriteFault =
-    Unwritten names written after host request noise from lines
+    AskedTextFront names written after host request noise from lines
 AskEnds names written after host request noise from lines NoMemory =
-    Broken names written after host request noise from lines
+    AskedFront names written after host request noise from lines

@@ -109,7 +109,7 @@ pub record Did (Is : List TraceLine → Type 0) {K : Type 0} (old new : TraceWri
   pub block : List TraceLine
   pub adds : Adds old new block
   pub is : Is block
-  pub sent : (seen s block).unfaithful ≡ None
+  pub sent : (seen s block).undetected ≡ None
   pub shows : ShowsFabric fabric (seen s block)
 
 -- A switch made a step, which is this block; or it can make none, and nothing was written.

@@ -50,7 +50,7 @@ WritesTo old new from lines told (Ok fabric) =
     Adds old new told × Stands from (lines ++ told) fabric
 WritesTo old new from lines told (Err (Undetected port event)) =
     Adds old new told
-    × ((seen from (lines ++ told)).unfaithful ≡ Some (record { port = port; event = event }))
+    × ((seen from (lines ++ told)).undetected ≡ Some (record { port = port; event = event }))
 WritesTo old new from lines told (Err Failed) =
     AddsFront old new told × (new.outbox.now.failed ≡ true)
 WritesTo old new from lines told (Err NoMemory) = AddsFront old new told

@@ -13,5 +13,5 @@ use Rattle.fabric_ports.specs.declared.fabric.Fabric.{Fabric}
 pub record Stands (from : Seen) (lines : List TraceLine) (fabric : Fabric) : Type 0 where
   pub ready : IsReady from
   pub made : Made from lines
-  pub sent : (seen from lines).unfaithful ≡ None
+  pub sent : (seen from lines).undetected ≡ None
   pub shows : ShowsFabric fabric (seen from lines)

@@ -1,6 +1,6 @@
 //! What an event answers.
 use fabric_script::PortRef;
-use link_wires::Unsent;
+use link_wires::UndetectedEvent;
 use rio_packets::Packet;
 
 /// What an event did.
@@ -25,7 +25,10 @@ pub enum Happened {
 #[derive(Debug, Drop)]
 pub enum FabricEnd {
     /// The port acted on an event that was not sent: a corruption that no check has found.
-    Undetected { port: PortRef, event: Unsent },
+    Undetected {
+        port: PortRef,
+        event: UndetectedEvent,
+    },
     /// The sink failed: what is behind the failure was not written, and the event was not carried
     /// out to its end.
     Failed,

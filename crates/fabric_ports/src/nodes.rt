@@ -29,7 +29,7 @@ impl Fabric {
         requires named { node < length writer.old.names.now }
         requires shown { (s : Seen) × ShowsFabric self.old s }
         requires endpoint { IsEndpointAt self.old.devices.items node }
-        ensures { (s : Seen) → ShowsFabric self.old s → s.unfaithful ≡ None
+        ensures { (s : Seen) → ShowsFabric self.old s → s.undetected ≡ None
             → Did (λ block. (block ≡ take_lines s node packet)
             × (result ≡ answer_taken block)) writer.old writer.new s self.new }
     {
@@ -48,7 +48,7 @@ impl Fabric {
         requires named { node < length writer.old.names.now }
         requires shown { (s : Seen) × ShowsFabric self.old s }
         requires endpoint { IsEndpointAt self.old.devices.items node }
-        ensures { (s : Seen) → ShowsFabric self.old s → s.unfaithful ≡ None
+        ensures { (s : Seen) → ShowsFabric self.old s → s.undetected ≡ None
             → ByPriority s.network → Did (λ block. IsCollect s.network node block
             × (result ≡ answer_collected block)) writer.old writer.new s self.new }
     {

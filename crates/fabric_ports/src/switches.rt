@@ -30,7 +30,7 @@ impl Fabric {
         requires named { node < length writer.old.names.now }
         requires shown { (s : Seen) × ShowsFabric self.old s }
         requires switch { IsSwitchAt self.old.devices.items node }
-        ensures { (s : Seen) → ShowsFabric self.old s → s.unfaithful ≡ None → ByPriority s.network
+        ensures { (s : Seen) → ShowsFabric self.old s → s.undetected ≡ None → ByPriority s.network
             → Did (IsMove s.network node) writer.old writer.new s self.new }
     {
         if !self.step(node, writer) {
@@ -44,7 +44,7 @@ impl Fabric {
         requires named { node < length writer.old.names.now }
         requires shown { (s : Seen) × ShowsFabric self.old s }
         requires switch { IsSwitchAt self.old.devices.items node }
-        ensures { (s : Seen) → ShowsFabric self.old s → s.unfaithful ≡ None → ByPriority s.network
+        ensures { (s : Seen) → ShowsFabric self.old s → s.undetected ≡ None → ByPriority s.network
             → Did (IsSwitchStep s.network node result) writer.old writer.new s self.new }
     {
         let first = self.firsts[usize::from(node)];

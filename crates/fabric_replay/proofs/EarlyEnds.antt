@@ -19,7 +19,7 @@ use Rattle.fabric_replay.specs.declared.replaying.ReplayEnd.{ReplayEnd}
 use Rattle.fabric_replay.specs.declared.replaying.ReplayEnd.TheVariants as Ends
 use Rattle.fabric_replay.specs.Going.{Going, ToldUntil, ToldFront, ToldWhole}
 use Rattle.fabric_replay.proofs.Naming.{found_named}
-use Rattle.fabric_replay.proofs.Telling.{IsItem, Going-broken, Going-short, Going-unsent, until_front, whole_front}
+use Rattle.fabric_replay.proofs.Telling.{IsItem, Going-broken, Going-short, Going-undetected, until_front, whole_front}
 
 pub end_named : (names : List (List ℕ)) (script : List Numbered) {K : Type 0}
     (out out2 : TraceWriter K) (lines : List TraceLine) (line : Line) (fabric : Fabric)
@@ -55,7 +55,7 @@ module _ {K : Type 0} (begun : TraceWriter K) (script : List Numbered) where
       → EndsBy end item.number out2 out3 result → IsEnded out3 result
   Going-ended i item out out2 out3 fabric (Early.Undetected port event) result is has h ends told =
       ended_by out3 result (Ends.Undetected item.number port event) told.0
-      (Going-unsent begun script i item out out2 out3 fabric port event is has h ends told.1)
+      (Going-undetected begun script i item out out2 out3 fabric port event is has h ends told.1)
   Going-ended i item out out2 out3 fabric Early.Failed result is has h ends told =
       ended_by out3 result Ends.WriteFault told.0
       (subst (λ o. ToldUntil begun o script) (sym told.1)

@@ -27,7 +27,7 @@ use Rattle.rio_packets.specs.Fields.{prio_of}
 use Rattle.trace_lines.specs.Notes.{lines_of}
 use Rattle.fabric_trace.specs.Blocks.{SendsBody, IsSettle, WithPeer, WithLink, edits, IsBlock}
 use Rattle.fabric_trace.specs.Fold.{edit_of, seen}
-use Rattle.fabric_trace.specs.Known.{Found, Seen, peer_of, link_at}
+use Rattle.fabric_trace.specs.Known.{UndetectedAt, Seen, peer_of, link_at}
 use Rattle.trace_lines.specs.Lines.{Full, Short, TraceLine, Begun, Stepped, Lacked, steps_of}
 use Rattle.fabric_trace.specs.Rounds.{Follows, NamesNothing, Joined, SettleAll, ServesAll, ServeRests, ServeGoes, ServeNodes, Round, Rounds}
 use Rattle.fabric_trace.specs.Runs.{start, EventThen, Names, RunsFrom, Runs}
@@ -96,7 +96,7 @@ at_link s (Some link) block is = settled s link.0 link.1 block is
 
 -- ---- rounds
 
-follows : (found : Option Found) (More : List TraceLine → Type 0) (rest : List TraceLine)
+follows : (found : Option UndetectedAt) (More : List TraceLine → Type 0) (rest : List TraceLine)
     → ((lines : List TraceLine) → More lines → taken lines ≡ 0)
     → Follows found More NamesNothing rest → taken rest ≡ 0
 follows None More rest none is = none rest is
@@ -109,7 +109,7 @@ joined : (First : List TraceLine → Type 0) (More : Seen → List TraceLine
 joined First More s lines first more is =
     let t = seen s is.0 in
     let one = first is.0 is.3 in
-    let other = follows t.unfaithful (More t) is.1 (more t) is.4 in
+    let other = follows t.undetected (More t) is.1 (more t) is.4 in
     ap taken is.2 ∙ both is.0 is.1 ∙ omega (arith, one, other)
 
 all_settle : (links : List (PortRef × PortRef)) (s : Seen) (lines : List TraceLine)
@@ -198,7 +198,7 @@ costs s links _ block is = absurd is
 
 -- ---- every trace
 
-goes_on : (number cost : ℕ) (found : Option Found) (More : List TraceLine
+goes_on : (number cost : ℕ) (found : Option UndetectedAt) (More : List TraceLine
     → Type 0) (rest : List TraceLine) → cost ≤ 100000 → ((lines : List TraceLine) → More lines
     → cost + taken lines ≤ 100000) → Follows found More (Names number) rest
     → cost + taken rest ≤ 100000
@@ -215,7 +215,7 @@ few_with : (event : Bool) (known : Known) (line : Numbered) (s : Seen) (More : S
 few_with true known line s More lines cost more run =
     let t = seen s (Begun line.line ∷ run.0) in
     let own = costs s known.links line.line run.0 run.3 in
-    let rest = goes_on line.number (known.cost + cost_of known.links line.line) t.unfaithful
+    let rest = goes_on line.number (known.cost + cost_of known.links line.line) t.undetected
     (More t) run.1 cost (more t) run.4 in
     let whole = ap taken run.2 ∙ both (Begun line.line ∷ run.0) run.1 in
     omega (arith, own, rest, whole)

@@ -15,7 +15,7 @@ use Rattle.fabric_script.proofs.KnownLaws.{within_nodes}
 use Rattle.fabric_model.specs.Network.{Network, same_port, peer_in}
 use Rattle.fabric_model.proofs.Peers.{port_is}
 use Rattle.fabric_trace.specs.Fold.{seen}
-use Rattle.fabric_trace.specs.Known.{Found, Seen}
+use Rattle.fabric_trace.specs.Known.{UndetectedAt, Seen}
 use Rattle.trace_lines.specs.Lines.{TraceLine}
 use Rattle.fabric_trace.specs.Runs.{bare, set_up, set_up_all, begins, start}
 use Rattle.fabric_trace.proofs.Network.Boards.{seen_board, found_linked}
@@ -142,9 +142,9 @@ names_suffice names script lines fabric passes stands =
     omega (arith, few, known)
 
 pub found_named : (names : List (List ℕ)) (script : List Numbered) (lines all : List TraceLine)
-    (fabric : Fabric) (found : Found) → ScriptPasses names script
+    (fabric : Fabric) (found : UndetectedAt) → ScriptPasses names script
     → Stands (start script) lines fabric
-    → (seen (begins (set_up_all bare script)) all).unfaithful ≡ Some found → found.port.node
+    → (seen (begins (set_up_all bare script)) all).undetected ≡ Some found → found.port.node
     < length names
 found_named names script lines all fabric found passes stands finds =
     let net = set_up_all bare script in

@@ -12,8 +12,8 @@ use Rattle.trace_lines.specs.Lines.{TraceLine, steps_of}
 use Rattle.fabric_trace.specs.Runs.{start, Runs}
 use Rattle.trace_lines.specs.Text.{trace_text}
 use Rattle.fabric_trace.proofs.SetUps.Balancing.{runs_stand, runs_balance}
-use Rattle.fabric_replay.specs.Replaying.{ReplayedWhole, ReplayedUnsent}
-use Rattle.fabric_replay.specs.Summing.{CountsLines, Summed, SummedUnsent, EndsLike}
+use Rattle.fabric_replay.specs.Replaying.{ReplayedWhole, ReplayedUndetected}
+use Rattle.fabric_replay.specs.Summing.{CountsLines, Summed, SummedUndetected, EndsLike}
 use Rattle.fabric_replay.specs.Tallies.{IsCount, begun_with, Tallied}
 use Rattle.fabric_replay.specs.declared.replaying.ReplayEnd.{ReplayEnd}
 use Rattle.fabric_replay.specs.declared.replaying.ReplayEnd.TheVariants as Replays
@@ -103,11 +103,11 @@ summed names script written written_after tally counts passes whole is same =
       shown = whole.replayed.shown;
     }
 
-pub summed_unsent : (names : List (List ℕ)) (script : List Numbered) (line : ℕ) (port : PortRef)
+pub summed_undetected : (names : List (List ℕ)) (script : List Numbered) (line : ℕ) (port : PortRef)
     (event : Event) (written written_after : Option (List ℕ))
-    → ReplayedUnsent names script line port event written written_after
-    → SummedUnsent script line port event
-summed_unsent names script line port event written written_after is = record {
+    → ReplayedUndetected names script line port event written written_after
+    → SummedUndetected script line port event
+summed_undetected names script line port event written written_after is = record {
   lines = is.replayed.lines;
   runs = is.replayed.runs;
   only = is.replayed.only;
@@ -121,15 +121,16 @@ pub no_fault : ¬ Rose 0 0
 no_fault (inl less) = omega arith
 no_fault (inr most) = omega arith
 
-pub replay_unsent : (end : ReplayEnd) (result : SummaryEnd) (line : ℕ) (port : PortRef)
+pub replay_undetected : (end : ReplayEnd) (result : SummaryEnd) (line : ℕ) (port : PortRef)
     (event : Event) → EndsLike end result → IsErrOf {T = Counts} (Err result) (Ends.Undetected line
     port event) → end ≡ Replays.Undetected line port event
-replay_unsent (Replays.Undetected l p e) result line port event own is = same l line p port e event
+replay_undetected (Replays.Undetected l p e) result line port event own is =
+    same l line p port e event
     result own is
   where
     same : (l line : ℕ) (p port : PortRef) (e event : Event) (r : SummaryEnd)
         → r ≡ Ends.Undetected l p e → IsErrOf {T = Counts} (Err r) (Ends.Undetected line port event)
         → Replays.Undetected l p e ≡ Replays.Undetected line port event
     same l line p port e event r own is = cc
-replay_unsent Replays.NoMemory result line port event own is = absurd cc
-replay_unsent Replays.WriteFault result line port event own is = absurd own
+replay_undetected Replays.NoMemory result line port event own is = absurd cc
+replay_undetected Replays.WriteFault result line port event own is = absurd own

@@ -9,7 +9,7 @@ use Rattle.fabric_script.specs.declared.lines.Numbered.{Numbered}
 use Rattle.fabric_trace.specs.Blocks.{IsBlock}
 use Rattle.fabric_trace.specs.Events.{MayHappen}
 use Rattle.fabric_trace.specs.Fold.{seen}
-use Rattle.fabric_trace.specs.Known.{Found, Seen}
+use Rattle.fabric_trace.specs.Known.{UndetectedAt, Seen}
 use Rattle.trace_lines.specs.Lines.{TraceLine, Begun, Ended, Undetected}
 use Rattle.fabric_trace.specs.Runs.{bare, set_up_all, start, BlockThen, NamesNothing, BlocksFrom, RunsFrom, Runs, Begins}
 use Rattle.trace_lines.specs.AddsLaws.{Adds-nil, Adds-then}
@@ -20,7 +20,7 @@ use Rattle.fabric_trace.proofs.Parts.Folding.{seen-append}
 use Rattle.fabric_trace.proofs.SetUps.Happening.{may_happen}
 use Rattle.fabric_ports.specs.Events.{MayFollow, IsOwnBlock, IsAnsweredBlock, Evented}
 use Rattle.fabric_ports.specs.Standing.{Stands}
-use Rattle.fabric_ports.specs.declared.answers.FabricEnd.TheVariants.{Undetected as Unsent, Failed, NoMemory}
+use Rattle.fabric_ports.specs.declared.answers.FabricEnd.TheVariants.{Undetected as UndetectedEnd, Failed, NoMemory}
 use Rattle.fabric_ports.specs.declared.answers.Happened.{Happened}
 use Rattle.fabric_ports.specs.declared.fabric.Fabric.{Fabric}
 use Rattle.fabric_ports.proofs.RanLaws.{front_whole}
@@ -87,7 +87,7 @@ module _ {K : Type 0} (begun : TraceWriter K) (script : List Numbered) where
   abbrev pub Fronts : TraceWriter K → Type 0
   Fronts out = ToldFront begun out script
 
-  abbrev pub Wholes : TraceWriter K → TraceLine → Option Found → Type 0
+  abbrev pub Wholes : TraceWriter K → TraceLine → Option UndetectedAt → Type 0
   Wholes out last found = ToldWhole begun out script last found
 
   pub Going-begin : (fabric : Fabric) → begun.outbox.now.failed ≡ false
@@ -217,21 +217,21 @@ module _ {K : Type 0} (begun : TraceWriter K) (script : List Numbered) where
       }
 
   -- or an event was acted on that was not sent
-  pub Going-unsent : (i : ℕ) (item : Numbered) (out out2 out3 : TraceWriter K) (fabric : Fabric)
+  pub Going-undetected : (i : ℕ) (item : Numbered) (out out2 out3 : TraceWriter K) (fabric : Fabric)
       (port : PortRef) (event : Event) → IsItem script i item → is_event item.line ≡ true
       → (h : Gone out i fabric)
       → Evented item.line (IsOwnBlock item.line) out out2 (start script) h.lines
-      (Err (Unsent port event))
+      (Err (UndetectedEnd port event))
       → Adds out2 out3 (Undetected item.number port event ∷ [])
       → Wholes out3 (Undetected item.number port event)
       (Some (record { port = port; event = event }))
-  Going-unsent i item out out2 out3 fabric port event is has h exposed last =
+  Going-undetected i item out out2 out3 fabric port event is has h exposed last =
       let own = Begun item.line ∷ exposed.block in
       let named = Undetected item.number port event ∷ [] in
-      let found : Found = record { port = port; event = event } in
+      let found : UndetectedAt = record { port = port; event = event } in
       let there : seen (start script) (h.lines ++ own) ≡ seen (seen (start script) h.lines) own =
       seen-append (start script) h.lines own in
-      let finds = ap (λ (x : Seen). x.unfaithful) (sym there) ∙ exposed.ends.1 in
+      let finds = ap (λ (x : Seen). x.undetected) (sym there) ∙ exposed.ends.1 in
       record {
         lines = (h.lines ++ own) ++ named;
         adds = Adds-then (Adds-then h.adds exposed.ends.0) last;
@@ -260,7 +260,7 @@ module _ {K : Type 0} (begun : TraceWriter K) (script : List Numbered) where
       }
 
   -- a whole trace was told, and so one that begins a trace
-  pub whole_front : (out : TraceWriter K) (last : TraceLine) (found : Option Found)
+  pub whole_front : (out : TraceWriter K) (last : TraceLine) (found : Option UndetectedAt)
       → Wholes out last found → Fronts out
   whole_front out last found whole =
       record {

@@ -9,7 +9,7 @@ use Rattle.fabric_script.specs.Scripts.{ScriptPasses}
 use Rattle.fabric_script.specs.declared.ports.PortRef.{PortRef}
 use Rattle.fabric_script.specs.declared.lines.Numbered.{Numbered}
 use Rattle.fabric_model.specs.Laws.Freeing.{IsFront}
-use Rattle.fabric_trace.specs.Known.{Found}
+use Rattle.fabric_trace.specs.Known.{UndetectedAt}
 use Rattle.trace_lines.specs.Lines.{TraceLine, Ended, Undetected}
 use Rattle.fabric_trace.specs.Runs.{bare, Runs, Begins}
 use Rattle.fabric_trace.specs.SetUps.{MaySetUpAll}
@@ -21,7 +21,7 @@ use Rattle.fabric_trace.proofs.SetUps.Happening.{may_set_up}
 use Rattle.fabric_trace.proofs.Shown.Shows.{runs_shown, fronts_shown, blocks_shown}
 use Rattle.fabric_trace.proofs.Traces.Unique.{runs_one, first_blocks_front}
 use Rattle.fabric_replay.specs.Going.{ToldFront, ToldWhole}
-use Rattle.fabric_replay.specs.Replaying.{Replayed, ReplayedWhole, ReplayedUnsent, ReplayedFront}
+use Rattle.fabric_replay.specs.Replaying.{Replayed, ReplayedWhole, ReplayedUndetected, ReplayedFront}
 use Rattle.fabric_replay.proofs.Cutting.{cut_text, part_more}
 
 module _ (names : List (List ℕ)) (script : List Numbered) where
@@ -36,7 +36,7 @@ module _ (names : List (List ℕ)) (script : List Numbered) where
 
   -- of a whole trace, all
   written_whole : {K : Type 0} {begun out : TraceWriter K} (last : Outgoing) (line : TraceLine)
-      (found : Option Found) (h : ToldWhole begun out script line found)
+      (found : Option UndetectedAt) (h : ToldWhole begun out script line found)
       → begun.names.now ≡ names → ScriptPasses names script → begun.outbox.now.waiting ≡ []
       → Writes out.outbox.now last [] → last.failed ≡ false → last.waiting ≡ []
       → Replayed names script begun.outbox.now.written last.written
@@ -60,15 +60,15 @@ module _ (names : List (List ℕ)) (script : List Numbered) where
     ends = h.ends;
   }
 
-  pub written_unsent : {K : Type 0} {begun out : TraceWriter K} (last : Outgoing) (line : ℕ)
+  pub written_undetected : {K : Type 0} {begun out : TraceWriter K} (last : Outgoing) (line : ℕ)
       (port : PortRef) (event : Event)
       → ToldWhole begun out script (Undetected line port event)
       (Some (record { port = port; event = event }))
       → begun.names.now ≡ names → ScriptPasses names script → begun.outbox.now.waiting ≡ []
       → Writes out.outbox.now last [] → last.failed ≡ false → last.waiting ≡ []
-      → ReplayedUnsent names script line port event begun.outbox.now.written last.written
+      → ReplayedUndetected names script line port event begun.outbox.now.written last.written
   unfolding written_whole
-  written_unsent last line port event h named passes empty flushed fine none = record {
+  written_undetected last line port event h named passes empty flushed fine none = record {
     replayed =
         written_whole last (Undetected line port event) _ h named passes empty flushed fine none;
     ends = h.ends;

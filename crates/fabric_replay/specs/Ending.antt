@@ -1,6 +1,6 @@
 -- How a trace ends early.
 use Rattle.std.specs.Prelude.{◌≡◌, ◌<◌, ℕ, List, [], ◌∷◌, length}
-use Rattle.trace_lines.specs.Lines.{Undetected as UnsentLine}
+use Rattle.trace_lines.specs.Lines.{Undetected as UndetectedLine}
 use Rattle.trace_lines.specs.Writing.{Adds}
 use Rattle.trace_lines.specs.declared.writer.TraceWriter.{TraceWriter}
 use Rattle.fabric_ports.specs.declared.answers.FabricEnd.{FabricEnd}
@@ -19,6 +19,6 @@ EndIsNamed names NoMemory = Unit {0}
 abbrev pub EndsBy : FabricEnd → ℕ → {K : Type 0} → TraceWriter K → TraceWriter K → ReplayEnd
     → Type 0
 EndsBy (Undetected port event) line old new result =
-    (result ≡ Ends.Undetected line port event) × Adds old new (UnsentLine line port event ∷ [])
+    (result ≡ Ends.Undetected line port event) × Adds old new (UndetectedLine line port event ∷ [])
 EndsBy Failed line old new result = (result ≡ Ends.WriteFault) × (new ≡ old)
 EndsBy NoMemory line old new result = (result ≡ Ends.NoMemory) × (new ≡ old)

@@ -1,7 +1,7 @@
 -- How far a replay has come.
 use Rattle.std.specs.Prelude.{◌≡◌, ◌⊎◌, ℕ, ◌+◌, true, false, List, ◌++◌, Option, take}
 use Rattle.fabric_script.specs.declared.lines.Numbered.{Numbered}
-use Rattle.fabric_trace.specs.Known.{Found}
+use Rattle.fabric_trace.specs.Known.{UndetectedAt}
 use Rattle.trace_lines.specs.Lines.{TraceLine}
 use Rattle.fabric_trace.specs.Runs.{start, Runs, BlocksFrom, Begins}
 use Rattle.trace_lines.specs.Writing.{Adds}
@@ -45,7 +45,7 @@ pub record ToldFront {K : Type 0} (begun out : TraceWriter K) (script : List Num
 
 -- A whole trace was told, which ends so.
 pub record ToldWhole {K : Type 0} (begun out : TraceWriter K) (script : List Numbered)
-    (last : TraceLine) (found : Option Found) : Type 0 where
+    (last : TraceLine) (found : Option UndetectedAt) : Type 0 where
   pub lines : List TraceLine
   pub adds : Adds begun out lines
   pub runs : Runs script lines

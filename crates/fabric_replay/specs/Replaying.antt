@@ -6,7 +6,7 @@ use Rattle.fabric_script.specs.declared.ports.PortRef.{PortRef}
 use Rattle.fabric_script.specs.declared.lines.Numbered.{Numbered}
 use Rattle.fabric_model.specs.Laws.Freeing.{IsFront}
 use Rattle.fabric_trace.specs.Fold.{seen}
-use Rattle.fabric_trace.specs.Known.{Found}
+use Rattle.fabric_trace.specs.Known.{UndetectedAt}
 use Rattle.trace_lines.specs.Lines.{TraceLine, Ended, Undetected}
 use Rattle.fabric_trace.specs.Runs.{start, Runs, Begins}
 use Rattle.fabric_trace.specs.Shown.{Shown}
@@ -24,10 +24,10 @@ pub record Replayed (names : List (List ℕ)) (script : List Numbered)
 -- The last line is this one, and so much is found by the lines before it of an event that was acted
 -- on and not sent.
 pub record EndsWith (script : List Numbered) (lines : List TraceLine) (last : TraceLine)
-    (found : Option Found) : Type 0 where
+    (found : Option UndetectedAt) : Type 0 where
   pub front : List TraceLine
   pub ends : lines ≡ front ++ last ∷ []
-  pub finds : (seen (start script) front).unfaithful ≡ found
+  pub finds : (seen (start script) front).undetected ≡ found
 
 -- All events were carried out, and every event that was acted on was sent.
 pub record ReplayedWhole (names : List (List ℕ)) (script : List Numbered)
@@ -37,7 +37,7 @@ pub record ReplayedWhole (names : List (List ℕ)) (script : List Numbered)
 
 -- The events were carried out up to this one, which the port acted on and which was not sent: the
 -- first of its kind.
-pub record ReplayedUnsent (names : List (List ℕ)) (script : List Numbered) (line : ℕ)
+pub record ReplayedUndetected (names : List (List ℕ)) (script : List Numbered) (line : ℕ)
     (port : PortRef) (event : Event) (written written_after : Option (List ℕ)) : Type 0 where
   pub replayed : Replayed names script written written_after
   pub ends : EndsWith script replayed.lines (Undetected line port event)

@@ -41,15 +41,14 @@ pub record Summed (script : List Numbered) (counts : Counts) : Type 0 where
 
 -- The script has one trace, which ends with this event: the port acted on it, in the event of this
 -- line of the script, and it was not sent.
-pub record SummedUnsent (script : List Numbered) (line : ℕ) (port : PortRef) (event : Event) : Type
-    0
-  where
-    pub lines : List TraceLine
-    pub runs : Runs script lines
-    pub only : (other : List TraceLine) → Runs script other → other ≡ lines
-    pub ends : EndsWith script lines (Undetected line port event)
-        (Some (record { port = port; event = event }))
-    pub shown : Shown script lines
+pub record SummedUndetected (script : List Numbered) (line : ℕ) (port : PortRef) (event : Event)
+    : Type 0 where
+  pub lines : List TraceLine
+  pub runs : Runs script lines
+  pub only : (other : List TraceLine) → Runs script other → other ≡ lines
+  pub ends : EndsWith script lines (Undetected line port event)
+      (Some (record { port = port; event = event }))
+  pub shown : Shown script lines
 
 -- a summary ends for the reason that a replay does; a write of it never fails
 abbrev pub EndsLike : ReplayEnd → SummaryEnd → Type 0

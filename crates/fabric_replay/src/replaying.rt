@@ -3,11 +3,11 @@ ghost use Rattle.std.specs.Prelude.{◌≤◌, ◌≡◌, ℕ, true, false, [], 
 ghost use Rattle.rio_chars.specs.Faults.{Rose};
 ghost use Rattle.fabric_script.specs.Scripts.{ScriptPasses};
 ghost use Rattle.fabric_script.specs.declared.ports.PortRef.{PortRef as Port};
-ghost use Rattle.trace_lines.specs.Lines.{Ended, Undetected as UnsentLine};
+ghost use Rattle.trace_lines.specs.Lines.{Ended, Undetected as UndetectedLine};
 ghost use Rattle.fabric_trace.specs.Runs.{start};
 ghost use Rattle.fabric_ports.specs.Standing.{Stands};
 ghost use Rattle.link_model.specs.declared.event.Event.{Event as LinkEvent};
-ghost use Rattle.fabric_replay.specs.Replaying.{ReplayedWhole, ReplayedUnsent, ReplayedFront};
+ghost use Rattle.fabric_replay.specs.Replaying.{ReplayedWhole, ReplayedUndetected, ReplayedFront};
 ghost use Rattle.fabric_replay.specs.Going.{ToldFront, ToldUntil, ToldWhole};
 ghost use Rattle.fabric_replay.specs.Ending.{EndIsNamed, EndsBy};
 ghost use Rattle.fabric_replay.specs.declared.replaying.ReplayEnd.TheVariants.{NoMemory};
@@ -57,7 +57,7 @@ pub fn replay<K: Sink>(alloc: Global, script: &Script, sink: &mut K) -> Result<(
         (K.written sink.old) (K.written sink.new)) }
     ensures undetected { (line : ℕ) (port : Port) (event : LinkEvent)
         → IsErrOf result (ReplayEnd.Undetected line port event)
-        → ReplayedUnsent script.now.names.items script.now.lines.items line port event
+        → ReplayedUndetected script.now.names.items script.now.lines.items line port event
         (K.written sink.old) (K.written sink.new) }
     ensures write_fault { IsErrOf result ReplayEnd.WriteFault
         → Rose (K.faults sink.old) (K.faults sink.new)
@@ -95,7 +95,7 @@ fn write_trace<K: Sink>(
         outbox.old.written outbox.new.written) }
     ensures undetected { (line : ℕ) (port : Port) (event : LinkEvent)
         → IsErrOf result (ReplayEnd.Undetected line port event)
-        → ReplayedUnsent script.now.names.items script.now.lines.items line port event
+        → ReplayedUndetected script.now.names.items script.now.lines.items line port event
         outbox.old.written outbox.new.written }
     ensures write_fault { IsErrOf result ReplayEnd.WriteFault
         → Rose outbox.old.faults outbox.new.faults
@@ -135,7 +135,7 @@ fn tell_trace<K: Sink>(
     ensures done { OnOk result (ToldWhole writer.old writer.new script.now.lines.items Ended None) }
     ensures undetected { (line : ℕ) (port : Port) (event : LinkEvent)
         → IsErrOf result (ReplayEnd.Undetected line port event)
-        → ToldWhole writer.old writer.new script.now.lines.items (UnsentLine line port event)
+        → ToldWhole writer.old writer.new script.now.lines.items (UndetectedLine line port event)
         (Some (record { port = port; event = event })) }
     ensures write_fault { IsErrOf result ReplayEnd.WriteFault
         → ToldUntil writer.old writer.new script.now.lines.items }

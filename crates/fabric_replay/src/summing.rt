@@ -3,7 +3,7 @@ ghost use Rattle.std.specs.Prelude.{◌≡◌, ◌≢◌, ◌-◌, ◌≤◌, �
 ghost use Rattle.link_model.specs.declared.event.Event.{Event as LinkEvent};
 ghost use Rattle.fabric_script.specs.Scripts.{ScriptPasses};
 ghost use Rattle.fabric_script.specs.declared.ports.PortRef.{PortRef as Port};
-ghost use Rattle.fabric_replay.specs.Summing.{EndsLike, Summed, SummedUnsent};
+ghost use Rattle.fabric_replay.specs.Summing.{EndsLike, Summed, SummedUndetected};
 
 use crate::replaying::{ReplayEnd, replay};
 use crate::tally::Tally;
@@ -52,7 +52,7 @@ pub fn summary(alloc: Global, script: &Script) -> Result<Counts, SummaryEnd>
     ensures done { IfOk result (λ counts. Summed script.now.lines.items counts) }
     ensures undetected { (line : ℕ) (port : Port) (event : LinkEvent)
         → IsErrOf result (SummaryEnd.Undetected line port event)
-        → SummedUnsent script.now.lines.items line port event }
+        → SummedUndetected script.now.lines.items line port event }
 {
     let mut sink = TallySink::new();
     match replay(alloc, script, &mut sink) {

@@ -237,7 +237,7 @@ near_failed =
 -- an event was found not to be sent
 abbrev pub found_before : Seen
 found_before =
-    record (begins pair_network) { unfaithful = Some (record { port = far; event = Pkt 0 [] }) }
+    record (begins pair_network) { undetected = Some (record { port = far; event = Pkt 0 [] }) }
 
 -- a port gets no character
 abbrev pub got_nothing : List TraceLine

@@ -29,19 +29,19 @@ trace_goes_on (Ended ∷ lines) = true
 trace_goes_on (line ∷ lines) = trace_goes_on lines
 
 -- whether an event that was not sent is named behind it, before any of that
-abbrev pub names_unsent : List TraceLine → Bool
-names_unsent [] = false
-names_unsent (Begun line ∷ lines) = false
-names_unsent (Signed (Got q chars) ∷ lines) = false
-names_unsent (Ended ∷ lines) = false
-names_unsent (Undetected number q e ∷ lines) = true
-names_unsent (line ∷ lines) = names_unsent lines
+abbrev pub names_undetected : List TraceLine → Bool
+names_undetected [] = false
+names_undetected (Begun line ∷ lines) = false
+names_undetected (Signed (Got q chars) ∷ lines) = false
+names_undetected (Ended ∷ lines) = false
+names_undetected (Undetected number q e ∷ lines) = true
+names_undetected (line ∷ lines) = names_undetected lines
 
 -- All that the port acts on was sent if the trace goes on, and was not if an event is named.
 pub record IsFaithful (s : Seen) (p q : PortRef) (chars : List Char) (behind : List TraceLine)
     : Type 0 where
   pub sent : trace_goes_on behind ≡ true → ActsOnSent s p q chars
-  pub unsent : names_unsent behind ≡ true → ActsOnSent s p q chars → ⊥
+  pub undetected : names_undetected behind ≡ true → ActsOnSent s p q chars → ⊥
 
 abbrev pub FaithfulLine : Seen → TraceLine → List TraceLine → Type 0
 FaithfulLine s (Signed (Got q chars)) behind =

@@ -6,7 +6,7 @@ use Rattle.fabric_trace.specs.Fold.{seen_line}
 
 -- where a port gets characters, nothing was found before
 abbrev pub IsFirstFound : Seen → TraceLine → Type 0
-IsFirstFound s (Signed (Got q chars)) = s.unfaithful ≡ None
+IsFirstFound s (Signed (Got q chars)) = s.undetected ≡ None
 IsFirstFound s _ = Unit {0}
 
 -- at each line

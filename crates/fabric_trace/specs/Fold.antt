@@ -10,7 +10,7 @@ use Rattle.link_model.specs.Outstanding.{from_ack, with_next}
 use Rattle.link_model.specs.Places.{place_start}
 use Rattle.link_model.specs.Said.{said}
 use Rattle.link_port.specs.Turns.{timed_out}
-use Rattle.link_wires.specs.Deliveries.{Delivered, Through, Unsent, delivered, told_of, undetected}
+use Rattle.link_wires.specs.Deliveries.{Delivered, Through, WentUndetected, delivered, told_of, undetected}
 use Rattle.link_wires.specs.Wires.{fits, edited}
 use Rattle.link_wires.specs.declared.edits.Edit.{Edit}
 use Rattle.link_wires.specs.declared.edits.Edit.TheVariants as Edits
@@ -20,7 +20,7 @@ use Rattle.fabric_script.specs.declared.lines.Line.TheVariants.{Alter, Erase, In
 use Rattle.fabric_model.specs.Steps.{after}
 use Rattle.trace_lines.specs.Lines.{Sign, Sent, Got, Fired, TraceLine, Begun, Stepped, Signed, Lacked, Ended, Undetected}
 use Rattle.fabric_trace.specs.Views.{Half, half_of}
-use Rattle.fabric_trace.specs.Known.{Wire, Found, Seen, with_wire, with_half, peer_of, port_seen, kept_of}
+use Rattle.fabric_trace.specs.Known.{Wire, UndetectedAt, Seen, with_wire, with_half, peer_of, port_seen, kept_of}
 
 -- ---- edits
 
@@ -97,11 +97,11 @@ taken_from s p q chars = delivered (port_seen s q) (kept_of (s.wires p)) chars
 -- follows.
 abbrev pub half_after : Half → Delivered → Half
 half_after half (Through flow) = half_of flow.port
-half_after half (Unsent told e) = half
+half_after half (WentUndetected told e) = half
 
-abbrev pub found_at : PortRef → Option Event → Option Found
-found_at q None = None
-found_at q (Some e) = Some (record { port = q; event = e })
+abbrev pub undetected_at : PortRef → Option Event → Option UndetectedAt
+undetected_at q None = None
+undetected_at q (Some e) = Some (record { port = q; event = e })
 
 abbrev pub got_from : Seen → Option PortRef → PortRef → List Char → Seen
 got_from s None q chars = s
@@ -112,7 +112,7 @@ got_from s (Some p) q chars = record s {
     acted = (s.wires p).acted ++ (told_of (taken_from s p q chars)).acted;
   });
   halves = with_half s.halves q (half_after (s.halves q) (taken_from s p q chars));
-  unfaithful = found_at q (undetected (taken_from s p q chars));
+  undetected = undetected_at q (undetected (taken_from s p q chars));
 }
 
 -- ---- time-outs

@@ -22,7 +22,7 @@ abbrev pub new_wire : Wire
 new_wire = record { chars = []; sent = []; acted = [] }
 
 -- an event that a port acted on and that was not sent
-pub record Found : Type 0 where
+pub record UndetectedAt : Type 0 where
   pub port : PortRef
   pub event : Event
 
@@ -30,7 +30,7 @@ pub record Seen : Type 0 where
   pub network : Network
   pub wires : PortRef → Wire
   pub halves : PortRef → Half
-  pub unfaithful : Option Found
+  pub undetected : Option UndetectedAt
 
 -- the wires, with this one for this port; the same for halves
 abbrev pub with_wire : (PortRef → Wire) → PortRef → Wire → PortRef → Wire

@@ -27,7 +27,7 @@ pub data Part (s : Seen) (lines : List TraceLine) : Type 0 where
   -- the last line, of either kind
   PartEnds : lines ≡ Ended ∷ [] → Part s lines
   PartNames : (number : ℕ) (q : PortRef) (e : Event)
-      → s.unfaithful ≡ Some (record { port = q; event = e }) → lines ≡ Undetected number q e ∷ []
+      → s.undetected ≡ Some (record { port = q; event = e }) → lines ≡ Undetected number q e ∷ []
       → Part s lines
   -- a step at an endpoint
   PartSteps : (step : NodeStep) → Needs s.network (AtNode step) → prio_of (packet_of step) < 4
@@ -36,17 +36,17 @@ pub data Part (s : Seen) (lines : List TraceLine) : Type 0 where
   PartServes : (step : DeviceStep) → Needs s.network (ByDevice step)
       → lines ≡ Stepped (ByDevice step) ∷ [] → Part s lines
   -- turns of a port
-  PartTurns : (p q : PortRef) (n : ℕ) → peer_of s p ≡ Some q → s.unfaithful ≡ None
+  PartTurns : (p q : PortRef) (n : ℕ) → peer_of s p ≡ Some q → s.undetected ≡ None
       → lines ≡ lines_of p q (pump_notes A n (link_at s p q)) → Part s lines
   -- the status of a port that tells its free buffers
-  PartTells : (p q : PortRef) → peer_of s p ≡ Some q → s.unfaithful ≡ None
+  PartTells : (p q : PortRef) → peer_of s p ≡ Some q → s.undetected ≡ None
       → lines ≡ lines_of p q (tell_notes A (link_at s p q)) → Part s lines
   -- characters of the wire of p come to q
-  PartDelivers : (p q : PortRef) (n : ℕ) → peer_of s p ≡ Some q → s.unfaithful ≡ None
+  PartDelivers : (p q : PortRef) (n : ℕ) → peer_of s p ≡ Some q → s.undetected ≡ None
       → has_chars A n (link_at s p q) ≡ true
       → lines ≡ lines_of p q (delivery_notes A n (link_at s p q)) → Part s lines
   -- a time-out, where both wires are empty
-  PartFires : (p q : PortRef) → peer_of s p ≡ Some q → s.unfaithful ≡ None
+  PartFires : (p q : PortRef) → peer_of s p ≡ Some q → s.undetected ≡ None
       → is_silent (link_at s p q) ≡ true
       → lines ≡ lines_of p q (time_out_notes A (link_at s p q)) → Part s lines
 

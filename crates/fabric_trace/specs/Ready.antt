@@ -13,4 +13,4 @@ pub record IsReady (s : Seen) : Type 0 where
   pub formed : IsFormed s.network
   pub by_priority : ByPriority s.network
   pub proper : AreProper s.network.links
-  pub links : s.unfaithful ≡ None → AreLinks s
+  pub links : s.undetected ≡ None → AreLinks s

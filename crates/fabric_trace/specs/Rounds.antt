@@ -6,17 +6,18 @@ use Rattle.maint_registers.specs.Devices.{Registers, is_switch}
 use Rattle.fabric_script.specs.declared.ports.PortRef.{PortRef}
 use Rattle.fabric_model.specs.Steps.{DeviceStep, ByDevice}
 use Rattle.trace_lines.specs.Lines.{NoStep, TraceLine, Stepped, Lacked}
-use Rattle.fabric_trace.specs.Known.{Found, Seen, link_at}
+use Rattle.fabric_trace.specs.Known.{UndetectedAt, Seen, link_at}
 use Rattle.fabric_trace.specs.Fold.{seen_line, seen}
 use Rattle.fabric_trace.specs.Served.{IsMove}
 
 -- More follows while every event that was acted on was sent; else the last part.
-abbrev pub Follows : Option Found → (List TraceLine → Type 0) → (Found → List TraceLine → Type 0)
+abbrev pub Follows : Option UndetectedAt → (List TraceLine → Type 0)
+    → (UndetectedAt → List TraceLine → Type 0)
     → List TraceLine → Type 0
 Follows None More Last rest = More rest
 Follows (Some found) More Last rest = Last found rest
 
-abbrev pub NamesNothing : Found → List TraceLine → Type 0
+abbrev pub NamesNothing : UndetectedAt → List TraceLine → Type 0
 NamesNothing found lines = lines ≡ []
 
 -- Lines, and more behind them while every event that was acted on was sent.
@@ -24,7 +25,7 @@ abbrev pub Joined : (List TraceLine → Type 0) → (Seen → List TraceLine →
     → List TraceLine → Type 0
 Joined First More s lines = (first : List TraceLine) × (rest : List TraceLine)
     × (lines ≡ first ++ rest) × First first
-    × Follows (seen s first).unfaithful (More (seen s first)) NamesNothing rest
+    × Follows (seen s first).undetected (More (seen s first)) NamesNothing rest
 
 -- What is said of the lines in which a link settles: its ends, and what is known before.
 abbrev pub AtLink : Type 1
@@ -67,4 +68,4 @@ Rounds Link (suc n) s lines = Joined (Round Link s) (Rounds Link n) s lines
 -- the link settles, and is at rest then if every event that was acted on was sent
 abbrev pub SettlesTo : AtLink → AtLink
 SettlesTo Link s a b lines = Link s a b lines
-    × ((seen s lines).unfaithful ≡ None → IsSettled (link_at (seen s lines) a b))
+    × ((seen s lines).undetected ≡ None → IsSettled (link_at (seen s lines) a b))

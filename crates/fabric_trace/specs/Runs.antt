@@ -9,7 +9,7 @@ pub use Rattle.fabric_trace.specs.Settings.{set_up, set_up_all}
 pub use Rattle.fabric_trace.specs.Rounds.{Follows, NamesNothing}
 use Rattle.trace_lines.specs.Lines.{TraceLine, Begun, Ended, Undetected}
 use Rattle.fabric_trace.specs.Views.{new_half}
-use Rattle.fabric_trace.specs.Known.{Found, Seen, new_wire}
+use Rattle.fabric_trace.specs.Known.{UndetectedAt, Seen, new_wire}
 use Rattle.fabric_trace.specs.Fold.{seen}
 use Rattle.fabric_trace.specs.Blocks.{IsBlock}
 
@@ -21,7 +21,7 @@ begins net = record {
   network = net;
   wires = λ p. new_wire;
   halves = λ p. new_half;
-  unfaithful = None;
+  undetected = None;
 }
 
 -- what is known before the first event of a script
@@ -36,19 +36,20 @@ OfEvent = Seen → Line → List TraceLine → Type 0
 
 -- the line that an event begins with, lines of which this is said, and what comes behind
 abbrev pub EventThen : OfEvent → (Seen → List TraceLine → Type 0)
-    → (Found → List TraceLine → Type 0) → Seen → Line → List TraceLine → Type 0
+    → (UndetectedAt → List TraceLine → Type 0) → Seen → Line → List TraceLine → Type 0
 EventThen Block More Last s line lines = (block : List TraceLine) × (rest : List TraceLine)
     × (lines ≡ (Begun line ∷ block) ++ rest) × Block s line block
-    × Follows (seen s (Begun line ∷ block)).unfaithful (More (seen s (Begun line ∷ block))) Last
+    × Follows (seen s (Begun line ∷ block)).undetected (More (seen s (Begun line ∷ block))) Last
     rest
 
 -- the same of its block
-abbrev pub BlockThen : (Seen → List TraceLine → Type 0) → (Found → List TraceLine → Type 0) → Seen
+abbrev pub BlockThen : (Seen → List TraceLine → Type 0) → (UndetectedAt → List TraceLine → Type 0)
+    → Seen
     → Line → List TraceLine → Type 0
 BlockThen More Last s line lines = EventThen IsBlock More Last s line lines
 
 -- the line that names an event that was not sent is the last
-abbrev pub Names : ℕ → Found → List TraceLine → Type 0
+abbrev pub Names : ℕ → UndetectedAt → List TraceLine → Type 0
 Names number found lines = lines ≡ Undetected number found.port found.event ∷ []
 
 -- For each event in turn, the line that it begins with and lines of which this is said; then the

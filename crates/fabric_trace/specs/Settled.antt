@@ -27,11 +27,11 @@ RestsAt s (Some port) = (link : PortRef × PortRef) → link_in s.network.links 
     → IsSettled (link_at s link.0 link.1)
 
 -- The event that was under way is over where another begins, or the trace ends. The line that names
--- an unsent event cuts it, and names what was found in it.
+-- an undetected event cuts it, and names what was found in it.
 abbrev pub IsOver : Seen → Option PortRef → TraceLine → Type 0
-IsOver s port (Begun line) = (s.unfaithful ≡ None) × RestsAt s port
-IsOver s port Ended = (s.unfaithful ≡ None) × RestsAt s port
-IsOver s port (Undetected number q e) = s.unfaithful ≡ Some (record { port = q; event = e })
+IsOver s port (Begun line) = (s.undetected ≡ None) × RestsAt s port
+IsOver s port Ended = (s.undetected ≡ None) × RestsAt s port
+IsOver s port (Undetected number q e) = s.undetected ≡ Some (record { port = q; event = e })
 IsOver s port _ = Unit {0}
 
 -- at each line, with the port whose link the event under way settles

@@ -102,15 +102,15 @@ pub fn laws_of_frees_can_fail()
 /// found, or one where none was; a sender has failed, or fails in a delivery.
 pub fn laws_of_links_can_fail()
     ensures acted { Faithful (begins pair_network) acted_from_nowhere → ⊥ }
-    ensures unsent { Faithful (begins pair_network) named_though_sent → ⊥ }
+    ensures undetected { Faithful (begins pair_network) named_though_sent → ⊥ }
     ensures moving { IsSettled (link_at moving near far) → ⊥ }
     ensures round { SettlesTo (λ s a b lines. lines ≡ []) moving near far [] → ⊥ }
     ensures settle { (s : Seen) (block : List TraceLine) → s.network ≡ pair_network
-        → IsBlockAtRest s (Settle near) block → (seen s block).unfaithful ≡ None
+        → IsBlockAtRest s (Settle near) block → (seen s block).undetected ≡ None
         → IsSettled (link_at (seen s block) near far) }
     ensures rounds { (s : Seen) (block : List TraceLine) → s.network ≡ pair_network
         → IsBlockAtRest s (Run 1) block → (first : List TraceLine) × (rest : List TraceLine)
-        × (block ≡ first ++ rest) × ((seen s first).unfaithful ≡ None
+        × (block ≡ first ++ rest) × ((seen s first).undetected ≡ None
         → IsSettled (link_at (seen s first) near far)) }
     ensures resting { Settled (begins pair_network) None not_settled → ⊥ }
     ensures resting_before { Settled (begins pair_network) None not_settled_yet → ⊥ }

@@ -59,7 +59,7 @@ pub fn every_script_has_one_trace()
 pub fn one_block()
     ensures one { (line : Line) (s : Seen) (one other : List TraceLine) → IsBlock s line one
         → IsBlock s line other → one ≡ other }
-    ensures some { (line : Line) (s : Seen) → IsReady s → s.unfaithful ≡ None
+    ensures some { (line : Line) (s : Seen) → IsReady s → s.undetected ≡ None
         → is_event line ≡ true → FitsPacket line → IsThere s.network line
         → (block : List TraceLine) × IsBlock s line block }
 {}
@@ -128,10 +128,10 @@ pub fn packets_stand_or_end()
 /// long as every event that was acted on was sent. Then no sender has failed.
 pub fn links_stay_sound()
     ensures sound { (net : Network) (lines : List TraceLine) → IsSetUp net → Made (begins net) lines
-        → (seen (begins net) lines).unfaithful ≡ None → AreLinks (seen (begins net) lines) }
+        → (seen (begins net) lines).undetected ≡ None → AreLinks (seen (begins net) lines) }
     ensures working { (net : Network) (lines : List TraceLine) (p q : PortRef) → IsSetUp net
         → Made (begins net) lines
-        → (seen (begins net) lines).unfaithful ≡ None → peer_of (seen (begins net) lines) p ≡ Some q
+        → (seen (begins net) lines).undetected ≡ None → peer_of (seen (begins net) lines) p ≡ Some q
         → (port_seen (seen (begins net) lines) p).output ≢ out.Output.Failed }
 {}
 
@@ -141,9 +141,9 @@ pub fn settling_leaves_a_link_at_rest()
     ensures { (net : Network) (before block : List TraceLine) (a b : PortRef) → IsSetUp net
         → Made (begins net) before
         → peer_of (seen (begins net) before) a ≡ Some b
-        → (seen (begins net) before).unfaithful ≡ None
+        → (seen (begins net) before).undetected ≡ None
         → IsSettle (seen (begins net) before) a b block
-        → (seen (begins net) (before ++ block)).unfaithful ≡ None
+        → (seen (begins net) (before ++ block)).undetected ≡ None
         → IsSettled (link_at (seen (begins net) (before ++ block)) a b) }
 {}
 
@@ -152,7 +152,7 @@ pub fn settling_leaves_a_link_at_rest()
 pub fn rounds_leave_links_at_rest()
     ensures { (net : Network) (n : ℕ) (before block : List TraceLine) → IsSetUp net
         → Made (begins net) before
-        → (seen (begins net) before).unfaithful ≡ None
+        → (seen (begins net) before).undetected ≡ None
         → Rounds IsSettle n (seen (begins net) before) block
         → Rounds (SettlesTo IsSettle) n (seen (begins net) before) block }
 {}
@@ -171,7 +171,7 @@ pub fn traces_leave_links_at_rest()
 pub fn rounds_exist()
     ensures { (net : Network) (n : ℕ) (lines : List TraceLine) → IsSetUp net
         → Made (begins net) lines
-        → (seen (begins net) lines).unfaithful ≡ None
+        → (seen (begins net) lines).undetected ≡ None
         → (block : List TraceLine) × Rounds IsSettle n (seen (begins net) lines) block }
 {}
 

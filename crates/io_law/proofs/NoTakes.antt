@@ -12,7 +12,7 @@ use Rattle.fabric_model.specs.Steps.{NodeStep, Take as Takes, Leave, Linked, AtN
 use Rattle.trace_lines.specs.Notes.{lines_of}
 use Rattle.fabric_trace.specs.Blocks.{IsSettle}
 use Rattle.fabric_trace.specs.Fold.{seen}
-use Rattle.fabric_trace.specs.Known.{Found, Seen, link_at}
+use Rattle.fabric_trace.specs.Known.{UndetectedAt, Seen, link_at}
 use Rattle.trace_lines.specs.Lines.{TraceLine, Begun, Stepped, Signed, Lacked, Ended, Undetected}
 use Rattle.fabric_trace.specs.Rounds.{Follows, NamesNothing, Joined, SettleAll, ServesAll, ServeRests, ServeGoes, ServeNodes, Round, Rounds}
 use Rattle.fabric_trace.specs.Served.{collect_lines}
@@ -67,7 +67,8 @@ module _ (Fits : NodeStep → Type 0) where
   notes_take_none a b (Notes.Free side packet ∷ notes) = notes_take_none a b notes
   notes_take_none a b (Notes.Fire side ∷ notes) = notes_take_none a b notes
 
-  follows_none : (found : Option Found) (More : List TraceLine → Type 0) (rest : List TraceLine)
+  follows_none : (found : Option UndetectedAt) (More : List TraceLine → Type 0)
+      (rest : List TraceLine)
       → (More rest → OnlyAt Fits rest) → Follows found More NamesNothing rest → OnlyAt Fits rest
   follows_none None More rest none follows = none follows
   follows_none (Some found) More rest none is = no_by is tt
@@ -79,7 +80,7 @@ module _ (Fits : NodeStep → Type 0) where
   joined_none First More s lines none later joined =
       let t = seen s joined.0 in
       no_by joined.2 (no_append joined.0 joined.1 (none joined.0 joined.3)
-      (follows_none t.unfaithful (More t) joined.1 (later t joined.1) joined.4))
+      (follows_none t.undetected (More t) joined.1 (later t joined.1) joined.4))
 
   settle_none : (s : Seen) (a b : PortRef) (lines : List TraceLine) → IsSettle s a b lines
       → OnlyAt Fits lines

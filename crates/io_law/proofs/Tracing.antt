@@ -67,7 +67,7 @@ trace_goes {names} {script} {s} (IoEnds rest is to) =
 -- these lines are made of parts, and in them nothing was acted on that was not sent
 pub record IsSentTrace (script : List Numbered) (trace : List TraceLine) : Type 0 where
   pub made : Made (start script) trace
-  pub sent : (seen (start script) trace).unfaithful ≡ None
+  pub sent : (seen (start script) trace).undetected ≡ None
 
 -- an event is made of parts
 event_made : (script : List Numbered) (trace : List TraceLine) (line : Line)
@@ -93,7 +93,7 @@ event_legal script trace line block is own block_is =
 sent_on : (script : List Numbered) (trace : List TraceLine) (line : Line) (block : List TraceLine)
     → IsSetUp (set_up_all bare script) → IsSentTrace script trace
     → IsBlock (seen (start script) trace) line block
-    → (seen (start script) (trace ++ Begun line ∷ block)).unfaithful ≡ None
+    → (seen (start script) (trace ++ Begun line ∷ block)).undetected ≡ None
     → IsSentTrace script (trace ++ Begun line ∷ block)
 sent_on script trace line block is own block_is sent =
     let more = event_made script trace line block is own block_is in

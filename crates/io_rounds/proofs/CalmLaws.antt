@@ -51,10 +51,10 @@ steps_calm s (Undetected n q e ∷ lines) a b only calm = absurd only
 
 -- nothing was found in these lines, and all links are calm behind them
 pub record StayCalm (s : Seen) (lines : List TraceLine) : Type 0 where
-  pub still : (seen s lines).unfaithful ≡ None
+  pub still : (seen s lines).undetected ≡ None
   pub calm : LinksAreCalm (seen s lines)
 
-calm_steps : (s : Seen) (lines : List TraceLine) → OnlySteps lines → s.unfaithful ≡ None
+calm_steps : (s : Seen) (lines : List TraceLine) → OnlySteps lines → s.undetected ≡ None
     → LinksAreCalm s → StayCalm s lines
 calm_steps s lines only none calm =
     let links = (seen_board lines s).links in
@@ -73,7 +73,7 @@ record SettlesCalm (s : Seen) (lines : List TraceLine) : Type 0 where
   stays : StayCalm s lines
 
 settle_calm : (s : Seen) (a b : PortRef) (block : List TraceLine) → IsGood s
-    → s.unfaithful ≡ None → ArePeers s.network.links a b → LinksAreCalm s → IsSettle s a b block
+    → s.undetected ≡ None → ArePeers s.network.links a b → LinksAreCalm s → IsSettle s a b block
     → SettlesCalm s block
 settle_calm s a b block good none peers calm settles =
     let r = acts_reach settles.acts s a b good none peers in
@@ -93,7 +93,7 @@ settle_calm s a b block good none peers calm settles =
 -- ---- rounds
 
 settle_all_calm : (all links : List (PortRef × PortRef)) (s : Seen) (lines : List TraceLine)
-    → IsGood s → s.unfaithful ≡ None → s.network.links ≡ all → AreFound all links → LinksAreCalm s
+    → IsGood s → s.undetected ≡ None → s.network.links ≡ all → AreFound all links → LinksAreCalm s
     → SettleAll IsSettle links s lines → SettlesCalm s lines
 settle_all_calm all [] s lines good none same found calm is =
     subst (SettlesCalm s) (sym is)
@@ -115,12 +115,12 @@ settle_all_calm all (link ∷ links) s lines good none same found calm joined =
       made = made_by joined.2 (made-append own.made behind.made);
       links = ap (λ (x : Seen). x.network.links) after ∙ behind.links ∙ own.links;
       stays = record {
-        still = ap (λ (x : Seen). x.unfaithful) after ∙ behind.stays.still;
+        still = ap (λ (x : Seen). x.undetected) after ∙ behind.stays.still;
         calm = subst LinksAreCalm (sym after) behind.stays.calm;
       };
     }
 
-round_calm : (s : Seen) (lines : List TraceLine) → IsGood s → s.unfaithful ≡ None → LinksAreCalm s
+round_calm : (s : Seen) (lines : List TraceLine) → IsGood s → s.undetected ≡ None → LinksAreCalm s
     → Round IsSettle s lines → SettlesCalm s lines
 round_calm s lines good none calm joined =
     let first = joined.0 in
@@ -140,12 +140,12 @@ round_calm s lines good none calm joined =
       made = made_by joined.2 (made-append own.made made);
       links = (seen_board lines s).links;
       stays = record {
-        still = ap (λ (x : Seen). x.unfaithful) after ∙ steps.still;
+        still = ap (λ (x : Seen). x.undetected) after ∙ steps.still;
         calm = subst LinksAreCalm (sym after) steps.calm;
       };
     }
 
-rounds_calm : (n : ℕ) (s : Seen) (lines : List TraceLine) → IsGood s → s.unfaithful ≡ None
+rounds_calm : (n : ℕ) (s : Seen) (lines : List TraceLine) → IsGood s → s.undetected ≡ None
     → LinksAreCalm s → Rounds IsSettle n s lines → StayCalm s lines
 rounds_calm zero s lines good none calm is =
     subst (StayCalm s) (sym is) (record { still = none; calm = calm })
@@ -160,7 +160,7 @@ rounds_calm (suc n) s lines good none calm joined =
     more in
     let after : seen s lines ≡ seen t rest = ap (seen s) joined.2 ∙ seen-append s first rest in
     record {
-      still = ap (λ (x : Seen). x.unfaithful) after ∙ behind.still;
+      still = ap (λ (x : Seen). x.undetected) after ∙ behind.still;
       calm = subst LinksAreCalm (sym after) behind.calm;
     }
 
@@ -184,7 +184,7 @@ one_collect node Collects.Full = tt
 
 -- an event without edits leaves all links calm
 pub event_calm : (s : Seen) (line : Line) (block : List TraceLine) → IsIoEvent line → IsGood s
-    → s.unfaithful ≡ None → LinksAreCalm s → IsBlock s line block → StayCalm s (Begun line ∷ block)
+    → s.undetected ≡ None → LinksAreCalm s → IsBlock s line block → StayCalm s (Begun line ∷ block)
 event_calm s (Send node prio ftype dest hex) block event good none calm is =
     let stays = calm_steps s block (subst OnlySteps (sym is.lines) (one_take s node is.packet)) none
     calm in

@@ -15,7 +15,7 @@ use Rattle.fabric_model.specs.Network.{IsEndpoint, held, port_of, room_out}
 use Rattle.fabric_model.specs.Steps.{Step, Take, Leave, Answer, AtNode, ByDevice}
 use Rattle.fabric_trace.specs.Blocks.{IsBlock}
 use Rattle.fabric_trace.specs.Fold.{seen, seen_line}
-use Rattle.fabric_trace.specs.Known.{Seen, Found}
+use Rattle.fabric_trace.specs.Known.{Seen, UndetectedAt}
 use Rattle.trace_lines.specs.Lines.{Full as NoRoom, TraceLine, Begun, Stepped, Lacked}
 use Rattle.fabric_trace.specs.Runs.{bare, set_up_all, start, BlocksFrom}
 use Rattle.fabric_trace.specs.Served.{face_in, collect_lines, IsCollect}
@@ -75,11 +75,12 @@ stays_calm names script events trace block stations course line holds kind is =
     event_calm (seen (start script) trace) line block kind
     (good_behind holds.stands.ready holds.stands.made) holds.stands.sent holds.calm is
 
-nothing_unsent : {K : Type 0} {old new : TraceWriter K} (names : List (List ℕ)) (course : Course)
+nothing_undetected : {K : Type 0} {old new : TraceWriter K} (names : List (List ℕ))
+    (course : Course)
     (line : Line) (port : PortRef) (event : Event) (may : MayAct names course line)
     → Evented line (IsOwnBlock line) old new (start may.script) may.trace
     (Err (Ends.Undetected port event)) → ⊥
-nothing_unsent names course line port event may exposed =
+nothing_undetected names course line port event may exposed =
     let s = start may.script in
     let own = Begun line ∷ exposed.block in
     let stays = stays_calm names may.script may.events may.trace exposed.block may.stations course
@@ -87,13 +88,13 @@ nothing_unsent names course line port event may exposed =
     let there : seen s (may.trace ++ own) ≡ seen (seen s may.trace) own =
     seen-append s may.trace own
     in
-    let found : (seen (seen s may.trace) own).unfaithful
+    let found : (seen (seen s may.trace) own).undetected
     ≡ Some (record { port = port; event = event })
-    = ap (λ (x : Seen). x.unfaithful) (sym there) ∙ exposed.ends.1 in
-    none_some (seen (seen s may.trace) own).unfaithful (record { port = port; event = event })
+    = ap (λ (x : Seen). x.undetected) (sym there) ∙ exposed.ends.1 in
+    none_some (seen (seen s may.trace) own).undetected (record { port = port; event = event })
     stays.still found
   where
-    none_some : (o : Option Found) (x : Found) → o ≡ None → o ≡ Some x → ⊥
+    none_some : (o : Option UndetectedAt) (x : UndetectedAt) → o ≡ None → o ≡ Some x → ⊥
     none_some None x none some = absurd cc
     none_some (Some y) x none some = absurd cc
 
@@ -103,7 +104,7 @@ pub only_wanting : {K : Type 0} {old new : TraceWriter K} (names : List (List �
     → Evented line (IsOwnBlock line) old new (start may.script) may.trace (Err end)
     → (end ≡ Ends.Failed) ⊎ (end ≡ Ends.NoMemory)
 only_wanting names course line (Ends.Undetected port event) may ends =
-    absurd (nothing_unsent names course line port event may ends)
+    absurd (nothing_undetected names course line port event may ends)
 only_wanting names course line Ends.Failed may ends = inl refl
 only_wanting names course line Ends.NoMemory may ends = inr refl
 

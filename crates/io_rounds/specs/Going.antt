@@ -119,7 +119,7 @@ pub data IoGoes (names : List (List ℕ)) (script : List Numbered) (s t : IoStat
   IoActs : (task : IoTask) (rest : List IoTask) (line : Line) (block : List TraceLine)
       → s.tasks ≡ task ∷ rest → task_event task ≡ Some line
       → IsBlock (seen (start script) s.trace) line block
-      → (seen (start script) (s.trace ++ Begun line ∷ block)).unfaithful ≡ None
+      → (seen (start script) (s.trace ++ Begun line ∷ block)).undetected ≡ None
       → t ≡ behind_event names task (happened line block)
       (with_event (left_to_do s rest) line block)
       → IoGoes names script s t

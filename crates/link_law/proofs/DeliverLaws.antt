@@ -4,7 +4,7 @@ use Rattle.std.proofs.lemmas.Bool.{le-leb}
 use Rattle.rio_chars.specs.declared.chars.Char.{Char}
 use Rattle.link_port.specs.Prelude.{Event, PortState}
 use Rattle.link_machine.specs.Prelude.{other_side, Stopped, Note, Side, A, B, has_none, has_chars, delivery_from, delivered_from, delivery_notes, Wires, LinkState, link, from_end}
-use Rattle.link_wires.specs.Deliveries.{Delivered, Through, Unsent}
+use Rattle.link_wires.specs.Deliveries.{Delivered, Through, WentUndetected}
 use Rattle.link_wires.specs.declared.edits.Edited.{Edited}
 use Rattle.link_wires.specs.declared.edits.Edited.TheVariants.{Short}
 use Rattle.link_law.specs.Answers.{delivery_taken, delivery_answer, UnlessGivenUp, OnGivenUp}
@@ -53,12 +53,12 @@ pub through_is : (to : Side) (next : LinkState) (d : Delivered) (x : Edited)
     → Ok x ≡ delivery_taken to d
     → reached_by to next d ≡ At next
 through_is to next (Through flow) x is = refl
-through_is to next (Unsent told e) x is = absurd cc
+through_is to next (WentUndetected told e) x is = absurd cc
 
 pub found_is : (to side : Side) (next : LinkState) (d : Delivered) (e : Event)
     → Err (Undetected side e) ≡ delivery_taken to d → reached_by to next d ≡ FoundAt side e
 found_is to side next (Through flow) e is = absurd cc
-found_is to side next (Unsent told x) e is =
+found_is to side next (WentUndetected told x) e is =
     let same : side ≡ to = cc in let event : e ≡ x = cc in λ i. FoundAt (sym same i) (sym event i)
 
 -- a delivery of characters that are there

@@ -2,7 +2,7 @@
 use Rattle.std.specs.Prelude.{Bool, true, false, ℕ, Option, Some, None, Result, Ok, Err, if◌then◌else◌}
 use Rattle.link_model.specs.declared.event.Event.{Event}
 use Rattle.link_machine.specs.Prelude.{other_side, Side, has_chars, delivery_from, LinkState}
-use Rattle.link_wires.specs.Deliveries.{Delivered, Through, Unsent}
+use Rattle.link_wires.specs.Deliveries.{Delivered, Through, WentUndetected}
 use Rattle.link_wires.specs.declared.edits.Edited.{Edited}
 use Rattle.link_wires.specs.declared.edits.Edited.TheVariants.{Done, Short}
 use Rattle.link_law.specs.declared.answers.Fired.{Fired}
@@ -18,7 +18,7 @@ fired false = Fires.Early
 -- of a delivery to the port at this end
 abbrev pub delivery_taken : Side → Delivered → Result Edited LinkEnd
 delivery_taken to (Through flow) = Ok Done
-delivery_taken to (Unsent told e) = Err (Undetected to e)
+delivery_taken to (WentUndetected told e) = Err (Undetected to e)
 
 -- of a delivery from this end, unless memory or the watch ended it
 abbrev pub delivery_answer : Side → ℕ → LinkState → Result Edited LinkEnd

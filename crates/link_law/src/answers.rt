@@ -4,7 +4,7 @@ ghost use Rattle.link_law.specs.Does.{end_of};
 ghost use Rattle.link_law.specs.declared.answers.LinkEnd.TheVariants as Ends;
 
 use link_watch::{NoteEnd, Side};
-use link_wires::Unsent;
+use link_wires::UndetectedEvent;
 use rio_chars::NoMemory;
 
 /// Why a delivery ended.
@@ -12,7 +12,7 @@ use rio_chars::NoMemory;
 pub enum LinkEnd {
     /// The port at this end acted on an event that was not sent: a corruption that no check has
     /// found.
-    Undetected(Side, Unsent),
+    Undetected(Side, UndetectedEvent),
     /// The watch failed, and its count of failed notes rose.
     Failed,
     /// Memory was wanted and not given.

@@ -9,7 +9,7 @@ use crate::answers::LinkEnd;
 use crate::link::{Link, note_sent};
 use link_port::Port;
 use link_watch::{NoteEnd, Side, Watch};
-use link_wires::{Delivery, Edited, Move, Unsent};
+use link_wires::{Delivery, Edited, Move, UndetectedEvent};
 use rio_chars::Char;
 use std::alloc::Global;
 
@@ -54,19 +54,19 @@ impl Link {
             return Ok(Edited::Short);
         }
         let to = from.other();
-        let unsent = self
+        let undetected = self
             .wires
             .carry(alloc, from, count, a, b, &mut self.came, &mut self.sent)?;
         note_delivery(watch, alloc, to, &self.came, self.sent.as_slice())?;
-        ended(to, unsent)
+        ended(to, undetected)
     }
 }
 
 /// The answer, by the event that was not sent.
-fn ended(to: Side, unsent: Option<Unsent>) -> Result<Edited, LinkEnd>
-    ensures { result ≡ delivery_end to unsent }
+fn ended(to: Side, undetected: Option<UndetectedEvent>) -> Result<Edited, LinkEnd>
+    ensures { result ≡ delivery_end to undetected }
 {
-    match unsent {
+    match undetected {
         Some(event) => Err(LinkEnd::Undetected(to, event)),
         None => Ok(Edited::Done),
     }

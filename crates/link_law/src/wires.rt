@@ -11,7 +11,7 @@ ghost use Rattle.link_law.specs.Carried.{AreOfDelivery};
 use crate::port_states::{has_no_turn, near};
 use link_port::Port;
 use link_watch::Side;
-use link_wires::{Delivery, Unsent, Wire};
+use link_wires::{Delivery, UndetectedEvent, Wire};
 use rio_chars::{Char, NoMemory};
 use std::alloc::Global;
 use std::marker::Model;
@@ -115,13 +115,13 @@ impl WirePair {
         b: &mut Port,
         came: &mut Delivery,
         answers: &mut Vec<Char>,
-    ) -> Result<Option<Unsent>, NoMemory>
+    ) -> Result<Option<UndetectedEvent>, NoMemory>
         requires { has_chars from count (link self.old a.old b.old) ≡ true }
-        ensures told { IfOk result (λ unsent. AreOfDelivery
+        ensures told { IfOk result (λ undetected. AreOfDelivery
             (delivery_from from count (link self.old a.old b.old))
             (take count (from_end from (link self.old a.old b.old)).wire_a.chars)
-            came.new.got.items came.new.moves.items answers.new.items unsent) }
-        ensures link { IfOk result (λ unsent. unsent ≡ None
+            came.new.got.items came.new.moves.items answers.new.items undetected) }
+        ensures link { IfOk result (λ undetected. undetected ≡ None
             → link self.new a.new b.new ≡ at_end (other_side from) (first_takes count)
             (link self.old a.old b.old)) }
     {
@@ -159,18 +159,18 @@ fn carry(
     port: &mut Port,
     came: &mut Delivery,
     answers: &mut Vec<Char>,
-) -> Result<Option<Unsent>, NoMemory>
+) -> Result<Option<UndetectedEvent>, NoMemory>
     requires { count ≤ length wire.old.chars }
-    ensures told { IfOk result (λ unsent. AreOfDelivery
+    ensures told { IfOk result (λ undetected. AreOfDelivery
         (delivered port.old wire.old.kept (take count wire.old.chars)) (take count wire.old.chars)
-        came.new.got.items came.new.moves.items answers.new.items unsent) }
+        came.new.got.items came.new.moves.items answers.new.items undetected) }
     ensures left { OnOk result (IsLeft (delivered port.old wire.old.kept
         (take count wire.old.chars)) count wire.old port.new wire.new) }
     ensures back { OnOk result (back.new ≡ with_sent back.old
         (answered_by (told_of (delivered port.old wire.old.kept
         (take count wire.old.chars))).replies)) }
 {
-    let unsent = wire.deliver(alloc, count, port, came)?;
+    let undetected = wire.deliver(alloc, count, port, came)?;
     back.reply(came.replies.as_slice(), answers)?;
-    Ok(unsent)
+    Ok(undetected)
 }

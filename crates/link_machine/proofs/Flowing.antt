@@ -12,7 +12,7 @@ use Rattle.link_sound.proofs.Steps.{acted_keeps, other_keeps, lost_keeps}
 use Rattle.link_sound.proofs.Moves.{acted_holds, other_holds, acted_frees, other_frees}
 use Rattle.link_sound.proofs.PortBounds.{acted_port, other_port, read_port}
 use Rattle.link_sound.proofs.Ranged.{HasAck}
-use Rattle.link_wires.specs.Prelude.{behind, Flow, Delivered, Through, Unsent, begun, done, met, comes, goes_on, come, ended, delivered}
+use Rattle.link_wires.specs.Prelude.{behind, Flow, Delivered, Through, WentUndetected, begun, done, met, comes, goes_on, come, ended, delivered}
 use Rattle.link_machine.specs.Queues.{Queues, queues_between}
 use Rattle.link_machine.proofs.Arriving.{HasAckAt, run_has}
 use Rattle.link_machine.proofs.Walking.{FirstWalks, Stays, walks_on, event_walks}
@@ -46,7 +46,7 @@ pub record IsFlowing (b : PortState) (kept_a : List Event) (start : Queues) (flo
 -- and of characters up to an event that was not sent, what they did to packets
 abbrev pub AreFlowing : PortState → List Event → Queues → Delivered → Type 0
 AreFlowing b kept_a start (Through flow) = IsFlowing b kept_a start flow
-AreFlowing b kept_a start (Unsent told e) = (end : Queues) × FirstWalks start told.moves end
+AreFlowing b kept_a start (WentUndetected told e) = (end : Queues) × FirstWalks start told.moves end
 
 -- an answer more
 pub answer_more : (kept : List Event) (replies : List Fields) (reply : Option Fields)
@@ -132,7 +132,7 @@ on_flowing :
     → ((f : Flow) → IsFlowing b kept_a start f → AreFlowing b kept_a start (more f))
     → AreFlowing b kept_a start d → AreFlowing b kept_a start (goes_on more d)
 on_flowing b kept_a start more (Through f) next h = next f h
-on_flowing b kept_a start more (Unsent told e) next h = h
+on_flowing b kept_a start more (WentUndetected told e) next h = h
 
 come_flowing :
     (b : PortState) (kept_a : List Event) (start : Queues) (events : List (ℕ × Event)) (flow : Flow)
@@ -160,7 +160,7 @@ ended_flowing b kept_a start place count (Through flow) bounded f = record {
   sound = record { a_to_b = f.sound.a_to_b; b_to_a = f.sound.b_to_a };
   walks = f.walks;
 }
-ended_flowing b kept_a start place count (Unsent told e) bounded f = f
+ended_flowing b kept_a start place count (WentUndetected told e) bounded f = f
 
 -- a delivery to the first port
 pub delivered_flowing :

@@ -15,7 +15,7 @@ use Rattle.link_watch.specs.Sides.{other_side}
 use Rattle.link_watch.specs.declared.note.Note.{Note}
 use Rattle.link_watch.specs.declared.side.Side.{Side}
 use Rattle.link_watch.specs.declared.side.Side.TheVariants.{A, B}
-use Rattle.link_wires.specs.Prelude.{Told, Delivered, Through, Unsent, told_of, undetected, answers}
+use Rattle.link_wires.specs.Prelude.{Told, Delivered, Through, WentUndetected, told_of, undetected, answers}
 use Rattle.link_wires.specs.declared.edits.Edit.{Edit}
 use Rattle.link_wires.specs.declared.moves.Move.{Move}
 use Rattle.link_wires.specs.declared.moves.Move.TheVariants.{Held, Freed}
@@ -124,7 +124,7 @@ takes_keep count s l =
       told_b = t.told_b;
       told_a = t.told_a;
     }
-    by_delivery (Unsent told e) f t = l
+    by_delivery (WentUndetected told e) f t = l
 
 pub delivery_keeps : (from : Side) (count : ℕ) (s : LinkState) → IsSoundLink s
     → IsSoundLink (delivered_from from count s)
@@ -162,13 +162,13 @@ first_steps : (count : ℕ) (s : LinkState) (d : Delivered) → undetected d ≡
     → AreFlowing s.b s.wire_a.kept (queues_of s) d
     → FirstWalks (queues_of s) (told_of d).moves (queues_of (after_delivery count d s))
 first_steps count s (Through flow) none f = f.walks
-first_steps count s (Unsent told e) none f = absurd cc
+first_steps count s (WentUndetected told e) none f = absurd cc
 
 -- and up to an event that was not
 some_steps : (s : LinkState) (d : Delivered) → AreFlowing s.b s.wire_a.kept (queues_of s) d
     → (end : Queues) × FirstWalks (queues_of s) (told_of d).moves end
 some_steps s (Through flow) f = (queues_between flow.port s.b, f.walks)
-some_steps s (Unsent told e) f = f
+some_steps s (WentUndetected told e) f = f
 
 end_walks :
     (to : Side) (count : ℕ) (s : LinkState) → undetected (delivery count (from_end to s)) ≡ None

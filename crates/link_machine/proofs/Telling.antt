@@ -7,7 +7,7 @@ use Rattle.link_port.specs.Prelude.{Event, Ctl, PortState, IsPort, acts, is_acte
 use Rattle.link_sound.specs.Sound.{IsSound}
 use Rattle.link_sound.specs.Told.{IsTold}
 use Rattle.link_sound.proofs.Told as telling
-use Rattle.link_wires.specs.Prelude.{behind, Flow, Delivered, Through, Unsent, begun, done, met, comes, goes_on, come, ended, delivered}
+use Rattle.link_wires.specs.Prelude.{behind, Flow, Delivered, Through, WentUndetected, begun, done, met, comes, goes_on, come, ended, delivered}
 use Rattle.link_machine.specs.Queues.{Queues, queues_between}
 use Rattle.link_machine.proofs.Arriving.{HasAckAt, run_has}
 use Rattle.link_machine.proofs.Flowing.{IsFlowing, AreFlowing, behind_parts, answer_more, comes_flowing}
@@ -22,7 +22,7 @@ pub record IsTelling (b : PortState) (kept_a : List Event) (flow : Flow) : Type 
 -- nothing is said after an event that was not sent
 abbrev pub AreTelling : PortState → List Event → Delivered → Type 0
 AreTelling b kept_a (Through flow) = IsTelling b kept_a flow
-AreTelling b kept_a (Unsent told e) = Unit {0}
+AreTelling b kept_a (WentUndetected told e) = Unit {0}
 
 -- an event that is not acted on
 other_telling :
@@ -87,7 +87,7 @@ on_telling :
     → AreTelling b kept_a (more f))
     → AreFlowing b kept_a start d → AreTelling b kept_a d → AreTelling b kept_a (goes_on more d)
 on_telling b kept_a start more (Through f) next h t = next f h t
-on_telling b kept_a start more (Unsent told e) next h t = tt
+on_telling b kept_a start more (WentUndetected told e) next h t = tt
 
 come_telling :
     (b : PortState) (kept_a : List Event) (start : Queues) (events : List (ℕ × Event)) (flow : Flow)
@@ -108,7 +108,7 @@ ended_telling b kept_a place count (Through flow) t = record {
   told_b = record { coming = t.told_b.coming; keeps = t.told_b.keeps };
   told_a = record { coming = t.told_a.coming; keeps = t.told_a.keeps };
 }
-ended_telling b kept_a place count (Unsent told e) t = tt
+ended_telling b kept_a place count (WentUndetected told e) t = tt
 
 -- a delivery to the first port
 pub delivered_telling :

@@ -9,7 +9,7 @@ use Rattle.link_sound.specs.Sound.{IsSound}
 use Rattle.link_sound.proofs.Promises.{not_failed}
 use Rattle.link_watch.specs.Sides.{other_side}
 use Rattle.link_watch.specs.declared.side.Side.{Side}
-use Rattle.link_wires.specs.Prelude.{Flow, Delivered, Through, Unsent, begun, comes}
+use Rattle.link_wires.specs.Prelude.{Flow, Delivered, Through, WentUndetected, begun, comes}
 use Rattle.link_machine.specs.OnTheWay.{led_on, port_reached, first_reached, reached_within}
 use Rattle.link_machine.specs.Queues.{Queues, queues_between}
 use Rattle.link_machine.specs.Sound.{IsSoundLink}
@@ -25,7 +25,7 @@ on_working :
     → ((f : Flow) → IsFlowing b kept_a start f → (more f).output ≢ out.Output.Failed)
     → AreFlowing b kept_a start d → (led_on more port d).output ≢ out.Output.Failed
 on_working b kept_a start more port (Through flow) works next h = next flow h
-on_working b kept_a start more port (Unsent told e) works next h = works
+on_working b kept_a start more port (WentUndetected told e) works next h = works
 
 reached_works :
     (b : PortState) (kept_a : List Event) (start : Queues) (events : List (ℕ × Event)) (flow : Flow)

@@ -2,7 +2,7 @@
 use Rattle.std.specs.Prelude.{ℕ, Bool, false, if◌then◌else◌, List, [], ◌∷◌, ◌++◌}
 use Rattle.link_model.specs.declared.event.Event.{Event}
 use Rattle.link_machine.specs.Prelude.{other_side, Note, Side, LinkState, pumped, pump_notes, told_from, tell_notes, has_chars, delivery_from, delivered_from, delivery_notes, timed_out_at, time_out_notes}
-use Rattle.link_wires.specs.Deliveries.{Delivered, Through, Unsent}
+use Rattle.link_wires.specs.Deliveries.{Delivered, Through, WentUndetected}
 
 -- turns of a port; the status of a port that tells its free buffers; a delivery of characters from
 -- a port's wire; a time-out of a port
@@ -21,7 +21,7 @@ pub data Reached : Type 0 where
 -- by what became of a delivery to a port
 abbrev pub reached_by : Side → LinkState → Delivered → Reached
 reached_by to next (Through flow) = At next
-reached_by to next (Unsent told e) = FoundAt to e
+reached_by to next (WentUndetected told e) = FoundAt to e
 
 -- after one thing
 abbrev pub after_act : Act → LinkState → Reached

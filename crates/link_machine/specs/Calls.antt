@@ -7,7 +7,7 @@ use Rattle.link_watch.specs.declared.note.Note.{Note}
 use Rattle.link_watch.specs.declared.note.Note.TheVariants.{Sent, Got, Hold, Free, Fire}
 use Rattle.link_watch.specs.declared.side.Side.{Side}
 use Rattle.link_wires.specs.Wires.{with_sent, port_turned, bursts, answers, without_front, silenced, after_edit}
-use Rattle.link_wires.specs.Deliveries.{Told, Delivered, Through, Unsent, delivered, told_of}
+use Rattle.link_wires.specs.Deliveries.{Told, Delivered, Through, WentUndetected, delivered, told_of}
 use Rattle.link_wires.specs.declared.edits.Edit.{Edit}
 use Rattle.link_wires.specs.declared.moves.Move.{Move}
 use Rattle.link_wires.specs.declared.moves.Move.TheVariants.{Held, Freed}
@@ -57,7 +57,7 @@ after_delivery count (Through flow) s = record {
   wire_a = with_sent s.wire_a (answers flow.told.replies);
   wire_b = without_front count flow.kept s.wire_b;
 }
-after_delivery count (Unsent told e) s = s
+after_delivery count (WentUndetected told e) s = s
 
 abbrev pub first_takes : ℕ → LinkState → LinkState
 first_takes count s = after_delivery count (delivery count s) s

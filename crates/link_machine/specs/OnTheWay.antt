@@ -4,13 +4,13 @@ use Rattle.link_model.specs.Prelude.{run}
 use Rattle.link_port.specs.Prelude.{Event, PortState}
 use Rattle.link_watch.specs.Sides.{other_side}
 use Rattle.link_watch.specs.declared.side.Side.{Side}
-use Rattle.link_wires.specs.Deliveries.{Flow, Delivered, Through, Unsent, begun, comes}
+use Rattle.link_wires.specs.Deliveries.{Flow, Delivered, Through, WentUndetected, begun, comes}
 use Rattle.link_machine.specs.States.{LinkState, from_end}
 
 -- what comes of an event that was sent; else the port is as it was before it
 abbrev pub led_on : (Flow → PortState) → PortState → Delivered → PortState
 led_on more port (Through flow) = more flow
-led_on more port (Unsent told e) = port
+led_on more port (WentUndetected told e) = port
 
 -- the port after events, or after those before the first that is acted on and was not sent
 abbrev pub port_reached : List (ℕ × Event) → Flow → PortState

@@ -47,6 +47,6 @@ pub use laws::{
     the_layer_above_keeps_it,
 };
 pub use rest_laws::{
-    answers_have_no_answer, drains_end, each_side_fires_once, nothing_unsent_without_an_edit,
+    answers_have_no_answer, drains_end, each_side_fires_once, nothing_undetected_without_an_edit,
     one_way_to_settle, rounds_pass_packets, settling_ends, settling_ends_at_rest,
 };

@@ -74,12 +74,12 @@ pub fn settling_ends_at_rest()
         → OnState (λ m. IsSoundLink m × IsSettled m) (goes (At s) all) }
 {}
 
-/// Without an edit no event is ever unsent. A link is calm if what its wires say was sent in this
-/// order and is not acted on yet, and nothing is in progress behind it. A new link is calm, and one
-/// that is quiet, whatever came before. Whatever turns, deliveries and time-outs come on a sound
-/// and calm link, each event that is acted on was sent, and the link is sound and calm again. The
-/// layer above keeps it so.
-pub fn nothing_unsent_without_an_edit()
+/// Without an edit no event ever goes undetected. A link is calm if what its wires say was sent in
+/// this order and is not acted on yet, and nothing is in progress behind it. A new link is calm,
+/// and one that is quiet, whatever came before. Whatever turns, deliveries and time-outs come on a
+/// sound and calm link, each event that is acted on was sent, and the link is sound and calm again.
+/// The layer above keeps it so.
+pub fn nothing_undetected_without_an_edit()
     ensures begins { (tells_a tells_b : Bool) (m n : ℕ)
         → IsCalm (link empty_wires (new_port tells_a m) (new_port tells_b n)) }
     ensures quiet { (s : LinkState) → IsQuiet s → IsCalm s }

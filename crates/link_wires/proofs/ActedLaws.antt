@@ -4,13 +4,13 @@ use Rattle.std.proofs.lemmas.List.{append-nil}
 use Rattle.link_model.specs.Prelude.{Char, Place, run, place_after}
 use Rattle.link_port.specs.Prelude.{Event, PortState, is_acted}
 use Rattle.link_wires.specs.Kept.{behind, behind_some, behind_all}
-use Rattle.link_wires.specs.Deliveries.{Flow, Delivered, Through, Unsent, begun, done, met, comes, goes_on, come, ended, delivered}
+use Rattle.link_wires.specs.Deliveries.{Flow, Delivered, Through, WentUndetected, begun, done, met, comes, goes_on, come, ended, delivered}
 use Rattle.link_wires.proofs.KeptLaws.{all_then}
 
 -- of what was kept at first
 abbrev pub IsFound : List Event → Delivered → Type 0
 IsFound start (Through flow) = behind_all flow.told.acted start ≡ Some flow.kept
-IsFound start (Unsent told e) = behind_all (told.acted ++ e ∷ []) start ≡ None
+IsFound start (WentUndetected told e) = behind_all (told.acted ++ e ∷ []) start ≡ None
 
 -- an acted event is looked for in what the search has left
 next_found : (start : List Event) (flow : Flow) (e : Event) → IsFound start (Through flow)
@@ -36,7 +36,7 @@ on_found : (start : List Event) (more : Flow → Delivered) (d : Delivered)
     → ((f : Flow) → IsFound start (Through f) → IsFound start (more f)) → IsFound start d
     → IsFound start (goes_on more d)
 on_found start more (Through f) next h = next f h
-on_found start more (Unsent told e) next h = h
+on_found start more (WentUndetected told e) next h = h
 
 come_found : (start : List Event) (events : List (ℕ × Event)) (flow : Flow)
     → IsFound start (Through flow) → IsFound start (come events flow)
@@ -49,7 +49,7 @@ come_found start (placed ∷ events) flow h =
 ended_found : (start : List Event) (place : Place) (count : ℕ) (d : Delivered) → IsFound start d
     → IsFound start (ended place count d)
 ended_found start place count (Through flow) h = h
-ended_found start place count (Unsent told e) h = h
+ended_found start place count (WentUndetected told e) h = h
 
 pub delivered_found : (port : PortState) (kept : List Event) (chars : List Char)
     → IsFound kept (delivered port kept chars)

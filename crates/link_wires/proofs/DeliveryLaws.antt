@@ -4,7 +4,7 @@ use Rattle.link_model.specs.Prelude.{Char, Place, run, place_after}
 use Rattle.link_port.specs.Prelude.{Event, Ctl, Pkt, Bad, is_acted}
 use Rattle.link_model.proofs.PlacesLaws.{run-append, place_after-append}
 use Rattle.link_wires.specs.Kept.{behind}
-use Rattle.link_wires.specs.Deliveries.{Flow, Delivered, Through, Unsent, done, met, comes, goes_on, come, ended, flows}
+use Rattle.link_wires.specs.Deliveries.{Flow, Delivered, Through, WentUndetected, done, met, comes, goes_on, come, ended, flows}
 
 -- the same flow, with the framer at another place and another count
 abbrev pub moved : Place → ℕ → Flow → Flow
@@ -65,7 +65,7 @@ goes_on-joined : (xs ys : List (ℕ × Event)) (d : Delivered)
     → ((f : Flow) → come (xs ++ ys) f ≡ goes_on (come ys) (come xs f))
     → goes_on (come (xs ++ ys)) d ≡ goes_on (come ys) (goes_on (come xs) d)
 goes_on-joined xs ys (Through f) rest = rest f
-goes_on-joined xs ys (Unsent told e) rest = refl
+goes_on-joined xs ys (WentUndetected told e) rest = refl
 
 pub come-append : (xs ys : List (ℕ × Event)) (flow : Flow)
     → come (xs ++ ys) flow ≡ goes_on (come ys) (come xs flow)
@@ -81,7 +81,7 @@ in_pieces p q n m xs ys (Through f) there count =
     sym (come_moved q m (run p n ys) p n f)
     ∙ ap (λ (w : Place × ℕ). ended w.0 w.1 (come (run p n ys) (moved p n f)))
     (λ i. (there i, count i))
-in_pieces p q n m xs ys (Unsent told e) there count = refl
+in_pieces p q n m xs ys (WentUndetected told e) there count = refl
 
 -- Characters may come in pieces.
 pub flows-append : (xs ys : List Char) (flow : Flow)

@@ -6,7 +6,7 @@ use Rattle.link_model.specs.Prelude.{Char, Place, run, place_after, said}
 use Rattle.link_port.specs.Prelude.{Event, PortState, acts, is_acted}
 use Rattle.link_wires.specs.Acting.{acted_all}
 use Rattle.link_wires.specs.Kept.{behind, behind_some, behind_all, IsSubsequence}
-use Rattle.link_wires.specs.Deliveries.{Flow, Delivered, Through, Unsent, begun, done, met, comes, goes_on, come, ended, delivered, undetected}
+use Rattle.link_wires.specs.Deliveries.{Flow, Delivered, Through, WentUndetected, begun, done, met, comes, goes_on, come, ended, delivered, undetected}
 use Rattle.link_wires.proofs.KeptLaws.{all_then, behind_all-append, is_in, finds_all}
 
 -- nothing is found to be not sent exactly if the search finds all of these
@@ -69,7 +69,7 @@ come_exact (placed ∷ events) sent flow acted h =
 ended_same : (place : Place) (count : ℕ) (d : Delivered)
     → undetected (ended place count d) ≡ undetected d
 ended_same place count (Through flow) = refl
-ended_same place count (Unsent told e) = refl
+ended_same place count (WentUndetected told e) = refl
 
 pub delivered_exact :
     (port : PortState) (acted sent kept : List Event) (chars : List Char)

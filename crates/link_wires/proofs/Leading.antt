@@ -6,7 +6,7 @@ use Rattle.link_port.specs.Prelude.{Event, PortState}
 use Rattle.link_model.proofs.FrontLaws.{front-count, front-place, run-telling_front}
 use Rattle.link_model.proofs.PlacesLaws.{place_after-append, place_after-none, run-none}
 use Rattle.link_wires.specs.Wires.{WireState, without_front}
-use Rattle.link_wires.specs.Deliveries.{Flow, Delivered, Through, Unsent, comes, goes_on, come, ended, flows, told_of, undetected, flow_of, Shows, IsLeft}
+use Rattle.link_wires.specs.Deliveries.{Flow, Delivered, Through, WentUndetected, comes, goes_on, come, ended, flows, told_of, undetected, flow_of, Shows, IsLeft}
 use Rattle.link_wires.specs.declared.moves.Move.{Move}
 use Rattle.link_wires.proofs.DeliveryLaws.{come_moved, come-append, in_pieces}
 
@@ -19,7 +19,7 @@ pub missed_on :
     → Shows (goes_on more d) (Some e) count next left moves replies
 missed_on (Through flow) more e count port next kept left moves replies h =
     absurd (let none : Some e ≡ None = h.0 in cc)
-missed_on (Unsent told x) more e count port next kept left moves replies h = h
+missed_on (WentUndetected told x) more e count port next kept left moves replies h = h
 
 -- nothing more comes
 pub none_on :
@@ -29,7 +29,7 @@ pub none_on :
     → Shows (goes_on (come []) d) found count port kept moves replies
 unfolding come
 none_on (Through flow) found count port kept moves replies h = h
-none_on (Unsent told x) found count port kept moves replies h = h
+none_on (WentUndetected told x) found count port kept moves replies h = h
 
 -- an event behind another
 pub next_on :
@@ -50,7 +50,7 @@ next_on (Through flow) at e found port next kept left moves more replies answers
     none_on (comes flow (at, e)) found (suc at) next left more answers
     (subst (λ (f : Flow). Shows (comes f (at, e)) found (suc at) next left more answers) same
     (shows flow.told.acted))
-next_on (Unsent told x) at e found port next kept left moves more replies answers h shows =
+next_on (WentUndetected told x) at e found port next kept left moves more replies answers h shows =
     absurd (let some : None ≡ Some x = h.0 in cc)
 
 -- no event, one, and two
@@ -154,7 +154,7 @@ through_then rest (Through flow) place count port kept moves replies there h = (
     told = record { moves = h.4 i; replies = h.5 i; acted = flow.told.acted; count = count };
   }),
 )
-through_then rest (Unsent told x) place count port kept moves replies there h =
+through_then rest (WentUndetected told x) place count port kept moves replies there h =
     absurd (let some : None ≡ Some x = h.0 in cc)
 
 -- an event was not sent
@@ -165,7 +165,7 @@ pub missed_then :
     → Shows (goes_on (flows rest) (ended place count d)) (Some e) count port kept moves replies
 missed_then rest (Through flow) place count e port kept moves replies h =
     absurd (let none : Some e ≡ None = h.0 in cc)
-missed_then rest (Unsent told x) place count e port kept moves replies h = h
+missed_then rest (WentUndetected told x) place count e port kept moves replies h = h
 
 -- no character is left
 pub flows-none : (flow : Flow) → flows [] flow ≡ Through flow
@@ -189,7 +189,7 @@ pub shown :
     → (count ≡ (told_of d).count) × (moves ≡ (told_of d).moves) × (replies ≡ (told_of d).replies)
     × (found ≡ undetected d)
 shown (Through flow) found count port kept moves replies h = (h.1, h.4, h.5, h.0)
-shown (Unsent told e) found count port kept moves replies h = (h.1, h.2, h.3, h.0)
+shown (WentUndetected told e) found count port kept moves replies h = (h.1, h.2, h.3, h.0)
 
 pub left_so :
     (d : Delivered) (found : Option Event) (count n : ℕ) (port : PortState) (kept : List Event)
@@ -198,7 +198,7 @@ pub left_so :
     → IsLeft d count wire port left
 left_so (Through flow) found count n port kept moves replies wire left h is =
     (h.2, is ∙ ap (λ (k : List Event). without_front count k wire) h.3)
-left_so (Unsent told e) found count n port kept moves replies wire left h is = tt
+left_so (WentUndetected told e) found count n port kept moves replies wire left h is = tt
 
 -- ---- the loop
 

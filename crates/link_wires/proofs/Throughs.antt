@@ -2,7 +2,7 @@
 use Rattle.std.proofs.Common.{◌≡◌, ℕ, ◌+◌, List, length, sym, ap, arith}
 use Rattle.link_model.specs.Prelude.{Char, Place, run, place_after}
 use Rattle.link_port.specs.Prelude.{Event, PortState}
-use Rattle.link_wires.specs.Deliveries.{Flow, Delivered, Through, Unsent, begun, come, ended, delivered}
+use Rattle.link_wires.specs.Deliveries.{Flow, Delivered, Through, WentUndetected, begun, come, ended, delivered}
 
 -- the parts of a flow at its end
 pub ended_count : (place : Place) (count : ℕ) (d : Delivered) (flow : Flow)
@@ -14,7 +14,7 @@ ended_count place count (Through f) flow is =
     } in
     let same : end ≡ flow = cc in
     ap (λ (g : Flow). g.told.count) (sym same)
-ended_count place count (Unsent told e) flow is = absurd cc
+ended_count place count (WentUndetected told e) flow is = absurd cc
 
 ended_place : (place : Place) (count : ℕ) (d : Delivered) (flow : Flow)
     → ended place count d ≡ Through flow → flow.port.place ≡ place
@@ -25,7 +25,7 @@ ended_place place count (Through f) flow is =
     } in
     let same : end ≡ flow = cc in
     ap (λ (g : Flow). g.port.place) (sym same)
-ended_place place count (Unsent told e) flow is = absurd cc
+ended_place place count (WentUndetected told e) flow is = absurd cc
 
 pub through_count : (port : PortState) (kept : List Event) (chars : List Char) (flow : Flow)
     → delivered port kept chars ≡ Through flow → flow.told.count ≡ length chars

@@ -28,7 +28,7 @@ pub record Flow : Type 0 where
 -- of the events before it stands, and the characters are taken up to the one that completed it.
 pub data Delivered : Type 0 where
   Through : Flow → Delivered
-  Unsent : Told → Event → Delivered
+  WentUndetected : Told → Event → Delivered
 
 -- no character is taken yet
 abbrev pub begun : PortState → List Event → Flow
@@ -62,7 +62,7 @@ done e acted kept flow = record {
 -- an event that is acted on, completed at a place, by what stands behind the first sent event that
 -- equals it
 abbrev pub met : ℕ → Event → Option (List Event) → Flow → Delivered
-met at e None flow = Unsent (record flow.told { count = suc at }) e
+met at e None flow = WentUndetected (record flow.told { count = suc at }) e
 met at e (Some kept) flow = Through (done e (e ∷ []) kept flow)
 
 -- an event, completed at a place
@@ -75,7 +75,7 @@ comes flow placed =
 -- and then more
 abbrev pub goes_on : (Flow → Delivered) → Delivered → Delivered
 goes_on more (Through flow) = more flow
-goes_on more (Unsent told e) = Unsent told e
+goes_on more (WentUndetected told e) = WentUndetected told e
 
 -- events, one after another
 unfoldable pub come : List (ℕ × Event) → Flow → Delivered
@@ -89,7 +89,7 @@ ended place count (Through flow) =
       port = record flow.port { place = place };
       told = record flow.told { count = count };
     })
-ended place count (Unsent told e) = Unsent told e
+ended place count (WentUndetected told e) = WentUndetected told e
 
 -- characters, from a flow on
 abbrev pub flows : List Char → Flow → Delivered
@@ -104,12 +104,12 @@ delivered port kept chars = flows chars (begun port kept)
 -- what came of the characters
 abbrev pub told_of : Delivered → Told
 told_of (Through flow) = flow.told
-told_of (Unsent told e) = told
+told_of (WentUndetected told e) = told
 
 -- the event that was not sent
 abbrev pub undetected : Delivered → Option Event
 undetected (Through flow) = None
-undetected (Unsent told e) = Some e
+undetected (WentUndetected told e) = Some e
 
 -- a flow with these parts
 abbrev pub flow_of : PortState → List Event → List Move → List Fields → List Event → ℕ → Flow
@@ -137,7 +137,7 @@ abbrev pub Shows : Delivered → Option Event → ℕ → PortState → List Eve
 Shows (Through flow) found count port kept moves replies =
     (found ≡ None) × (count ≡ flow.told.count) × (port ≡ flow.port) × (kept ≡ flow.kept)
     × (moves ≡ flow.told.moves) × (replies ≡ flow.told.replies)
-Shows (Unsent told e) found count port kept moves replies =
+Shows (WentUndetected told e) found count port kept moves replies =
     (found ≡ Some e) × (count ≡ told.count) × (moves ≡ told.moves) × (replies ≡ told.replies)
 
 -- what a delivery of so many characters leaves of a port and a wire; nothing is said after an event
@@ -145,4 +145,4 @@ Shows (Unsent told e) found count port kept moves replies =
 abbrev pub IsLeft : Delivered → ℕ → WireState → PortState → WireState → Type 0
 IsLeft (Through flow) count wire port left =
     (port ≡ flow.port) × (left ≡ without_front count flow.kept wire)
-IsLeft (Unsent told e) count wire port left = Unit {0}
+IsLeft (WentUndetected told e) count wire port left = Unit {0}

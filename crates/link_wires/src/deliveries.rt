@@ -6,7 +6,7 @@ ghost use Rattle.link_wires.specs.Deliveries.{delivered, told_of, undetected, co
 
 use crate::came::Delivery;
 use crate::kept::Kept;
-use crate::unsent::Unsent;
+use crate::undetected_event::UndetectedEvent;
 use crate::wire::Wire;
 use link_port::{Completed, Port};
 use rio_chars::{Char, NoMemory};
@@ -27,7 +27,7 @@ impl Wire {
         count: usize,
         port: &mut Port,
         came: &mut Delivery,
-    ) -> Result<Option<Unsent>, NoMemory>
+    ) -> Result<Option<UndetectedEvent>, NoMemory>
         requires { count ≤ length self.old.chars }
         ensures got { OnOk result (came.new.got.items
             ≡ take (told_of (delivered port.old self.old.kept (take count self.old.chars))).count
@@ -36,14 +36,14 @@ impl Wire {
             ≡ (told_of (delivered port.old self.old.kept (take count self.old.chars))).moves) }
         ensures replies { OnOk result (came.new.replies.items
             ≡ (told_of (delivered port.old self.old.kept (take count self.old.chars))).replies) }
-        ensures undetected { IfOk result (λ unsent. unsent
+        ensures undetected { IfOk result (λ event. event
             ≡ undetected (delivered port.old self.old.kept (take count self.old.chars))) }
         ensures left { OnOk result (IsLeft (delivered port.old self.old.kept
             (take count self.old.chars)) count self.old port.new self.new) }
     {
         came.moves.clear();
         came.replies.clear();
-        let (read, unsent) = lead(
+        let (read, undetected) = lead(
             alloc,
             port,
             &mut self.kept,
@@ -51,7 +51,7 @@ impl Wire {
             came,
         )?;
         self.take_front(count, read, &mut came.got)?;
-        Ok(unsent)
+        Ok(undetected)
     }
 }
 
@@ -63,7 +63,7 @@ fn lead(
     kept: &mut Kept,
     chars: &[Char],
     came: &mut Delivery,
-) -> Result<(usize, Option<Unsent>), NoMemory>
+) -> Result<(usize, Option<UndetectedEvent>), NoMemory>
     ensures shows { IfOk result (λ end. Shows (flows chars.now
         (flow_of port.old kept.old came.old.moves.items came.old.replies.items [] 0)) end.1
         end.0 port.new kept.new came.new.moves.items came.new.replies.items) }
@@ -73,8 +73,8 @@ fn lead(
     while taken < chars.len() {
         let (count, completed) = port.read(rest(chars, taken), &mut came.packet);
         taken += count;
-        if let Some(unsent) = act_all(alloc, port, kept, completed, came)? {
-            return Ok((taken, Some(unsent)));
+        if let Some(undetected) = act_all(alloc, port, kept, completed, came)? {
+            return Ok((taken, Some(undetected)));
         }
     }
     Ok((taken, None))
@@ -96,7 +96,7 @@ fn act_all(
     kept: &mut Kept,
     completed: Completed,
     came: &mut Delivery,
-) -> Result<Option<Unsent>, NoMemory>
+) -> Result<Option<UndetectedEvent>, NoMemory>
     ensures shows { IfOk result (λ found. (acted : List Event) (at : ℕ)
         → Shows (come (placed at (completed_events completed came.old.packet))
         (flow_of port.old kept.old came.old.moves.items came.old.replies.items acted
@@ -124,7 +124,7 @@ fn lone_symbol(
     kept: &mut Kept,
     symbol: Symbol,
     came: &mut Delivery,
-) -> Result<Option<Unsent>, NoMemory>
+) -> Result<Option<UndetectedEvent>, NoMemory>
     ensures shows { IfOk result (λ found. (acted : List Event) (at : ℕ)
         → Shows (come (placed at (Ctl symbol ∷ [])) (flow_of port.old kept.old came.old.moves.items
         came.old.replies.items acted (suc at))) found (suc at) port.new kept.new
@@ -141,7 +141,7 @@ fn lone_bad(
     kept: &Kept,
     cause: Cause,
     came: &mut Delivery,
-) -> Result<Option<Unsent>, NoMemory>
+) -> Result<Option<UndetectedEvent>, NoMemory>
     ensures shows { IfOk result (λ found. (acted : List Event) (at : ℕ)
         → Shows (come (placed at (Bad cause ∷ [])) (flow_of port.old kept.now came.old.moves.items
         came.old.replies.items acted (suc at))) found (suc at) port.new kept.now
@@ -160,7 +160,7 @@ fn packet_and_symbol(
     ack: u8,
     symbol: Symbol,
     came: &mut Delivery,
-) -> Result<Option<Unsent>, NoMemory>
+) -> Result<Option<UndetectedEvent>, NoMemory>
     ensures shows { IfOk result (λ found. (acted : List Event) (at : ℕ)
         → Shows (come (placed at (Pkt ack came.old.packet ∷ Ctl symbol ∷ []))
         (flow_of port.old kept.old came.old.moves.items came.old.replies.items acted
@@ -168,8 +168,8 @@ fn packet_and_symbol(
         came.new.replies.items) }
     ensures place { OnOk result (port.new.place ≡ port.old.place) }
 {
-    if let Some(unsent) = act_packet(alloc, port, kept, ack, came)? {
-        return Ok(Some(unsent));
+    if let Some(undetected) = act_packet(alloc, port, kept, ack, came)? {
+        return Ok(Some(undetected));
     }
     let found = act_symbol(alloc, port, kept, symbol, came)?;
     Ok(found)
@@ -183,7 +183,7 @@ fn bad_and_symbol(
     cause: Cause,
     symbol: Symbol,
     came: &mut Delivery,
-) -> Result<Option<Unsent>, NoMemory>
+) -> Result<Option<UndetectedEvent>, NoMemory>
     ensures shows { IfOk result (λ found. (acted : List Event) (at : ℕ)
         → Shows (come (placed at (Bad cause ∷ Ctl symbol ∷ []))
         (flow_of port.old kept.old came.old.moves.items came.old.replies.items acted
@@ -203,7 +203,7 @@ fn act_symbol(
     kept: &mut Kept,
     symbol: Symbol,
     came: &mut Delivery,
-) -> Result<Option<Unsent>, NoMemory>
+) -> Result<Option<UndetectedEvent>, NoMemory>
     ensures shows { IfOk result (λ found. (acted : List Event) (at : ℕ)
         → Shows (comes (flow_of port.old kept.old came.old.moves.items came.old.replies.items
         acted (suc at)) (at, Ctl symbol)) found (suc at) port.new kept.new came.new.moves.items
@@ -211,8 +211,8 @@ fn act_symbol(
     ensures place { OnOk result (port.new.place ≡ port.old.place) }
 {
     if !kept.find_symbol(symbol) {
-        let unsent = Unsent::symbol(alloc, symbol)?;
-        return Ok(Some(unsent));
+        let undetected = UndetectedEvent::symbol(alloc, symbol)?;
+        return Ok(Some(undetected));
     }
     came.freed.clear();
     let reply = port.act_symbol(symbol, &mut came.freed);
@@ -228,7 +228,7 @@ fn act_packet(
     kept: &mut Kept,
     ack: u8,
     came: &mut Delivery,
-) -> Result<Option<Unsent>, NoMemory>
+) -> Result<Option<UndetectedEvent>, NoMemory>
     ensures shows { IfOk result (λ found. (acted : List Event) (at : ℕ)
         → Shows (comes (flow_of port.old kept.old came.old.moves.items came.old.replies.items
         acted (suc at)) (at, Pkt ack came.old.packet)) found (suc at) port.new kept.new
@@ -236,8 +236,8 @@ fn act_packet(
     ensures place { OnOk result (port.new.place ≡ port.old.place) }
 {
     if !meet(port, kept, ack, &came.packet) {
-        let unsent = Unsent::packet(alloc, ack, &came.packet)?;
-        return Ok(Some(unsent));
+        let undetected = UndetectedEvent::packet(alloc, ack, &came.packet)?;
+        return Ok(Some(undetected));
     }
     let done = port.act_packet(ack, &came.packet);
     came.hold(done.held)?;

@@ -4,7 +4,7 @@ ghost use Rattle.rio_chars.specs.declared.chars.Char.{Char};
 ghost use Rattle.link_model.specs.Said.{said};
 ghost use Rattle.link_port.specs.Prelude.{Event, PortState};
 ghost use Rattle.link_wires.specs.Acting.{acted_all};
-ghost use Rattle.link_wires.specs.Deliveries.{Told, Flow, Through, Unsent, goes_on, flows, delivered, undetected};
+ghost use Rattle.link_wires.specs.Deliveries.{Told, Flow, Through, WentUndetected, goes_on, flows, delivered, undetected};
 ghost use Rattle.link_wires.specs.Kept.{behind, behind_all, IsSubsequence};
 
 /// With what was sent and what was acted on since the last silence: each acted event is found, by a
@@ -31,7 +31,7 @@ pub fn deliveries_go_by_pieces()
         → behind_all flow.told.acted kept ≡ Some flow.kept }
     ensures undetected { (port : PortState) (kept : List Event) (chars : List Char) (told : Told)
         (e : Event)
-        → delivered port kept chars ≡ Unsent told e
+        → delivered port kept chars ≡ WentUndetected told e
         → behind_all (told.acted ++ e ∷ []) kept ≡ None }
 {}
 

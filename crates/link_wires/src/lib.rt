@@ -12,7 +12,7 @@
 //!
 //! - [`Wire`]: one way, with `pump`, `tell`, `reply`, `deliver`, `edit` and `silence`
 //! - [`Delivery`] and [`Move`]: what came of characters that a port took
-//! - [`Unsent`]: an event that a port acted on and that was not sent
+//! - [`UndetectedEvent`]: an event that a port acted on and that was not sent
 //! - [`Edit`] and [`Edited`]: a change of the characters, and what came of it
 //! - [`acted_events_are_sent_ones`], [`deliveries_go_by_pieces`] and
 //!   [`a_delivery_acts_on_what_was_sent`]: laws; the calls do nothing
@@ -31,7 +31,7 @@ mod moves;
 mod pumps;
 mod queue;
 mod sends;
-mod unsent;
+mod undetected_event;
 mod wire;
 
 pub use came::Delivery;
@@ -40,5 +40,5 @@ pub use laws::{
     a_delivery_acts_on_what_was_sent, acted_events_are_sent_ones, deliveries_go_by_pieces,
 };
 pub use moves::Move;
-pub use unsent::Unsent;
+pub use undetected_event::UndetectedEvent;
 pub use wire::Wire;

@@ -15,11 +15,11 @@ use Rattle.fabric_trace.specs.Runs.{start}
 use Rattle.trace_lines.specs.Text.{trace_text}
 use Rattle.fabric_ports.specs.declared.noise.Quiet.{Quiet}
 use Rattle.fabric_maint.specs.Asked.{Asked}
-use Rattle.fabric_maint.specs.Going.{names_of, topology_in, registers_in, StandsWhole, MaintIsSame, LeadsTo, AskBegun, Followed, Abandoned, HasMet}
+use Rattle.fabric_maint.specs.Going.{names_of, topology_in, registers_in, StandsWhole, MaintIsSame, LeadsTo, FrontOfAsk, Followed, FollowedFront, HasMet}
 use Rattle.fabric_maint.specs.declared.maint.FabricMaint.{FabricMaint}
 use Rattle.fabric_maint.proofs.Meeting.{never_met}
 use Rattle.rio_chars.specs.Faults.{Rose}
-use Rattle.rio_cli.specs.Numbering.{no_edits, topology_for, registers_for, IsNewHost, ToldAsks, ToldPart, Maps}
+use Rattle.rio_cli.specs.Numbering.{no_edits, topology_for, registers_for, IsNewHost, ToldAsks, ToldAsksFront, Maps}
 
 module _ {K : Type 0} (written : K → Option (List ℕ)) (faults : K → ℕ)
     (first last : FabricMaint Quiet K) (new : IsNewHost written faults first) where
@@ -52,9 +52,9 @@ module _ {K : Type 0} (written : K → Option (List ℕ)) (faults : K → ℕ)
       }
 
   -- or it left off in one of them
-  pub told_part : Abandoned no_edits written faults first last → ToldPart (names_of first) lines
-      host (written first.sink.now) (written last.sink.now)
-  told_part abandoned =
+  pub told_front : FollowedFront no_edits written faults first last
+      → ToldAsksFront (names_of first) lines host (written first.sink.now) (written last.sink.now)
+  told_front abandoned =
       let left = abandoned.left (start lines) new.rests in
       let here = abandoned.same.host in
       let names = ap (λ s. s.names.items) abandoned.same.script in
@@ -69,10 +69,10 @@ module _ {K : Type 0} (written : K → Option (List ℕ)) (faults : K → ℕ)
         part = left.bytes;
         told = subst (λ (ns : List (List ℕ)). Appends (written first.sink.now)
             (written last.sink.now) (trace_text ns left.lines ++ left.bytes)) names left.told;
-        begun = subst (λ h. AskBegun no_edits h (names_of first) (start lines) left.lines left.end
+        begun = subst (λ h. FrontOfAsk no_edits h (names_of first) (start lines) left.lines left.end
             left.tid left.bytes) here
-            (subst (λ (ns : List (List ℕ)). AskBegun no_edits last.host ns (start lines) left.lines
-            left.end left.tid left.bytes) names left.begun);
+            (subst (λ (ns : List (List ℕ)). FrontOfAsk no_edits last.host ns (start lines)
+            left.lines left.end left.tid left.bytes) names left.begun);
       }
 
   -- ---- what the walk of a host that began here comes to
@@ -101,7 +101,7 @@ module _ {K : Type 0} (written : K → Option (List ℕ)) (faults : K → ℕ)
       → IfErr result Ends → OnOk result Follows
       → OnErr result ((origin : FabricMaint Quiet K)
       → Followed no_edits written faults origin first
-      → Abandoned no_edits written faults origin last)
+      → FollowedFront no_edits written faults origin last)
       → Maps (names_of first) lines host (written first.sink.now) (written last.sink.now) result
   maps (Ok map) numbered free end follows leaves = (
     registers_in last,
@@ -119,13 +119,13 @@ module _ {K : Type 0} (written : K → Option (List ℕ)) (faults : K → ℕ)
   )
   maps (Err (Undetected port event)) numbered free end follows leaves =
       never_met no_edits written (λ noise. refl) last port event end.0
-  maps (Err WriteFault) numbered free end follows leaves = told_part (leaves first new.follows)
-  maps (Err NoMemory) numbered free end follows leaves = told_part (leaves first new.follows)
+  maps (Err WriteFault) numbered free end follows leaves = told_front (leaves first new.follows)
+  maps (Err NoMemory) numbered free end follows leaves = told_front (leaves first new.follows)
 
   pub falls_never : (result : Result Map EnumEnd) → OnOk result Follows
       → OnErr result ((origin : FabricMaint Quiet K)
       → Followed no_edits written faults origin first
-      → Abandoned no_edits written faults origin last)
+      → FollowedFront no_edits written faults origin last)
       → faults first.sink.now ≤ faults last.sink.now
   falls_never (Ok map) follows leaves = (follows first new.follows).never_falls
   falls_never (Err end) follows leaves = (leaves first new.follows).never_falls
@@ -134,7 +134,7 @@ module _ {K : Type 0} (written : K → Option (List ℕ)) (faults : K → ℕ)
   pub same : (result : Result Map EnumEnd) → OnOk result Follows
       → OnErr result ((origin : FabricMaint Quiet K)
       → Followed no_edits written faults origin first
-      → Abandoned no_edits written faults origin last)
+      → FollowedFront no_edits written faults origin last)
       → MaintIsSame first last
   same (Ok map) follows leaves = (follows first new.follows).same
   same (Err end) follows leaves = (leaves first new.follows).same

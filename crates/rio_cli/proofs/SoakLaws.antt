@@ -4,7 +4,7 @@ use Rattle.rio_chars.specs.Faults.{Rose}
 use Rattle.rio_cli.specs.declared.status.Status.{Status}
 use Rattle.rio_cli.specs.declared.status.Status.TheVariants.{Done, Words, Script, ReadFault, WriteFault, NoMemory, Undetected, TooLong, Locked, Unlawful}
 use Rattle.rio_cli.specs.Answers.{Answers}
-use Rattle.rio_cli.specs.Soaking.{SoaksTo, SoaksUnsent, undetected_text, SaysOfSoak}
+use Rattle.rio_cli.specs.Soaking.{SoaksTo, SoaksUndetected, undetected_text, SaysOfSoak}
 
 module _ (seed : ℕ) (status : Status) (w : Option (List ℕ)) (f : ℕ) (w' : Option (List ℕ)) (f2 : ℕ)
   where
@@ -15,11 +15,11 @@ module _ (seed : ℕ) (status : Status) (w : Option (List ℕ)) (f : ℕ) (w' : 
     says_counts text is (inr failed) =
         subst (λ s. SaysOfSoak seed s w f w' f2) (sym failed.0) (failed.1, inl (text, is, failed.2))
 
-    pub says_unsent : SoaksUnsent seed → Answers status Undetected undetected_text w f w' f2
+    pub says_undetected : SoaksUndetected seed → Answers status Undetected undetected_text w f w' f2
         → SaysOfSoak seed status w f w' f2
-    says_unsent is (inl told) =
+    says_undetected is (inl told) =
         subst (λ s. SaysOfSoak seed s w f w' f2) (sym told.0) (is, told.1)
-    says_unsent is (inr failed) =
+    says_undetected is (inr failed) =
         subst (λ s. SaysOfSoak seed s w f w' f2) (sym failed.0) (failed.1, inr (is, failed.2))
 
 module _ (seed : ℕ) (w : Option (List ℕ)) (f : ℕ) (w' : Option (List ℕ)) (f2 : ℕ) where

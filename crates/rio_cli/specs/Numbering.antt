@@ -29,7 +29,7 @@ use Rattle.fabric_trace.specs.Runs.{start}
 use Rattle.trace_lines.specs.Text.{trace_text}
 use Rattle.fabric_ports.specs.declared.noise.Quiet.{Quiet}
 use Rattle.fabric_maint.specs.Asked.{Asked}
-use Rattle.fabric_maint.specs.Going.{LeadsTo, AskBegun, topology_in, registers_in, StandsWhole, MaintRestsAt, Followed}
+use Rattle.fabric_maint.specs.Going.{LeadsTo, FrontOfAsk, topology_in, registers_in, StandsWhole, MaintRestsAt, Followed}
 use Rattle.fabric_maint.specs.declared.maint.FabricMaint.{FabricMaint}
 use Rattle.script_input.specs.Inputs.{texts_of}
 use Rattle.rio_cli.specs.declared.status.Status.{Status}
@@ -100,7 +100,7 @@ pub record ToldAsks (names : List (List ℕ)) (lines : List Numbered) (host : �
   pub told : Appends written written_after (trace_text names trace)
 
 -- The lines of the asks of a host were written, and then a front of the lines of one more.
-pub record ToldPart (names : List (List ℕ)) (lines : List Numbered) (host : ℕ)
+pub record ToldAsksFront (names : List (List ℕ)) (lines : List Numbered) (host : ℕ)
     (written written_after : Option (List ℕ)) : Type 0 where
   pub trace : List TraceLine
   pub end : Seen
@@ -109,7 +109,7 @@ pub record ToldPart (names : List (List ℕ)) (lines : List Numbered) (host : �
   pub leads : LeadsTo host (start lines) trace end
   pub part : List ℕ
   pub told : Appends written written_after (trace_text names trace ++ part)
-  pub begun : AskBegun no_edits host names (start lines) trace end tid part
+  pub begun : FrontOfAsk no_edits host names (start lines) trace end tid part
 
 -- ---- what it answers
 
@@ -130,9 +130,9 @@ Maps names lines host written written_after (Err (Ends.LockedBy path id)) = (aft
     × EndsAtLock (topology_for lines host) (registers_for lines) after path id
 Maps names lines host written written_after (Err (Ends.Undetected port event)) = ⊥
 Maps names lines host written written_after (Err Ends.WriteFault) =
-    ToldPart names lines host written written_after
+    ToldAsksFront names lines host written written_after
 Maps names lines host written written_after (Err Ends.NoMemory) =
-    ToldPart names lines host written written_after
+    ToldAsksFront names lines host written written_after
 
 -- ---- what is written
 
@@ -172,7 +172,7 @@ EndsTo names lines host text = NumbersTo names lines host text ⊎ LocksTo names
 abbrev pub EndsFront : List (List ℕ) → List Numbered → ℕ → Option (List ℕ) → Option (List ℕ)
     → Type 0
 EndsFront names lines host written written_after =
-    ToldPart names lines host written written_after
+    ToldAsksFront names lines host written written_after
     ⊎ ((text : List ℕ) × EndsTo names lines host text × AppendsFront written written_after text)
 
 -- by the status; memory may run out before anything is written

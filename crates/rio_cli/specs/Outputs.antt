@@ -7,7 +7,7 @@ use Rattle.link_model.specs.declared.event.Event.{Event}
 use Rattle.fabric_script.specs.declared.lines.Numbered.{Numbered}
 use Rattle.fabric_script.specs.declared.ports.PortRef.{PortRef}
 use Rattle.fabric_script.specs.Scripts.{IsScript, RefusedAt}
-use Rattle.fabric_replay.specs.Replaying.{ReplayedWhole, ReplayedUnsent, ReplayedFront}
+use Rattle.fabric_replay.specs.Replaying.{ReplayedWhole, ReplayedUndetected, ReplayedFront}
 use Rattle.rio_chars.specs.declared.chars.Char.{Char}
 use Rattle.script_input.specs.Inputs.{IsRefusedInput}
 use Rattle.trace_check.specs.Outcomes.{HasUnlawful}
@@ -49,14 +49,15 @@ pub record Traces (bytes : List ℕ) (written written_after : Option (List ℕ))
 
 -- The bytes spell a script. The text of its trace was written, up to the line that names the first
 -- event that a port acted on and that was not sent.
-pub record TracesUnsent (bytes : List ℕ) (written written_after : Option (List ℕ)) : Type 0 where
+pub record TracesUndetected (bytes : List ℕ)
+    (written written_after : Option (List ℕ)) : Type 0 where
   pub names : List (List ℕ)
   pub script : List Numbered
   pub spells : IsScript bytes names script
   pub line : ℕ
   pub port : PortRef
   pub event : Event
-  pub replayed : ReplayedUnsent names script line port event written written_after
+  pub replayed : ReplayedUndetected names script line port event written written_after
 
 -- The bytes spell a script, and a front of its trace was written.
 pub record TracesFront (bytes : List ℕ) (written written_after : Option (List ℕ)) : Type 0 where
@@ -123,7 +124,7 @@ CompletesFront (Contest first second seed) = ContestsFront first second seed
 -- written that the
 -- command writes then
 abbrev pub Exposes : Command → List ℕ → Option (List ℕ) → Option (List ℕ) → Type 0
-Exposes Replay = TracesUnsent
+Exposes Replay = TracesUndetected
 Exposes _ = λ bytes written written_after. ⊥
 
 -- the input is carried out up to a device that another host holds, and all was written that the

@@ -7,7 +7,7 @@ use Rattle.rio_chars.specs.Fronts.{AppendsFront}
 use Rattle.link_model.specs.declared.event.Event.{Event}
 use Rattle.fabric_script.specs.Soak.{soak_lines}
 use Rattle.fabric_script.specs.declared.ports.PortRef.{PortRef}
-use Rattle.fabric_replay.specs.Summing.{Summed, SummedUnsent}
+use Rattle.fabric_replay.specs.Summing.{Summed, SummedUndetected}
 use Rattle.fabric_replay.specs.declared.summing.Counts.{Counts}
 use Rattle.rio_cli.specs.declared.status.Status.{Status}
 use Rattle.rio_cli.specs.declared.status.Status.TheVariants.{Done, Words, Script, ReadFault, WriteFault, NoMemory, Undetected, TooLong, Locked, Unlawful}
@@ -29,11 +29,11 @@ pub record SoaksTo (seed : ℕ) (text : List ℕ) : Type 0 where
   pub lines : text ≡ counts_text counts
 
 -- Its one trace ends with an event that a port acted on and that was not sent.
-pub record SoaksUnsent (seed : ℕ) : Type 0 where
+pub record SoaksUndetected (seed : ℕ) : Type 0 where
   pub line : ℕ
   pub port : PortRef
   pub event : Event
-  pub summed : SummedUnsent (soak_lines seed) line port event
+  pub summed : SummedUndetected (soak_lines seed) line port event
 
 -- The four lines were written.
 abbrev pub Soaks : ℕ → Option (List ℕ) → Option (List ℕ) → Type 0
@@ -43,13 +43,13 @@ Soaks seed written written_after =
 -- The one line was written, since such an event was not sent.
 abbrev pub SoaksInto : ℕ → Option (List ℕ) → Option (List ℕ) → Type 0
 SoaksInto seed written written_after =
-    SoaksUnsent seed × Appends written written_after undetected_text
+    SoaksUndetected seed × Appends written written_after undetected_text
 
 -- A front of either was written.
 abbrev pub SoaksFront : ℕ → Option (List ℕ) → Option (List ℕ) → Type 0
 SoaksFront seed written written_after =
     ((text : List ℕ) × SoaksTo seed text × AppendsFront written written_after text)
-    ⊎ (SoaksUnsent seed × AppendsFront written written_after undetected_text)
+    ⊎ (SoaksUndetected seed × AppendsFront written written_after undetected_text)
 
 -- by the status; memory runs out before anything is written
 abbrev pub SaysOfSoak : ℕ → Status → Option (List ℕ) → ℕ → Option (List ℕ) → ℕ → Type 0

@@ -22,16 +22,16 @@ use Rattle.fabric_ports.specs.Events.{IsOwnBlock, IsAnsweredBlock, Evented}
 use Rattle.fabric_ports.specs.Ran.{AddsFront}
 use Rattle.fabric_ports.specs.Standing.{Stands}
 use Rattle.fabric_ports.specs.declared.answers.FabricEnd.{FabricEnd}
-use Rattle.fabric_ports.specs.declared.answers.FabricEnd.TheVariants.{Undetected as Unsent}
+use Rattle.fabric_ports.specs.declared.answers.FabricEnd.TheVariants.{Undetected as UndetectedEnd}
 use Rattle.fabric_ports.specs.declared.answers.Happened.{Happened as Did}
 use Rattle.fabric_ports.specs.declared.fabric.Fabric.{Fabric}
 use Rattle.rio_live.specs.declared.live.Asked.TheVariants.{Quiet, Event, Refused}
 use Rattle.rio_live.specs.declared.live.Live.{Live}
 use Rattle.rio_live.specs.declared.answers.Going.{Going as Whether}
 use Rattle.rio_live.specs.declared.answers.Going.TheVariants as Goings
-use Rattle.rio_live.specs.Lines.{Taken, seen_so_far, Outcome, Passed, SetUp, Happened, Refused as IsRefusedAs, taken_after, found_text, answer_text, IsCutOf}
+use Rattle.rio_live.specs.Lines.{Taken, seen_so_far, Outcome, Passed, SetUp, Happened, Refused as IsRefusedAs, taken_after, undetected_at_text, answer_text, IsCutOf}
 use Rattle.rio_live.specs.Holding.{StandsBy, LiveHolds}
-use Rattle.rio_live.specs.Answers.{OutcomeIsQuiet, LiveTakes, Happens, FallsShort, LineAnswered, BreaksOff}
+use Rattle.rio_live.specs.Answers.{OutcomeIsQuiet, LiveTakes, Happens, HappensFront, LineAnswered, AnswersFront}
 use Rattle.rio_live.proofs.EventLaws.{is_one}
 use Rattle.rio_live.proofs.TakenLaws.{reads_happened, trace_more}
 
@@ -50,12 +50,13 @@ told_by {old} {new} names last lines named back adds =
     (subst (λ n. Writes old.outbox.now new.outbox.now (trace_text n lines)) named adds.writes)
 
 -- the text of a block, with the line of an event that was not sent
-unsent_text : (names : List (List ℕ)) (block : List TraceLine) (number : ℕ) (port : PortRef)
+undetected_line_text : (names : List (List ℕ)) (block : List TraceLine) (number : ℕ)
+    (port : PortRef)
     (found : LinkEvent)
     → trace_text names (block ++ Undetected number port found ∷ [])
     ≡ trace_text names block
-    ++ found_text names number (Some (record { port = port; event = found }))
-unsent_text names block number port found =
+    ++ undetected_at_text names number (Some (record { port = port; event = found }))
+undetected_line_text names block number port found =
     flat_map-append (λ l. trace_line_text names l ++ 10 ∷ []) block
     (Undetected number port found ∷ [])
     ∙ ap (λ l. trace_text names block ++ l) (append-nil _)
@@ -80,7 +81,7 @@ module _ (taken : Taken) (line : List ℕ) (event : Line) {K : Type 0} where
         is = done.is.0;
         told =
             subst (λ found. Writes old.outbox.now last
-            (trace_text names own ++ found_text names number found)) (sym done.ends.1.sent)
+            (trace_text names own ++ undetected_at_text names number found)) (sym done.ends.1.sent)
             (subst (Writes old.outbox.now last) (sym (append-nil (trace_text names own)))
             (told_by names last own named back done.ends.0));
         goes = record {
@@ -98,16 +99,17 @@ module _ (taken : Taken) (line : List ℕ) (event : Line) {K : Type 0} where
       }
 
   -- a port acted on an event that was not sent
-  pub happens_unsent : (old mid new : TraceWriter K) (last : Outgoing) (number : ℕ)
+  pub happens_undetected : (old mid new : TraceWriter K) (last : Outgoing) (number : ℕ)
       (live now : Live) (fabric : Fabric) (port : PortRef) (found : LinkEvent)
       → old.names.now ≡ taken.known.names → GivenBack old new last → LiveHolds live taken
       → Spells (for_event taken.known) line event
       → Stands (start taken.set_up) taken.trace fabric
       → Evented event (IsOwnBlock event) old mid (start taken.set_up) taken.trace
-      (Err (Unsent port found))
+      (Err (UndetectedEnd port found))
       → Adds mid new (Undetected number port found ∷ [])
       → Happens taken number line event old.outbox.now last now Goings.Undetected
-  happens_unsent old mid new last number live now fabric port found named back holds spells stands
+  happens_undetected old mid new last number live now fabric port found named back holds spells
+      stands
       exposed named_line =
       let names = taken.known.names in
       let own = Begun event ∷ exposed.block in
@@ -117,8 +119,8 @@ module _ (taken : Taken) (line : List ℕ) (event : Line) {K : Type 0} where
         is = exposed.is.0;
         told =
             subst (λ f. Writes old.outbox.now last
-            (trace_text names own ++ found_text names number f)) (sym exposed.ends.1)
-            (subst (Writes old.outbox.now last) (unsent_text names own number port found)
+            (trace_text names own ++ undetected_at_text names number f)) (sym exposed.ends.1)
+            (subst (Writes old.outbox.now last) (undetected_line_text names own number port found)
             (told_by names last all named back (Adds-then exposed.ends.0 named_line)));
         goes = (
           trace_more taken number line event exposed.block fabric holds.trace
@@ -128,11 +130,11 @@ module _ (taken : Taken) (line : List ℕ) (event : Line) {K : Type 0} where
       }
 
   -- it was not carried out to its end
-  pub falls_short : (old new : TraceWriter K) (last : Outgoing) (block : List TraceLine)
+  pub happens_front : (old new : TraceWriter K) (last : Outgoing) (block : List TraceLine)
       → old.names.now ≡ taken.known.names → GivenBack old new last
       → IsBlock (seen_so_far taken) event block → AddsFront old new (Begun event ∷ block)
-      → FallsShort taken event old.outbox.now last
-  falls_short old new last block named back is short = record {
+      → HappensFront taken event old.outbox.now last
+  happens_front old new last block named back is short = record {
     front = short.front;
     is = inr (block, short.rest, is, short.whole);
     told = told_by taken.known.names last short.front named back short.adds;
@@ -140,7 +142,7 @@ module _ (taken : Taken) (line : List ℕ) (event : Line) {K : Type 0} where
 
 -- nor begun
 pub falls_at_once : (taken : Taken) (event : Line) (out : Outgoing)
-    → FallsShort taken event out out
+    → HappensFront taken event out out
 falls_at_once taken event out = record { front = []; is = inl refl; told = Writes-nil out }
 
 -- how an event ended, by what its end is
@@ -227,8 +229,8 @@ module _ (taken : Taken) (number : ℕ) (line : List ℕ) where
   }
 
   pub breaks_event : (out next : Outgoing) (live : Live) (event : Line)
-      → LiveTakes taken line (Event event) live → FallsShort taken event out next
-      → BreaksOff taken number line out next
+      → LiveTakes taken line (Event event) live → HappensFront taken event out next
+      → AnswersFront taken number line out next
   breaks_event out next live event takes short =
       record { text = trace_text names short.front; is = by_front short.is; told = short.told }
     where
@@ -254,8 +256,8 @@ module _ (taken : Taken) (number : ℕ) (line : List ℕ) where
           → IsCutOf taken number line (trace_text taken.known.names short.front)
       by_front (inl none) = inl (ap (trace_text taken.known.names) none)
       by_front (inr some) =
-          let found = found_text taken.known.names number
-          (seen_so_far (taken_after taken number line (Happened event some.0))).unfaithful in
+          let found = undetected_at_text taken.known.names number
+          (seen_so_far (taken_after taken number line (Happened event some.0))).undetected in
           inr (
             Happened event some.0,
             (trace_text taken.known.names some.1 ++ found) ++ codes "ok\n",

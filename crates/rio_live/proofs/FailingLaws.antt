@@ -13,7 +13,7 @@ use Rattle.rio_live.specs.declared.answers.Going.TheVariants as Goings
 use Rattle.rio_live.specs.declared.live.Live.{Live}
 use Rattle.rio_live.specs.Lines.{Taken, taken_after, answer_text, IsCutOf}
 use Rattle.rio_live.specs.Holding.{LiveHolds, IsTrace}
-use Rattle.rio_live.specs.Answers.{LiveGoes, LineAnswered, BreaksOff}
+use Rattle.rio_live.specs.Answers.{LiveGoes, LineAnswered, AnswersFront}
 use Rattle.rio_live.specs.Program.{AnswerIsCut, Closes, LiveServes}
 use Rattle.rio_live.proofs.TakenLaws.{is_sent}
 use Rattle.rio_live.proofs.ServingLaws.{Course, with_nothing, line_told, with_answer}
@@ -97,7 +97,7 @@ module _ (begun : Outgoing) (left : Option (List ℕ)) (read_faults : ℕ) where
       (status : Status) (pending pending_next line taken : List ℕ) {count : ℕ}
       (read_faults_now read_faults_next : ℕ)
       → (h : Course begun out live left left_now pending count read_faults read_faults_now)
-      → (b : BreaksOff h.taken (count + 1) line out next)
+      → (b : AnswersFront h.taken (count + 1) line out next)
       → Closes status h.taken (length h.lines + 1) b.text
       → ServesLines (2 ^ 32 - 1) status left left_next read_faults read_faults_next
       begun.written next.written begun.faults next.faults h.lines (h.text ++ b.text)
@@ -122,7 +122,7 @@ module _ (begun : Outgoing) (left : Option (List ℕ)) (read_faults : ℕ) where
       → (h : Course begun out live left left_now pending count read_faults read_faults_now)
       → Consumes left_now left_next taken → pending ++ taken ≡ with_feed line ++ pending_next
       → read_faults_next ≡ read_faults_now
-      → (b : BreaksOff h.taken (count + 1) line out next)
+      → (b : AnswersFront h.taken (count + 1) line out next)
       → Going begun next left left_next (with_feed line ++ pending_next) count
       read_faults read_faults_next h.lines (h.text ++ b.text)
   broken pending pending_next line taken read_faults_now read_faults_next h read is same b =
@@ -137,7 +137,7 @@ module _ (begun : Outgoing) (left : Option (List ℕ)) (read_faults : ℕ) where
   cut_at : {out next : Outgoing} {live : Live} {left_now : Option (List ℕ)}
       (pending line : List ℕ) {count : ℕ} (read_faults_now : ℕ)
       → (h : Course begun out live left left_now pending count read_faults read_faults_now)
-      → (b : BreaksOff h.taken (count + 1) line out next)
+      → (b : AnswersFront h.taken (count + 1) line out next)
       → AnswerIsCut h.taken (length h.lines + 1) b.text
   cut_at {out} {next} {live} pending line read_faults_now h b = (
     is_sent live h.taken h.holds,
@@ -151,7 +151,7 @@ module _ (begun : Outgoing) (left : Option (List ℕ)) (read_faults : ℕ) where
       → begun.waiting ≡ [] → next.failed ≡ false → next.waiting ≡ []
       → Consumes left_now left_next taken → pending ++ taken ≡ with_feed line ++ pending_next
       → read_faults_next ≡ read_faults_now
-      → BreaksOff h.taken (count + 1) line out next
+      → AnswersFront h.taken (count + 1) line out next
       → LiveServes ends_with.NoMemory left left_next read_faults read_faults_next
       begun.written next.written begun.faults next.faults
   Course-no_memory pending pending_next line taken read_faults_now read_faults_next h clear fine
@@ -171,7 +171,7 @@ module _ (begun : Outgoing) (left : Option (List ℕ)) (read_faults : ℕ) where
       → begun.waiting ≡ [] → begun.failed ≡ false → next.failed ≡ true
       → Consumes left_now left_next taken → pending ++ taken ≡ with_feed line ++ pending_next
       → read_faults_next ≡ read_faults_now
-      → BreaksOff h.taken (count + 1) line out next
+      → AnswersFront h.taken (count + 1) line out next
       → LiveServes ends_with.WriteFault left left_next read_faults read_faults_next
       begun.written next.written begun.faults next.faults
   Course-fault_within pending pending_next line taken read_faults_now read_faults_next h clear
@@ -194,7 +194,7 @@ module _ (begun : Outgoing) (left : Option (List ℕ)) (read_faults : ℕ) where
       → IfOk result (λ going. (t : Taken) → LiveHolds live t
       → LineAnswered t (count + 1) line out next live_next going)
       → OnErr result ((t : Taken) → LiveHolds live t
-      → BreaksOff t (count + 1) line out next)
+      → AnswersFront t (count + 1) line out next)
       → LiveServes ends_with.WriteFault left left_next read_faults read_faults_next
       begun.written next.written begun.faults next.faults
   Course-failed next live_next pending pending_next line taken read_faults_now read_faults_next

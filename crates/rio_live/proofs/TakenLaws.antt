@@ -139,7 +139,7 @@ may_follow live taken line event fabric holds spells stands =
 pub port_named : (taken : Taken) (event : Line) (block : List TraceLine) (fabric : Fabric)
     (port : PortRef) (found : LinkEvent) → IsTrace taken
     → Stands (start taken.set_up) taken.trace fabric
-    → (seen (start taken.set_up) (taken.trace ++ Begun event ∷ block)).unfaithful
+    → (seen (start taken.set_up) (taken.trace ++ Begun event ∷ block)).undetected
     ≡ Some (record { port = port; event = found })
     → port.node < length taken.known.names
 port_named taken event block fabric port found trace stands finds =
@@ -174,7 +174,7 @@ is_sent live taken holds = by_fabric live.fabric holds.stands
   where
     by_fabric : (fabric : Option Fabric) → StandsBy fabric taken → IsSent taken
     by_fabric None stands =
-        subst (λ l. (seen (start taken.set_up) l).unfaithful ≡ None) (sym stands.2) refl
+        subst (λ l. (seen (start taken.set_up) l).undetected ≡ None) (sym stands.2) refl
     by_fabric (Some fabric) stands = stands.1.sent
 
 -- ---- answers, one after another

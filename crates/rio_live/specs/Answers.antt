@@ -8,7 +8,7 @@ use Rattle.fabric_script.specs.Reading.{Spells}
 use Rattle.fabric_script.specs.Scripts.{pieces_of, is_skipped, SpellsFrom, RefusedIn, ScriptPasses}
 use Rattle.fabric_script.specs.SetUps.{for_event, IsRefused, NoEvents}
 use Rattle.fabric_trace.specs.Blocks.{IsBlock}
-use Rattle.fabric_trace.specs.Known.{Found}
+use Rattle.fabric_trace.specs.Known.{UndetectedAt}
 use Rattle.trace_lines.specs.Lines.{TraceLine, Begun}
 use Rattle.trace_lines.specs.Text.{trace_text}
 use Rattle.live_lines.specs.Lines.{with_feed}
@@ -21,7 +21,7 @@ use Rattle.rio_live.specs.declared.live.Asked.TheVariants.{Quiet, Event, Refused
 use Rattle.rio_live.specs.declared.live.Live.{Live}
 use Rattle.rio_live.specs.declared.answers.Going.{Going}
 use Rattle.rio_live.specs.declared.answers.Going.TheVariants.{On, Undetected}
-use Rattle.rio_live.specs.Lines.{Taken, Outcome, Passed, SetUp, Happened, Refused as IsRefusedAs, ReadsAs, RefusesSetUp, IsCutOf, taken_after, answer_text, found_text, seen_so_far, most_set_up}
+use Rattle.rio_live.specs.Lines.{Taken, Outcome, Passed, SetUp, Happened, Refused as IsRefusedAs, ReadsAs, RefusesSetUp, IsCutOf, taken_after, answer_text, undetected_at_text, seen_so_far, most_set_up}
 use Rattle.rio_live.specs.Holding.{LiveHolds, IsTrace}
 
 -- ---- reading
@@ -93,7 +93,7 @@ LiveTakes taken line (Refused reason) live =
 abbrev pub LiveGoes : Going → Live → Taken → Type 0
 LiveGoes On live taken = LiveHolds live taken
 LiveGoes Undetected live taken =
-    IsTrace taken × ((found : Found) × ((seen_so_far taken).unfaithful ≡ Some found))
+    IsTrace taken × ((found : UndetectedAt) × ((seen_so_far taken).undetected ≡ Some found))
 
 -- an event was carried out, and its block was written
 pub record Happens (taken : Taken) (number : ℕ) (line : List ℕ) (event : Line) (old new : Outgoing)
@@ -101,12 +101,12 @@ pub record Happens (taken : Taken) (number : ℕ) (line : List ℕ) (event : Lin
   pub block : List TraceLine
   pub is : IsBlock (seen_so_far taken) event block
   pub told : Writes old new (trace_text taken.known.names (Begun event ∷ block)
-      ++ found_text taken.known.names number
-      (seen_so_far (taken_after taken number line (Happened event block))).unfaithful)
+      ++ undetected_at_text taken.known.names number
+      (seen_so_far (taken_after taken number line (Happened event block))).undetected)
   pub goes : LiveGoes going live (taken_after taken number line (Happened event block))
 
 -- a front of the block was written, or nothing
-pub record FallsShort (taken : Taken) (event : Line) (old new : Outgoing) : Type 0 where
+pub record HappensFront (taken : Taken) (event : Line) (old new : Outgoing) : Type 0 where
   pub front : List TraceLine
   pub is : (front ≡ []) ⊎ ((block : List TraceLine) × (rest : List TraceLine)
       × IsBlock (seen_so_far taken) event block × (Begun event ∷ block ≡ front ++ rest))
@@ -121,7 +121,7 @@ pub record LineAnswered (taken : Taken) (number : ℕ) (line : List ℕ) (old ne
   pub goes : LiveGoes going live (taken_after taken number line outcome)
 
 -- the answer broke off, and a front of it was written
-pub record BreaksOff (taken : Taken) (number : ℕ) (line : List ℕ) (old new : Outgoing)
+pub record AnswersFront (taken : Taken) (number : ℕ) (line : List ℕ) (old new : Outgoing)
     : Type 0 where
   pub text : List ℕ
   pub is : IsCutOf taken number line text

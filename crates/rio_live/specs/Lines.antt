@@ -9,7 +9,7 @@ use Rattle.fabric_script.specs.Scripts.{pieces_of, is_skipped, SpellsFrom, Refus
 use Rattle.fabric_script.specs.SetUps.{for_event, IsRefused}
 use Rattle.fabric_trace.specs.Blocks.{IsBlock}
 use Rattle.fabric_trace.specs.Fold.{seen}
-use Rattle.fabric_trace.specs.Known.{Found, Seen}
+use Rattle.fabric_trace.specs.Known.{UndetectedAt, Seen}
 use Rattle.trace_lines.specs.Lines.{TraceLine, Begun, Undetected}
 use Rattle.fabric_trace.specs.Runs.{start}
 use Rattle.trace_lines.specs.Text.{trace_line_text, trace_text}
@@ -114,9 +114,9 @@ taken_after taken number line (Happened event block) = record taken {
 }
 
 -- the last line of a trace that ends with an event that was acted on and not sent
-abbrev pub found_text : List (List ℕ) → ℕ → Option Found → List ℕ
-found_text names number None = []
-found_text names number (Some found) =
+abbrev pub undetected_at_text : List (List ℕ) → ℕ → Option UndetectedAt → List ℕ
+undetected_at_text names number None = []
+undetected_at_text names number (Some found) =
     trace_line_text names (Undetected number found.port found.event) ++ codes "\n"
 
 -- the answer of the line of this number, whose last line is `ok`
@@ -126,12 +126,13 @@ answer_text taken number line (SetUp lines known) = codes "ok\n"
 answer_text taken number line (Refused reason) =
     (codes "refused " ++ decimal reason ++ codes "\n") ++ codes "ok\n"
 answer_text taken number line (Happened event block) =
-    (trace_text taken.known.names (Begun event ∷ block) ++ found_text taken.known.names number
-    (seen_so_far (taken_after taken number line (Happened event block))).unfaithful) ++ codes "ok\n"
+    (trace_text taken.known.names (Begun event ∷ block)
+    ++ undetected_at_text taken.known.names number
+    (seen_so_far (taken_after taken number line (Happened event block))).undetected) ++ codes "ok\n"
 
 -- every event that was acted on was sent
 abbrev pub IsSent : Taken → Type 0
-IsSent taken = (seen_so_far taken).unfaithful ≡ None
+IsSent taken = (seen_so_far taken).undetected ≡ None
 
 -- Lines, of which the first has this number, are answered by a text, and these were taken then. No
 -- line is answered behind an event that was acted on and not sent.

@@ -2,7 +2,7 @@
 use Rattle.std.specs.Prelude.{◌≡◌, ◌⊎◌, ◌+◌, ◌-◌, ◌^◌, ℕ, List, [], ◌∷◌, ◌++◌, length, Option, Some, Bool, false, codes}
 use Rattle.std.specs.Io.KnownBytes.{Keeps}
 use Rattle.rio_chars.specs.Unless.{WritesUnless}
-use Rattle.fabric_trace.specs.Known.{Found}
+use Rattle.fabric_trace.specs.Known.{UndetectedAt}
 use Rattle.live_lines.specs.declared.status.Status.{Status}
 use Rattle.live_lines.specs.declared.status.Status.TheVariants.{Done, Words, ReadFault, WriteFault, NoMemory, Undetected, TooLong}
 use Rattle.live_lines.specs.Serving.{ServesLines}
@@ -24,7 +24,7 @@ Closes Words taken number text = ⊥
 Closes ReadFault taken number text = IsSent taken × (text ≡ [])
 Closes TooLong taken number text = IsSent taken × (text ≡ [])
 Closes Undetected taken number text =
-    ((found : Found) × ((seen_so_far taken).unfaithful ≡ Some found)) × (text ≡ [])
+    ((found : UndetectedAt) × ((seen_so_far taken).undetected ≡ Some found)) × (text ≡ [])
 Closes NoMemory taken number text = AnswerIsCut taken number text
 Closes WriteFault taken number text =
     (text ≡ []) ⊎ ((text ≡ codes "end\n") ⊎ AnswerIsCut taken number text)

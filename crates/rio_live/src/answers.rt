@@ -6,7 +6,7 @@ ghost use Rattle.fabric_script.specs.Reading.{Spells};
 ghost use Rattle.fabric_script.specs.SetUps.{for_event};
 ghost use Rattle.rio_live.specs.Lines.{Taken};
 ghost use Rattle.rio_live.specs.Holding.{LiveHolds};
-ghost use Rattle.rio_live.specs.Answers.{Happens, FallsShort, LineAnswered, BreaksOff};
+ghost use Rattle.rio_live.specs.Answers.{Happens, HappensFront, LineAnswered, AnswersFront};
 
 use crate::live::{Asked, Live};
 use fabric_ports::FabricEnd;
@@ -47,7 +47,7 @@ pub(crate) fn answer<K: Sink>(
     ensures answered { IfOk result (λ going. (taken : Taken) → LiveHolds live.old taken
         → LineAnswered taken number line.now outbox.old outbox.new live.new going) }
     ensures breaks { OnErr result ((taken : Taken) → LiveHolds live.old taken
-        → BreaksOff taken number line.now outbox.old outbox.new) }
+        → AnswersFront taken number line.now outbox.old outbox.new) }
 {
     let going = match live.take(alloc, line)? {
         Asked::Quiet => Going::On,
@@ -77,7 +77,7 @@ fn happen<K: Sink>(
         → Happens taken number line event.now outbox.old outbox.new live.new going) }
     ensures short { OnErr result ((taken : Taken) (line : List ℕ) → LiveHolds live.old taken
         → Spells (for_event taken.known) line event.now
-        → FallsShort taken event.now outbox.old outbox.new) }
+        → HappensFront taken event.now outbox.old outbox.new) }
 {
     let mut fabric = live.take_fabric(alloc)?;
     let names = live.set_up().names();

@@ -4,7 +4,7 @@ ghost use Rattle.rio_chars.specs.Written.{Writes};
 ghost use Rattle.live_lines.specs.declared.status.Status.TheVariants as ends_with;
 ghost use Rattle.rio_live.specs.Lines.{Taken, nothing_taken};
 ghost use Rattle.rio_live.specs.Holding.{LiveHolds};
-ghost use Rattle.rio_live.specs.Answers.{LineAnswered, BreaksOff, LinesStopped};
+ghost use Rattle.rio_live.specs.Answers.{LineAnswered, AnswersFront, LinesStopped};
 ghost use Rattle.rio_live.specs.Program.{LiveServes};
 
 use crate::answers::{BrokenOff, Going, answer};
@@ -86,7 +86,7 @@ fn answer_line<K: Sink>(
     ensures answered { IfOk result (λ going. (taken : Taken) → LiveHolds live.old taken
         → LineAnswered taken number line.now outbox.old outbox.new live.new going) }
     ensures breaks { OnErr result ((taken : Taken) → LiveHolds live.old taken
-        → BreaksOff taken number line.now outbox.old outbox.new) }
+        → AnswersFront taken number line.now outbox.old outbox.new) }
     ensures empty { outbox.new.waiting ≡ [] }
     ensures same { outbox.new.sink ≡ outbox.old.sink }
 {

@@ -7,7 +7,7 @@ use Rattle.link_model.specs.Places.{Place, place_start, place_after}
 use Rattle.link_model.specs.Said.{said}
 use Rattle.link_watch.specs.declared.side.Side.{Side}
 use Rattle.link_watch.specs.declared.side.Side.TheVariants.{B}
-use Rattle.link_wires.specs.Deliveries.{Delivered, Through, Unsent, told_of}
+use Rattle.link_wires.specs.Deliveries.{Delivered, Through, WentUndetected, told_of}
 use Rattle.link_wires.specs.declared.moves.Move.{Move}
 use Rattle.link_wires.specs.declared.moves.Move.TheVariants.{Held, Freed}
 use Rattle.link_machine.specs.Calls.{move_note}
@@ -126,11 +126,11 @@ moves_own a b side (Freed packet ∷ moves) chars j low =
 all_raised : (n m : ℕ) (events : List Event) (d : Delivered) → HaveRaised n m events d
     → n + freed_count (told_of d).moves ≤ raised_all m events
 all_raised n m events (Through flow) h = h.allowed
-all_raised n m events (Unsent told e) h = h
+all_raised n m events (WentUndetected told e) h = h
 
 -- the port that got the characters
 own_raised : (c : PortRef) (before : List TraceLine) (s : Seen) (p : PortRef) (chars : List Char)
-    (d : Delivered) → s.unfaithful ≡ None → IsLink s p c → taken_from s p c chars ≡ d
+    (d : Delivered) → s.undetected ≡ None → IsLink s p c → taken_from s p c chars ≡ d
     → IsCounted before s c → IsRaised (before ++ got_lines p c chars (told_of d).moves) c
 own_raised c before s p chars d none link is h =
     let heard = got_after c [] before in

@@ -93,7 +93,7 @@ raises_stepwise : (n a : ℕ) (b : PortState) (kept_a : List Event) (begin : Que
 raises_stepwise n a b kept_a begin = record {
   one = λ events e acted kept flow before next h. done_raises n a events e acted kept flow b kept_a
       begin before next h;
-  unsent = λ events flow h. h.allowed;
+  undetected = λ events flow h. h.allowed;
   more = λ events rest moves h. more_allowed (n + freed_count moves) a events rest h;
   ends = λ events flow place count h. record {
     freed = record { oldest = h.freed.oldest; all = h.freed.all };

@@ -7,7 +7,7 @@ use Rattle.link_model.proofs.PlacesLaws.{place_after-append, place_after-none}
 use Rattle.link_sound.specs.Meanings.{oldest_of}
 use Rattle.link_watch.specs.declared.side.Side.{Side}
 use Rattle.link_watch.specs.declared.side.Side.TheVariants.{B}
-use Rattle.link_wires.specs.Deliveries.{Delivered, Through, Unsent, told_of, undetected}
+use Rattle.link_wires.specs.Deliveries.{Delivered, Through, WentUndetected, told_of, undetected}
 use Rattle.link_wires.specs.declared.moves.Move.{Move}
 use Rattle.link_wires.specs.declared.moves.Move.TheVariants.{Held, Freed}
 use Rattle.link_wires.proofs.Throughs.{through_place}
@@ -18,7 +18,7 @@ use Rattle.fabric_model.proofs.Peers.{same_port-refl}
 use Rattle.trace_lines.specs.Lines.{Got, TraceLine, Signed}
 use Rattle.fabric_trace.specs.Views.{Half}
 use Rattle.fabric_trace.specs.Known.{Seen, port_seen, kept_of}
-use Rattle.fabric_trace.specs.Fold.{taken_from, half_after, found_at}
+use Rattle.fabric_trace.specs.Fold.{taken_from, half_after, undetected_at}
 use Rattle.trace_lines.specs.Notes.{port_at_side, lines_of}
 use Rattle.fabric_trace.specs.Frees.{IsSaid, Gotten, nothing_got, gets, completed, FreesSaid}
 use Rattle.fabric_trace.specs.Links.{IsLink}
@@ -78,8 +78,8 @@ moves_said a b side (Freed packet ∷ moves) known j said =
 
 -- the port that got the characters, by what came of them
 own_freed : (q : PortRef) (before : List TraceLine) (s t : Seen) (p : PortRef) (chars : List Char)
-    (d : Delivered) → s.unfaithful ≡ None → IsLink s p q → taken_from s p q chars ≡ d
-    → t.halves q ≡ half_after (s.halves q) d → t.unfaithful ≡ found_at q (undetected d)
+    (d : Delivered) → s.undetected ≡ None → IsLink s p q → taken_from s p q chars ≡ d
+    → t.halves q ≡ half_after (s.halves q) d → t.undetected ≡ undetected_at q (undetected d)
     → IsFreed before s q → IsFreed (before ++ got_lines p q chars (told_of d).moves) t q
 own_freed q before s t p chars d none link is half found h =
     by_end d is half found
@@ -132,7 +132,7 @@ own_freed q before s t p chars d none link is half found h =
         )
 
     by_end : (d' : Delivered) → taken_from s p q chars ≡ d'
-        → t.halves q ≡ half_after (s.halves q) d' → t.unfaithful ≡ found_at q (undetected d')
+        → t.halves q ≡ half_after (s.halves q) d' → t.undetected ≡ undetected_at q (undetected d')
         → HaveFreed (frees_all q before) (said (s.halves q).place chars) d'
         → IsFreed (before ++ got_lines p q chars (told_of d').moves) t q
     by_end (Through flow) is half found freed =
@@ -147,7 +147,7 @@ own_freed q before s t p chars d none link is half found h =
           oldest = λ still. ap (λ (x : Half). oldest_of x.output) half ∙ freed.oldest
               ∙ ap (λ k. k % 32) (sym (count flow.told.moves));
         }
-    by_end (Unsent told e) is half found freed = record {
+    by_end (WentUndetected told e) is half found freed = record {
       said = all_said told.moves freed;
       place = λ still. absurd (cc (found, still));
       oldest = λ still. absurd (cc (found, still));

@@ -51,9 +51,9 @@ all_got known = known.before ++ known.last
 -- oldest packet is the next to be freed.
 pub record IsFreed (before : List TraceLine) (s : Seen) (p : PortRef) : Type 0 where
   pub said : FreesSaid p nothing_got 0 before
-  pub place : s.unfaithful ≡ None
+  pub place : s.undetected ≡ None
       → (s.halves p).place ≡ place_after place_start (all_got (gets_all p nothing_got before))
-  pub oldest : s.unfaithful ≡ None → oldest_of (s.halves p).output ≡ frees_all p before % 32
+  pub oldest : s.undetected ≡ None → oldest_of (s.halves p).output ≡ frees_all p before % 32
 
 -- ---- lines in which a port gets and frees nothing
 

@@ -210,7 +210,7 @@ frees_stepwise : (n : ℕ) (b : PortState) (kept_a : List Event) (begin : Queues
 frees_stepwise n b kept_a begin = record {
   one = λ events e acted kept flow before next h. done_frees n events e acted kept flow b kept_a
       begin before next h;
-  unsent = λ events flow h. h.all;
+  undetected = λ events flow h. h.all;
   more = λ events rest moves h i few. said_more rest (h i few);
   ends = λ events flow place count h. record { oldest = h.oldest; all = h.all };
 }

@@ -226,7 +226,7 @@ comes_stepwise : (n : ℕ) (b : PortState) (kept_a : List Event) (begin : Queues
     → IsStepwise b kept_a begin (HasCome n) (AreWithin n)
 comes_stepwise n b kept_a begin = record {
   one = λ events e acted kept flow before next h. done_comes n events e acted kept flow h;
-  unsent = λ events flow h. h.within;
+  undetected = λ events flow h. h.within;
   more = λ events rest moves h. within_more rest h;
   ends = λ events flow place count h. record { expected = h.expected; within = h.within };
 }

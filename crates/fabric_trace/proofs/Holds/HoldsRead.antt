@@ -10,7 +10,7 @@ use Rattle.link_port.specs.States.{expected_of}
 use Rattle.link_machine.proofs.Settling.SaidLaws.{said-append}
 use Rattle.link_watch.specs.declared.side.Side.{Side}
 use Rattle.link_watch.specs.declared.side.Side.TheVariants.{B}
-use Rattle.link_wires.specs.Deliveries.{Delivered, Through, Unsent, told_of, undetected}
+use Rattle.link_wires.specs.Deliveries.{Delivered, Through, WentUndetected, told_of, undetected}
 use Rattle.link_wires.specs.Kept.{IsSubsequence}
 use Rattle.link_wires.specs.declared.moves.Move.{Move}
 use Rattle.link_wires.specs.declared.moves.Move.TheVariants.{Held, Freed}
@@ -21,7 +21,7 @@ use Rattle.fabric_model.proofs.Peers.{same_port-refl}
 use Rattle.trace_lines.specs.Lines.{TraceLine}
 use Rattle.fabric_trace.specs.Views.{Half}
 use Rattle.fabric_trace.specs.Known.{Seen, port_seen, kept_of}
-use Rattle.fabric_trace.specs.Fold.{says, taken_from, half_after, found_at}
+use Rattle.fabric_trace.specs.Fold.{says, taken_from, half_after, undetected_at}
 use Rattle.trace_lines.specs.Notes.{port_at_side, lines_of}
 use Rattle.fabric_trace.specs.Holds.{got, holds, numbered_packets, HoldsCame}
 use Rattle.fabric_trace.specs.Links.{IsLink}
@@ -63,8 +63,8 @@ held_is before p q chars moves =
 
 -- the port that got the characters, by what came of them
 own_read : (q : PortRef) (before : List TraceLine) (s t : Seen) (p : PortRef) (chars : List Char)
-    (d : Delivered) → s.unfaithful ≡ None → IsLink s p q → taken_from s p q chars ≡ d
-    → t.halves q ≡ half_after (s.halves q) d → t.unfaithful ≡ found_at q (undetected d)
+    (d : Delivered) → s.undetected ≡ None → IsLink s p q → taken_from s p q chars ≡ d
+    → t.halves q ≡ half_after (s.halves q) d → t.undetected ≡ undetected_at q (undetected d)
     → IsRead before s q → IsRead (before ++ got_lines p q chars (told_of d).moves) t q
 own_read q before s t p chars d none link is half found h =
     by_end d is half found
@@ -93,7 +93,7 @@ own_read q before s t p chars d none link is half found h =
         l) (sym said_is) (within-append h.within within))
 
     by_end : (d' : Delivered) → taken_from s p q chars ≡ d'
-        → t.halves q ≡ half_after (s.halves q) d' → t.unfaithful ≡ found_at q (undetected d')
+        → t.halves q ≡ half_after (s.halves q) d' → t.undetected ≡ undetected_at q (undetected d')
         → HaveCome (length (holds q before)) (said (s.halves q).place chars) d'
         → IsRead (before ++ got_lines p q chars (told_of d').moves) t q
     by_end (Through flow) is half found came =
@@ -111,7 +111,7 @@ own_read q before s t p chars d none link is half found h =
               ∙ ap (λ k. k % 32) (sym longer)
               ∙ ap (λ (l : List (List ℕ)). length l % 32) (sym (held_is before p q chars moves));
         }
-    by_end (Unsent told e) is half found came = record {
+    by_end (WentUndetected told e) is half found came = record {
       within = joined told.moves came;
       place = λ still. absurd (cc (found, still));
       expected = λ still. absurd (cc (found, still));

@@ -30,8 +30,8 @@ holds-append q (x ∷ xs) ys =
 -- expects the next one.
 pub record IsRead (before : List TraceLine) (s : Seen) (q : PortRef) : Type 0 where
   pub within : HoldsCame q before
-  pub place : s.unfaithful ≡ None → (s.halves q).place ≡ place_after place_start (got q before)
-  pub expected : s.unfaithful ≡ None → expected_of (s.halves q).input ≡ length (holds q before) % 32
+  pub place : s.undetected ≡ None → (s.halves q).place ≡ place_after place_start (got q before)
+  pub expected : s.undetected ≡ None → expected_of (s.halves q).input ≡ length (holds q before) % 32
 
 -- ---- lines in which a port gets and holds nothing
 

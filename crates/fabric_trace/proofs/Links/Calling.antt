@@ -20,7 +20,7 @@ use Rattle.fabric_model.proofs.Peers.{ArePeers, apart_back}
 use Rattle.link_machine.proofs.Settling.Bursting.{turned_is, turns_read, tell_read}
 use Rattle.rio_chars.specs.declared.chars.Char.{Char}
 use Rattle.fabric_trace.specs.Views.{half_of}
-use Rattle.fabric_trace.specs.Known.{Seen, Found, with_wire, port_seen, kept_of, wire_state, link_at}
+use Rattle.fabric_trace.specs.Known.{Seen, UndetectedAt, with_wire, port_seen, kept_of, wire_state, link_at}
 use Rattle.fabric_trace.specs.Fold.{says, sends, wire_silenced, fired_from, seen}
 use Rattle.trace_lines.specs.Notes.{lines_of}
 use Rattle.fabric_trace.specs.Links.{queues_in, IsKept, IsLink}
@@ -32,15 +32,15 @@ use Rattle.fabric_trace.proofs.Parts.Folding.{wire_own, wire_other, half_own, ha
 -- What a call at a link does: its steps are legal, and what is of other ports stays. The event that
 -- was not sent is this one. If there is none, the link is sound, and is this one.
 pub record IsCall (s t : Seen) (p q : PortRef) (steps : List Step) (m : LinkState)
-    (found : Option Found) : Type 0 where
+    (found : Option UndetectedAt) : Type 0 where
   pub legal : LegalFrom s.network steps t.network
   pub elsewhere : AreElsewhere s.network t.network p q
   pub wires : (c : PortRef) → same_port c p ≡ false → same_port c q ≡ false → t.wires c ≡ s.wires c
   pub halves : (c : PortRef) → same_port c p ≡ false → same_port c q ≡ false
       → t.halves c ≡ s.halves c
-  pub unfaithful : t.unfaithful ≡ found
-  pub link : t.unfaithful ≡ None → IsLink t p q
-  pub becomes : t.unfaithful ≡ None → link_at t p q ≡ m
+  pub undetected : t.undetected ≡ found
+  pub link : t.undetected ≡ None → IsLink t p q
+  pub becomes : t.undetected ≡ None → link_at t p q ≡ m
 
 -- ---- characters that are sent
 
@@ -63,7 +63,7 @@ wire_says s p q chars events is says_them =
 sends_call : (s : Seen) (p q : PortRef) (chars : List Char) (m : LinkState)
     → ArePeers s.network.links p q → IsLink s p q → IsSoundLink m
     → Shows (seen s (lines_of p q (sent_notes A chars))) p q m
-    → IsCall s (seen s (lines_of p q (sent_notes A chars))) p q [] m s.unfaithful
+    → IsCall s (seen s (lines_of p q (sent_notes A chars))) p q [] m s.undetected
 sends_call s p q chars m peers is sound shows =
     let t = seen s (lines_of p q (sent_notes A chars)) in
     let sent = sent_is s p q A chars in
@@ -75,7 +75,7 @@ sends_call s p q chars m peers is sound shows =
           (elsewhere_here s.network p q);
       wires = λ c x y. sent.other_wires c x;
       halves = λ c x y. sent.other_halves c x;
-      unfaithful = sent.unfaithful;
+      undetected = sent.undetected;
       link = λ none. is_link t p q m sound shows
           (subst IsKept (sym sent.wire) (sent_kept (s.wires p) chars is.kept_a))
           (subst IsKept (sym (sent.other_wires q back)) is.kept_b);
@@ -86,7 +86,7 @@ sends_call s p q chars m peers is sound shows =
 
 pub turns_call : (s : Seen) (p q : PortRef) (n : ℕ) → ArePeers s.network.links p q → IsLink s p q
     → IsCall s (seen s (lines_of p q (pump_notes A n (link_at s p q)))) p q []
-    (pumped A n (link_at s p q)) s.unfaithful
+    (pumped A n (link_at s p q)) s.undetected
 turns_call s p q n peers is =
     let l = link_at s p q in
     let chars = (bursts n l.a).chars in
@@ -128,7 +128,7 @@ tell_leaves false expected buffers output = refl
 
 pub tells_call : (s : Seen) (p q : PortRef) → ArePeers s.network.links p q → IsLink s p q
     → IsCall s (seen s (lines_of p q (tell_notes A (link_at s p q)))) p q []
-    (told_from A (link_at s p q)) s.unfaithful
+    (told_from A (link_at s p q)) s.undetected
 tells_call s p q peers is =
     let l = link_at s p q in
     let at = standing l.a in
@@ -157,7 +157,7 @@ tells_call s p q peers is =
 
 fired_call : (s : Seen) (p q : PortRef) → ArePeers s.network.links p q → IsLink s p q
     → is_silent (link_at s p q) ≡ true
-    → IsCall s (fired_from s (Some q) p) p q [] (timed_out_at A (link_at s p q)) s.unfaithful
+    → IsCall s (fired_from s (Some q) p) p q [] (timed_out_at A (link_at s p q)) s.undetected
 fired_call s p q peers is silent =
     let l = link_at s p q in
     let t = fired_from s (Some q) p in
@@ -186,7 +186,7 @@ fired_call s p q peers is silent =
       wires = λ c x y. wire_other one q (wire_silenced (s.wires q)) c y
           ∙ wire_other s.wires p (wire_silenced (s.wires p)) c x;
       halves = λ c x y. half_other s.halves p (half_of (timed_out (port_seen s p))) c x;
-      unfaithful = refl;
+      undetected = refl;
       link = λ none. is_link t p q (first_fires l) sound shows (subst IsKept (sym wire_p) (record {
         left = [];
         found = refl;
@@ -197,8 +197,8 @@ fired_call s p q peers is silent =
 pub fires_call : (s : Seen) (p q : PortRef) → ArePeers s.network.links p q → IsLink s p q
     → is_silent (link_at s p q) ≡ true
     → IsCall s (seen s (lines_of p q (time_out_notes A (link_at s p q)))) p q []
-    (timed_out_at A (link_at s p q)) s.unfaithful
+    (timed_out_at A (link_at s p q)) s.undetected
 fires_call s p q peers is silent =
     let lines = ap (λ b. seen s (lines_of p q (if b then Notes.Fire A ∷ [] else []))) silent in
-    subst (λ (t : Seen). IsCall s t p q [] (timed_out_at A (link_at s p q)) s.unfaithful)
+    subst (λ (t : Seen). IsCall s t p q [] (timed_out_at A (link_at s p q)) s.undetected)
     (sym (lines ∙ ap (λ o. fired_from s o p) peers.there)) (fired_call s p q peers is silent)

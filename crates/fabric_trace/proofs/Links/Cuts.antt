@@ -10,14 +10,14 @@ use Rattle.link_model.proofs.PlacesLaws.{run-one}
 use Rattle.link_port.specs.Ports.{PortState}
 use Rattle.link_port.specs.Steps.{is_acted}
 use Rattle.link_wires.specs.Kept.{behind}
-use Rattle.link_wires.specs.Deliveries.{Told, Flow, Delivered, Through, Unsent, begun, done, met, comes, goes_on, come, ended, flows, delivered, told_of}
+use Rattle.link_wires.specs.Deliveries.{Told, Flow, Delivered, Through, WentUndetected, begun, done, met, comes, goes_on, come, ended, flows, delivered, told_of}
 use Rattle.link_wires.proofs.DeliveryLaws.{flows-append}
 use Rattle.link_wires.proofs.Throughs.{through_count, ended_count}
 
 -- where events completed at one place lead: on, or to an event that was not sent at that place
 abbrev IsAt : ℕ → Delivered → Type 0
 IsAt at (Through flow) = Unit {0}
-IsAt at (Unsent told e) = told.count ≡ suc at
+IsAt at (WentUndetected told e) = told.count ≡ suc at
 
 met_at : (at : ℕ) (e : Event) (kept : Option (List Event)) (flow : Flow)
     → IsAt at (met at e kept flow)
@@ -36,7 +36,7 @@ comes_at flow at e =
 on_at : (at : ℕ) (more : Flow → Delivered) (d : Delivered) → ((f : Flow) → IsAt at (more f))
     → IsAt at d → IsAt at (goes_on more d)
 on_at at more (Through f) next h = next f
-on_at at more (Unsent told e) next h = h
+on_at at more (WentUndetected told e) next h = h
 
 come_at : (at : ℕ) (es : List Event) (flow : Flow) → IsAt at (come (placed at es) flow)
 unfolding come
@@ -47,7 +47,7 @@ come_at at (e ∷ es) flow = on_at at (come (placed at es)) (comes flow (at, e))
 ended_at : (at : ℕ) (place : Place) (count : ℕ) (d : Delivered) → IsAt at d
     → IsAt at (ended place count d)
 ended_at at place count (Through flow) h = tt
-ended_at at place count (Unsent told e) h = h
+ended_at at place count (WentUndetected told e) h = h
 
 -- of one character
 one_at : (c : Char) (flow : Flow) → IsAt flow.told.count (flows (c ∷ []) flow)
@@ -63,21 +63,21 @@ one_count : (c : Char) (flow next : Flow) → flows (c ∷ []) flow ≡ Through 
 one_count c flow next is = ended_count (place_after flow.port.place (c ∷ [])) (flow.told.count + 1)
     (come (run flow.port.place flow.told.count (c ∷ [])) flow) next is
 
-none_flows : (flow : Flow) (told : Told) (e : Event) → flows [] flow ≡ Unsent told e → ⊥
+none_flows : (flow : Flow) (told : Told) (e : Event) → flows [] flow ≡ WentUndetected told e → ⊥
 unfolding run come
 none_flows flow told e is = absurd cc
 
 -- what completes it is so many characters, counted from where the flow begins
 abbrev IsCut : List Char → Flow → Told → Event → Type 0
 IsCut chars flow told e = (n : ℕ) × (told.count ≡ flow.told.count + suc n)
-    × (flows (take (suc n) chars) flow ≡ Unsent told e)
+    × (flows (take (suc n) chars) flow ≡ WentUndetected told e)
 
 by_first : (c : Char) (chars : List Char) (flow : Flow) (told : Told) (e : Event) (d : Delivered)
     → flows (c ∷ []) flow ≡ d
-    → ((next : Flow) → flows chars next ≡ Unsent told e → IsCut chars next told e)
-    → flows (c ∷ chars) flow ≡ Unsent told e → IsCut (c ∷ chars) flow told e
+    → ((next : Flow) → flows chars next ≡ WentUndetected told e → IsCut chars next told e)
+    → flows (c ∷ chars) flow ≡ WentUndetected told e → IsCut (c ∷ chars) flow told e
 by_first c chars flow told e (Through next) first later is =
-    let rest : flows chars next ≡ Unsent told e =
+    let rest : flows chars next ≡ WentUndetected told e =
     sym (flows-append (c ∷ []) chars flow ∙ ap (goes_on (flows chars)) first) ∙ is in
     let more = later next rest in
     let counted = one_count c flow next first in (
@@ -86,27 +86,28 @@ by_first c chars flow told e (Through next) first later is =
       flows-append (c ∷ []) (take (suc more.0) chars) flow
           ∙ ap (goes_on (flows (take (suc more.0) chars))) first ∙ more.2,
     )
-by_first c chars flow told e (Unsent other f) first later is =
-    let same : Unsent other f ≡ Unsent told e =
+by_first c chars flow told e (WentUndetected other f) first later is =
+    let same : WentUndetected other f ≡ WentUndetected told e =
     sym (flows-append (c ∷ []) chars flow ∙ ap (goes_on (flows chars)) first) ∙ is in
-    let at : IsAt flow.told.count (Unsent told e) = subst (IsAt flow.told.count) (first ∙ same)
+    let at : IsAt flow.told.count (WentUndetected told e) =
+        subst (IsAt flow.told.count) (first ∙ same)
     (one_at c flow) in
     (0, omega (arith, at), first ∙ same)
 
 cut : (chars : List Char) (flow : Flow) (told : Told) (e : Event) → flows chars flow
-    ≡ Unsent told e → IsCut chars flow told e
+    ≡ WentUndetected told e → IsCut chars flow told e
 cut [] flow told e is = absurd (none_flows flow told e is)
 cut (c ∷ chars) flow told e is =
     by_first c chars flow told e (flows (c ∷ []) flow) refl
     (λ next rest. cut chars next told e rest) is
 
 delivered_cut : (port : PortState) (kept : List Event) (chars : List Char) (told : Told) (e : Event)
-    → delivered port kept chars ≡ Unsent told e
-    → delivered port kept (take told.count chars) ≡ Unsent told e
+    → delivered port kept chars ≡ WentUndetected told e
+    → delivered port kept (take told.count chars) ≡ WentUndetected told e
 delivered_cut port kept chars told e is =
     let at = cut chars (begun port kept) told e is in
     let counted : suc at.0 ≡ told.count = omega (arith, at.1) in
-    subst (λ (n : ℕ). delivered port kept (take n chars) ≡ Unsent told e) counted at.2
+    subst (λ (n : ℕ). delivered port kept (take n chars) ≡ WentUndetected told e) counted at.2
 
 all_taken : (chars : List Char) (n : ℕ) → n ≡ length chars → take n chars ≡ chars
 all_taken chars n is = take_all n chars (omega (arith, is))
@@ -118,4 +119,4 @@ pub taken_again : (port : PortState) (kept : List Event) (chars : List Char) (d 
 taken_again port kept chars (Through flow) is =
     ap (delivered port kept)
     (all_taken chars flow.told.count (through_count port kept chars flow is)) ∙ is
-taken_again port kept chars (Unsent told e) is = delivered_cut port kept chars told e is
+taken_again port kept chars (WentUndetected told e) is = delivered_cut port kept chars told e is

@@ -11,7 +11,7 @@ use Rattle.link_machine.proofs.Settling.AnswerLaws.{port_narrow, replies_answer}
 use Rattle.link_machine.proofs.Settling.Lines.{OnFlow, IsFed, by_tables}
 use Rattle.link_watch.specs.declared.note.Note.{Note}
 use Rattle.link_watch.specs.declared.side.Side.TheVariants.{A, B}
-use Rattle.link_wires.specs.Deliveries.{Told, Flow, Delivered, Through, Unsent, delivered, told_of, undetected}
+use Rattle.link_wires.specs.Deliveries.{Told, Flow, Delivered, Through, WentUndetected, delivered, told_of, undetected}
 use Rattle.link_wires.specs.Wires.{answers}
 use Rattle.link_wires.specs.Kept.{behind_all}
 use Rattle.link_wires.proofs.ActedLaws.{IsFound, delivered_found}
@@ -29,7 +29,7 @@ use Rattle.fabric_model.proofs.Peers.{ArePeers, apart_back}
 use Rattle.trace_lines.specs.Lines.{Got, steps_of}
 use Rattle.fabric_trace.specs.Views.{Half, half_of}
 use Rattle.fabric_trace.specs.Known.{Wire, Seen, port_seen, kept_of, wire_state, link_at}
-use Rattle.fabric_trace.specs.Fold.{says, sends, wire_sent, half_sent, taken_from, half_after, found_at, got_from, signed, seen}
+use Rattle.fabric_trace.specs.Fold.{says, sends, wire_sent, half_sent, taken_from, half_after, undetected_at, got_from, signed, seen}
 use Rattle.trace_lines.specs.Notes.{lines_of}
 use Rattle.fabric_trace.specs.Links.{queues_in, IsKept, IsLink}
 use Rattle.fabric_trace.proofs.Links.Bursts.{answers_say, answers_leave}
@@ -58,7 +58,7 @@ record IsTaken (s t : Seen) (p q : PortRef) (chars replies : List Char) (d : Del
         → t.wires c ≡ s.wires c
     pub halves : (c : PortRef) → same_port c p ≡ false → same_port c q ≡ false
         → t.halves c ≡ s.halves c
-    pub unfaithful : t.unfaithful ≡ found_at q (undetected d)
+    pub undetected : t.undetected ≡ undetected_at q (undetected d)
 
 after_got : (s t : Seen) (p q : PortRef) (chars replies : List Char) (d : Delivered) (net : Network)
     → ArePeers s.network.links p q → taken_from s p q chars ≡ d
@@ -85,7 +85,7 @@ after_got s t p q chars replies d net peers is sent =
           ∙ ap (half_after (s.halves q)) is);
       wires = λ c x y. sent.other_wires c y ∙ wire_elsewhere c x;
       halves = λ c x y. sent.other_halves c y ∙ half_elsewhere c y;
-      unfaithful = sent.unfaithful ∙ ap (λ (x : Delivered). found_at q (undetected x)) is;
+      undetected = sent.undetected ∙ ap (λ (x : Delivered). undetected_at q (undetected x)) is;
     }
 
 -- the lines of a delivery
@@ -208,7 +208,7 @@ by_delivery : (s : Seen) (p q : PortRef) (n : ℕ) (d : Delivered) → ArePeers 
     (take (told_of d).count (take n (s.wires p).chars)) (answers (told_of d).replies).chars d
     → IsCall s (seen s (lines_of p q (delivery_notes A n (link_at s p q)))) p q
     (steps_of (lines_of p q (delivery_notes A n (link_at s p q))))
-    (delivered_from A n (link_at s p q)) (found_at q (undetected d))
+    (delivered_from A n (link_at s p q)) (undetected_at q (undetected d))
 by_delivery s p q n (Through flow) peers is has through taken =
     let l = link_at s p q in
     let chars = take n (s.wires p).chars in
@@ -235,11 +235,11 @@ by_delivery s p q n (Through flow) peers is has through taken =
       elsewhere = led.2;
       wires = taken.wires;
       halves = taken.halves;
-      unfaithful = taken.unfaithful;
+      undetected = taken.undetected;
       link = λ none. done.0;
       becomes = λ none. done.1 ∙ sym link;
     }
-by_delivery s p q n (Unsent told e) peers is has missed taken =
+by_delivery s p q n (WentUndetected told e) peers is has missed taken =
     let l = link_at s p q in
     let some = delivery_steps A n l is.sound in
     let led =
@@ -250,12 +250,12 @@ by_delivery s p q n (Unsent told e) peers is has missed taken =
       elsewhere = led.2;
       wires = taken.wires;
       halves = taken.halves;
-      unfaithful = taken.unfaithful;
-      link = λ none. absurd (some_none q e (sym taken.unfaithful ∙ none));
-      becomes = λ none. absurd (some_none q e (sym taken.unfaithful ∙ none));
+      undetected = taken.undetected;
+      link = λ none. absurd (some_none q e (sym taken.undetected ∙ none));
+      becomes = λ none. absurd (some_none q e (sym taken.undetected ∙ none));
     }
   where
-    some_none : (q : PortRef) (e : Event) → found_at q (Some e) ≡ None → ⊥
+    some_none : (q : PortRef) (e : Event) → undetected_at q (Some e) ≡ None → ⊥
     some_none q e is = absurd cc
 
 pub delivers_call : (s : Seen) (p q : PortRef) (n : ℕ) → ArePeers s.network.links p q → IsLink s p q
@@ -263,7 +263,7 @@ pub delivers_call : (s : Seen) (p q : PortRef) (n : ℕ) → ArePeers s.network.
     → IsCall s (seen s (lines_of p q (delivery_notes A n (link_at s p q)))) p q
     (steps_of (lines_of p q (delivery_notes A n (link_at s p q))))
     (delivered_from A n (link_at s p q))
-    (found_at q (undetected (delivery_from A n (link_at s p q))))
+    (undetected_at q (undetected (delivery_from A n (link_at s p q))))
 delivers_call s p q n peers is has =
     let l = link_at s p q in
     let chars = take n (s.wires p).chars in

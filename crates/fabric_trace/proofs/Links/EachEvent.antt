@@ -14,7 +14,7 @@ use Rattle.link_machine.proofs.Flowing.{IsFlowing, AreFlowing, comes_flowing}
 use Rattle.link_machine.proofs.Arriving.{HasAckAt, run_has}
 use Rattle.link_machine.proofs.Walking.{Stays}
 use Rattle.link_sound.specs.Sound.{IsSound}
-use Rattle.link_wires.specs.Deliveries.{Flow, Delivered, Through, Unsent, begun, done, met, comes, goes_on, come, ended}
+use Rattle.link_wires.specs.Deliveries.{Flow, Delivered, Through, WentUndetected, begun, done, met, comes, goes_on, come, ended}
 use Rattle.link_wires.specs.Kept.{behind}
 use Rattle.link_wires.specs.declared.moves.Move.{Move}
 use Rattle.fabric_script.specs.declared.ports.PortRef.{PortRef}
@@ -26,7 +26,7 @@ use Rattle.fabric_trace.specs.Links.{IsLink}
 abbrev pub OfDelivery : (List Event → Flow → Type 0) → (List Event → List Move → Type 0)
     → List Event → Delivered → Type 0
 OfDelivery P U events (Through flow) = P events flow
-OfDelivery P U events (Unsent told e) = U events told.moves
+OfDelivery P U events (WentUndetected told e) = U events told.moves
 
 -- one event keeps it, the link being sound before and after; it says enough for a flow that ends
 -- here; and more events and the end of the characters take nothing away
@@ -35,7 +35,7 @@ pub record IsStepwise (b : PortState) (kept_a : List Event) (begin : Queues)
   pub one : (events : List Event) (e : Event) (acted kept : List Event) (flow : Flow)
       → IsFlowing b kept_a begin flow → IsFlowing b kept_a begin (done e acted kept flow)
       → P events flow → P (events ++ e ∷ []) (done e acted kept flow)
-  pub unsent : (events : List Event) (flow : Flow) → P events flow → U events flow.told.moves
+  pub undetected : (events : List Event) (flow : Flow) → P events flow → U events flow.told.moves
   pub more : (events rest : List Event) (moves : List Move) → U events moves
       → U (events ++ rest) moves
   pub ends : (events : List Event) (flow : Flow) (place : Place) (count : ℕ) → P events flow
@@ -47,7 +47,7 @@ met_keeps : {b : PortState} {kept_a : List Event} {begin : Queues} {P : List Eve
     → IsFlowing b kept_a begin flow → AreFlowing b kept_a begin (met at e kept flow)
     → P events flow → OfDelivery P U (events ++ e ∷ []) (met at e kept flow)
 met_keeps k events at e None flow before next h =
-    k.more events (e ∷ []) flow.told.moves (k.unsent events flow h)
+    k.more events (e ∷ []) flow.told.moves (k.undetected events flow h)
 met_keeps k events at e (Some kept) flow before next h =
     k.one events e (e ∷ []) kept flow before next h
 
@@ -82,7 +82,7 @@ on_keeps : {b : PortState} {kept_a : List Event} {begin : Queues} {P : List Even
     → OfDelivery P U (events ++ rest) (more f)) → AreFlowing b kept_a begin d
     → OfDelivery P U events d → OfDelivery P U (events ++ rest) (goes_on more d)
 on_keeps k events rest more (Through f) next flowing h = next f flowing h
-on_keeps k events rest more (Unsent told e) next flowing h = k.more events rest told.moves h
+on_keeps k events rest more (WentUndetected told e) next flowing h = k.more events rest told.moves h
 
 come_keeps : {b : PortState} {kept_a : List Event} {begin : Queues} {P : List Event → Flow → Type 0}
     {U : List Event → List Move → Type 0} → IsStepwise b kept_a begin P U
@@ -108,7 +108,7 @@ ended_keeps : {b : PortState} {kept_a : List Event} {begin : Queues}
     → (events : List Event) (place : Place) (count : ℕ) (d : Delivered) → OfDelivery P U events d
     → OfDelivery P U events (ended place count d)
 ended_keeps k events place count (Through flow) h = k.ends events flow place count h
-ended_keeps k events place count (Unsent told e) h = h
+ended_keeps k events place count (WentUndetected told e) h = h
 
 -- of what is known: characters of the wire of p come to q
 pub taken_keeps : (s : Seen) (p q : PortRef) (chars : List Char) {P : List Event → Flow → Type 0}

@@ -6,7 +6,7 @@ use Rattle.link_watch.specs.declared.note.Note.{Note}
 use Rattle.link_watch.specs.declared.note.Note.TheVariants as Notes
 use Rattle.link_watch.specs.declared.side.Side.{Side}
 use Rattle.link_watch.specs.declared.side.Side.TheVariants.{A, B}
-use Rattle.link_wires.specs.Deliveries.{Delivered, Through, Unsent}
+use Rattle.link_wires.specs.Deliveries.{Delivered, Through, WentUndetected}
 use Rattle.link_wires.specs.Wires.{bursts}
 use Rattle.link_machine.specs.States.{LinkState, turned_round}
 use Rattle.link_machine.specs.Calls.{first_takes, has_chars, delivery_from, has_none, is_silent, first_fires, time_out_notes}
@@ -61,11 +61,11 @@ reaches_round s a b lines other to turned same is r = record {
       (others_round r.others);
   there = λ m at.
       let t = r.there (turned_round m) (round_back to m (sym is ∙ at)) in (
-        ap (λ (l : List TraceLine). (seen s l).unfaithful) same ∙ t.0,
+        ap (λ (l : List TraceLine). (seen s l).undetected) same ∙ t.0,
         ap (λ (l : List TraceLine). link_at (seen s l) a b) same ∙ ap turned_round t.1,
       );
   found = λ side e at.
-      ap (λ (l : List TraceLine). (seen s l).unfaithful) same
+      ap (λ (l : List TraceLine). (seen s l).undetected) same
       ∙ r.found (other_side side) e (round_found to side e (sym is ∙ at))
       ∙ ap (λ (p : PortRef). Some (record { port = p; event = e })) (side_round a b side);
 }
@@ -73,7 +73,7 @@ reaches_round s a b lines other to turned same is r = record {
 delivered_round : (l : LinkState) (d : Delivered)
     → reached_by A l d ≡ round (reached_by B (turned_round l) d)
 delivered_round l (Through flow) = refl
-delivered_round l (Unsent told e) = refl
+delivered_round l (WentUndetected told e) = refl
 
 deliver_round : (n : ℕ) (l : LinkState)
     → after_act (DeliverAct B n) l ≡ round (after_act (DeliverAct A n) (turned_round l))
@@ -132,7 +132,7 @@ fired_round a b l =
     fired_lines a b (is_silent l)
     ∙ ap (λ x. lines_of b a (if x then Notes.Fire A ∷ [] else [])) (silent_round l)
 
-pub act_reaches : (s : Seen) (a b : PortRef) (act : Act) → IsGood s → s.unfaithful ≡ None
+pub act_reaches : (s : Seen) (a b : PortRef) (act : Act) → IsGood s → s.undetected ≡ None
     → ArePeers s.network.links a b
     → Reaches s a b (lines_of a b (act_notes act (link_at s a b))) (after_act act (link_at s a b))
 act_reaches s a b (PumpAct A n) good none peers = pump_reaches s a b n good none peers
@@ -184,7 +184,7 @@ more_goes l act acts = refl
 -- what leads to a link, and then what is done from there
 reaches_more : (s : Seen) (a b : PortRef) (first : List TraceLine) (to : Reached) (acts : List Act)
     → Reaches s a b first to
-    → ((m : LinkState) → (seen s first).unfaithful ≡ None → link_at (seen s first) a b ≡ m
+    → ((m : LinkState) → (seen s first).undetected ≡ None → link_at (seen s first) a b ≡ m
     → Reaches (seen s first) a b (lines_of a b (acts_notes (At m) acts)) (goes (At m) acts))
     → Reaches s a b (first ++ lines_of a b (acts_notes to acts)) (goes to acts)
 reaches_more s a b first (At m) acts one more =
@@ -197,10 +197,10 @@ reaches_more s a b first (At m) acts one more =
       others = subst (λ (x : Seen). AreOthers s x a b) (sym joined)
           (others_on one.others rest.others);
       there = λ n is. (
-        ap (λ (x : Seen). x.unfaithful) joined ∙ (rest.there n is).0,
+        ap (λ (x : Seen). x.undetected) joined ∙ (rest.there n is).0,
         ap (λ (x : Seen). link_at x a b) joined ∙ (rest.there n is).1,
       );
-      found = λ side e is. ap (λ (x : Seen). x.unfaithful) joined ∙ rest.found side e is;
+      found = λ side e is. ap (λ (x : Seen). x.undetected) joined ∙ rest.found side e is;
     }
 reaches_more s a b first (FoundAt side e) acts one more =
     let none : first ++ lines_of a b (acts_notes (FoundAt side e) acts) ≡ first =
@@ -208,7 +208,7 @@ reaches_more s a b first (FoundAt side e) acts one more =
     reaches_by s a b first _ (FoundAt side e) _ none (found_goes side e acts) one
 
 -- whatever is done on a link is made of parts
-pub acts_reach : (acts : List Act) (s : Seen) (a b : PortRef) → IsGood s → s.unfaithful ≡ None
+pub acts_reach : (acts : List Act) (s : Seen) (a b : PortRef) → IsGood s → s.undetected ≡ None
     → ArePeers s.network.links a b
     → Reaches s a b (lines_of a b (acts_notes (At (link_at s a b)) acts))
     (goes (At (link_at s a b)) acts)
@@ -221,7 +221,7 @@ acts_reach [] s a b good none peers =
       others = subst (λ (l : List TraceLine). AreOthers s (seen s l) a b) (sym lines)
           (others_here s a b);
       there = λ m is. (
-        ap (λ (l : List TraceLine). (seen s l).unfaithful) lines ∙ none,
+        ap (λ (l : List TraceLine). (seen s l).undetected) lines ∙ none,
         ap (λ (l : List TraceLine). link_at (seen s l) a b) lines
             ∙ at_is (link_at s a b) m (sym to ∙ is),
       );

@@ -8,7 +8,7 @@ use Rattle.link_model.specs.Places.{Place, run, place_after}
 use Rattle.link_port.specs.Ports.{PortState}
 use Rattle.link_port.specs.Steps.{acts, is_acted}
 use Rattle.link_sound.specs.Told.{IsTold, TellsAs, last_report}
-use Rattle.link_wires.specs.Deliveries.{Flow, Delivered, Through, Unsent, begun, done, met, comes, goes_on, come, ended, delivered}
+use Rattle.link_wires.specs.Deliveries.{Flow, Delivered, Through, WentUndetected, begun, done, met, comes, goes_on, come, ended, delivered}
 use Rattle.link_wires.specs.Kept.{behind}
 use Rattle.fabric_script.specs.declared.ports.PortRef.{PortRef}
 use Rattle.fabric_model.specs.Network.{Network, peer_in}
@@ -23,7 +23,7 @@ use Rattle.fabric_trace.proofs.Parts.Folding.{network_is}
 -- the port tells as before, where every event was sent
 abbrev TellsStill : Bool → Delivered → Type 0
 TellsStill tells (Through flow) = flow.port.tells ≡ tells
-TellsStill tells (Unsent told e) = Unit {0}
+TellsStill tells (WentUndetected told e) = Unit {0}
 
 act_tells : (port : PortState) (e : Event) → (acts port e).port.tells ≡ port.tells
 act_tells port (Ctl symbol) = refl
@@ -49,7 +49,7 @@ on_tells : (tells : Bool) (more : Flow → Delivered) (d : Delivered)
     → TellsStill tells (goes_on more d)
 on_tells tells more (Through flow) next is =
     subst (λ b. TellsStill b (more flow)) is (next flow)
-on_tells tells more (Unsent told e) next is = tt
+on_tells tells more (WentUndetected told e) next is = tt
 
 come_tells : (events : List (ℕ × Event)) (flow : Flow)
     → TellsStill flow.port.tells (come events flow)
@@ -62,7 +62,7 @@ come_tells (placed ∷ events) flow =
 ended_tells : (tells : Bool) (place : Place) (count : ℕ) (d : Delivered) → TellsStill tells d
     → TellsStill tells (ended place count d)
 ended_tells tells place count (Through flow) is = is
-ended_tells tells place count (Unsent told e) is = tt
+ended_tells tells place count (WentUndetected told e) is = tt
 
 pub through_tells : (port : PortState) (kept : List Event) (chars : List Char) (flow : Flow)
     → delivered port kept chars ≡ Through flow → flow.port.tells ≡ port.tells

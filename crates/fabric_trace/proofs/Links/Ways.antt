@@ -24,7 +24,7 @@ use Rattle.fabric_trace.proofs.Parts.Keeping.{IsGood, part_keeps}
 use Rattle.link_port.specs.Turns.{tell_sends}
 
 -- a port of a sound link
-got_works : (s : Seen) (q : PortRef) (chars : List Char) → IsGood s → s.unfaithful ≡ None
+got_works : (s : Seen) (q : PortRef) (chars : List Char) → IsGood s → s.undetected ≡ None
     → WorksWithin s (Signed (Got q chars))
 got_works s q chars good none p events peer =
     let link = (good.links none q p peer).sound in

@@ -17,8 +17,8 @@ use Rattle.fabric_model.proofs.Devices.{length-with_device}
 use Rattle.fabric_model.proofs.Flows.{switches_stay}
 use Rattle.fabric_model.proofs.Joining.{links_stay}
 use Rattle.fabric_trace.specs.Events.{HasLink, IsThere, MayHappen}
-use Rattle.fabric_trace.specs.Fold.{edit_of, taken_from, found_at, got_from, seen_line, seen}
-use Rattle.fabric_trace.specs.Known.{Found, Seen, peer_of}
+use Rattle.fabric_trace.specs.Fold.{edit_of, taken_from, undetected_at, got_from, seen_line, seen}
+use Rattle.fabric_trace.specs.Known.{UndetectedAt, Seen, peer_of}
 use Rattle.trace_lines.specs.Lines.{TraceLine, Begun, Stepped, Signed, Lacked, Ended, Undetected, Sent, Got, Fired}
 use Rattle.fabric_trace.specs.Runs.{begins}
 use Rattle.fabric_trace.proofs.Parts.Folding.{edited_net, got_net, fired_net, edited_found, fired_found}
@@ -86,24 +86,27 @@ IsLinked links port = (p : PortRef) × (peer_in links port ≡ Some p)
 
 -- if an event was found, then at a port with a link
 abbrev FindsLinked : Seen → Type 0
-FindsLinked s = (found : Found) → s.unfaithful ≡ Some found → IsLinked s.network.links found.port
+FindsLinked s = (found : UndetectedAt) → s.undetected ≡ Some found
+    → IsLinked s.network.links found.port
 
 got_linked : (s : Seen) (q : PortRef) (chars : List Char) (peer : Option PortRef) → peer_of s q
-    ≡ peer → FindsLinked s → (found : Found) → (got_from s peer q chars).unfaithful ≡ Some found
+    ≡ peer → FindsLinked s → (found : UndetectedAt) → (got_from s peer q chars).undetected
+    ≡ Some found
     → IsLinked s.network.links found.port
 got_linked s q chars None is linked found finds = linked found finds
 got_linked s q chars (Some p) is linked found finds = by_end (undetected (taken_from s p q chars))
     finds
   where
-    by_end : (e : Option Event) → found_at q e ≡ Some found → IsLinked s.network.links found.port
+    by_end : (e : Option Event) → undetected_at q e ≡ Some found
+        → IsLinked s.network.links found.port
     by_end None same = absurd cc
     by_end (Some e) same =
         let port : q ≡ found.port = cc
         in
         (p, ap (peer_in s.network.links) (sym port) ∙ is)
 
-line_linked : (s : Seen) (line : TraceLine) → FindsLinked s → (found : Found)
-    → (seen_line s line).unfaithful ≡ Some found → IsLinked s.network.links found.port
+line_linked : (s : Seen) (line : TraceLine) → FindsLinked s → (found : UndetectedAt)
+    → (seen_line s line).undetected ≡ Some found → IsLinked s.network.links found.port
 line_linked s (Begun line) linked found finds =
     linked found (sym (edited_found s (edit_of line)) ∙ finds)
 line_linked s (Stepped step) linked found finds = linked found finds
@@ -124,8 +127,8 @@ lines_linked (line ∷ lines) s linked =
     (sym (line_board s line).links) (line_linked s line linked found finds))
 
 -- an event that is found from the start of a trace on
-pub found_linked : (lines : List TraceLine) (net : Network) (found : Found)
-    → (seen (begins net) lines).unfaithful ≡ Some found → IsLinked net.links found.port
+pub found_linked : (lines : List TraceLine) (net : Network) (found : UndetectedAt)
+    → (seen (begins net) lines).undetected ≡ Some found → IsLinked net.links found.port
 found_linked lines net found finds =
     let linked = lines_linked lines (begins net) (λ other none. absurd cc) found finds in
     subst (λ (l : List (PortRef × PortRef)). IsLinked l found.port)

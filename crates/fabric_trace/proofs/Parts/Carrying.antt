@@ -15,7 +15,7 @@ use Rattle.fabric_model.specs.Steps.{after_all}
 use Rattle.fabric_model.proofs.Peers.{port_is}
 use Rattle.trace_lines.specs.Lines.{Got, TraceLine, Signed}
 use Rattle.fabric_trace.specs.Known.{Seen, peer_of, port_seen, kept_of, link_at}
-use Rattle.fabric_trace.specs.Fold.{taken_from, half_after, found_at, got_from, seen}
+use Rattle.fabric_trace.specs.Fold.{taken_from, half_after, undetected_at, got_from, seen}
 use Rattle.trace_lines.specs.Notes.{lines_of}
 use Rattle.fabric_trace.specs.Links.{IsLink}
 use Rattle.fabric_trace.specs.Parts.{Part, PartBegins, PartLacks, PartEnds, PartNames, PartSteps, PartServes, PartTurns, PartTells, PartDelivers, PartFires, Made, Done, Then}
@@ -35,8 +35,8 @@ pub record Carries (c : PortRef) (P : List TraceLine → Seen → Type 0) : Type
   pub quiet : (before lines : List TraceLine) (s t : Seen) → IsQuiet c lines → StaysSo s t c
       → P before s → P (before ++ lines) t
   pub gets : (before : List TraceLine) (s t : Seen) (p : PortRef) (chars : List Char)
-      (d : Delivered) → s.unfaithful ≡ None → IsLink s p c → taken_from s p c chars ≡ d
-      → t.halves c ≡ half_after (s.halves c) d → t.unfaithful ≡ found_at c (undetected d)
+      (d : Delivered) → s.undetected ≡ None → IsLink s p c → taken_from s p c chars ≡ d
+      → t.halves c ≡ half_after (s.halves c) d → t.undetected ≡ undetected_at c (undetected d)
       → P before s → P (before ++ got_lines p c chars (told_of d).moves) t
 
 -- ---- lines, joined
@@ -68,7 +68,7 @@ got_seen s p q chars moves back =
 
 carry_own : {c : PortRef} {P : List TraceLine → Seen → Type 0} → Carries c P
     → (before : List TraceLine) (s : Seen) (p : PortRef) (chars : List Char) (d : Delivered)
-    → s.unfaithful ≡ None → P before s → peer_of s c ≡ Some p → IsLink s p c
+    → s.undetected ≡ None → P before s → peer_of s c ≡ Some p → IsLink s p c
     → taken_from s p c chars ≡ d
     → P (before ++ got_lines p c chars (told_of d).moves)
     (seen s (got_lines p c chars (told_of d).moves))
@@ -79,15 +79,15 @@ carry_own {c} {P} k before s p chars d none h back link is =
     ap (λ (x : Seen). x.halves c) there
     ∙ half_own s.halves c (half_after (s.halves c) (taken_from s p c chars))
     ∙ ap (half_after (s.halves c)) is in
-    let found : (seen s lines).unfaithful ≡ found_at c (undetected d) =
-    ap (λ (x : Seen). x.unfaithful) there
-    ∙ ap (λ (x : Delivered). found_at c (undetected x)) is in
+    let found : (seen s lines).undetected ≡ undetected_at c (undetected d) =
+    ap (λ (x : Seen). x.undetected) there
+    ∙ ap (λ (x : Delivered). undetected_at c (undetected x)) is in
     k.gets before s (seen s lines) p chars d none link is half found h
 
 -- to any port
 carry_got : {c : PortRef} {P : List TraceLine → Seen → Type 0} → Carries c P
     → (before : List TraceLine) (s : Seen) (p q : PortRef) (chars : List Char) (d : Delivered)
-    → s.unfaithful ≡ None → P before s → peer_of s q ≡ Some p → IsLink s p q
+    → s.undetected ≡ None → P before s → peer_of s q ≡ Some p → IsLink s p q
     → taken_from s p q chars ≡ d
     → P (before ++ got_lines p q chars (told_of d).moves)
     (seen s (got_lines p q chars (told_of d).moves))
@@ -118,7 +118,7 @@ carry_still {c} {P} k before lines s still h =
 
 carry_delivery : {c : PortRef} {P : List TraceLine → Seen → Type 0} → Carries c P
     → (before : List TraceLine) (s : Seen) (p q : PortRef) (n : ℕ) → peer_of s q ≡ Some p
-    → s.unfaithful ≡ None → IsLink s p q → has_chars A n (link_at s p q) ≡ true → P before s
+    → s.undetected ≡ None → IsLink s p q → has_chars A n (link_at s p q) ≡ true → P before s
     → P (before ++ lines_of p q (delivery_notes A n (link_at s p q)))
     (seen s (lines_of p q (delivery_notes A n (link_at s p q))))
 carry_delivery {c} {P} k before s p q n back none link has h =

@@ -65,7 +65,7 @@ pub record IsSent (s t : Seen) (p : PortRef) (chars : List Char) : Type 0 where
   pub other_wires : (c : PortRef) → same_port c p ≡ false → t.wires c ≡ s.wires c
   pub other_halves : (c : PortRef) → same_port c p ≡ false → t.halves c ≡ s.halves c
   pub network : t.network ≡ s.network
-  pub unfaithful : t.unfaithful ≡ s.unfaithful
+  pub undetected : t.undetected ≡ s.undetected
 
 nothing_sent : (s : Seen) (p : PortRef) → IsSent s s p []
 nothing_sent s p = record {
@@ -81,7 +81,7 @@ nothing_sent s p = record {
   other_wires = λ c apart. refl;
   other_halves = λ c apart. refl;
   network = refl;
-  unfaithful = refl;
+  undetected = refl;
 }
 
 some_sent : (s : Seen) (p : PortRef) (chars : List Char) → IsSent s (signed s (Sent p chars)) p
@@ -92,7 +92,7 @@ some_sent s p chars = record {
   other_wires = λ c apart. wire_other s.wires p (wire_sent (s.wires p) chars) c apart;
   other_halves = λ c apart. half_other s.halves p (half_sent (s.halves p) chars) c apart;
   network = refl;
-  unfaithful = refl;
+  undetected = refl;
 }
 
 pub sent_is : (s : Seen) (a b : PortRef) (side : Side) (chars : List Char)
@@ -172,12 +172,12 @@ fired_net s (Some q) p = refl
 -- ---- what was found
 
 pub edited_found : (s : Seen) (edit : Option (PortRef × Edit))
-    → (edited_by s edit).unfaithful ≡ s.unfaithful
+    → (edited_by s edit).undetected ≡ s.undetected
 edited_found s None = refl
 edited_found s (Some edit) = refl
 
 pub fired_found : (s : Seen) (peer : Option PortRef) (p : PortRef)
-    → (fired_from s peer p).unfaithful ≡ s.unfaithful
+    → (fired_from s peer p).undetected ≡ s.undetected
 fired_found s None p = refl
 fired_found s (Some q) p = refl
 

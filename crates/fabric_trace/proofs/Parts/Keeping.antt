@@ -25,7 +25,7 @@ use Rattle.fabric_model.proofs.Boards.{first_item}
 use Rattle.fabric_model.proofs.Lanes.{AreWell, well_on, well_priority, well_passes}
 use Rattle.fabric_model.proofs.Peers.{ArePeers, peer_back}
 use Rattle.trace_lines.specs.Lines.{TraceLine, Begun, Stepped, Signed, Lacked, Ended, Undetected, steps_of}
-use Rattle.fabric_trace.specs.Known.{Seen, Found, peer_of, link_at}
+use Rattle.fabric_trace.specs.Known.{Seen, UndetectedAt, peer_of, link_at}
 use Rattle.fabric_trace.specs.Fold.{edit_of, edited_by, seen_line, seen}
 use Rattle.trace_lines.specs.Notes.{lines_of}
 use Rattle.fabric_trace.specs.Links.{AreLinks}
@@ -53,7 +53,7 @@ steps_of-append (Undetected number q e ∷ xs) ys = steps_of-append xs ys
 pub record IsGood (s : Seen) : Type 0 where
   pub well : AreWell s.network
   pub proper : AreProper s.network.links
-  pub links : s.unfaithful ≡ None → AreLinks s
+  pub links : s.undetected ≡ None → AreLinks s
 
 pub good_peers : {s : Seen} (p q : PortRef) → IsGood s → peer_of s p ≡ Some q
     → ArePeers s.network.links p q
@@ -87,7 +87,7 @@ fired_no_steps a b true = refl
 fired_no_steps a b false = refl
 
 call_keeps : (s : Seen) (lines : List TraceLine) (p q : PortRef) (steps : List Step) (m : LinkState)
-    (found : Option Found) → IsGood s → s.unfaithful ≡ None
+    (found : Option UndetectedAt) → IsGood s → s.undetected ≡ None
     → ArePeers s.network.links p q → steps_of lines ≡ steps
     → IsCall s (seen s lines) p q steps m found → IsKept s lines
 call_keeps s lines p q steps m found good none peers is call =
@@ -109,14 +109,14 @@ call_keeps s lines p q steps m found good none peers is call =
     }
 
 turns_keep : (s : Seen) (p q : PortRef) (n : ℕ) → IsGood s → peer_of s p ≡ Some q
-    → s.unfaithful ≡ None → IsKept s (lines_of p q (pump_notes A n (link_at s p q)))
+    → s.undetected ≡ None → IsKept s (lines_of p q (pump_notes A n (link_at s p q)))
 turns_keep s p q n good peer none =
     let peers = good_peers p q good peer in
     call_keeps s _ p q [] _ _ good none peers
     (sent_no_steps p q A (bursts n (link_at s p q).a).chars)
     (turns_call s p q n peers (good.links none p q peer))
 
-tells_keep : (s : Seen) (p q : PortRef) → IsGood s → peer_of s p ≡ Some q → s.unfaithful ≡ None
+tells_keep : (s : Seen) (p q : PortRef) → IsGood s → peer_of s p ≡ Some q → s.undetected ≡ None
     → IsKept s (lines_of p q (tell_notes A (link_at s p q)))
 tells_keep s p q good peer none =
     let peers = good_peers p q good peer in
@@ -124,7 +124,7 @@ tells_keep s p q good peer none =
     (sent_no_steps p q A (tell_sends (link_at s p q).a).chars)
     (tells_call s p q peers (good.links none p q peer))
 
-fires_keep : (s : Seen) (p q : PortRef) → IsGood s → peer_of s p ≡ Some q → s.unfaithful ≡ None
+fires_keep : (s : Seen) (p q : PortRef) → IsGood s → peer_of s p ≡ Some q → s.undetected ≡ None
     → is_silent (link_at s p q) ≡ true
     → IsKept s (lines_of p q (time_out_notes A (link_at s p q)))
 fires_keep s p q good peer none silent =
@@ -133,7 +133,7 @@ fires_keep s p q good peer none silent =
     (fires_call s p q peers (good.links none p q peer) silent)
 
 delivers_keep : (s : Seen) (p q : PortRef) (n : ℕ) → IsGood s → peer_of s p ≡ Some q
-    → s.unfaithful ≡ None → has_chars A n (link_at s p q) ≡ true
+    → s.undetected ≡ None → has_chars A n (link_at s p q) ≡ true
     → IsKept s (lines_of p q (delivery_notes A n (link_at s p q)))
 delivers_keep s p q n good peer none has =
     let peers = good_peers p q good peer in

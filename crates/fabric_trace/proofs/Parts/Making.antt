@@ -6,7 +6,7 @@ use Rattle.link_model.specs.declared.event.Event.{Event}
 use Rattle.link_watch.specs.declared.note.Note.TheVariants as Notes
 use Rattle.link_watch.specs.declared.side.Side.{Side}
 use Rattle.link_watch.specs.declared.side.Side.TheVariants.{A, B}
-use Rattle.link_wires.specs.Deliveries.{Told, Delivered, Through, Unsent, told_of, undetected}
+use Rattle.link_wires.specs.Deliveries.{Told, Delivered, Through, WentUndetected, told_of, undetected}
 use Rattle.link_wires.specs.Wires.{answers}
 use Rattle.link_wires.specs.declared.moves.Move.{Move}
 use Rattle.link_wires.specs.declared.moves.Move.TheVariants.{Held, Freed}
@@ -18,8 +18,8 @@ use Rattle.fabric_model.specs.Network.{same_port}
 use Rattle.fabric_model.proofs.Peers.{ArePeers}
 use Rattle.trace_lines.specs.Lines.{TraceLine}
 use Rattle.fabric_model.specs.Steps.{Step}
-use Rattle.fabric_trace.specs.Known.{Seen, Found, link_at}
-use Rattle.fabric_trace.specs.Fold.{found_at, seen}
+use Rattle.fabric_trace.specs.Known.{Seen, UndetectedAt, link_at}
+use Rattle.fabric_trace.specs.Fold.{undetected_at, seen}
 use Rattle.trace_lines.specs.Notes.{port_at_side, line_of, lines_of}
 use Rattle.fabric_trace.specs.Parts.{Part, PartTurns, PartTells, PartDelivers, PartFires, Made, Done, Then}
 use Rattle.fabric_trace.proofs.Links.Calling.{IsCall, turns_call, tells_call, fires_call}
@@ -121,7 +121,7 @@ pub others_round : {s t : Seen} {a b : PortRef} → AreOthers s t a b → AreOth
 others_round others = record { links = others.links; untouched = λ c x y. others.untouched c y x }
 
 call_others : {s t : Seen} {p q : PortRef} {steps : List Step} {m : LinkState}
-    {found : Option Found} → IsCall s t p q steps m found → AreOthers s t p q
+    {found : Option UndetectedAt} → IsCall s t p q steps m found → AreOthers s t p q
 call_others call = record {
   links = call.elsewhere.links;
   untouched =
@@ -139,9 +139,9 @@ pub record Reaches (s : Seen) (a b : PortRef) (lines : List TraceLine) (to : Rea
   pub made : Made s lines
   pub others : AreOthers s (seen s lines) a b
   pub there : (m : LinkState) → to ≡ At m
-      → ((seen s lines).unfaithful ≡ None) × (link_at (seen s lines) a b ≡ m)
+      → ((seen s lines).undetected ≡ None) × (link_at (seen s lines) a b ≡ m)
   pub found : (side : Side) (e : Event) → to ≡ FoundAt side e
-      → (seen s lines).unfaithful ≡ Some (record { port = port_at_side a b side; event = e })
+      → (seen s lines).undetected ≡ Some (record { port = port_at_side a b side; event = e })
 
 pub at_is : (l m : LinkState) → At l ≡ At m → l ≡ m
 at_is l m is = ap link_of is
@@ -150,13 +150,13 @@ at_is l m is = ap link_of is
     link_of (At x) = x
     link_of (FoundAt side e) = l
 
-pub pump_reaches : (s : Seen) (p q : PortRef) (n : ℕ) → IsGood s → s.unfaithful ≡ None
+pub pump_reaches : (s : Seen) (p q : PortRef) (n : ℕ) → IsGood s → s.undetected ≡ None
     → ArePeers s.network.links p q
     → Reaches s p q (lines_of p q (pump_notes A n (link_at s p q)))
     (At (pumped A n (link_at s p q)))
 pump_reaches s p q n good none peers =
     let call = turns_call s p q n peers (good.links none p q peers.there) in
-    let still = call.unfaithful ∙ none in
+    let still = call.undetected ∙ none in
     record {
       made = one_part (PartTurns p q n peers.there none refl);
       others = call_others call;
@@ -164,13 +164,13 @@ pump_reaches s p q n good none peers =
       found = λ side e is. absurd cc;
     }
 
-pub tell_reaches : (s : Seen) (p q : PortRef) → IsGood s → s.unfaithful ≡ None
+pub tell_reaches : (s : Seen) (p q : PortRef) → IsGood s → s.undetected ≡ None
     → ArePeers s.network.links p q
     → Reaches s p q (lines_of p q (tell_notes A (link_at s p q)))
     (At (told_from A (link_at s p q)))
 tell_reaches s p q good none peers =
     let call = tells_call s p q peers (good.links none p q peers.there) in
-    let still = call.unfaithful ∙ none in
+    let still = call.undetected ∙ none in
     record {
       made = one_part (PartTells p q peers.there none refl);
       others = call_others call;
@@ -178,7 +178,7 @@ tell_reaches s p q good none peers =
       found = λ side e is. absurd cc;
     }
 
-pub fire_reaches : (s : Seen) (p q : PortRef) → IsGood s → s.unfaithful ≡ None
+pub fire_reaches : (s : Seen) (p q : PortRef) → IsGood s → s.undetected ≡ None
     → ArePeers s.network.links p q
     → Reaches s p q (lines_of p q (time_out_notes A (link_at s p q)))
     (At (timed_out_at A (link_at s p q)))
@@ -189,7 +189,7 @@ fire_reaches s p q good none peers = by_silence (is_silent (link_at s p q)) refl
         (At (timed_out_at A (link_at s p q)))
     by_silence true is =
         let call = fires_call s p q peers (good.links none p q peers.there) is in
-        let still = call.unfaithful ∙ none in
+        let still = call.undetected ∙ none in
         record {
           made = one_part (PartFires p q peers.there none is refl);
           others = call_others call;
@@ -206,7 +206,7 @@ fire_reaches s p q good none peers = by_silence (is_silent (link_at s p q)) refl
           others = subst (λ (l : List TraceLine). AreOthers s (seen s l) p q) (sym lines)
               (others_here s p q);
           there = λ m to. (
-            ap (λ (l : List TraceLine). (seen s l).unfaithful) lines ∙ none,
+            ap (λ (l : List TraceLine). (seen s l).undetected) lines ∙ none,
             ap (λ (l : List TraceLine). link_at (seen s l) p q) lines ∙ sym stays
                 ∙ at_is (timed_out_at A (link_at s p q)) m to,
           );
@@ -218,37 +218,37 @@ abbrev delivery_to : LinkState → ℕ → Reached
 delivery_to l n =
     if has_chars A n l then reached_by B (delivered_from A n l) (delivery_from A n l) else At l
 
-pub deliver_reaches : (s : Seen) (p q : PortRef) (n : ℕ) → IsGood s → s.unfaithful ≡ None
+pub deliver_reaches : (s : Seen) (p q : PortRef) (n : ℕ) → IsGood s → s.undetected ≡ None
     → ArePeers s.network.links p q
     → Reaches s p q (lines_of p q (delivery_notes A n (link_at s p q)))
     (after_act (DeliverAct A n) (link_at s p q))
 deliver_reaches s p q n good none peers = by_chars (has_chars A n (link_at s p q)) refl
   where
     by_end : (d : Delivered) → delivery_from A n (link_at s p q) ≡ d
-        → (still : (seen s (lines_of p q (delivery_notes A n (link_at s p q)))).unfaithful
-        ≡ found_at q (undetected d))
-        → ((seen s (lines_of p q (delivery_notes A n (link_at s p q)))).unfaithful ≡ None
+        → (still : (seen s (lines_of p q (delivery_notes A n (link_at s p q)))).undetected
+        ≡ undetected_at q (undetected d))
+        → ((seen s (lines_of p q (delivery_notes A n (link_at s p q)))).undetected ≡ None
         → link_at (seen s (lines_of p q (delivery_notes A n (link_at s p q)))) p q
         ≡ delivered_from A n (link_at s p q))
         → (m : LinkState) → reached_by B (delivered_from A n (link_at s p q)) d ≡ At m
-        → ((seen s (lines_of p q (delivery_notes A n (link_at s p q)))).unfaithful ≡ None)
+        → ((seen s (lines_of p q (delivery_notes A n (link_at s p q)))).undetected ≡ None)
         × (link_at (seen s (lines_of p q (delivery_notes A n (link_at s p q)))) p q ≡ m)
     by_end (Through flow) is still becomes m to =
         (still, becomes still ∙ at_is (delivered_from A n (link_at s p q)) m to)
-    by_end (Unsent told e) is still becomes m to = absurd cc
+    by_end (WentUndetected told e) is still becomes m to = absurd cc
 
     by_found : (d : Delivered)
-        → (still : (seen s (lines_of p q (delivery_notes A n (link_at s p q)))).unfaithful
-        ≡ found_at q (undetected d))
+        → (still : (seen s (lines_of p q (delivery_notes A n (link_at s p q)))).undetected
+        ≡ undetected_at q (undetected d))
         → (side : Side) (e : Event)
         → reached_by B (delivered_from A n (link_at s p q)) d ≡ FoundAt side e
-        → (seen s (lines_of p q (delivery_notes A n (link_at s p q)))).unfaithful ≡ Some (record {
+        → (seen s (lines_of p q (delivery_notes A n (link_at s p q)))).undetected ≡ Some (record {
           port = port_at_side p q side;
           event = e;
         })
     by_found (Through flow) still side e to = absurd cc
-    by_found (Unsent told x) still A e to = absurd cc
-    by_found (Unsent told x) still B e to =
+    by_found (WentUndetected told x) still A e to = absurd cc
+    by_found (WentUndetected told x) still B e to =
         still ∙ (let same : x ≡ e =
         cc in ap (λ (y : Event). Some (record { port = q; event = y })) same)
 
@@ -264,9 +264,9 @@ deliver_reaches s p q n good none peers = by_chars (has_chars A n (link_at s p q
         record {
           made = one_part (PartDelivers p q n peers.there none is refl);
           others = call_others call;
-          there = λ m there. by_end (delivery_from A n (link_at s p q)) refl call.unfaithful
+          there = λ m there. by_end (delivery_from A n (link_at s p q)) refl call.undetected
               call.becomes m (sym to ∙ there);
-          found = λ side e there. by_found (delivery_from A n (link_at s p q)) call.unfaithful side
+          found = λ side e there. by_found (delivery_from A n (link_at s p q)) call.undetected side
               e (sym to ∙ there);
         }
     by_chars false is =
@@ -281,7 +281,7 @@ deliver_reaches s p q n good none peers = by_chars (has_chars A n (link_at s p q
           others = subst (λ (l : List TraceLine). AreOthers s (seen s l) p q) (sym lines)
               (others_here s p q);
           there = λ m there. (
-            ap (λ (l : List TraceLine). (seen s l).unfaithful) lines ∙ none,
+            ap (λ (l : List TraceLine). (seen s l).undetected) lines ∙ none,
             ap (λ (l : List TraceLine). link_at (seen s l) p q) lines
                 ∙ at_is (link_at s p q) m (sym to ∙ there),
           );

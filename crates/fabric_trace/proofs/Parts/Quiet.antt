@@ -92,10 +92,10 @@ pub record StaysSo (s t : Seen) (c : PortRef) : Type 0 where
   pub place : (t.halves c).place ≡ (s.halves c).place
   pub input : (t.halves c).input ≡ (s.halves c).input
   pub oldest : oldest_of (t.halves c).output ≡ oldest_of (s.halves c).output
-  pub found : t.unfaithful ≡ None → s.unfaithful ≡ None
+  pub found : t.undetected ≡ None → s.undetected ≡ None
 
 pub same_so : (s t : Seen) (c : PortRef) → t.halves c ≡ s.halves c
-    → (t.unfaithful ≡ None → s.unfaithful ≡ None) → StaysSo s t c
+    → (t.undetected ≡ None → s.undetected ≡ None) → StaysSo s t c
 same_so s t c half found = record {
   place = ap (λ (x : Half). x.place) half;
   input = ap (λ (x : Half). x.input) half;

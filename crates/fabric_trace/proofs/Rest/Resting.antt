@@ -9,7 +9,7 @@ use Rattle.fabric_script.specs.declared.lines.Numbered.{Numbered}
 use Rattle.fabric_model.specs.Network.{link_in}
 use Rattle.fabric_model.proofs.Peers.{link_peers}
 use Rattle.trace_lines.specs.Lines.{TraceLine, Begun, Stepped, Signed, Lacked, Ended, Undetected}
-use Rattle.fabric_trace.specs.Known.{Found, Seen, link_at}
+use Rattle.fabric_trace.specs.Known.{UndetectedAt, Seen, link_at}
 use Rattle.fabric_trace.specs.Fold.{seen_line, seen}
 use Rattle.fabric_trace.specs.Blocks.{IsSettle, WithLink, IsBlock}
 use Rattle.fabric_trace.specs.Rounds.{Follows, NamesNothing}
@@ -41,7 +41,7 @@ settled_within (Undetected number q e ∷ block) rest s port within more = absur
 
 -- what an event that settles leaves
 settle_rests : (s : Seen) (port : PortRef) (found : Option (PortRef × PortRef))
-    (block : List TraceLine) → IsGood s → s.unfaithful ≡ None → (seen s block).unfaithful ≡ None
+    (block : List TraceLine) → IsGood s → s.undetected ≡ None → (seen s block).undetected ≡ None
     → (seen s block).network.links ≡ s.network.links → link_in s.network.links port ≡ found
     → WithLink found (IsSettle s) block → RestsAt (seen s block) (Some port)
 settle_rests s port None block good none still links at is = absurd is
@@ -51,8 +51,8 @@ settle_rests s port (Some own) block good none still links at is = λ link there
     (settles_rest s own.0 own.1 block good none (link_peers s.network.links port own good.proper at)
     is still)
 
-event_rests : (s : Seen) (line : Line) (block : List TraceLine) → IsGood s → s.unfaithful ≡ None
-    → (seen s (Begun line ∷ block)).unfaithful ≡ None
+event_rests : (s : Seen) (line : Line) (block : List TraceLine) → IsGood s → s.undetected ≡ None
+    → (seen s (Begun line ∷ block)).undetected ≡ None
     → (seen s (Begun line ∷ block)).network.links ≡ s.network.links → IsBlock s line block
     → RestsAt (seen s (Begun line ∷ block)) (settled_by line)
 event_rests s (Settle port) block good none still links is =
@@ -70,20 +70,22 @@ rests_by : {s : Seen} {port : Option PortRef} {lines other : List TraceLine} →
     → Rests s port other → Rests s port lines
 rests_by {s} {port} is rests = subst (Rests s port) (sym is) rests
 
-follows_rest : (t : Seen) (line : Line) (found : Option Found) (More : List TraceLine → Type 0)
-    (Last : Found → List TraceLine → Type 0) (rest : List TraceLine) → t.unfaithful ≡ found
-    → (t.unfaithful ≡ None → More rest → Rests t (settled_by line) rest)
-    → ((e : Found) → t.unfaithful ≡ Some e → Last e rest → Rests t (settled_by line) rest)
+follows_rest : (t : Seen) (line : Line) (found : Option UndetectedAt)
+    (More : List TraceLine → Type 0)
+    (Last : UndetectedAt → List TraceLine → Type 0) (rest : List TraceLine) → t.undetected ≡ found
+    → (t.undetected ≡ None → More rest → Rests t (settled_by line) rest)
+    → ((e : UndetectedAt) → t.undetected ≡ Some e → Last e rest → Rests t (settled_by line) rest)
     → Follows found More Last rest → Rests t (settled_by line) rest
 follows_rest t line None More Last rest is more last follows = more is follows
 follows_rest t line (Some e) More Last rest is more last follows = last e is follows
 
 event_then : (s : Seen) (port : Option PortRef) (line : Line)
-    (More : Seen → List TraceLine → Type 0) (Last : Found → List TraceLine → Type 0)
-    (lines : List TraceLine) → IsGood s → s.unfaithful ≡ None → RestsAt s port
-    → ((t : Seen) (p : Option PortRef) (rest : List TraceLine) → IsGood t → t.unfaithful ≡ None
+    (More : Seen → List TraceLine → Type 0) (Last : UndetectedAt → List TraceLine → Type 0)
+    (lines : List TraceLine) → IsGood s → s.undetected ≡ None → RestsAt s port
+    → ((t : Seen) (p : Option PortRef) (rest : List TraceLine) → IsGood t → t.undetected ≡ None
     → RestsAt t p → More t rest → Rests t p rest)
-    → ((t : Seen) (p : Option PortRef) (e : Found) (rest : List TraceLine) → t.unfaithful ≡ Some e
+    → ((t : Seen) (p : Option PortRef) (e : UndetectedAt) (rest : List TraceLine)
+    → t.undetected ≡ Some e
     → Last e rest → Rests t p rest)
     → BlockThen More Last s line lines → Rests s port lines
 event_then s port line More Last lines good none rests more last run =
@@ -94,7 +96,7 @@ event_then s port line More Last lines good none rests more last run =
     (block_made line s block good none run.3) in
     let kept = made_keeps good begun in
     let links = legal_links s.network _ t.network kept.legal in
-    let behind = follows_rest t line t.unfaithful (More t) Last run.1 refl
+    let behind = follows_rest t line t.undetected (More t) Last run.1 refl
     (λ still follows. more t (settled_by line) run.1 kept.good still
     (event_rests s line block good none still links run.3) follows)
     (λ e found follows. last t (settled_by line) e run.1 found follows) run.4 in
@@ -107,8 +109,9 @@ event_then s port line More Last lines good none rests more last run =
       );
     })
 
-named_rests : (number : ℕ) (t : Seen) (p : Option PortRef) (e : Found) (rest : List TraceLine)
-    → t.unfaithful ≡ Some e → Names number e rest → Rests t p rest
+named_rests : (number : ℕ) (t : Seen) (p : Option PortRef) (e : UndetectedAt)
+    (rest : List TraceLine)
+    → t.undetected ≡ Some e → Names number e rest → Rests t p rest
 named_rests number t p e rest found named =
     rests_by named (record {
       made = one_part (PartNames number e.port e.event found refl);
@@ -116,7 +119,7 @@ named_rests number t p e rest found named =
     })
 
 pub runs_rest : (script : List Numbered) (s : Seen) (port : Option PortRef) (lines : List TraceLine)
-    → IsGood s → s.unfaithful ≡ None → RestsAt s port → RunsFrom s script lines → Rests s port lines
+    → IsGood s → s.undetected ≡ None → RestsAt s port → RunsFrom s script lines → Rests s port lines
 runs_rest [] s port lines good none rests run =
     rests_by run (record { made = one_part (PartEnds refl); settled = ((none, rests), tt) })
 runs_rest (line ∷ script) s port lines good none rests run =
@@ -130,7 +133,7 @@ nothing_rests : (t : Seen) (p : Option PortRef) (rest : List TraceLine) → rest
 nothing_rests t p rest none = rests_by none (record { made = Done refl; settled = tt })
 
 pub blocks_rest : (script : List Numbered) (s : Seen) (port : Option PortRef)
-    (lines : List TraceLine) → IsGood s → s.unfaithful ≡ None → RestsAt s port
+    (lines : List TraceLine) → IsGood s → s.undetected ≡ None → RestsAt s port
     → BlocksFrom s script lines → Rests s port lines
 blocks_rest [] s port lines good none rests run = nothing_rests s port lines run
 blocks_rest (line ∷ script) s port lines good none rests run =

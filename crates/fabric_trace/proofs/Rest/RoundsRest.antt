@@ -14,7 +14,7 @@ use Rattle.fabric_trace.proofs.Rounds.Running.{link_made, move_made}
 use Rattle.fabric_trace.proofs.SetUps.Starting.{good_start, settles_rest}
 
 pub rounds_rest : (net : Network) (n : ℕ) (before block : List TraceLine) → IsSetUp net
-    → Made (begins net) before → (seen (begins net) before).unfaithful ≡ None
+    → Made (begins net) before → (seen (begins net) before).undetected ≡ None
     → Rounds IsSettle n (seen (begins net) before) block
     → Rounds (SettlesTo IsSettle) n (seen (begins net) before) block
 rounds_rest net n before block is made none rounds =

@@ -10,7 +10,7 @@ use Rattle.fabric_model.proofs.Peers.{link_peers}
 use Rattle.fabric_trace.specs.AtRest.{IsBlockAtRest}
 use Rattle.fabric_trace.specs.Blocks.{IsSettle, WithLink, IsBlock}
 use Rattle.fabric_trace.specs.Fold.{seen}
-use Rattle.fabric_trace.specs.Known.{Found, Seen}
+use Rattle.fabric_trace.specs.Known.{UndetectedAt, Seen}
 use Rattle.trace_lines.specs.Lines.{TraceLine, Begun}
 use Rattle.fabric_trace.specs.Parts.{PartBegins, Made, Then}
 use Rattle.fabric_trace.specs.Rounds.{Follows, NamesNothing, SettlesTo}
@@ -22,7 +22,7 @@ use Rattle.fabric_trace.proofs.Rounds.Running.{block_made, link_made, move_made}
 use Rattle.fabric_trace.proofs.SetUps.Starting.{good_start, set_up_bare, settles_rest}
 
 link_rests : (s : Seen) (port : PortRef) (link : Option (PortRef × PortRef))
-    (block : List TraceLine) → IsGood s → s.unfaithful ≡ None → link_in s.network.links port ≡ link
+    (block : List TraceLine) → IsGood s → s.undetected ≡ None → link_in s.network.links port ≡ link
     → WithLink link (IsSettle s) block → WithLink link (SettlesTo IsSettle s) block
 link_rests s port None block good none is settles = settles
 link_rests s port (Some link) block good none is settles = (
@@ -31,7 +31,7 @@ link_rests s port (Some link) block good none is settles = (
       (link_peers s.network.links port link good.proper is) settles still,
 )
 
-block_rests : (line : Line) (s : Seen) (block : List TraceLine) → IsGood s → s.unfaithful ≡ None
+block_rests : (line : Line) (s : Seen) (block : List TraceLine) → IsGood s → s.undetected ≡ None
     → IsBlock s line block → IsBlockAtRest s line block
 block_rests (Settle port) s block good none is =
     link_rests s port (link_in s.network.links port) block good none refl is
@@ -44,8 +44,8 @@ block_rests (Run n) s block good none is =
     move_made n s block good none is).1
 block_rests _ s block good none is = is
 
-follows_by : (found : Option Found) (More Known : List TraceLine → Type 0)
-    (Last : Found → List TraceLine → Type 0) (rest : List TraceLine)
+follows_by : (found : Option UndetectedAt) (More Known : List TraceLine → Type 0)
+    (Last : UndetectedAt → List TraceLine → Type 0) (rest : List TraceLine)
     →
     (found ≡ None → More rest → Known rest) → Follows found More Last rest
     → Follows found Known Last rest
@@ -59,10 +59,10 @@ match_by P Q R S false f g x = g x
 
 -- of one event, and of what comes behind
 event_rests : (s : Seen) (line : Line) (More Known : Seen → List TraceLine → Type 0)
-    (Last : Found → List TraceLine → Type 0) (lines : List TraceLine) → IsGood s
-    → s.unfaithful ≡ None
+    (Last : UndetectedAt → List TraceLine → Type 0) (lines : List TraceLine) → IsGood s
+    → s.undetected ≡ None
     →
-    ((t : Seen) (rest : List TraceLine) → IsGood t → t.unfaithful ≡ None → More t rest
+    ((t : Seen) (rest : List TraceLine) → IsGood t → t.undetected ≡ None → More t rest
     → Known t rest)
     → EventThen IsBlock More Last s line lines → EventThen IsBlockAtRest Known Last s line lines
 event_rests s line More Known Last lines good none more own =
@@ -75,12 +75,12 @@ event_rests s line More Known Last lines good none more own =
       own.1,
       own.2,
       block_rests line s block good none own.3,
-      follows_by t.unfaithful (More t) (Known t) Last own.1
+      follows_by t.undetected (More t) (Known t) Last own.1
           (λ still follows. more t own.1 (made_keeps good begun).good still follows) own.4,
     )
 
 runs_by : (script : List Numbered) (s : Seen) (lines : List TraceLine) → IsGood s
-    → s.unfaithful ≡ None → RunsFrom s script lines → RunsBy IsBlockAtRest s script lines
+    → s.undetected ≡ None → RunsFrom s script lines → RunsBy IsBlockAtRest s script lines
 runs_by [] s lines good none run = run
 runs_by (line ∷ script) s lines good none run =
     match_by (BlockThen (λ t rest. RunsFrom t script rest) (Names line.number) s line.line lines)
@@ -95,7 +95,7 @@ runs_by (line ∷ script) s lines good none run =
     (λ more. runs_by script s lines good none more) run
 
 blocks_by : (script : List Numbered) (s : Seen) (lines : List TraceLine) → IsGood s
-    → s.unfaithful ≡ None → BlocksFrom s script lines → BlocksBy IsBlockAtRest s script lines
+    → s.undetected ≡ None → BlocksFrom s script lines → BlocksBy IsBlockAtRest s script lines
 blocks_by [] s lines good none run = run
 blocks_by (line ∷ script) s lines good none run =
     match_by (BlockThen (λ t rest. BlocksFrom t script rest) NamesNothing s line.line lines)

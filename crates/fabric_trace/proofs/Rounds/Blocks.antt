@@ -8,7 +8,7 @@ use Rattle.fabric_model.specs.Steps.{ByDevice}
 use Rattle.fabric_model.specs.Laws.Proper.{AreProper}
 use Rattle.fabric_model.proofs.Peers.{same_port-refl, unlinked_apart, ArePeers, link_peers}
 use Rattle.trace_lines.specs.Lines.{TraceLine, Stepped, steps_of}
-use Rattle.fabric_trace.specs.Known.{Found, Seen}
+use Rattle.fabric_trace.specs.Known.{UndetectedAt, Seen}
 use Rattle.fabric_trace.specs.Fold.{seen}
 use Rattle.fabric_trace.specs.Served.{IsMove}
 use Rattle.fabric_trace.specs.Rounds.{Follows, NamesNothing, Joined, AtLink, SettleAll, ServesAll, ServeRests, ServeGoes, ServeNodes, Round, Rounds}
@@ -18,9 +18,9 @@ use Rattle.fabric_trace.proofs.Parts.Making.{made-append, made_by}
 
 -- ---- lines, and more behind them
 
-follows_come : (t : Seen) (found : Option Found) (More Known : List TraceLine → Type 0)
-    (rest : List TraceLine) → t.unfaithful ≡ found
-    → (t.unfaithful ≡ None → More rest → Made t rest × Known rest) → Follows found More NamesNothing
+follows_come : (t : Seen) (found : Option UndetectedAt) (More Known : List TraceLine → Type 0)
+    (rest : List TraceLine) → t.undetected ≡ found
+    → (t.undetected ≡ None → More rest → Made t rest × Known rest) → Follows found More NamesNothing
     rest → Made t rest × Follows found Known NamesNothing rest
 follows_come t None More Known rest is more follows = more is follows
 follows_come t (Some found) More Known rest is more follows = (Done follows, follows)
@@ -28,7 +28,7 @@ follows_come t (Some found) More Known rest is more follows = (Done follows, fol
 joined_come : (s : Seen) (First FirstKnown : List TraceLine → Type 0)
     (More MoreKnown : Seen → List TraceLine → Type 0) (lines : List TraceLine) → IsGood s
     → ((first : List TraceLine) → First first → Made s first × FirstKnown first)
-    → ((t : Seen) (rest : List TraceLine) → IsGood t → t.unfaithful ≡ None → t.network.links
+    → ((t : Seen) (rest : List TraceLine) → IsGood t → t.undetected ≡ None → t.network.links
     ≡ s.network.links → More t rest → Made t rest × MoreKnown t rest)
     → Joined First More s lines → Made s lines × Joined FirstKnown MoreKnown s lines
 joined_come s First FirstKnown More MoreKnown lines good one more joined =
@@ -38,7 +38,7 @@ joined_come s First FirstKnown More MoreKnown lines good one more joined =
     let own = one first joined.3 in
     let kept = made_keeps good own.0 in
     let links = legal_links s.network (steps_of first) t.network kept.legal in
-    let behind = follows_come t t.unfaithful (More t) (MoreKnown t) rest refl
+    let behind = follows_come t t.undetected (More t) (MoreKnown t) rest refl
     (λ still follows. more t rest kept.good still links follows) joined.4 in
     (made_by joined.2 (made-append own.0 behind.0), (first, rest, joined.2, own.1, behind.1))
 
@@ -91,7 +91,7 @@ module _ (moves_made : (s : Seen) (node : ℕ) (lines : List TraceLine) → IsGo
       made_by is (made-append one (serves_made (made_keeps good one).good more))
 
 module _ (Link Known : AtLink)
-    (links_come : (s : Seen) (a b : PortRef) (lines : List TraceLine) → IsGood s → s.unfaithful
+    (links_come : (s : Seen) (a b : PortRef) (lines : List TraceLine) → IsGood s → s.undetected
     ≡ None → ArePeers s.network.links a b → Link s a b lines → Made s lines × Known s a b lines)
     (moves_made : (s : Seen) (node : ℕ) (lines : List TraceLine) → IsGood s
     → IsMove s.network node lines → Made s lines) where
@@ -109,7 +109,7 @@ module _ (Link Known : AtLink)
       (λ more. nodes_made devices (suc node) s lines good more) serves
 
   pub settle_all_come : (links all : List (PortRef × PortRef)) (s : Seen) (lines : List TraceLine)
-      → IsGood s → s.unfaithful ≡ None → s.network.links ≡ all → AreFound all links
+      → IsGood s → s.undetected ≡ None → s.network.links ≡ all → AreFound all links
       → SettleAll Link links s lines → Made s lines × SettleAll Known links s lines
   settle_all_come [] all s lines good none same found is = (Done is, is)
   settle_all_come (link ∷ links) all s lines good none same found settle =
@@ -121,7 +121,7 @@ module _ (Link Known : AtLink)
       (λ t rest g still kept more. settle_all_come links all t rest g still (kept ∙ same) found.1
       more) settle
 
-  pub round_come : (s : Seen) (lines : List TraceLine) → IsGood s → s.unfaithful ≡ None
+  pub round_come : (s : Seen) (lines : List TraceLine) → IsGood s → s.undetected ≡ None
       → Round Link s lines → Made s lines × Round Known s lines
   round_come s lines good none round =
       let links = s.network.links in
@@ -133,7 +133,7 @@ module _ (Link Known : AtLink)
       (λ t rest g still kept serves. (nodes_made t.network.registers 0 t rest g serves, serves))
       round
 
-  pub rounds_come : (n : ℕ) (s : Seen) (lines : List TraceLine) → IsGood s → s.unfaithful ≡ None
+  pub rounds_come : (n : ℕ) (s : Seen) (lines : List TraceLine) → IsGood s → s.undetected ≡ None
       → Rounds Link n s lines → Made s lines × Rounds Known n s lines
   rounds_come zero s lines good none is = (Done is, is)
   rounds_come (suc n) s lines good none rounds =

@@ -23,7 +23,7 @@ use Rattle.fabric_model.specs.Steps.{Take, Leave, Move as MoveOn, Drop, Answer, 
 use Rattle.fabric_model.proofs.Peers.{ArePeers, link_peers}
 use Rattle.fabric_model.proofs.Nodes.{few_prio}
 use Rattle.trace_lines.specs.Lines.{TraceLine, Begun, Stepped, Lacked, Full, Empty, Short, Early, NoStep}
-use Rattle.fabric_trace.specs.Known.{Seen, Found, peer_of, link_at}
+use Rattle.fabric_trace.specs.Known.{Seen, UndetectedAt, peer_of, link_at}
 use Rattle.fabric_trace.specs.Fold.{edit_of, edited_by, seen}
 use Rattle.fabric_trace.specs.Served.{face_in, faces_in, step_lines, ResponseHasForm, IsMove, collect_lines, HasResponseForm, IsCollect}
 use Rattle.trace_lines.specs.Notes.{lines_of}
@@ -104,7 +104,7 @@ peer_made : (s : Seen) (p : PortRef) (peer : Option PortRef) (lines : PortRef �
 peer_made s p None lines block is with made = absurd with
 peer_made s p (Some q) lines block is with made = made_by with (made q is)
 
-delivers_made : (s : Seen) (p : PortRef) (n : ℕ) (q : PortRef) → s.unfaithful ≡ None
+delivers_made : (s : Seen) (p : PortRef) (n : ℕ) (q : PortRef) → s.undetected ≡ None
     → peer_of s p ≡ Some q → Made s (delivers s p n q)
 delivers_made s p n q none peer = by_chars (has_chars A n (link_at s p q)) refl
   where
@@ -118,7 +118,7 @@ delivers_made s p n q none peer = by_chars (has_chars A n (link_at s p q)) refl
         (λ x. if x then lines_of p q (delivery_notes A n (link_at s p q)) else Lacked Short ∷ [])
         is))
 
-times_out_made : (s : Seen) (p q : PortRef) → s.unfaithful ≡ None → peer_of s p ≡ Some q
+times_out_made : (s : Seen) (p q : PortRef) → s.undetected ≡ None → peer_of s p ≡ Some q
     → Made s (time_out_lines s p q)
 times_out_made s p q none peer = by_silence (is_silent (link_at s p q)) refl
   where
@@ -141,20 +141,20 @@ edits_made s t (Some edit) =
           one_part (PartLacks Short refl)
     ]
 
-pub link_made : (s : Seen) (a b : PortRef) (block : List TraceLine) → IsGood s → s.unfaithful ≡ None
+pub link_made : (s : Seen) (a b : PortRef) (block : List TraceLine) → IsGood s → s.undetected ≡ None
     → ArePeers s.network.links a b → IsSettle s a b block → Made s block
 link_made s a b block good none peers settles =
     made_by settles.lines (acts_reach settles.acts s a b good none peers).made
 
 settle_made : (s : Seen) (port : PortRef) (link : Option (PortRef × PortRef))
-    (block : List TraceLine) → IsGood s → s.unfaithful ≡ None → link_in s.network.links port ≡ link
+    (block : List TraceLine) → IsGood s → s.undetected ≡ None → link_in s.network.links port ≡ link
     → WithLink link (IsSettle s) block → Made s block
 settle_made s port None block good none is settles = absurd settles
 settle_made s port (Some link) block good none is settles =
     link_made s link.0 link.1 block good none (link_peers s.network.links port link good.proper is)
     settles
 
-rounds_made : (s : Seen) (n : ℕ) (block : List TraceLine) → IsGood s → s.unfaithful ≡ None
+rounds_made : (s : Seen) (n : ℕ) (block : List TraceLine) → IsGood s → s.undetected ≡ None
     → Rounds IsSettle n s block → Made s block
 rounds_made s n block good none rounds =
     (rounds_come IsSettle IsSettle
@@ -162,7 +162,7 @@ rounds_made s n block good none rounds =
     settles. (link_made s a b lines good none peers settles, settles)) move_made n s block good none
     rounds).0
 
-pub block_made : (line : Line) (s : Seen) (block : List TraceLine) → IsGood s → s.unfaithful ≡ None
+pub block_made : (line : Line) (s : Seen) (block : List TraceLine) → IsGood s → s.undetected ≡ None
     → IsBlock s line block → Made (edited_by s (edit_of line)) block
 block_made (Endpoint name id) s block good none is = absurd is
 block_made (Switch name ports) s block good none is = absurd is
@@ -205,17 +205,18 @@ block_made (Run n) s block good none is = rounds_made s n block good none is
 
 -- ---- runs
 
-follows_made : (t : Seen) (found : Option Found) (More : List TraceLine → Type 0) (number : ℕ)
-    (rest : List TraceLine) → t.unfaithful ≡ found
-    → (t.unfaithful ≡ None → More rest → Made t rest) → Follows found More (Names number) rest
+follows_made : (t : Seen) (found : Option UndetectedAt) (More : List TraceLine → Type 0)
+    (number : ℕ)
+    (rest : List TraceLine) → t.undetected ≡ found
+    → (t.undetected ≡ None → More rest → Made t rest) → Follows found More (Names number) rest
     → Made t rest
 follows_made t None More number rest is more follows = more is follows
 follows_made t (Some found) More number rest is more follows =
     one_part (PartNames number found.port found.event is follows)
 
 event_made : (s : Seen) (line : Line) (number : ℕ) (More : Seen → List TraceLine → Type 0)
-    (lines : List TraceLine) → IsGood s → s.unfaithful ≡ None
-    → ((t : Seen) (rest : List TraceLine) → IsGood t → t.unfaithful ≡ None → More t rest
+    (lines : List TraceLine) → IsGood s → s.undetected ≡ None
+    → ((t : Seen) (rest : List TraceLine) → IsGood t → t.undetected ≡ None → More t rest
     → Made t rest) → BlockThen More (Names number) s line lines → Made s lines
 event_made s line number More lines good none more run =
     let block = run.0 in
@@ -225,11 +226,11 @@ event_made s line number More lines good none more run =
     (block_made line s block good none run.3) in
     let kept = made_keeps good begun in
     made_by run.2 (made-append begun
-    (follows_made t t.unfaithful (More t) number run.1 refl
+    (follows_made t t.undetected (More t) number run.1 refl
     (λ still follows. more t run.1 kept.good still follows) run.4))
 
 pub runs_made : (script : List Numbered) (s : Seen) (lines : List TraceLine) → IsGood s
-    → s.unfaithful ≡ None → RunsFrom s script lines → Made s lines
+    → s.undetected ≡ None → RunsFrom s script lines → Made s lines
 runs_made [] s lines good none run = one_part (PartEnds run)
 runs_made (line ∷ script) s lines good none run =
     by_test (is_event line.line)

@@ -21,7 +21,7 @@ use Rattle.fabric_script.specs.declared.lines.Line.TheVariants.{Endpoint, Switch
 use Rattle.fabric_model.specs.Network.{link_in, room_out, port_of}
 use Rattle.fabric_model.specs.Steps.{Take, AtNode}
 use Rattle.trace_lines.specs.Lines.{TraceLine, Begun, Stepped, Signed, Lacked, Ended, Undetected, Full, Short, Early}
-use Rattle.fabric_trace.specs.Known.{Found, Seen, peer_of, link_at}
+use Rattle.fabric_trace.specs.Known.{UndetectedAt, Seen, peer_of, link_at}
 use Rattle.fabric_trace.specs.Fold.{edit_of, seen}
 use Rattle.fabric_trace.specs.Served.{face_in, faces_in, step_lines, collect_lines}
 use Rattle.trace_lines.specs.Notes.{lines_of}
@@ -121,7 +121,8 @@ within-append (Lacked lack ∷ xs) ys first rest = within-append xs ys first res
 within-append (Ended ∷ xs) ys first rest = absurd first
 within-append (Undetected number q e ∷ xs) ys first rest = absurd first
 
-follows_within : (found : Option Found) (More : List TraceLine → Type 0) (rest : List TraceLine)
+follows_within : (found : Option UndetectedAt) (More : List TraceLine → Type 0)
+    (rest : List TraceLine)
     → (More rest → IsWithinBlock rest) → Follows found More NamesNothing rest → IsWithinBlock rest
 unfolding IsWithinBlock
 follows_within None More rest more follows = more follows
@@ -135,7 +136,7 @@ joined_within : (s : Seen) (First : List TraceLine → Type 0) (More : Seen → 
 joined_within s First More block one more joined =
     let t = seen s joined.0 in
     within_by joined.2 (within-append joined.0 joined.1 (one joined.0 joined.3)
-    (follows_within t.unfaithful (More t) joined.1 (more t joined.1) joined.4))
+    (follows_within t.undetected (More t) joined.1 (more t joined.1) joined.4))
 
 settle_all_within : (links : List (PortRef × PortRef)) (s : Seen) (block : List TraceLine)
     → SettleAll IsSettle links s block → IsWithinBlock block

@@ -259,11 +259,11 @@ pub lawful : (net : Network) (lines : List TraceLine) → IsSetUp net → Made (
 lawful net lines is all = lawful_steps net (steps_of lines) _ is (legal net lines is all)
 
 pub links_sound : (net : Network) (lines : List TraceLine) → IsSetUp net → Made (begins net) lines
-    → (seen (begins net) lines).unfaithful ≡ None → AreLinks (seen (begins net) lines)
+    → (seen (begins net) lines).undetected ≡ None → AreLinks (seen (begins net) lines)
 links_sound net lines is all none = (made_keeps (good_start net is) all).good.links none
 
 pub never_failed : (net : Network) (lines : List TraceLine) (p q : PortRef) → IsSetUp net
-    → Made (begins net) lines → (seen (begins net) lines).unfaithful ≡ None
+    → Made (begins net) lines → (seen (begins net) lines).undetected ≡ None
     → peer_of (seen (begins net) lines) p ≡ Some q
     → (port_seen (seen (begins net) lines) p).output ≢ out.Output.Failed
 never_failed net lines p q is all none peer =
@@ -272,7 +272,7 @@ never_failed net lines p q is all none peer =
 
 -- where a link has come to, by how far it has come
 settled_by : (s : Seen) (a b : PortRef) (lines : List TraceLine) (to : Reached)
-    → Reaches s a b lines to → (seen s lines).unfaithful ≡ None → OnState IsSettled to
+    → Reaches s a b lines to → (seen s lines).undetected ≡ None → OnState IsSettled to
     → IsSettled (link_at (seen s lines) a b)
 settled_by s a b lines (At m) r none settled = subst IsSettled (sym (r.there m refl).1) settled
 settled_by s a b lines (FoundAt side e) r none settled = absurd (cc (r.found side e refl, none))
@@ -282,8 +282,8 @@ settled_only (At m) both = both.1
 settled_only (FoundAt side e) both = tt
 
 pub settles_rest : (s : Seen) (a b : PortRef) (block : List TraceLine) → IsGood s
-    → s.unfaithful ≡ None → ArePeers s.network.links a b → IsSettle s a b block
-    → (seen s block).unfaithful ≡ None → IsSettled (link_at (seen s block) a b)
+    → s.undetected ≡ None → ArePeers s.network.links a b → IsSettle s a b block
+    → (seen s block).undetected ≡ None → IsSettled (link_at (seen s block) a b)
 settles_rest s a b block good none peers settles still =
     let reach = acts_reach settles.acts s a b good none peers in
     let there : seen s block
@@ -291,14 +291,14 @@ settles_rest s a b block good none peers settles still =
     ap (seen s) settles.lines in
     subst (λ (x : Seen). IsSettled (link_at x a b)) (sym there)
     (settled_by s a b _ (goes (At (link_at s a b)) settles.acts) reach
-    (ap (λ (x : Seen). x.unfaithful) (sym there) ∙ still)
+    (ap (λ (x : Seen). x.undetected) (sym there) ∙ still)
     (settled_only _ (settling_rests (link_at s a b) settles.acts
     (good.links none a b peers.there).sound settles.settles)))
 
 pub settled : (net : Network) (before block : List TraceLine) (a b : PortRef) → IsSetUp net
     → Made (begins net) before → peer_of (seen (begins net) before) a ≡ Some b
-    → (seen (begins net) before).unfaithful ≡ None → IsSettle (seen (begins net) before) a b block
-    → (seen (begins net) (before ++ block)).unfaithful ≡ None
+    → (seen (begins net) before).undetected ≡ None → IsSettle (seen (begins net) before) a b block
+    → (seen (begins net) (before ++ block)).undetected ≡ None
     → IsSettled (link_at (seen (begins net) (before ++ block)) a b)
 settled net before block a b is all peer none settles still =
     let s = seen (begins net) before in
@@ -307,7 +307,7 @@ settled net before block a b is all peer none settles still =
     seen-append (begins net) before block in
     subst (λ (x : Seen). IsSettled (link_at x a b)) (sym there)
     (settles_rest s a b block good none (good_peers a b good peer) settles
-    (ap (λ (x : Seen). x.unfaithful) (sym there) ∙ still))
+    (ap (λ (x : Seen). x.undetected) (sym there) ∙ still))
 
 pub wires_fold : (net : Network) (lines : List TraceLine) → IsSetUp net → Made (begins net) lines
     → WireFold net.links (λ p. []) lines

@@ -12,7 +12,7 @@ use Rattle.link_port.specs.Turns.{timed_out, tell_sends}
 use Rattle.link_watch.specs.declared.note.Note.TheVariants as Notes
 use Rattle.link_watch.specs.declared.side.Side.{Side}
 use Rattle.link_watch.specs.declared.side.Side.TheVariants.{A, B}
-use Rattle.link_wires.specs.Deliveries.{Delivered, Through, Unsent, told_of, undetected}
+use Rattle.link_wires.specs.Deliveries.{Delivered, Through, WentUndetected, told_of, undetected}
 use Rattle.link_wires.specs.Wires.{bursts, answers}
 use Rattle.link_wires.specs.declared.edits.Edit.{Edit}
 use Rattle.link_wires.specs.declared.moves.Move.{Move}
@@ -26,7 +26,7 @@ use Rattle.fabric_model.proofs.Peers.{port_is}
 use Rattle.trace_lines.specs.Lines.{TraceLine, Begun, Stepped, Signed, Lacked, Ended, Undetected, Sent, Got, Fired, steps_of}
 use Rattle.fabric_trace.specs.Views.{Half, half_of}
 use Rattle.fabric_trace.specs.Known.{Seen, with_half, peer_of, port_seen, link_at}
-use Rattle.fabric_trace.specs.Fold.{edit_of, edited_by, symbol_leaves, packet_leaves, event_leaves, sends, says, half_sent, taken_from, half_after, found_at, got_from, fired_from, signed, seen_line, seen}
+use Rattle.fabric_trace.specs.Fold.{edit_of, edited_by, symbol_leaves, packet_leaves, event_leaves, sends, says, half_sent, taken_from, half_after, undetected_at, got_from, fired_from, signed, seen_line, seen}
 use Rattle.trace_lines.specs.Notes.{lines_of}
 use Rattle.fabric_trace.specs.Parts.{Part, PartBegins, PartLacks, PartEnds, PartNames, PartSteps, PartServes, PartTurns, PartTells, PartDelivers, PartFires, Made, Done, Then}
 use Rattle.fabric_trace.specs.Firsts.{FindsFirst}
@@ -119,20 +119,20 @@ edited_halves s (Some edit) = refl
 -- what quiet lines change of nothing that may fail
 record StaysQuiet (s t : Seen) : Type 0 where
   pub failed : (c : PortRef) → has_failed (t.halves c).output ≡ has_failed (s.halves c).output
-  pub unfaithful : t.unfaithful ≡ s.unfaithful
+  pub undetected : t.undetected ≡ s.undetected
 
 quiet_on : {s t u : Seen} → StaysQuiet s t → StaysQuiet t u → StaysQuiet s u
 quiet_on {s} {t} {u} one two =
     record {
       failed = λ c. two.failed c ∙ one.failed c;
-      unfaithful = two.unfaithful ∙ one.unfaithful;
+      undetected = two.undetected ∙ one.undetected;
     }
 
-same_quiet : (s t : Seen) → t.halves ≡ s.halves → t.unfaithful ≡ s.unfaithful → StaysQuiet s t
+same_quiet : (s t : Seen) → t.halves ≡ s.halves → t.undetected ≡ s.undetected → StaysQuiet s t
 same_quiet s t halves found =
     record {
       failed = λ c. ap (λ (h : PortRef → Half). has_failed (h c).output) halves;
-      unfaithful = found;
+      undetected = found;
     }
 
 still_working : {s t : Seen} → StaysQuiet s t → NoneFailed s → NoneFailed t
@@ -168,7 +168,7 @@ still s (Stepped step ∷ lines) quiet =
 still s (Signed (Sent p chars) ∷ lines) quiet =
     one_still s (Signed (Sent p chars)) lines (record {
       failed = sent_fails s p chars;
-      unfaithful = refl;
+      undetected = refl;
     }) (λ first. (tt, first)) (still (seen_line s (Signed (Sent p chars))) lines quiet)
 still s (Signed (Got q chars) ∷ lines) quiet = absurd quiet
 still s (Signed (Fired p) ∷ lines) quiet = absurd quiet
@@ -210,8 +210,8 @@ quiet_works s lines quiet none =
 -- the port that got characters has not failed, as its link is sound behind the part
 got_failed : (s : Seen) (q : PortRef) (d : Delivered) (t u : Seen)
     → t.halves ≡ with_half s.halves q (half_after (s.halves q) d)
-    → t.unfaithful ≡ found_at q (undetected d)
-    → StaysQuiet t u → NoneFailed s → (u.unfaithful ≡ None → has_failed (u.halves q).output ≡ false)
+    → t.undetected ≡ undetected_at q (undetected d)
+    → StaysQuiet t u → NoneFailed s → (u.undetected ≡ None → has_failed (u.halves q).output ≡ false)
     → NoneFailed t
 got_failed s q d t u halves found stays none sound = λ c.
     failed_not (t.halves c).output
@@ -219,15 +219,15 @@ got_failed s q d t u halves found stays none sound = λ c.
   where
     by_end : (x : Delivered) → d ≡ x → has_failed (half_after (s.halves q) x).output ≡ false
     by_end (Through flow) is =
-        let still : u.unfaithful ≡ None =
-        stays.unfaithful ∙ found ∙ ap (λ (y : Delivered). found_at q (undetected y)) is in
+        let still : u.undetected ≡ None =
+        stays.undetected ∙ found ∙ ap (λ (y : Delivered). undetected_at q (undetected y)) is in
         let own : has_failed (t.halves q).output ≡ has_failed (half_after (s.halves q) d).output =
         ap (λ (h : PortRef → Half). has_failed (h q).output) halves
         ∙ ap (λ (h : Half). has_failed h.output)
         (half_own s.halves q (half_after (s.halves q) d)) in
         ap (λ (y : Delivered). has_failed (half_after (s.halves q) y).output) (sym is) ∙ sym own
         ∙ sym (stays.failed q) ∙ sound still
-    by_end (Unsent told e) is = not_failed (s.halves q).output (none q)
+    by_end (WentUndetected told e) is = not_failed (s.halves q).output (none q)
 
     by_port : (c : PortRef) (x : Bool) → same_port c q ≡ x
         → has_failed (if same_port c q then half_after (s.halves q) d else s.halves c).output
@@ -240,8 +240,8 @@ got_failed s q d t u halves found stays none sound = λ c.
         is ∙ not_failed (s.halves c).output (none c)
 
 got_works : (s : Seen) (p q : PortRef) (chars : List Char) (rest : List TraceLine)
-    → peer_of s q ≡ Some p → s.unfaithful ≡ None → IsQuiet rest → NoneFailed s
-    → ((seen s (Signed (Got q chars) ∷ rest)).unfaithful ≡ None
+    → peer_of s q ≡ Some p → s.undetected ≡ None → IsQuiet rest → NoneFailed s
+    → ((seen s (Signed (Got q chars) ∷ rest)).undetected ≡ None
     → has_failed ((seen s (Signed (Got q chars) ∷ rest)).halves q).output ≡ false)
     → Works s (Signed (Got q chars) ∷ rest)
 got_works s p q chars rest back first quiet none sound =
@@ -252,7 +252,7 @@ got_works s p q chars rest back first quiet none sound =
     let own = still t rest quiet in
     let works =
     got_failed s q d t (seen t rest) (ap (λ (x : Seen). x.halves) there)
-    (ap (λ (x : Seen). x.unfaithful) there) own.stays none sound in
+    (ap (λ (x : Seen). x.undetected) there) own.stays none sound in
     record {
       never = (none, own.works works);
       first = (first, own.first);
@@ -286,7 +286,7 @@ works_by {s} is works = subst (Works s) (sym is) works
 delivers_work : (s : Seen) (p q : PortRef) (n : ℕ) (lines : List TraceLine) → IsGood s
     → IsGood (seen s lines) → peer_of s p ≡ Some q → peer_of (seen s lines) p ≡ Some q
     → peer_of s q ≡ Some p
-    → s.unfaithful ≡ None → has_chars A n (link_at s p q) ≡ true
+    → s.undetected ≡ None → has_chars A n (link_at s p q) ≡ true
     → lines ≡ lines_of p q (delivery_notes A n (link_at s p q)) → NoneFailed s → Works s lines
 delivers_work s p q n lines good behind peer still back first has is none =
     let l = link_at s p q in
@@ -297,13 +297,13 @@ delivers_work s p q n lines good behind peer still back first has is none =
     let whole : lines ≡ Signed (Got q chars) ∷ rest =
     is ∙ ap (λ x. lines_of p q (if x then told_notes B (take n (s.wires p).chars) told else []))
     has in
-    let sound : (seen s lines).unfaithful ≡ None
+    let sound : (seen s lines).undetected ≡ None
     → has_failed ((seen s lines).halves q).output ≡ false =
     λ faithful. not_failed ((seen s lines).halves q).output
     (none_failed (link_at (seen s lines) p q) (behind.links faithful p q still).sound).1 in
     works_by whole (got_works s p q chars rest back first
     (told_quiet p q B told.moves (answers told.replies).chars) none
-    (subst (λ (x : List TraceLine). (seen s x).unfaithful ≡ None
+    (subst (λ (x : List TraceLine). (seen s x).undetected ≡ None
     → has_failed ((seen s x).halves q).output ≡ false) whole sound))
 
 part_works : {s : Seen} {lines : List TraceLine} → IsGood s → Part s lines → NoneFailed s

@@ -6,7 +6,7 @@ use Rattle.link_model.specs.declared.event.Event.{Event}
 use Rattle.link_model.specs.Places.{Place, run, place_after}
 use Rattle.link_port.specs.Ports.{PortState}
 use Rattle.link_port.specs.Steps.{is_acted}
-use Rattle.link_wires.specs.Deliveries.{Told, Flow, Delivered, Through, Unsent, begun, done, met, comes, goes_on, come, ended, delivered, told_of, undetected}
+use Rattle.link_wires.specs.Deliveries.{Told, Flow, Delivered, Through, WentUndetected, begun, done, met, comes, goes_on, come, ended, delivered, told_of, undetected}
 use Rattle.link_wires.specs.Kept.{behind, behind_some, behind_all}
 use Rattle.link_wires.specs.declared.edits.Edit.{Edit}
 use Rattle.link_wires.proofs.Exact.{delivered_exact}
@@ -15,9 +15,9 @@ use Rattle.fabric_script.specs.declared.ports.PortRef.{PortRef}
 use Rattle.fabric_model.specs.Network.{Network, same_port}
 use Rattle.trace_lines.specs.Lines.{Sent, Got, Fired, TraceLine, Begun, Stepped, Signed, Lacked, Ended, Undetected}
 use Rattle.fabric_trace.specs.Known.{Wire, Seen, with_wire, peer_of, port_seen, kept_of}
-use Rattle.fabric_trace.specs.Fold.{edit_of, edited_by, taken_from, found_at, got_from, wire_silenced, fired_from, signed, seen_line, seen}
+use Rattle.fabric_trace.specs.Fold.{edit_of, edited_by, taken_from, undetected_at, got_from, wire_silenced, fired_from, signed, seen_line, seen}
 use Rattle.fabric_trace.specs.Links.{IsKept}
-use Rattle.fabric_trace.specs.Faithful.{ActsOnSent, trace_goes_on, names_unsent, IsFaithful, FaithfulLine, Faithful}
+use Rattle.fabric_trace.specs.Faithful.{ActsOnSent, trace_goes_on, names_undetected, IsFaithful, FaithfulLine, Faithful}
 use Rattle.fabric_trace.specs.Firsts.{FindsFirst}
 use Rattle.fabric_trace.specs.Runs.{begins}
 use Rattle.fabric_trace.specs.Settled.{under_way, Settled}
@@ -27,7 +27,7 @@ use Rattle.fabric_trace.proofs.Parts.Folding.{sent_kept, kept_is, acted_kept, fi
 
 abbrev Leaves : List Event → Delivered → Type 0
 Leaves start (Through flow) = behind_all flow.told.acted start ≡ Some flow.kept
-Leaves start (Unsent told e) =
+Leaves start (WentUndetected told e) =
     (left : List Event) × (behind_all told.acted start ≡ Some left) × (behind e left ≡ None)
 
 met_leaves : (start : List Event) (flow : Flow) (at : ℕ) (e : Event) (kept : Option (List Event))
@@ -51,7 +51,7 @@ on_leaves : (start : List Event) (more : Flow → Delivered) (d : Delivered)
     → ((f : Flow) → Leaves start (Through f) → Leaves start (more f)) → Leaves start d
     → Leaves start (goes_on more d)
 on_leaves start more (Through f) next h = next f h
-on_leaves start more (Unsent told e) next h = h
+on_leaves start more (WentUndetected told e) next h = h
 
 come_leaves : (start : List Event) (events : List (ℕ × Event)) (flow : Flow)
     → Leaves start (Through flow) → Leaves start (come events flow)
@@ -64,7 +64,7 @@ come_leaves start (placed ∷ events) flow h =
 ended_leaves : (start : List Event) (place : Place) (count : ℕ) (d : Delivered) → Leaves start d
     → Leaves start (ended place count d)
 ended_leaves start place count (Through flow) h = h
-ended_leaves start place count (Unsent told e) h = h
+ended_leaves start place count (WentUndetected told e) h = h
 
 delivered_leaves : (port : PortState) (kept : List Event) (chars : List Char)
     → Leaves kept (delivered port kept chars)
@@ -79,7 +79,7 @@ HasLeft kept told = (left : List Event) × (behind_all told.acted kept ≡ Some 
 
 left_of : (kept : List Event) (d : Delivered) → Leaves kept d → HasLeft kept (told_of d)
 left_of kept (Through flow) h = (flow.kept, h)
-left_of kept (Unsent told e) h = (h.0, h.1)
+left_of kept (WentUndetected told e) h = (h.0, h.1)
 
 -- what the wires have acted is found
 abbrev pub AreKept : Seen → Type 0
@@ -146,7 +146,7 @@ sent_exactly s p q chars kept =
 
 -- where a trace goes on, nothing was found
 on_unfound : (s : Seen) (port : Option PortRef) (lines : List TraceLine) → Settled s port lines
-    → FindsFirst s lines → trace_goes_on lines ≡ true → s.unfaithful ≡ None
+    → FindsFirst s lines → trace_goes_on lines ≡ true → s.undetected ≡ None
 on_unfound s port [] settled first on = absurd cc
 on_unfound s port (Begun line ∷ lines) settled first on = settled.0.0
 on_unfound s port (Stepped step ∷ lines) settled first on =
@@ -165,7 +165,7 @@ on_unfound s port (Undetected number q e ∷ lines) settled first on =
 
 -- and where an event is named, one was found
 named_found : (s : Seen) (port : Option PortRef) (lines : List TraceLine) → Settled s port lines
-    → names_unsent lines ≡ true → s.unfaithful ≡ None → ⊥
+    → names_undetected lines ≡ true → s.undetected ≡ None → ⊥
 named_found s port [] settled named none = absurd cc
 named_found s port (Begun line ∷ lines) settled named none = absurd cc
 named_found s port (Stepped step ∷ lines) settled named none =
@@ -185,14 +185,15 @@ named_found s port (Undetected number q e ∷ lines) settled named none =
 -- ---- one delivery
 
 -- what is found by a delivery, and what the lines behind it tell of that
-found_none : (q : PortRef) (e : Option Event) → found_at q e ≡ None → e ≡ None
+found_none : (q : PortRef) (e : Option Event) → undetected_at q e ≡ None → e ≡ None
 found_none q None is = refl
 found_none q (Some e) is = absurd cc
 
 module _ (s : Seen) (p q : PortRef) (chars : List Char) (port : Option PortRef)
     (lines : List TraceLine) (kept : IsKept (s.wires p)) (peer : peer_of s q ≡ Some p) where
-  finds : (signed s (Got q chars)).unfaithful ≡ found_at q (undetected (taken_from s p q chars))
-  finds = ap (λ (o : Option PortRef). (got_from s o q chars).unfaithful) peer
+  finds : (signed s (Got q chars)).undetected
+      ≡ undetected_at q (undetected (taken_from s p q chars))
+  finds = ap (λ (o : Option PortRef). (got_from s o q chars).undetected) peer
 
   delivery_faithful : Settled (signed s (Got q chars)) port lines
       → FindsFirst (signed s (Got q chars)) lines → IsFaithful s p q chars lines
@@ -200,9 +201,9 @@ module _ (s : Seen) (p q : PortRef) (chars : List Char) (port : Option PortRef)
     sent = λ on. (let none = on_unfound (signed s (Got q chars)) port lines settled first on in
         (sent_exactly s p q chars kept).0
         (found_none q (undetected (taken_from s p q chars)) (sym finds ∙ none)));
-    unsent = λ named sent. (let none = (sent_exactly s p q chars kept).1 sent in
+    undetected = λ named sent. (let none = (sent_exactly s p q chars kept).1 sent in
         named_found (signed s (Got q chars)) port lines settled named
-        (finds ∙ ap (found_at q) none));
+        (finds ∙ ap (undetected_at q) none));
   }
 
 -- ---- whole traces and their fronts

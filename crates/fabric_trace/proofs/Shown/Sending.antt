@@ -34,7 +34,7 @@ use Rattle.link_sound.proofs.PortBounds.{turn_port}
 use Rattle.link_watch.specs.declared.note.Note.TheVariants as Notes
 use Rattle.link_watch.specs.declared.side.Side.{Side}
 use Rattle.link_watch.specs.declared.side.Side.TheVariants.{A, B}
-use Rattle.link_wires.specs.Deliveries.{Flow, Delivered, Through, Unsent, begun, done, met, comes, goes_on, come, ended, delivered, told_of}
+use Rattle.link_wires.specs.Deliveries.{Flow, Delivered, Through, WentUndetected, begun, done, met, comes, goes_on, come, ended, delivered, told_of}
 use Rattle.link_wires.specs.Kept.{behind}
 use Rattle.link_wires.specs.Wires.{bursts, answers}
 use Rattle.link_wires.specs.declared.moves.Move.{Move}
@@ -218,7 +218,7 @@ record AnswersSo (flow : Flow) : Type 0 where
 
 abbrev AnswersAll : Delivered → Type 0
 AnswersAll (Through flow) = AnswersSo flow
-AnswersAll (Unsent told e) = AreAnswers told.replies
+AnswersAll (WentUndetected told e) = AreAnswers told.replies
 
 done_answers : (e : Event) (acted kept : List Event) (flow : Flow) → AnswersSo flow
     → AnswersSo (done e acted kept flow)
@@ -246,7 +246,7 @@ comes_answers flow placed h =
 on_answers : (more : Flow → Delivered) (d : Delivered)
     → ((f : Flow) → AnswersSo f → AnswersAll (more f)) → AnswersAll d → AnswersAll (goes_on more d)
 on_answers more (Through f) next h = next f h
-on_answers more (Unsent told e) next h = h
+on_answers more (WentUndetected told e) next h = h
 
 come_answers : (events : List (ℕ × Event)) (flow : Flow) → AnswersSo flow
     → AnswersAll (come events flow)
@@ -258,7 +258,7 @@ come_answers (placed ∷ events) flow h =
 told_answers : (place : _) (count : ℕ) (d : Delivered) → AnswersAll d
     → AreAnswers (told_of (ended place count d)).replies
 told_answers place count (Through flow) h = h.are
-told_answers place count (Unsent told e) h = h
+told_answers place count (WentUndetected told e) h = h
 
 delivered_answers : (port : PortState) (kept : List Event) (chars : List Char)
     → IsNarrow port → AreAnswers (told_of (delivered port kept chars)).replies

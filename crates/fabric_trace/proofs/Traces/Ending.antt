@@ -4,7 +4,7 @@ use Rattle.fabric_script.specs.Lines.{is_event}
 use Rattle.fabric_script.specs.declared.lines.Line.{Line}
 use Rattle.fabric_script.specs.declared.lines.Numbered.{Numbered}
 use Rattle.trace_lines.specs.Lines.{TraceLine, Begun, Ended, Undetected}
-use Rattle.fabric_trace.specs.Known.{Found, Seen}
+use Rattle.fabric_trace.specs.Known.{UndetectedAt, Seen}
 use Rattle.fabric_trace.specs.Fold.{seen}
 use Rattle.fabric_trace.specs.Ends.{EndsAs, Whole, EndsNaming}
 use Rattle.fabric_trace.specs.Rounds.{Follows}
@@ -19,31 +19,31 @@ ends_behind s first rest lines is (Whole front ends none) =
     Whole (first ++ front)
     (is ∙ ap (λ (l : List TraceLine). first ++ l) ends
     ∙ sym (append_assoc first front (Ended ∷ [])))
-    (ap (λ (x : Seen). x.unfaithful) (seen-append s first front) ∙ none)
+    (ap (λ (x : Seen). x.undetected) (seen-append s first front) ∙ none)
 ends_behind s first rest lines is (EndsNaming front number found ends some) =
     EndsNaming (first ++ front) number found
     (is ∙ ap (λ (l : List TraceLine). first ++ l) ends
     ∙ sym (append_assoc first front (Undetected number found.port found.event ∷ [])))
-    (ap (λ (x : Seen). x.unfaithful) (seen-append s first front) ∙ some)
+    (ap (λ (x : Seen). x.undetected) (seen-append s first front) ∙ some)
 
-follows_end : (t : Seen) (found : Option Found) (More : List TraceLine → Type 0) (number : ℕ)
-    (rest : List TraceLine) → t.unfaithful ≡ found
-    → (t.unfaithful ≡ None → More rest → EndsAs t rest) → Follows found More (Names number) rest
+follows_end : (t : Seen) (found : Option UndetectedAt) (More : List TraceLine → Type 0) (number : ℕ)
+    (rest : List TraceLine) → t.undetected ≡ found
+    → (t.undetected ≡ None → More rest → EndsAs t rest) → Follows found More (Names number) rest
     → EndsAs t rest
 follows_end t None More number rest is more follows = more is follows
 follows_end t (Some found) More number rest is more follows = EndsNaming [] number found follows is
 
 event_ends : (s : Seen) (line : Line) (number : ℕ) (More : Seen → List TraceLine → Type 0)
     (lines : List TraceLine)
-    → ((t : Seen) (rest : List TraceLine) → t.unfaithful ≡ None → More t rest → EndsAs t rest)
+    → ((t : Seen) (rest : List TraceLine) → t.undetected ≡ None → More t rest → EndsAs t rest)
     → BlockThen More (Names number) s line lines → EndsAs s lines
 event_ends s line number More lines more run =
     let t = seen s (Begun line ∷ run.0) in
     ends_behind s (Begun line ∷ run.0) run.1 lines run.2
-    (follows_end t t.unfaithful (More t) number run.1 refl
+    (follows_end t t.undetected (More t) number run.1 refl
     (λ still follows. more t run.1 still follows) run.4)
 
-pub runs_end : (script : List Numbered) (s : Seen) (lines : List TraceLine) → s.unfaithful ≡ None
+pub runs_end : (script : List Numbered) (s : Seen) (lines : List TraceLine) → s.undetected ≡ None
     → RunsFrom s script lines → EndsAs s lines
 runs_end [] s lines none run = Whole [] run none
 runs_end (line ∷ script) s lines none run =

@@ -20,7 +20,7 @@ use Rattle.fabric_model.proofs.Peers.{ArePeers, link_peers}
 use Rattle.trace_lines.specs.Notes.{lines_of}
 use Rattle.fabric_trace.specs.Blocks.{IsSettle}
 use Rattle.fabric_trace.specs.Fold.{seen_line, seen}
-use Rattle.fabric_trace.specs.Known.{Found, Seen, link_at}
+use Rattle.fabric_trace.specs.Known.{UndetectedAt, Seen, link_at}
 use Rattle.trace_lines.specs.Lines.{TraceLine, Stepped, steps_of}
 use Rattle.fabric_trace.specs.Parts.{Made, Done}
 use Rattle.fabric_trace.specs.Ready.{IsReady}
@@ -69,8 +69,9 @@ ready_begun net is = ready_by (good_start net is) (empty_formed net is.empty is.
 
 -- ---- lines, and more behind them
 
-follows_exist : (t : Seen) (found : Option Found) (More : List TraceLine → Type 0) → t.unfaithful
-    ≡ found → (t.unfaithful ≡ None → Exists t More) → Exists t (Follows found More NamesNothing)
+follows_exist : (t : Seen) (found : Option UndetectedAt) (More : List TraceLine → Type 0)
+    → t.undetected
+    ≡ found → (t.undetected ≡ None → Exists t More) → Exists t (Follows found More NamesNothing)
 follows_exist t None More is more =
     let rest = more is in
     record { lines = rest.lines; is = rest.is; made = rest.made }
@@ -79,11 +80,11 @@ follows_exist t (Some found) More is more = record { lines = []; is = refl; made
 pub joined_exist : (s : Seen) (First : List TraceLine → Type 0)
     (More : Seen → List TraceLine → Type 0)
     → Exists s First
-    → ((lines : List TraceLine) → Made s lines → (seen s lines).unfaithful ≡ None
+    → ((lines : List TraceLine) → Made s lines → (seen s lines).undetected ≡ None
     → Exists (seen s lines) (More (seen s lines))) → Exists s (Joined First More s)
 joined_exist s First More first more =
     let t = seen s first.lines in
-    let rest = follows_exist t t.unfaithful (More t) refl (more first.lines first.made) in
+    let rest = follows_exist t t.undetected (More t) refl (more first.lines first.made) in
     record {
       lines = first.lines ++ rest.lines;
       is = (first.lines, rest.lines, refl, first.is, rest.is);
@@ -104,7 +105,7 @@ test_exist s P Q false first second = record {
 
 -- ---- links settle
 
-pub settle_exists : (s : Seen) (a b : PortRef) → IsGood s → s.unfaithful ≡ None
+pub settle_exists : (s : Seen) (a b : PortRef) → IsGood s → s.undetected ≡ None
     → ArePeers s.network.links a b → Exists s (IsSettle s a b)
 settle_exists s a b good none peers =
     let way = settling_can (link_at s a b) (good.links none a b peers.there).sound in
@@ -113,7 +114,7 @@ settle_exists s a b good none peers =
     record { lines = lines; is = settles; made = link_made s a b lines good none peers settles }
 
 -- of links that are all found, one after another
-pub settles_from : (links all : List (PortRef × PortRef)) (s : Seen) → IsGood s → s.unfaithful
+pub settles_from : (links all : List (PortRef × PortRef)) (s : Seen) → IsGood s → s.undetected
     ≡ None → s.network.links ≡ all → AreFound all links → Exists s (SettleAll IsSettle links s)
 settles_from [] all s good none same found = record { lines = []; is = refl; made = Done refl }
 settles_from (link ∷ links) all s good none same found =
@@ -126,7 +127,7 @@ settles_from (link ∷ links) all s good none same found =
     (legal_links s.network (steps_of first) (seen s first).network kept.legal ∙ same) found.1)
 
 -- All links settle, one after another.
-pub settle_all_exist : (s : Seen) → IsGood s → s.unfaithful ≡ None
+pub settle_all_exist : (s : Seen) → IsGood s → s.undetected ≡ None
     → Exists s (SettleAll IsSettle s.network.links s)
 settle_all_exist s good none = settles_from s.network.links s.network.links s good none refl
     (all_found s.network.links good.proper)
@@ -248,14 +249,14 @@ pub serve_all_exist : (s : Seen) → IsReady s → Exists s (ServeNodes 0 s.netw
 serve_all_exist s ready = nodes_exist s.network.registers 0 (switch_at s.network) s ready
     (λ n. refl) (all_kinds s.network)
 
-pub round_exists : (s : Seen) → IsReady s → s.unfaithful ≡ None → Exists s (Round IsSettle s)
+pub round_exists : (s : Seen) → IsReady s → s.undetected ≡ None → Exists s (Round IsSettle s)
 round_exists s ready none =
     joined_exist s (SettleAll IsSettle s.network.links s)
     (λ t rest. ServeNodes 0 t.network.registers t rest)
     (settle_all_exist s (good_of ready) none)
     (λ first made still. serve_all_exist (seen s first) (ready_on ready made))
 
-pub rounds_exist : (n : ℕ) (s : Seen) → IsReady s → s.unfaithful ≡ None
+pub rounds_exist : (n : ℕ) (s : Seen) → IsReady s → s.undetected ≡ None
     → Exists s (Rounds IsSettle n s)
 rounds_exist zero s ready none = record { lines = []; is = refl; made = Done refl }
 rounds_exist (suc n) s ready none =
@@ -268,7 +269,7 @@ pub ready_behind : (net : Network) (lines : List TraceLine) → IsSetUp net → 
 ready_behind net lines is made = ready_on (ready_begun net is) made
 
 pub rounds_behind : (net : Network) (n : ℕ) (lines : List TraceLine) → IsSetUp net
-    → Made (begins net) lines → (seen (begins net) lines).unfaithful ≡ None
+    → Made (begins net) lines → (seen (begins net) lines).undetected ≡ None
     → (block : List TraceLine) × Rounds IsSettle n (seen (begins net) lines) block
 rounds_behind net n lines is made none =
     let own = rounds_exist n (seen (begins net) lines) (ready_behind net lines is made) none in

@@ -32,7 +32,7 @@ use Rattle.fabric_model.proofs.Peers.{link_peers}
 use Rattle.fabric_trace.specs.Blocks.{pumps, delivers, time_out_lines, edits, IsSettle, WithPeer, WithLink, IsBlock}
 use Rattle.fabric_trace.specs.Events.{FitsPacket, IsInRange, IsThere, MayHappen}
 use Rattle.fabric_trace.specs.Fold.{edit_of, seen}
-use Rattle.fabric_trace.specs.Known.{Found, Seen, peer_of}
+use Rattle.fabric_trace.specs.Known.{UndetectedAt, Seen, peer_of}
 use Rattle.trace_lines.specs.Lines.{TraceLine, Begun, Ended, Undetected, steps_of}
 use Rattle.fabric_trace.specs.Parts.{PartBegins, Made, Then}
 use Rattle.fabric_trace.specs.Ready.{IsReady}
@@ -72,7 +72,7 @@ link_there (link ∷ links) p has =
     by_tests false false later has = later has
 
 settle_block : (s : Seen) (port : PortRef) (link : Option (PortRef × PortRef)) → IsGood s
-    → s.unfaithful ≡ None → link_in s.network.links port ≡ link → is_some link ≡ true
+    → s.undetected ≡ None → link_in s.network.links port ≡ link → is_some link ≡ true
     → (block : List TraceLine) × WithLink link (IsSettle s) block
 settle_block s port None good none is has = absurd cc
 settle_block s port (Some link) good none is has =
@@ -139,7 +139,7 @@ collect_exists s node ready endpoint =
 
 -- ---- every event has a block
 
-pub block_exists : (line : Line) (s : Seen) → IsReady s → s.unfaithful ≡ None → is_event line ≡ true
+pub block_exists : (line : Line) (s : Seen) → IsReady s → s.undetected ≡ None → is_event line ≡ true
     → FitsPacket line → IsThere s.network line → (block : List TraceLine) × IsBlock s line block
 block_exists (Endpoint name id) s ready none event say there = absurd cc
 block_exists (Switch name ports) s ready none event say there = absurd cc
@@ -241,7 +241,7 @@ cans_stay net end (line ∷ script) links kinds can = (
   cans_stay net end script links kinds can.1,
 )
 
-follow_exists : (number : ℕ) (More : List TraceLine → Type 0) (found : Option Found)
+follow_exists : (number : ℕ) (More : List TraceLine → Type 0) (found : Option UndetectedAt)
     → (found ≡ None → (rest : List TraceLine) × More rest)
     → (rest : List TraceLine) × Follows found More (Names number) rest
 follow_exists number More None more = more refl
@@ -253,7 +253,7 @@ one_of : (P Q : List TraceLine → Type 0) (test : Bool)
 one_of P Q true first second = first refl
 one_of P Q false first second = second
 
-pub runs_exist : (script : List Numbered) (s : Seen) → IsReady s → s.unfaithful ≡ None
+pub runs_exist : (script : List Numbered) (s : Seen) → IsReady s → s.undetected ≡ None
     → EventsCan s.network script → (lines : List TraceLine) × RunsFrom s script lines
 runs_exist [] s ready none can = (Ended ∷ [], refl)
 runs_exist (line ∷ script) s ready none can =
@@ -270,7 +270,7 @@ runs_exist (line ∷ script) s ready none can =
     let links = legal_links s.network (steps_of (Begun line.line ∷ block)) t.network legal in
     let kinds = switches_along s.network (steps_of (Begun line.line ∷ block)) t.network legal in
     let rest =
-    follow_exists line.number (RunsFrom t script) t.unfaithful
+    follow_exists line.number (RunsFrom t script) t.undetected
     (λ still. runs_exist script t (ready_on ready begun) still
     (cans_stay s.network t.network script links kinds can.1)) in
     ((Begun line.line ∷ block) ++ rest.0, (block, rest.0, refl, own.1, rest.1)))

@@ -15,7 +15,7 @@ use Rattle.fabric_model.specs.Network.{Network, link_in, port_of}
 use Rattle.fabric_model.specs.Steps.{ByDevice}
 use Rattle.fabric_model.specs.Laws.Freeing.{IsFront}
 use Rattle.trace_lines.specs.Lines.{NoStep, TraceLine, Begun, Stepped, Lacked}
-use Rattle.fabric_trace.specs.Known.{Found, Seen, peer_of, link_at}
+use Rattle.fabric_trace.specs.Known.{UndetectedAt, Seen, peer_of, link_at}
 use Rattle.fabric_trace.specs.Fold.{seen_line, seen}
 use Rattle.fabric_trace.specs.Served.{face_in, faces_in, step_lines, IsMove, collect_lines, IsCollect}
 use Rattle.trace_lines.specs.Notes.{lines_of}
@@ -61,9 +61,10 @@ link_one (Some link) Block one x y f g = one link.0 link.1 x y f g
 
 -- ---- rounds
 
-follows_one : (found : Option Found) (More : List TraceLine → Type 0)
-    (Last : Found → List TraceLine → Type 0)
-    → AtMostOne More → ((e : Found) → AtMostOne (Last e)) → AtMostOne (Follows found More Last)
+follows_one : (found : Option UndetectedAt) (More : List TraceLine → Type 0)
+    (Last : UndetectedAt → List TraceLine → Type 0)
+    → AtMostOne More → ((e : UndetectedAt) → AtMostOne (Last e))
+    → AtMostOne (Follows found More Last)
 follows_one None More Last one two = one
 follows_one (Some e) More Last one two = two e
 
@@ -73,8 +74,8 @@ joined_one s First More one more x y p q =
     let first = one p.0 q.0 p.3 q.3 in
     let t = seen s q.0 in
     let rest =
-    follows_one t.unfaithful (More t) NamesNothing (more t) (λ e a b f g. f ∙ sym g) p.1 q.1
-    (subst (λ l. Follows (seen s l).unfaithful (More (seen s l)) NamesNothing p.1) first p.4) q.4 in
+    follows_one t.undetected (More t) NamesNothing (more t) (λ e a b f g. f ∙ sym g) p.1 q.1
+    (subst (λ l. Follows (seen s l).undetected (More (seen s l)) NamesNothing p.1) first p.4) q.4 in
     cc
 
 settle_all_one : (links : List (PortRef × PortRef)) (s : Seen)
@@ -156,14 +157,14 @@ block_one (Run n) s x y f g = rounds_one n s x y f g
 -- ---- runs
 
 event_one : (s : Seen) (line : Line) (More : Seen → List TraceLine → Type 0)
-    (Last : Found → List TraceLine → Type 0)
-    → ((t : Seen) → AtMostOne (More t)) → ((e : Found) → AtMostOne (Last e))
+    (Last : UndetectedAt → List TraceLine → Type 0)
+    → ((t : Seen) → AtMostOne (More t)) → ((e : UndetectedAt) → AtMostOne (Last e))
     → AtMostOne (BlockThen More Last s line)
 event_one s line More Last one two x y p q =
     let block = block_one line s p.0 q.0 p.3 q.3 in
     let t = seen s (Begun line ∷ q.0) in
-    let rest = follows_one t.unfaithful (More t) Last (one t) two p.1 q.1
-    (subst (λ l. Follows (seen s (Begun line ∷ l)).unfaithful (More (seen s (Begun line ∷ l))) Last
+    let rest = follows_one t.undetected (More t) Last (one t) two p.1 q.1
+    (subst (λ l. Follows (seen s (Begun line ∷ l)).undetected (More (seen s (Begun line ∷ l))) Last
     p.1) block p.4) q.4 in
     cc
 
@@ -189,7 +190,7 @@ by_test false f g x y = g x y
 nothing_is_front : {L : Type 0} (x y : List L) → x ≡ [] → IsFront x y
 nothing_is_front x y none = (y, ap (λ l. l ++ y) (sym none))
 
-follows_front : (found : Option Found) (Near Far : List TraceLine → Type 0) (number : ℕ)
+follows_front : (found : Option UndetectedAt) (Near Far : List TraceLine → Type 0) (number : ℕ)
     (x y : List TraceLine)
     → ((a b : List TraceLine) → Near a → Far b → IsFront a b) → Follows found Near NamesNothing x
     → Follows found Far (Names number) y → IsFront x y
@@ -204,8 +205,8 @@ event_front : (s : Seen) (line : Line) (number : ℕ) (Near Far : Seen → List 
 event_front s line number Near Far x y front p q =
     let block = block_one line s p.0 q.0 p.3 q.3 in
     let t = seen s (Begun line ∷ q.0) in
-    let behind = follows_front t.unfaithful (Near t) (Far t) number p.1 q.1 (front t)
-    (subst (λ l. Follows (seen s (Begun line ∷ l)).unfaithful (Near (seen s (Begun line ∷ l)))
+    let behind = follows_front t.undetected (Near t) (Far t) number p.1 q.1 (front t)
+    (subst (λ l. Follows (seen s (Begun line ∷ l)).undetected (Near (seen s (Begun line ∷ l)))
     NamesNothing p.1) block p.4) q.4 in
     (behind.0, cc (append_assoc (Begun line ∷ p.0) p.1 behind.0))
 

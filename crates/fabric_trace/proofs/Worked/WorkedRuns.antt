@@ -25,7 +25,7 @@ use Rattle.fabric_model.specs.Laws.Examples.{packet}
 use Rattle.fabric_model.specs.Serving.{next_at}
 use Rattle.fabric_model.specs.Steps.{LegalFrom}
 use Rattle.trace_lines.specs.Lines.{TraceLine, Empty, Short, Early, NoStep, Fired, Signed, Lacked, steps_of}
-use Rattle.fabric_trace.specs.Known.{Found, Seen, link_at}
+use Rattle.fabric_trace.specs.Known.{UndetectedAt, Seen, link_at}
 use Rattle.fabric_trace.specs.Fold.{says, seen}
 use Rattle.fabric_trace.specs.Runs.{bare, begins, Runs}
 use Rattle.fabric_trace.specs.Allowance.{FreesAllowed}
@@ -192,11 +192,11 @@ unfolding run place_after kind spelled is_spelling crc5_value crc5_of crc5_messa
     number division_steps complemented
 acted_breaks faithful = no_more ((faithful.0 near refl).sent refl) refl refl
 
-pub unsent_breaks : Faithful (begins pair_network) named_though_sent → ⊥
+pub undetected_breaks : Faithful (begins pair_network) named_though_sent → ⊥
 unfolding run place_after kind spelled is_spelling crc5_value crc5_of crc5_message field_bits bits
     number division_steps complemented
-unsent_breaks faithful =
-    (faithful.1.0 near refl).unsent refl (TakesWithin (Ctl (packet_accepted 0 31)) EndsWithin)
+undetected_breaks faithful =
+    (faithful.1.0 near refl).undetected refl (TakesWithin (Ctl (packet_accepted 0 31)) EndsWithin)
 
 pub freed_breaks : FreesSaid near nothing_got 0 frees_once → ⊥
 unfolding run
@@ -291,7 +291,7 @@ pub round_breaks : SettlesTo (λ s a b lines. lines ≡ []) moving near far [] �
 round_breaks settles = moving_breaks (settles.1 refl)
 
 pub settle_at_rest : (s : Seen) (block : List TraceLine) → s.network ≡ pair_network
-    → IsBlockAtRest s (Settle near) block → (seen s block).unfaithful ≡ None
+    → IsBlockAtRest s (Settle near) block → (seen s block).undetected ≡ None
     → IsSettled (link_at (seen s block) near far)
 settle_at_rest s block is rests still =
     let link : link_in s.network.links near ≡ Some (near, far) =
@@ -302,7 +302,7 @@ settle_at_rest s block is rests still =
 pub round_at_rest : (s : Seen) (block : List TraceLine) → s.network ≡ pair_network
     → IsBlockAtRest s (Run 1) block
     → (first : List TraceLine) × (rest : List TraceLine) × (block ≡ first ++ rest) ×
-    ((seen s first).unfaithful ≡ None → IsSettled (link_at (seen s first) near far))
+    ((seen s first).undetected ≡ None → IsSettled (link_at (seen s first) near far))
 round_at_rest s block is rounds =
     let round = rounds.3 in
     let links : s.network.links ≡ pair_network.links = ap (λ (net : Network). net.links) is in
@@ -334,7 +334,7 @@ named_other_breaks settled =
     let same : far ≡ near = ap port_in settled.0 in
     absurd (omega (arith, ap (λ (p : PortRef). p.node) same))
   where
-    port_in : Option Found → PortRef
+    port_in : Option UndetectedAt → PortRef
     port_in None = near
     port_in (Some found) = found.port
 

@@ -4,7 +4,7 @@ use Rattle.link_buffers.specs.Queues.{packet_count}
 use Rattle.link_model.specs.declared.event.Event.{Event}
 use Rattle.link_port.specs.Prelude.{is_ready}
 use Rattle.link_machine.specs.Prelude.{other_side, Side, A, B, LinkState, from_end, pumped, told_from, has_chars, delivery_from, delivered_from, IsSoundLink}
-use Rattle.link_wires.specs.Deliveries.{Delivered, Through, Unsent}
+use Rattle.link_wires.specs.Deliveries.{Delivered, Through, WentUndetected}
 use Rattle.link_machine.proofs.Machine.{pump_keeps, told_keeps, delivery_keeps, fired_keeps}
 use Rattle.link_machine.specs.Schedules.{NextOf, WhereOf, Is}
 use Rattle.link_machine.specs.Schedules.LoopOf.{LoopRests, LoopGoesOn, LoopLeaves}
@@ -23,7 +23,7 @@ use Rattle.link_machine.proofs.Settling.Settled.{Drained, FirstRests, BothRest, 
 reached_keeps : (to : Side) (next : LinkState) (d : Delivered) → IsSoundLink next
     → OnState IsSoundLink (reached_by to next d)
 reached_keeps to next (Through flow) l = l
-reached_keeps to next (Unsent told e) l = tt
+reached_keeps to next (WentUndetected told e) l = tt
 
 delivers_keep : (from : Side) (count : ℕ) (s : LinkState) (b : Bool) → IsSoundLink s
     → OnState IsSoundLink (if b

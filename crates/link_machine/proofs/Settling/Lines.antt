@@ -5,7 +5,7 @@ use Rattle.std.proofs.lemmas.Bool.{le-leb}
 use Rattle.link_model.specs.Prelude.{Char, Fields, run, place_after, said}
 use Rattle.link_port.specs.Prelude.{Event, PortState, acts, is_acted, replies}
 use Rattle.link_machine.specs.Prelude.{other_side, Side, A, B, LinkState, turned_round, from_end, first_takes, has_none, IsSoundLink}
-use Rattle.link_wires.specs.Prelude.{behind, Flow, Delivered, Through, Unsent, begun, done, met, goes_on, come, ended, delivered}
+use Rattle.link_wires.specs.Prelude.{behind, Flow, Delivered, Through, WentUndetected, begun, done, met, goes_on, come, ended, delivered}
 use Rattle.link_machine.specs.Calls.{delivery, after_delivery}
 use Rattle.link_machine.specs.Queues.{queues_between}
 use Rattle.link_machine.proofs.Flowing.{AreFlowing, delivered_flowing}
@@ -20,12 +20,12 @@ use Rattle.link_machine.proofs.Settling.Signals.{fed_none, answered_none}
 -- what is true of a delivery of which every event was sent
 abbrev pub OnFlow : (Flow → Type 0) → Delivered → Type 0
 OnFlow P (Through flow) = P flow
-OnFlow P (Unsent told e) = Unit {0}
+OnFlow P (WentUndetected told e) = Unit {0}
 
 on_flow : (P Q : Flow → Type 0) → ((flow : Flow) → P flow → Q flow) → (d : Delivered) → OnFlow P d
     → OnFlow Q d
 on_flow P Q so (Through flow) h = so flow h
-on_flow P Q so (Unsent told e) h = tt
+on_flow P Q so (WentUndetected told e) h = tt
 
 -- events were led through the tables
 abbrev IsLed : Flow → List Event → Flow → Type 0
@@ -87,7 +87,7 @@ ended_led port kept chars events count (Through flow) is h = (
       (h.0 ∙ ap (led port) is),
   h.1 ∙ ap (replies port) is,
 )
-ended_led port kept chars events count (Unsent told e) is h = tt
+ended_led port kept chars events count (WentUndetected told e) is h = tt
 
 pub by_tables : (port : PortState) (kept : List Event) (chars : List Char)
     → OnFlow (IsFed port chars) (delivered port kept chars)
@@ -139,7 +139,7 @@ takes_by s count chars (Through flow) l all whole f t h to = record {
       ap (λ (r : List Fields). s.wire_a.chars ++ chars_of r) (h.1 ∙ ap (port_answers s.a) whole);
   wire_b = drop_all count s.wire_b.chars (omega arith);
 }
-takes_by s count chars (Unsent told e) l all whole f t h to = tt
+takes_by s count chars (WentUndetected told e) l all whole f t h to = tt
 
 takes_all : (s : LinkState) (to : Side) → IsSoundLink s
     → OnState (λ m. Takes s m)
@@ -191,7 +191,7 @@ turned_by : (s : LinkState) (next : LinkState) (d : Delivered)
     → OnState (λ m. Takes s m) (reached_by B next d)
     → OnState (λ m. Takes s (turned_round m)) (reached_by B (turned_round next) d)
 turned_by s next (Through flow) h = h
-turned_by s next (Unsent told e) h = tt
+turned_by s next (WentUndetected told e) h = tt
 
 full_takes : (from : Side) (s : LinkState) → IsSoundLink s
     → OnState (TakesFrom from s)

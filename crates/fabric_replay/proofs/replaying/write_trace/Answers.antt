@@ -1,6 +1,6 @@
 use Rattle.std.proofs.Common.{[], rules, sym, ◌∙◌}
 use Rattle.rio_chars.specs.Written.{Writes}
-use Rattle.fabric_replay.proofs.Writing.{written_front, written_fault, written_done, written_unsent, on_ok}
+use Rattle.fabric_replay.proofs.Writing.{written_front, written_fault, written_done, written_undetected, on_ok}
 use Rattle.fabric_replay.proofs.replaying.write_trace.Goals as goal
 
 pub returns-then-failed-clause-write_fault : goal.returns-then-failed-clause-write_fault
@@ -37,7 +37,7 @@ returns-clause-undetected g c =
     let flushed : Writes left c.flush.new.self [] = search rules in
     let fine = sym c.failed.ensures ∙ c.if-failed.false in
     λ line port event is.
-    written_unsent names script _ line port event
+    written_undetected names script _ line port event
     (c.tell_trace-end.ensures.undetected line port event is) c.deref.ensures.value
     c.requires.passes c.requires.empty flushed fine c.flush.ensures.empty
 

@@ -1,5 +1,5 @@
 use Rattle.std.proofs.Common.{Err, ap}
-use Rattle.fabric_replay.proofs.SummingLaws.{whole_tally, fits, summed, summed_unsent, no_fault, replay_unsent}
+use Rattle.fabric_replay.proofs.SummingLaws.{whole_tally, fits, summed, summed_undetected, no_fault, replay_undetected}
 use Rattle.fabric_replay.proofs.summing.summary.Goals as goal
 
 pub counts_of-requires : goal.counts_of-requires
@@ -24,6 +24,8 @@ end_of-requires c = λ is. no_fault (c.in-Err.ensures.write_fault (ap Err is)).0
 
 pub returns-in-Err-clause-undetected : goal.returns-in-Err-clause-undetected
 returns-in-Err-clause-undetected c = λ line port event is.
-    let unsent = replay_unsent c.in-Err.end c.end_of.result line port event c.end_of.ensures is in
-    summed_unsent c.args.script.now.names.items c.args.script.now.lines.items line port event _ _
-    (c.in-Err.ensures.undetected line port event (ap Err unsent))
+    let undetected = replay_undetected c.in-Err.end c.end_of.result line port event c.end_of.ensures
+    is in
+    summed_undetected c.args.script.now.names.items c.args.script.now.lines.items line port event _
+    _
+    (c.in-Err.ensures.undetected line port event (ap Err undetected))

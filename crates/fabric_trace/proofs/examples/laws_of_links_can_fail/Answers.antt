@@ -1,10 +1,10 @@
-use Rattle.fabric_trace.proofs.Worked.WorkedRuns.{acted_breaks, unsent_breaks, moving_breaks, round_breaks, settle_at_rest, round_at_rest, rest_breaks, rest_before_breaks, found_breaks, named_breaks, named_other_breaks, second_breaks, failed_breaks, failed_within_breaks}
+use Rattle.fabric_trace.proofs.Worked.WorkedRuns.{acted_breaks, undetected_breaks, moving_breaks, round_breaks, settle_at_rest, round_at_rest, rest_breaks, rest_before_breaks, found_breaks, named_breaks, named_other_breaks, second_breaks, failed_breaks, failed_within_breaks}
 use Rattle.fabric_trace.proofs.examples.laws_of_links_can_fail.Goals as goal
 
 pub returns : goal.returns
 returns c = record {
   acted = acted_breaks;
-  unsent = unsent_breaks;
+  undetected = undetected_breaks;
   moving = moving_breaks;
   round = round_breaks;
   settle = settle_at_rest;

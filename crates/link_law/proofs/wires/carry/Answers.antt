@@ -5,11 +5,11 @@ use Rattle.link_law.proofs.wires.carry.Goals as goal
 
 pub returns-clause-told : goal.returns-clause-told
 returns-clause-told c = record {
-  got_is = c.in_ok-unsent.ensures.got;
-  moves_are = c.in_ok-unsent.ensures.moves;
+  got_is = c.in_ok-undetected.ensures.got;
+  moves_are = c.in_ok-undetected.ensures.moves;
   answers_are =
       c.in_ok-reply.ensures.sent
       ∙ ap (λ (replies : List Fields). (answers replies).chars)
-      (c.as_slice.ensures.value ∙ c.in_ok-unsent.ensures.replies);
-  found_is = c.in_ok-unsent.ensures.undetected;
+      (c.as_slice.ensures.value ∙ c.in_ok-undetected.ensures.replies);
+  found_is = c.in_ok-undetected.ensures.undetected;
 }

@@ -20,12 +20,12 @@ returns-in-Some-clause-shows c =
     let left : 0 < length c.rest.result.now = omega (arith, size) in
     let shows =
     run_shows port c.read-count.new.self c.act_all.new.port c.rest.result.now (drop taken chars)
-    (completed_events c.read-count.result.1 c.read-count.new.packet) c.in_ok-unsent.field-0
-    (Some c.in-Some.unsent)
+    (completed_events c.read-count.result.1 c.read-count.new.packet) c.in_ok-undetected.field-0
+    (Some c.in-Some.undetected)
     c.loop-taken.kept c.act_all.new.kept c.loop-taken.came.moves.items
     c.act_all.new.came.moves.items c.loop-taken.came.replies.items c.act_all.new.came.replies.items
-    here.state here.events c.rest.ensures c.in-Some.is c.in_ok-unsent.ensures.shows in
-    lead_missed start chars taken count c.in-Some.unsent port c.act_all.new.port
+    here.state here.events c.rest.ensures c.in-Some.is c.in_ok-undetected.ensures.shows in
+    lead_missed start chars taken count c.in-Some.undetected port c.act_all.new.port
     c.loop-taken.kept c.act_all.new.kept c.loop-taken.came.moves.items
     c.act_all.new.came.moves.items
     c.loop-taken.came.replies.items c.act_all.new.came.replies.items c.loop-taken.invariant.so_far.0
@@ -48,10 +48,10 @@ loop-taken-preserved c =
     let within : count ≤ length c.rest.result.now = here.within in
     let shows =
     run_shows port c.read-count.new.self c.act_all.new.port c.rest.result.now (drop taken chars)
-    (completed_events c.read-count.result.1 c.read-count.new.packet) c.in_ok-unsent.field-0 None
+    (completed_events c.read-count.result.1 c.read-count.new.packet) c.in_ok-undetected.field-0 None
     c.loop-taken.kept c.act_all.new.kept c.loop-taken.came.moves.items
     c.act_all.new.came.moves.items c.loop-taken.came.replies.items c.act_all.new.came.replies.items
-    here.state here.events c.rest.ensures c.in_default.is c.in_ok-unsent.ensures.shows in
+    here.state here.events c.rest.ensures c.in_default.is c.in_ok-undetected.ensures.shows in
     record {
       within = omega (arith, size, within);
       so_far =
@@ -61,7 +61,7 @@ loop-taken-preserved c =
           c.loop-taken.invariant.so_far.0 c.loop-taken.invariant.so_far.1 (here.some left)
           (here.count ∙ ap (λ (l : List Char). (telling_front port.place l).count) c.rest.ensures)
           shows
-          (c.in_ok-unsent.ensures.place
+          (c.in_ok-undetected.ensures.place
           ∙ ap (λ (p : PortState). p.place) here.state
           ∙ ap (λ (l : List Char). (telling_front port.place l).step.place) c.rest.ensures);
     }

@@ -9,18 +9,18 @@ returns-in-Some-clause-shows c = λ acted at.
     come_missed (flow_of c.args.port.now c.args.kept.now c.args.came.now.moves.items
     c.args.came.now.replies.items acted (suc at)) at (Pkt c.args.ack c.args.came.now.packet)
     (Ctl c.args.symbol)
-    c.in-Some.unsent
-    c.in_ok-unsent.field-0 c.act_packet.new.port c.act_packet.new.kept
+    c.in-Some.undetected
+    c.in_ok-undetected.field-0 c.act_packet.new.port c.act_packet.new.kept
     c.act_packet.new.came.moves.items c.act_packet.new.came.replies.items c.in-Some.is
-    (c.in_ok-unsent.ensures.shows acted at)
+    (c.in_ok-undetected.ensures.shows acted at)
 
 pub returns-clause-shows : goal.returns-clause-shows
 returns-clause-shows c = λ acted at.
     come_two (flow_of c.args.port.now c.args.kept.now c.args.came.now.moves.items
     c.args.came.now.replies.items acted (suc at)) at (Pkt c.args.ack c.args.came.now.packet)
     (Ctl c.args.symbol)
-    c.in_ok-unsent.field-0 c.in_ok-found.found c.act_packet.new.port c.act_symbol.new.port
+    c.in_ok-undetected.field-0 c.in_ok-found.found c.act_packet.new.port c.act_symbol.new.port
     c.act_packet.new.kept c.act_symbol.new.kept c.act_packet.new.came.moves.items
     c.act_symbol.new.came.moves.items c.act_packet.new.came.replies.items
     c.act_symbol.new.came.replies.items c.in_default.is
-    (c.in_ok-unsent.ensures.shows acted at) (λ more. c.in_ok-found.ensures.shows more at)
+    (c.in_ok-undetected.ensures.shows acted at) (λ more. c.in_ok-found.ensures.shows more at)

@@ -1,4 +1,4 @@
-use Rattle.link_wires.specs.Deliveries.{Through, Unsent, delivered}
+use Rattle.link_wires.specs.Deliveries.{Through, WentUndetected, delivered}
 use Rattle.link_wires.proofs.DeliveryLaws.{flows-append}
 use Rattle.link_wires.proofs.ActedLaws.{delivered_found, found_at}
 use Rattle.link_wires.proofs.laws.deliveries_go_by_pieces.Goals as goal
@@ -10,6 +10,7 @@ returns c = record {
       λ port kept chars flow is. found_at kept (delivered port kept chars) (Through flow) is
       (delivered_found port kept chars);
   undetected =
-      λ port kept chars told e is. found_at kept (delivered port kept chars) (Unsent told e) is
+      λ port kept chars told e is. found_at kept (delivered port kept chars)
+      (WentUndetected told e) is
       (delivered_found port kept chars);
 }

@@ -5,7 +5,7 @@ use Rattle.fabric_trace.specs.Runs.{start}
 use Rattle.fabric_ports.specs.Events.{MayFollow}
 use Rattle.rio_live.specs.declared.live.Live.{Live}
 use Rattle.rio_live.proofs.TakenLaws.{may_follow, port_named}
-use Rattle.rio_live.proofs.AnsweringLaws.{on_err, names_held, put_text, put_set_up, ended_as, happens_on, happens_unsent, falls_short, falls_at_once}
+use Rattle.rio_live.proofs.AnsweringLaws.{on_err, names_held, put_text, put_set_up, ended_as, happens_on, happens_undetected, happens_front, falls_at_once}
 use Rattle.rio_live.proofs.answers.happen.Goals as goal
 
 pub returns-in_err-fabric-clause-short : goal.returns-in_err-fabric-clause-short
@@ -76,7 +76,8 @@ returns-in-Err-Undetected-clause-happens g c = λ taken line holds spells.
     subst (λ event. Adds c.event.new.writer c.write_undetected.new.self
     (Undetected c.args.number c.in-Err-Undetected.port event ∷ [])) told
     c.write_undetected.ensures in
-    happens_unsent taken line c.args.event.now _ c.event.new.writer c.write_undetected.new.self _
+    happens_undetected taken line c.args.event.now _ c.event.new.writer c.write_undetected.new.self
+    _
     c.args.number c.args.live.now c.take_fabric.new.self c.in_ok-fabric.fabric
     c.in-Err-Undetected.port c.in-Err-Undetected.event named (λ same. search rules) holds spells
     stands exposed named_line
@@ -90,7 +91,7 @@ returns-in-Err-Failed-clause-short g c = λ taken line holds spells.
     let ends =
     ended_as c.args.event.now _ _ (start taken.set_up) taken.trace _ _ c.in-Err-Failed.field-0-is
     (c.in-Err-Failed.ensures.ended (start taken.set_up) taken.trace stands) in
-    falls_short taken line c.args.event.now _ c.event.new.writer _ ends.block named
+    happens_front taken line c.args.event.now _ c.event.new.writer _ ends.block named
     (λ same. search rules) ends.is.0 ends.ends.0
 
 pub returns-clause-short : goal.returns-clause-short
@@ -102,5 +103,5 @@ returns-clause-short g c = λ taken line holds spells.
     let ends =
     ended_as c.args.event.now _ _ (start taken.set_up) taken.trace _ _ c.in-Err-NoMemory.field-0-is
     (c.in-Err-NoMemory.ensures.ended (start taken.set_up) taken.trace stands) in
-    falls_short taken line c.args.event.now _ c.event.new.writer _ ends.block named
+    happens_front taken line c.args.event.now _ c.event.new.writer _ ends.block named
     (λ same. search rules) ends.is.0 ends.ends

@@ -29,16 +29,16 @@ returns-then-not-has-clause-steps g c =
 
 -- ---- no memory for the delivery
 
-pub returns-in_err-unsent-clause-answer : goal.returns-in_err-unsent-clause-answer
-returns-in_err-unsent-clause-answer g c =
+pub returns-in_err-undetected-clause-answer : goal.returns-in_err-undetected-clause-answer
+returns-in_err-undetected-clause-answer g c =
     given_up _ c.from_residual.result Stop.NoMemory c.from_residual.ensures.1
 
-pub returns-in_err-unsent-clause-noted : goal.returns-in_err-unsent-clause-noted
-returns-in_err-unsent-clause-noted g c =
+pub returns-in_err-undetected-clause-noted : goal.returns-in_err-undetected-clause-noted
+returns-in_err-undetected-clause-noted g c =
     given_up _ c.from_residual.result Stop.NoMemory c.from_residual.ensures.1
 
-pub returns-in_err-unsent-clause-stopped : goal.returns-in_err-unsent-clause-stopped
-returns-in_err-unsent-clause-stopped g c =
+pub returns-in_err-undetected-clause-stopped : goal.returns-in_err-undetected-clause-stopped
+returns-in_err-undetected-clause-stopped g c =
     on_given_up c.from_residual.result
     (stopped_at_once g.W.Watch.grew g.W.Watch.cut g.met.W.Watch.grew_none g.met.W.Watch.cut_none
     c.args.watch.now
@@ -68,7 +68,7 @@ returns-in_err-note_delivery-clause-stopped g c =
     c.note_delivery.new.watch)
     (notes_are from c.other-to.result count here c.carry.new.came.got.items
     c.carry.new.came.moves.items c.as_slice.result.now c.carry.new.answers.items
-    c.in_ok-unsent.unsent c.other-to.ensures has c.in_ok-unsent.ensures.told
+    c.in_ok-undetected.undetected c.other-to.ensures has c.in_ok-undetected.ensures.told
     c.as_slice.ensures.value
     ∙ ap (λ (wires : Wires). delivery_notes from count (link wires c.args.a.now c.args.b.now))
     c.self.view_is)
@@ -88,9 +88,9 @@ returns-clause-sound g c =
     (IsSoundLink (link wires c.args.a.now c.args.b.now) → IsSoundLink next)) c.self.view_is
     (subst (λ (r : Result Edited LinkEnd). OnOk r (IsSoundLink here → IsSoundLink next))
     (sym c.ended.ensures)
-    (on_done c.other-to.result c.in_ok-unsent.unsent (λ none l.
+    (on_done c.other-to.result c.in_ok-undetected.undetected (λ none l.
     let is : next ≡ delivered_from from count here =
-    c.in_ok-unsent.ensures.link none ∙ link_is from count here has in
+    c.in_ok-undetected.ensures.link none ∙ link_is from count here has in
     subst (λ (t : LinkState). IsSoundLink t) (sym is) (delivery_keeps from count here l))))
 
 pub returns-clause-steps : goal.returns-clause-steps
@@ -108,11 +108,11 @@ returns-clause-steps g c =
     (subst (λ (r : Result Edited LinkEnd). OnOk r (IsSoundLink here
     → Walks (queues_of here) (note_steps (delivery_notes from count here)) (queues_of next)))
     (sym c.ended.ensures)
-    (on_done c.other-to.result c.in_ok-unsent.unsent (λ none l.
+    (on_done c.other-to.result c.in_ok-undetected.undetected (λ none l.
     let is : next ≡ delivered_from from count here =
-    c.in_ok-unsent.ensures.link none ∙ link_is from count here has in
+    c.in_ok-undetected.ensures.link none ∙ link_is from count here has in
     let sent : undetected (delivery_from from count here) ≡ None =
-    sym c.in_ok-unsent.ensures.told.found_is ∙ none in
+    sym c.in_ok-undetected.ensures.told.found_is ∙ none in
     subst (λ (t : LinkState).
     Walks (queues_of here) (note_steps (delivery_notes from count here)) (queues_of t))
     (sym is) (delivery_walks from count here sent l))))

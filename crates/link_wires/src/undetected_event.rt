@@ -1,4 +1,4 @@
-//! `Unsent`: an event that was acted on and was not sent.
+//! `UndetectedEvent`: an event that was acted on and was not sent.
 ghost use Rattle.std.specs.Prelude.{◌≡◌, IfOk};
 ghost use Rattle.link_model.specs.declared.event.Event.TheVariants.{Ctl, Pkt};
 
@@ -12,41 +12,45 @@ use std::marker::Model;
 /// An event that a port acted on and that was not sent. It stands in a box, so that what carries it
 /// is small.
 #[derive(Debug, Drop)]
-pub struct Unsent {
+pub struct UndetectedEvent {
     event: Box<Event>,
 }
 
-impl Model for Unsent {
+impl Model for UndetectedEvent {
     ghost use Rattle.link_model.specs.declared.event.Event.{Event};
 
     ghost Value = { Event };
 
-    ghost view = { λ unsent. unsent.event.value };
+    ghost view = { λ boxed. boxed.event.value };
 }
 
-impl Unsent {
+impl UndetectedEvent {
     /// Puts an event in a box. `NoMemory` is the only other answer.
-    pub fn new(alloc: Global, event: Event) -> Result<Unsent, NoMemory>
-        ensures { IfOk result (λ unsent. unsent ≡ event) }
+    pub fn new(alloc: Global, event: Event) -> Result<UndetectedEvent, NoMemory>
+        ensures { IfOk result (λ boxed. boxed ≡ event) }
     {
         match Box::new(alloc, event) {
-            Ok(event) => Ok(Unsent { event }),
+            Ok(event) => Ok(UndetectedEvent { event }),
             Err(_) => Err(NoMemory),
         }
     }
 
     /// The event of a packet, in a box.
-    pub(crate) fn packet(alloc: Global, ack: u8, packet: &Packet) -> Result<Unsent, NoMemory>
-        ensures { IfOk result (λ unsent. unsent ≡ Pkt ack packet.now) }
+    pub(crate) fn packet(
+        alloc: Global,
+        ack: u8,
+        packet: &Packet,
+    ) -> Result<UndetectedEvent, NoMemory>
+        ensures { IfOk result (λ boxed. boxed ≡ Pkt ack packet.now) }
     {
-        Unsent::new(alloc, Event::Pkt(ack, packet.copy()))
+        UndetectedEvent::new(alloc, Event::Pkt(ack, packet.copy()))
     }
 
     /// The event of a symbol, in a box.
-    pub(crate) fn symbol(alloc: Global, symbol: Symbol) -> Result<Unsent, NoMemory>
-        ensures { IfOk result (λ unsent. unsent ≡ Ctl symbol) }
+    pub(crate) fn symbol(alloc: Global, symbol: Symbol) -> Result<UndetectedEvent, NoMemory>
+        ensures { IfOk result (λ boxed. boxed ≡ Ctl symbol) }
     {
-        Unsent::new(alloc, Event::Ctl(symbol))
+        UndetectedEvent::new(alloc, Event::Ctl(symbol))
     }
 
     /// The event.
