@@ -110,57 +110,50 @@ module _ (w : Walker) (old : AllRegisters) (fits : w.id < 0xff) (at : PortRef)
             )
         go (inr found) = here (Contains-cases (last_path w.devices) [] keeps.0 found)
 
+    does : (after : Walker) (node : ℕ) → (node ≡ at.node) ⊎ (node ≢ at.node)
+        → Does (at_stage w Free) after old new node
+    does after node (inl same) =
+        Frees (subst (Keeps (at_stage w Free)) (sym same) (
+          last_path w.devices,
+          subst (λ l. Contains l (last_path w.devices)) (sym parts)
+              (Contains-append_right (paths_of (but_last w.devices)) (last_path w.devices ∷ [])
+              (last_path w.devices) (Contains-first (last_path w.devices) [])),
+          last_leads,
+        ))
+        (ap (λ n. (new n).lock) same ∙ freed)
+    does after node (inr other) = Nothing (beside node other)
+
+    lost : (after : Walker) → ((node : ℕ)
+        → Leads w.view (paths_of (but_last w.devices) ++ []) node → Keeps after node)
+        → (node : ℕ) → ¬ Keeps after node
+        → Leads w.view (paths_of (but_last w.devices) ++ []) node ⊎ (node ≡ at.node)
+        → (new node).lock ≡ 0xffff
+    lost after more node none (inl leads) = absurd (none (more node leads))
+    lost after more node none (inr same) = ap (λ n. (new n).lock) same ∙ freed
+
     freed_turn : (devices : List Device) → ((node : ℕ) → Leads w.view (paths_of devices ++ []) node
         → Leads w.view (paths_of (but_last w.devices) ++ []) node)
         → ((node : ℕ) → Leads w.view (paths_of (but_last w.devices) ++ []) node
         → Leads w.view (paths_of devices ++ []) node)
         → IsTurn (at_stage w Free) (freeing (at_stage w Free) devices) old new
-    freed_turn devices less more = go devices less more
-      where
-        does : (after : Walker) (node : ℕ) → (node ≡ at.node) ⊎ (node ≢ at.node)
-            → Does (at_stage w Free) after old new node
-        does after node (inl same) =
-            Frees (subst (Keeps (at_stage w Free)) (sym same) (
-              last_path w.devices,
-              subst (λ l. Contains l (last_path w.devices)) (sym parts)
-                  (Contains-append_right (paths_of (but_last w.devices)) (last_path w.devices ∷ [])
-                  (last_path w.devices) (Contains-first (last_path w.devices) [])),
-              last_leads,
-            ))
-            (ap (λ n. (new n).lock) same ∙ freed)
-        does after node (inr other) = Nothing (beside node other)
-
-        lost : (after : Walker) → ((node : ℕ)
-            → Leads w.view (paths_of (but_last w.devices) ++ []) node → Keeps after node)
-            → (node : ℕ) → ¬ Keeps after node
-            → Leads w.view (paths_of (but_last w.devices) ++ []) node ⊎ (node ≡ at.node)
-            → (new node).lock ≡ 0xffff
-        lost after more node none (inl leads) = absurd (none (more node leads))
-        lost after more node none (inr same) = ap (λ n. (new n).lock) same ∙ freed
-
-        go : (devices : List Device) → ((node : ℕ) → Leads w.view (paths_of devices ++ []) node
-            → Leads w.view (paths_of (but_last w.devices) ++ []) node)
-            → ((node : ℕ) → Leads w.view (paths_of (but_last w.devices) ++ []) node
-            → Leads w.view (paths_of devices ++ []) node)
-            → IsTurn (at_stage w Free) (freeing (at_stage w Free) devices) old new
-        go [] less more = record {
-          id = refl;
-          does = λ node. does (freeing (at_stage w Free) []) node (cases_eq node at.node);
-          grows = λ node keeps. inl (to_more node (less node keeps));
-          shrinks = λ node keeps none.
-              lost (freeing (at_stage w Free) []) more node none (from_more node keeps);
-          claimed = λ node claimed. absurd (cc);
-        }
-        go (device ∷ rest) less more = record {
-          id = refl;
-          does = λ node. does (freeing (at_stage w Free) (device ∷ rest)) node
-              (cases_eq node at.node);
-          grows = λ node keeps. inl (to_more node (less node keeps));
-          shrinks = λ node keeps none.
-              lost (freeing (at_stage w Free) (device ∷ rest)) more node none
-              (from_more node keeps);
-          claimed = λ node claimed. absurd (cc);
-        }
+    freed_turn [] less more = record {
+      id = refl;
+      does = λ node. does (freeing (at_stage w Free) []) node (cases_eq node at.node);
+      grows = λ node keeps. inl (to_more node (less node keeps));
+      shrinks = λ node keeps none.
+          lost (freeing (at_stage w Free) []) more node none (from_more node keeps);
+      claimed = λ node claimed. absurd (cc);
+    }
+    freed_turn (device ∷ rest) less more = record {
+      id = refl;
+      does = λ node. does (freeing (at_stage w Free) (device ∷ rest)) node
+          (cases_eq node at.node);
+      grows = λ node keeps. inl (to_more node (less node keeps));
+      shrinks = λ node keeps none.
+          lost (freeing (at_stage w Free) (device ∷ rest)) more node none
+          (from_more node keeps);
+      claimed = λ node claimed. absurd (cc);
+    }
 
     pub free_leaves : Leaves (at_stage w Free) old
         (freeing (at_stage w Free) (but_last w.devices)) new

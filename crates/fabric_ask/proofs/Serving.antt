@@ -320,6 +320,11 @@ head_is net q item only few =
     ap (λ (l : List (List ℕ)). slice_get l 0) (lane_at (net.received q) (prio_of item.now) few)
     ∙ ap (λ (l : List Item). slice_get (map (λ (x : Item). x.now) l) 0) (first_only net q item only)
 
+some_not : (test : Bool) (made : switch.Step) → test ≡ true
+    → (if test then Some made else None) ≡ None → ⊥
+some_not true made holds_some none = absurd cc
+some_not false made holds_some none = absurd cc
+
 module _ (net : Network) (node : ℕ) (q : PortRef) (item : Item) (device : Registers)
     (only : IsOnly net (Held q) item) (few : prio_of item.now < 4) (here : q.node ≡ node)
     (below : q.port < device.ports) where
@@ -339,19 +344,9 @@ module _ (net : Network) (node : ℕ) (q : PortRef) (item : Item) (device : Regi
       ∙ has_place net (port_at node to) q item (prio_of item.now) only few in
       some_not (has_room (face_at (faces_in net node device) to) (prio_of item.now))
       (Moved q.port to item.now) room none
-    where
-      some_not : (test : Bool) (made : switch.Step) → test ≡ true
-          → (if test then Some made else None) ≡ None → ⊥
-      some_not true made holds_some none = absurd cc
-      some_not false made holds_some none = absurd cc
   goes_not RegisterUnit is none = by_request (request_of item.now)
       (request_there item.now (is_asked device item.now is)).1 none
     where
-      some_not : (test : Bool) (made : switch.Step) → test ≡ true
-          → (if test then Some made else None) ≡ None → ⊥
-      some_not true made holds_some none = absurd cc
-      some_not false made holds_some none = absurd cc
-
       by_request : (asks : Option Request) → {request : Request} → asks ≡ Some request
           → answer_step device (faces_in net node device) q.port item.now asks ≡ None → ⊥
       by_request None asks none = absurd cc

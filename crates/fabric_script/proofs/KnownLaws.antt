@@ -11,7 +11,7 @@ use Rattle.fabric_script.specs.declared.reasons.Reason.TheVariants.{TooMuchWork}
 use Rattle.fabric_script.specs.declared.lines.Line.{Line}
 use Rattle.fabric_script.specs.declared.lines.Line.TheVariants.{Endpoint, Switch, Link}
 use Rattle.fabric_script.specs.Names.{is_name, name_of}
-use Rattle.fabric_script.specs.Known.{Known, IsOrderly, known_after, nodes_after, links_after, ports_of, cost_of, nothing_in}
+use Rattle.fabric_script.specs.Known.{Known, IsOrderly, known_after, names_after, nodes_after, links_after, ports_of, cost_of, nothing_in}
 use Rattle.fabric_script.specs.Refusals.{makes_node, counts_work, exceeds}
 use Rattle.fabric_script.specs.Reading.{MayBe, IsFree}
 use Rattle.fabric_script.proofs.Exclusion.{named_is_there}
@@ -127,3 +127,16 @@ one_port-after [] name id few (suc n) = omega arith
 one_port-after (node ∷ nodes) name id few zero = few 0
 one_port-after (node ∷ nodes) name id few (suc n) = one_port-after nodes name id (λ m. few (suc m))
     n
+
+-- ---- each node has a name
+
+one_more : {A B : Type 0} (xs : List A) (ys : List B) (x : A) (y : B) → length xs ≡ length ys
+    → length (xs ++ x ∷ []) ≡ length (ys ++ y ∷ [])
+one_more xs ys x y same = omega (arith, length-append xs (x ∷ []), length-append ys (y ∷ []), same)
+
+pub count-after : (known : Known) (new : List ℕ) (line : Line)
+    → length known.nodes ≡ length known.names
+    → length (nodes_after known.nodes line) ≡ length (names_after known.names new line)
+count-after known new (Endpoint name id) same = one_more known.nodes known.names _ new same
+count-after known new (Switch name ports) same = one_more known.nodes known.names _ new same
+count-after known new _ same = same

@@ -50,7 +50,7 @@ orderly-spelled known text line orderly spells = orderly-after known (new_name_i
 
 -- ---- one script at most
 
-same_lines : (number : ℕ) (known : Known) (texts : List (List ℕ)) (a b : List Numbered)
+pub same_lines : (number : ℕ) (known : Known) (texts : List (List ℕ)) (a b : List Numbered)
     (end end' : Known) → IsOrderly known → SpellsFrom number known texts a end
     → SpellsFrom number known texts b end' → (a ≡ b) × (end ≡ end')
 same_lines number known [] a b end end' orderly spells_a spells_b =

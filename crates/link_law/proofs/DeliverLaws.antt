@@ -2,6 +2,7 @@
 use Rattle.std.proofs.Common.{◌≡◌, ℕ, Bool, true, false, not, MatchBool, List, [], ◌∷◌, length, Ok, Err, refl, sym, ap, ◌∙◌, subst, if◌then◌else◌, append-nil, arith}
 use Rattle.std.proofs.lemmas.Bool.{le-leb}
 use Rattle.rio_chars.specs.declared.chars.Char.{Char}
+use Rattle.link_watch.specs.Stops.{IsWatch}
 use Rattle.link_port.specs.Prelude.{Event, PortState}
 use Rattle.link_machine.specs.Prelude.{other_side, Stopped, Note, Side, A, B, has_none, has_chars, delivery_from, delivered_from, delivery_notes, Wires, LinkState, link, from_end}
 use Rattle.link_wires.specs.Deliveries.{Delivered, Through, WentUndetected}
@@ -16,7 +17,7 @@ use Rattle.link_machine.specs.Schedules.{Is}
 use Rattle.link_machine.specs.Settling.{SchedulePart, Empties, first_has_chars, of_end, all_chars}
 use Rattle.link_machine.proofs.Settling.Lines.{goes_one}
 use Rattle.link_law.specs.Does.{Comes, Stops, Ends}
-use Rattle.link_law.proofs.DoesLaws.{IsWatch, comes_where, ends_where, comes_none, stops_at_once}
+use Rattle.link_law.proofs.DoesLaws.{comes_where, ends_where, comes_none, stops_at_once}
 
 one_note : (s : LinkState) (act : Act) → acts_notes (At s) (act ∷ []) ≡ act_notes act s
 unfolding acts_notes

@@ -1,6 +1,7 @@
 -- Parts of the schedule that calls do, one after another.
 use Rattle.std.proofs.Common.{◌≡◌, Bool, true, false, MatchBool, List, [], ◌∷◌, ◌++◌, refl, sym, ap, ◌∙◌, subst, append_assoc, append-nil, Result, Ok, Err}
 use Rattle.link_model.specs.declared.event.Event.{Event}
+use Rattle.link_watch.specs.Stops.{IsWatch}
 use Rattle.link_watch.proofs.StopLaws.{stopped_at_once, stopped_then, stopped_before}
 use Rattle.link_machine.specs.Prelude.{Note, Side, A, B, LinkState, Stopped}
 use Rattle.link_law.specs.declared.answers.LinkEnd.{LinkEnd}
@@ -26,14 +27,6 @@ notes-append (x ∷ xs) ys (At s) =
     (append_assoc (act_notes x s) (acts_notes (after_act x s) xs)
     (acts_notes (goes (after_act x s) xs) ys))
 notes-append (x ∷ xs) ys (FoundAt side e) = sym (notes_found side e ys)
-
--- what a watch promises
-pub record IsWatch {W : Type 0} (grew : W → List Note → W → Type 0)
-    (cut : W → Note → W → Type 0) : Type 0 where
-  pub none : (w : W) → grew w [] w
-  pub on : (w next last : W) (first rest : List Note) → grew w first next → grew next rest last
-      → grew w (first ++ rest) last
-  pub cut_none : (w : W) (note : Note) → cut w note w
 
 -- ---- one part and then another
 
@@ -78,7 +71,7 @@ stops_next {W} {grew} {cut} watch P Q before mid old w new first next = record {
   stopped =
       subst (λ (l : List Note). Stopped grew cut old l new)
       (sym (notes_joined before mid first.acts next.acts first.reached))
-      (stopped_then grew cut watch.on old w new (acts_notes (At before) first.acts)
+      (stopped_then watch old w new (acts_notes (At before) first.acts)
       (acts_notes (At mid) next.acts) first.grown next.stopped);
 }
 
@@ -116,7 +109,7 @@ stops_early {W} {grew} {cut} watch P Q before old new follows first =
       stopped =
           subst (λ (l : List Note). Stopped grew cut old l new)
           (sym (notes-append first.acts more.0 (At before)))
-          (stopped_before grew cut watch.cut_none old new (acts_notes (At before) first.acts) later
+          (stopped_before watch old new (acts_notes (At before) first.acts) later
           first.stopped);
     }
 
@@ -251,7 +244,7 @@ stops_at_once grew cut watch P before old acts part = record {
   acts = acts;
   part = part;
   stopped =
-      stopped_at_once grew cut watch.none watch.cut_none old (acts_notes (At before) acts);
+      stopped_at_once watch old (acts_notes (At before) acts);
 }
 
 -- ---- deliveries of what stands on a wire

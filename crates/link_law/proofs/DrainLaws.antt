@@ -2,6 +2,7 @@
 use Rattle.std.proofs.Common.{◌≡◌, ℕ, suc, ◌+◌, ◌-◌, ◌<◌, ◌≤◌, true, false, List, [], ◌++◌, refl, sym, ap, ◌∙◌, subst, append_assoc, arith}
 use Rattle.link_model.specs.declared.event.Event.{Event}
 use Rattle.link_machine.specs.Prelude.{Note, Side, A, B, NoteEnd, LinkState, pumped, pump_notes, told_from, tell_notes, timed_out_at, time_out_notes, IsSoundLink, Stopped}
+use Rattle.link_watch.specs.Stops.{IsWatch}
 use Rattle.link_watch.specs.declared.watch.NoteEnd.TheVariants as Stop
 use Rattle.link_law.specs.declared.answers.LinkEnd.{LinkEnd}
 use Rattle.link_law.specs.declared.answers.LinkEnd.TheVariants.{Undetected, Failed, NoMemory}
@@ -13,7 +14,7 @@ use Rattle.link_machine.proofs.Settling.Drains.{goes-append, goes_none, rounds, 
 use Rattle.link_machine.proofs.Settling.DrainCounts.{drain_exists}
 use Rattle.link_machine.proofs.Settling.Ends.{acts_keep, found_none, turn_can, requests_can}
 use Rattle.link_law.specs.Does.{Comes, Stops, Ends, TellsOnce, Pumps, end_of}
-use Rattle.link_law.proofs.DoesLaws.{IsWatch, Follows, comes_where, stops_where, notes-append, comes_next, ends_next, ends_early}
+use Rattle.link_law.proofs.DoesLaws.{Follows, comes_where, stops_where, notes-append, comes_next, ends_next, ends_early}
 use Rattle.link_law.proofs.DeliverLaws.{Only, one_comes, one_stops}
 
 -- ---- one part is another

@@ -1,5 +1,6 @@
 -- The loop in which what waits is sent, and what follows recovery.
 use Rattle.std.proofs.Common.{◌≡◌, ◌↔◌, ℕ, ◌<◌, Bool, true, false, MatchBool, IsTrue, IsSome, List, [], ◌++◌, length, Option, Some, None, Result, Ok, Err, refl, sym, ap, ◌∙◌, subst, arith}
+use Rattle.link_watch.specs.Stops.{IsWatch}
 use Rattle.link_buffers.specs.Prelude.{packet_count, highest}
 use Rattle.link_buffers.proofs.PriorityLaws.{packet_count-highest}
 use Rattle.link_model.specs.declared.event.Event.{Event}
@@ -18,7 +19,7 @@ use Rattle.link_machine.proofs.Settling.SendingRounds.{Quiet, AfterRound, round_
 use Rattle.link_machine.proofs.Settling.Sending.{Sending}
 use Rattle.link_machine.proofs.Settling.Ends.{left_at, fewer_after, sound_of, turn_can, sending_can}
 use Rattle.link_law.specs.Does.{Comes, Ends, CallDid}
-use Rattle.link_law.proofs.DoesLaws.{IsWatch, Follows, comes_where, did_where, comes_next, ends_next, ends_early}
+use Rattle.link_law.proofs.DoesLaws.{Follows, comes_where, did_where, comes_next, ends_next, ends_early}
 use Rattle.link_law.proofs.DrainLaws.{comes_map, ends_map, Open, open_none, open_comes, open_ends, open_on}
 
 -- what follows a round: the last part, if the port is to restart, or more of the loop

@@ -21,6 +21,14 @@ use Rattle.link_model.proofs.ReadingOne.{one}
 use Rattle.link_model.proofs.ReadingSteps.{below, not_below}
 use Rattle.link_model.proofs.ReadingFound.{found, none_yet}
 
+-- events without their places
+abbrev pub events_of : List (ℕ × Event) → List Event
+events_of placed = map (λ (p : ℕ × Event). p.1) placed
+
+pub placed_away : (at : ℕ) (es : List Event) → events_of (placed at es) ≡ es
+placed_away at [] = refl
+placed_away at (e ∷ es) = ap (λ (r : List Event). e ∷ r) (placed_away at es)
+
 pub run-append : (from : Place) (at n : ℕ) (xs ys : List Char) → n ≡ at + length xs
     → run from at (xs ++ ys) ≡ run from at xs ++ run (place_after from xs) n ys
 unfolding run place_after

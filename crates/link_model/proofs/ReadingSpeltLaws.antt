@@ -207,7 +207,7 @@ opened_twice Plain = refl
 opened_twice Skipped = refl
 opened_twice (Within bytes) = refl
 
-begins_opened : (t : Text) (p : Pending) → opened (begins_in t p) ≡ begins_in t p
+pub begins_opened : (t : Text) (p : Pending) → opened (begins_in t p) ≡ begins_in t p
 begins_opened t Nothing = opened_twice t
 begins_opened t (Opened d) = refl
 begins_opened t (One d x) = refl

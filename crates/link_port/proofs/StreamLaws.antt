@@ -6,7 +6,7 @@ use Rattle.link_model.specs.Prelude.{Char, Place, step, run, place_after, placed
 use Rattle.link_model.specs.declared.event.Event.{Event}
 use Rattle.link_model.specs.declared.event.Event.TheVariants.{Ctl, Pkt, Bad}
 use Rattle.link_model.specs.Places.{AreGiven}
-use Rattle.link_model.proofs.PlacesLaws.{given}
+use Rattle.link_model.proofs.PlacesLaws.{given, events_of, placed_away}
 use Rattle.link_port.specs.Ports.{PortState}
 use Rattle.link_port.specs.Steps.{Acted, acts, acts_all, joined, takes, read, after_reading, after_hearing}
 use Rattle.link_port.specs.Streams.{Streamed, unmoved, followed, takes_each, acts_each}
@@ -122,14 +122,6 @@ each_port : (port : PortState) (es : List Event)
 unfolding acts_all acts_each
 each_port port [] = refl
 each_port port (e ∷ es) = each_port (acts port e).port es
-
--- events without their places
-abbrev events_of : List (ℕ × Event) → List Event
-events_of found = map (λ (p : ℕ × Event). p.1) found
-
-placed_away : (at : ℕ) (es : List Event) → events_of (placed at es) ≡ es
-placed_away at [] = refl
-placed_away at (e ∷ es) = ap (λ (r : List Event). e ∷ r) (placed_away at es)
 
 -- a character, and the events of those behind it
 one_more :

@@ -18,7 +18,8 @@ use Rattle.link_sound.specs.Meanings.{tells, receiver_of}
 use Rattle.link_sound.specs.Between.{IsBetween}
 use Rattle.link_sound.proofs.SenderMoves.{answered}
 use Rattle.link_sound.proofs.Hearing.{oldest_cases}
-use Rattle.link_sound.proofs.Turning.{count_is, credited_some}
+use Rattle.link_model.proofs.WindowFacts.{credited_some}
+use Rattle.link_sound.proofs.Turning.{count_is}
 use Rattle.link_sound.proofs.Reported.{report_between, report_output}
 
 -- an output half, and the packets that it may have to send

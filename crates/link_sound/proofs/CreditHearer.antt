@@ -19,6 +19,7 @@ use Rattle.link_sound.specs.Between.{IsBetween}
 use Rattle.link_sound.specs.Sound.{IsSound, reply_sent}
 use Rattle.link_sound.specs.Told.{last_report}
 use Rattle.link_sound.specs.Credits.{Word, word, WordsInTurn, AreCounted, AreCountedAt, free_buffers}
+use Rattle.link_sound.proofs.ToldKept.{times_out_report}
 use Rattle.link_sound.proofs.Steps.{acted_keeps}
 use Rattle.link_sound.proofs.Promises.{not_failed}
 use Rattle.link_sound.proofs.CreditLaws.{WordsInTurn-lost}
@@ -104,17 +105,11 @@ late_prios (Output.RetryStopped w) = refl
 late_prios (Output.ErrorStopped asked w) = refl
 late_prios Output.Failed = refl
 
-late_report : (output : Output) → last_report (times_out output) ≡ last_report output
-late_report (Output.Ok w) = refl
-late_report (Output.RetryStopped w) = refl
-late_report (Output.ErrorStopped asked w) = refl
-late_report Output.Failed = refl
-
 pub late_known : (timely : Bool) (a b : PortState) (kept_a kept_b : List Event)
     → IsKnown timely a b kept_a kept_b → IsKnown timely (timed_out a) b [] []
 late_known timely a b kept_a kept_b k =
     alike_known timely a b (times_out a.output) [] [] (late_oldest a.output) (late_prios a.output)
-    (late_report a.output) (emptied_known timely a b kept_a kept_b k)
+    (times_out_report a.output) (emptied_known timely a b kept_a kept_b k)
 
 -- the layer above, and the framer, change nothing of what is spoken of
 pub same_sender :

@@ -18,6 +18,7 @@ use Rattle.link_sound.specs.Receiver.{Receiver, IsShut}
 use Rattle.link_sound.specs.Meanings.{forward}
 use Rattle.link_sound.specs.Told.{last_report}
 use Rattle.link_sound.specs.Credits.{Word, IsCovered, AreCountedAt}
+use Rattle.link_sound.proofs.Turning.{first_there}
 use Rattle.link_sound.proofs.CreditHears.{covered_next, distance_counts}
 use Rattle.link_sound.proofs.CreditTimely.{IsTimely, timely_append, timely_shut, timely_start}
 
@@ -86,11 +87,6 @@ allowed (Some report) ack prio freed held count total number sent has range c =
         enough = c.enough;
       },
     )
-
-first_there : (packets : List (List ℕ)) → 0 < length packets
-    → (packet : List ℕ) × (slice_get packets 0 ≡ Some packet)
-first_there [] some = absurd (omega arith)
-first_there (packet ∷ packets) some = (packet, refl)
 
 -- the sender and what it sends, and the receiver at the other end
 abbrev pub Turns : (timely : Bool) (next : Output) → Receiver → Input → (total freed held : ℕ)

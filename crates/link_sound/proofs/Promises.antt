@@ -10,6 +10,7 @@ use Rattle.link_sound.specs.Kept.{AcceptsInTurn, PacketsInTurn}
 use Rattle.link_sound.specs.Meanings.{forward, backward, oldest_of}
 use Rattle.link_sound.specs.Between.{IsBetween}
 use Rattle.link_sound.specs.Sound.{IsSound}
+use Rattle.link_sound.proofs.SenderMoves.{none_between}
 use Rattle.link_sound.proofs.Turning.{count_is}
 use Rattle.link_sound.proofs.Plain.{lent_count}
 use Rattle.link_sound.proofs.Freed.{none_lent}
@@ -70,12 +71,8 @@ held_none b =
     sent_none b.freed b.sent (omega (arith, b.is.held_first, b.is.sent_first)) b.outstanding in
     (all, omega (arith, b.is.held_first, b.is.sent_first))
 
-no_acks : (freed held ack : ℕ) (kept_back : List Backward) → held ≡ freed
-    → AcceptsInTurn freed held (Accept ack ∷ kept_back) → ⊥
-no_acks freed held ack kept_back same (n, is, from, within, rest) = omega arith
-
 pub none_accepted : (ack : ℕ) → IsNew [] (Accept ack ∷ []) → ⊥
-none_accepted ack b = no_acks b.freed b.held ack [] (held_none b).1 b.is.accepts
+none_accepted ack b = none_between b.freed b.held ack [] (held_none b).1 b.is.accepts
 
 pub none_answered : (ack : ℕ) → IsNew [] (Response ack ∷ []) → ⊥
 none_answered ack b = let none = b.is.sender.1.0 in absurd cc

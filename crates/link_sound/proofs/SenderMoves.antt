@@ -80,7 +80,7 @@ oldest_accepted r freed held ack sent kept_ahead kept_back oldest d =
       },
     )
 
-none_between : (freed held ack : ℕ) (kept_back : List Backward) → held ≡ freed
+pub none_between : (freed held ack : ℕ) (kept_back : List Backward) → held ≡ freed
     → AcceptsInTurn freed held (Accept ack ∷ kept_back) → ⊥
 none_between freed held ack kept_back same (n, is, from, within, rest) = omega arith
 

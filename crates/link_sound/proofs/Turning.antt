@@ -14,6 +14,7 @@ use Rattle.link_sound.specs.Marks.{Forward, Backward, ForwardPacket, Other, Neut
 use Rattle.link_sound.specs.Sender.{SenderOk}
 use Rattle.link_sound.specs.Receiver.{Receiver}
 use Rattle.link_sound.specs.Direction.{IsDirection}
+use Rattle.link_model.proofs.WindowFacts.{credited_some}
 use Rattle.link_sound.proofs.MoveLaws.{other_sent, neutral_sent}
 use Rattle.link_sound.proofs.TurnMoves.{packet_started, restarted, requested}
 use Rattle.link_port.specs.Prelude.{PortState, standing, prios_of, burst_of, packet_burst, symbol_burst, no_burst}
@@ -55,7 +56,7 @@ start_sent r freed held sent packet kept_ahead kept_back room d =
     (other_sent SenderOk r freed held sent kept_ahead kept_back d)))
 
 -- the first of the packets of a list that is not empty
-first_there : (packets : List (List ℕ)) → 0 < length packets
+pub first_there : (packets : List (List ℕ)) → 0 < length packets
     → (packet : List ℕ) × (slice_get packets 0 ≡ Some packet)
 first_there [] some = absurd (omega arith)
 first_there (packet ∷ packets) some = (packet, refl)
@@ -102,17 +103,6 @@ unstarted_is true w input queued waiting p kept_ahead kept_back b =
 unstarted_is false w input queued waiting p kept_ahead kept_back b = rw append-nil b
 
 -- what there is credit for is what waits
-credit_some : (credit : Bool) (waiting prio : ℕ)
-    → (if credit then Some waiting else None) ≡ Some prio → Some waiting ≡ Some prio
-credit_some true waiting prio is = is
-credit_some false waiting prio is = absurd cc
-
-pub credited_some : (w : Outstanding) (waiting : Option ℕ) (prio : ℕ)
-    → credited w waiting ≡ Some prio → waiting ≡ Some prio
-credited_some w None prio is = is
-credited_some w (Some first) prio is =
-    credit_some (has_credit w.report (next_ack w) first) first prio is
-
 -- a packet starts
 turn_started :
     (w : Outstanding) (input : Input) (queued : List (List (List ℕ))) (p : PortState)

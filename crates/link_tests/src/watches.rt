@@ -23,11 +23,11 @@ impl Watch for Failing {
 
     ghost cut = { λ watch note next. Unit {0} };
 
-    ghost grew_none = { λ watch. tt };
-
-    ghost grew_on = { λ watch next last first rest h k. tt };
-
-    ghost cut_none = { λ watch note. tt };
+    ghost is_watch = { record {
+      none = λ watch. tt;
+      on = λ watch next last first rest h k. tt;
+      cut_none = λ watch note. tt;
+    } };
 
     fn note(&mut self, alloc: Global, note: &Note) -> Result<(), NoteEnd> {
         if self.left == 0 {

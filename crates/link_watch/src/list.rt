@@ -51,12 +51,12 @@ impl Watch for NoteList {
 
     ghost cut = { λ list note next. next ≡ list };
 
-    ghost grew_none = { λ list. Prim.search (sym, append-nil) };
-
-    ghost grew_on = { λ list next last first rest h k. k ∙ ap (λ (l : List Note). l ++ rest) h ∙ append_assoc
-        list first rest };
-
-    ghost cut_none = { λ list note. refl };
+    ghost is_watch = { record {
+      none = λ list. sym (append-nil list);
+      on = λ list next last first rest h k. k ∙ ap (λ (l : List Note). l ++ rest) h
+          ∙ append_assoc list first rest;
+      cut_none = λ list note. refl;
+    } };
 
     fn note(&mut self, alloc: Global, note: &Note) -> Result<(), NoteEnd>
         ensures taken { OnOk result (self.new ≡ self.old ++ note.now ∷ []) }

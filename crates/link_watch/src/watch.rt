@@ -1,9 +1,10 @@
 //! `Watch`: whoever is told what happens on a link.
-ghost use Rattle.std.specs.Prelude.{◌≡◌, ◌≤◌, ◌++◌, ℕ, List, [], ◌∷◌, OnOk, OnErr, IsErrOf};
+ghost use Rattle.std.specs.Prelude.{◌≡◌, ◌≤◌, ℕ, List, [], ◌∷◌, OnOk, OnErr, IsErrOf};
 ghost use Rattle.rio_chars.specs.Faults.{Rose};
 ghost use Rattle.link_watch.specs.declared.note.Note.{Note};
 ghost use Rattle.link_watch.specs.declared.note.Note.TheVariants.{Sent, Got, Hold, Free, Fire};
 ghost use Rattle.link_watch.specs.declared.watch.NoteEnd.TheVariants as Ends;
+ghost use Rattle.link_watch.specs.Stops.{IsWatch};
 
 use crate::note::{Note, copied};
 use crate::side::Side;
@@ -115,13 +116,7 @@ pub trait Watch {
         self.note(alloc, &Note::Fire(side))
     }
 
-    /// A watch that takes in nothing is what it was.
-    ghost grew_none: { (watch : Self) → grew watch [] watch };
-
-    /// Notes taken in after others are taken in behind them.
-    ghost grew_on: { (watch next last : Self) (first rest : List Note) → grew watch first next
-        → grew next rest last → grew watch (first ++ rest) last };
-
-    /// A watch may stop before anything of a note.
-    ghost cut_none: { (watch : Self) (note : Note) → cut watch note watch };
+    /// A watch that takes in nothing is what it was, notes that come later are taken in behind, and
+    /// it may stop before anything of a note.
+    ghost is_watch: { IsWatch grew cut };
 }

@@ -1,10 +1,11 @@
 -- A turn that sends nothing leaves the port as it is, and so do all after it.
-use Rattle.std.proofs.Common.{◌≡◌, ℕ, zero, suc, ◌<◌, Bool, true, false, if◌then◌else◌, Option, Some, None, List, [], ◌∷◌, length, slice_get, refl, ap, ◌∙◌, arith}
+use Rattle.std.proofs.Common.{◌≡◌, ℕ, zero, suc, ◌<◌, Bool, true, false, Option, Some, None, List, [], ◌∷◌, length, slice_get, refl, ap, ◌∙◌, arith}
 use Rattle.link_buffers.specs.Prelude.{list_at, highest}
 use Rattle.link_buffers.proofs.PriorityLaws.{highest_below-some}
 use Rattle.link_port.specs.Prelude.{PortState, Burst, no_burst, packet_burst, burst_of, standing, waiting_in, turns_to, turn_sends}
+use Rattle.link_model.proofs.WindowFacts.{startable_some}
 use Rattle.link_model.specs.Outstanding.{Outstanding}
-use Rattle.link_model.specs.Output.{Output, Ok, RetryStopped, ErrorStopped, Failed, turns, started, credited, startable}
+use Rattle.link_model.specs.Output.{Output, Ok, RetryStopped, ErrorStopped, Failed, turns, started, startable}
 use Rattle.link_wires.specs.Wires.{both_bursts, port_turned, bursts}
 
 -- a packet that is there is sent, from a port that stands as this one
@@ -12,22 +13,6 @@ packet_sent : (at : PortState) (ack : ℕ) (packets : List (List ℕ)) → 0 < l
     → (packet_burst (standing at) ack (slice_get packets 0)).sent ≡ [] → ⊥
 packet_sent at ack [] some none = omega arith
 packet_sent at ack (p ∷ packets) some none = cc
-
--- the priority that may start is the highest that waits
-if_is : (test : Bool) (waiting : Option ℕ) (prio : ℕ)
-    → (if test then waiting else None) ≡ Some prio → waiting ≡ Some prio
-if_is true waiting prio is = is
-if_is false waiting prio is = absurd cc
-
-credited_is : (w : Outstanding) (waiting : Option ℕ) (prio : ℕ)
-    → credited w waiting ≡ Some prio → waiting ≡ Some prio
-credited_is w None prio is = is
-credited_is w (Some first) prio is = if_is _ (Some first) prio is
-
-startable_is : (w : Outstanding) (waiting : Option ℕ) (prio : ℕ)
-    → startable w waiting ≡ Some prio → waiting ≡ Some prio
-startable_is w waiting prio is =
-    credited_is w waiting prio (if_is _ (credited w waiting) prio is)
 
 -- a port that starts nothing sends nothing only if it does not tell
 start_quiet :
@@ -50,7 +35,7 @@ entry_quiet :
     × (burst_of (turns tells o (highest waiting)).sends (standing at) waiting ≡ no_burst)
 entry_quiet tells (Ok w) waiting at none =
     start_quiet tells w waiting at (startable w (highest waiting))
-    (λ prio. startable_is w (highest waiting) prio) none
+    (λ prio. startable_some w (highest waiting) prio) none
 entry_quiet tells (RetryStopped w) waiting at none = absurd cc
 entry_quiet tells (ErrorStopped false w) waiting at none = absurd cc
 entry_quiet tells (ErrorStopped true w) waiting at none = (refl, refl)

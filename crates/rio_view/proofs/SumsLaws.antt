@@ -15,6 +15,7 @@ use Rattle.rio_framer.specs.Framing.{Framing, framing_after}
 use Rattle.rio_framer.specs.Giving.{listed, told_of_events, events_by}
 use Rattle.rio_framer.proofs.GivingLaws.{events_by-front, listed-front}
 use Rattle.trace_lines.specs.declared.lines.TraceLine.{TraceLine}
+use Rattle.link_model.proofs.PlacesLaws.{placed_away}
 use Rattle.rio_view.specs.declared.sums.Sums.{Sums}
 use Rattle.rio_view.specs.Sums.{PortCounts, noted, noted_all, nothing_done}
 use Rattle.rio_view.specs.Counts.{line_counted, counted_all, counts_of_lines}
@@ -28,10 +29,6 @@ pub counted_all-append : (all : List PortCounts) (ls ms : List TraceLine)
     → counted_all all (ls ++ ms) ≡ counted_all (counted_all all ls) ms
 counted_all-append all [] ms = refl
 counted_all-append all (l ∷ ls) ms = counted_all-append (line_counted all l) ls ms
-
-placed_away : (at : ℕ) (es : List Event) → map (λ (p : ℕ × Event). p.1) (placed at es) ≡ es
-placed_away at [] = refl
-placed_away at (e ∷ es) = ap (λ (r : List Event). e ∷ r) (placed_away at es)
 
 -- the events of characters do not depend on the place of the first
 said_at : (from : Place) (n : ℕ) (cs : List Char)

@@ -8,7 +8,7 @@ use Rattle.fabric_script.specs.Scripts.{is_skipped, KeptThen, pieces_of, Refused
 use Rattle.fabric_script.specs.SetUps.{for_event}
 use Rattle.fabric_script.proofs.KnownLaws.{nothing-orderly}
 use Rattle.fabric_script.proofs.LineLaws.{same_line}
-use Rattle.fabric_script.proofs.ScriptLaws.{not_refused, orderly-spelled, refused_once}
+use Rattle.fabric_script.proofs.ScriptLaws.{not_refused, orderly-spelled, refused_once, same_lines}
 use Rattle.script_input.specs.Inputs.{Hit, IsAccepted, IsInput, IsRefusedInput, NotParted, set_up_bytes}
 
 -- ---- the set-up lines say one thing
@@ -39,30 +39,6 @@ spelled_orderly number known (text ∷ texts) lines end orderly spelled =
     (known_after known (new_name_in text keeps.0) keeps.0) texts keeps.1 end
     (orderly-spelled known text keeps.0 orderly keeps.3) keeps.4)
     spelled
-
-same_lines : (number : ℕ) (known : Known) (texts : List (List ℕ)) (a b : List Numbered)
-    (end end' : Known) → IsOrderly known → SpellsFrom number known texts a end
-    → SpellsFrom number known texts b end' → (a ≡ b) × (end ≡ end')
-same_lines number known [] a b end end' orderly one other =
-    (one.0 ∙ sym other.0, one.1 ∙ sym other.1)
-same_lines number known (text ∷ texts) a b end end' orderly one other =
-    both_skipped (SpellsFrom (suc number) known texts a end) (Kept number known text texts a end)
-    (SpellsFrom (suc number) known texts b end') (Kept number known text texts b end')
-    ((a ≡ b) × (end ≡ end')) (is_skipped text)
-    (λ h k. same_lines (suc number) known texts a b end end' orderly h k)
-    (λ h k.
-    let first : k.0 ≡ h.0 = same_line known text k.0 h.0 orderly k.3.says h.3.says in
-    let k4 = subst (λ l. SpellsFrom (suc number) (known_after known (new_name_in text l) l) texts
-    k.1 end') first k.4 in
-    let numbered : Line → Numbered = λ line. record { number = number; line = line } in
-    let others = same_lines (suc number) (known_after known (new_name_in text h.0) h.0) texts h.1
-    k.1 end end' (orderly-spelled known text h.0 orderly h.3) h.4 k4 in (
-      h.2
-          ∙ (λ i. numbered (sym first i) ∷ others.0 i)
-          ∙ sym k.2,
-      others.1,
-    ))
-    one other
 
 module _ (bytes : List ℕ) where
   pub accepted_orderly : (lines : List Numbered) (known : Known) → IsAccepted bytes lines known

@@ -39,11 +39,11 @@ impl<'o, 's, 'n, K: Sink> Watch for LinkLines<'o, 's, 'n, K> {
 
     ghost cut = { λ watch note next. next ≡ watch };
 
-    ghost grew_none = { writes_no_notes };
-
-    ghost grew_on = { writes_more_notes };
-
-    ghost cut_none = { λ watch note. refl };
+    ghost is_watch = { record {
+      none = writes_no_notes;
+      on = writes_more_notes;
+      cut_none = λ watch note. refl;
+    } };
 
     fn note(&mut self, alloc: Global, note: &Note) -> Result<(), NoteEnd>
         ensures taken { OnOk result

@@ -90,7 +90,7 @@ by_first c chars flow told e (WentUndetected other f) first later is =
     let same : WentUndetected other f ≡ WentUndetected told e =
     sym (flows-append (c ∷ []) chars flow ∙ ap (goes_on (flows chars)) first) ∙ is in
     let at : IsAt flow.told.count (WentUndetected told e) =
-        subst (IsAt flow.told.count) (first ∙ same)
+    subst (IsAt flow.told.count) (first ∙ same)
     (one_at c flow) in
     (0, omega (arith, at), first ∙ same)
 

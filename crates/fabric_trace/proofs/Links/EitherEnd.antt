@@ -11,6 +11,7 @@ use Rattle.link_wires.specs.Wires.{bursts}
 use Rattle.link_machine.specs.States.{LinkState, turned_round}
 use Rattle.link_machine.specs.Calls.{first_takes, has_chars, delivery_from, has_none, is_silent, first_fires, time_out_notes}
 use Rattle.link_machine.specs.Acts.{Act, Pump as PumpAct, Tell as TellAct, Deliver as DeliverAct, Fire, Reached, At, FoundAt, reached_by, after_act, goes, act_notes, acts_notes}
+use Rattle.link_machine.proofs.Settling.Drains.{goes_found, goes_none}
 use Rattle.link_watch.specs.Sides.{other_side}
 use Rattle.fabric_script.specs.declared.ports.PortRef.{PortRef}
 use Rattle.fabric_model.proofs.Peers.{ArePeers}
@@ -166,16 +167,6 @@ more_notes : (l : LinkState) (act : Act) (acts : List Act)
 unfolding acts_notes
 more_notes l act acts = refl
 
-found_goes : (side : Side) (e : Event) (acts : List Act)
-    → goes (FoundAt side e) acts ≡ FoundAt side e
-unfolding goes
-found_goes side e [] = refl
-found_goes side e (act ∷ acts) = refl
-
-none_goes : (reached : Reached) → goes reached [] ≡ reached
-unfolding goes
-none_goes reached = refl
-
 more_goes : (l : LinkState) (act : Act) (acts : List Act)
     → goes (At l) (act ∷ acts) ≡ goes (after_act act l) acts
 unfolding goes
@@ -205,7 +196,7 @@ reaches_more s a b first (At m) acts one more =
 reaches_more s a b first (FoundAt side e) acts one more =
     let none : first ++ lines_of a b (acts_notes (FoundAt side e) acts) ≡ first =
     ap (λ (l : List Note). first ++ lines_of a b l) (found_notes side e acts) ∙ append-nil first in
-    reaches_by s a b first _ (FoundAt side e) _ none (found_goes side e acts) one
+    reaches_by s a b first _ (FoundAt side e) _ none (goes_found side e acts) one
 
 -- whatever is done on a link is made of parts
 pub acts_reach : (acts : List Act) (s : Seen) (a b : PortRef) → IsGood s → s.undetected ≡ None
@@ -215,7 +206,7 @@ pub acts_reach : (acts : List Act) (s : Seen) (a b : PortRef) → IsGood s → s
 acts_reach [] s a b good none peers =
     let lines : lines_of a b (acts_notes (At (link_at s a b)) []) ≡ [] =
     ap (lines_of a b) (none_notes (At (link_at s a b))) in
-    let to = none_goes (At (link_at s a b)) in
+    let to = goes_none (At (link_at s a b)) in
     record {
       made = Done lines;
       others = subst (λ (l : List TraceLine). AreOthers s (seen s l) a b) (sym lines)

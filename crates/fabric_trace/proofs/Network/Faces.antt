@@ -1,6 +1,6 @@
 -- What a switch or an endpoint does by the lists of its ports is a step of the network that has
 -- what it needs.
-use Rattle.std.proofs.Common.{◌≡◌, inl, inr, ℕ, zero, suc, ◌+◌, ◌<◌, ◌==◌, ◌&&◌, nat_lt, Bool, true, false, List, [], ◌∷◌, filter, length, Option, Some, None, option_map, option_and_then, slice_get, unwrap_or, refl, sym, ap, ◌∙◌, subst, arith, if◌then◌else◌, length-append}
+use Rattle.std.proofs.Common.{◌≡◌, inl, inr, ℕ, zero, suc, ◌+◌, ◌<◌, ◌==◌, ◌&&◌, nat_lt, Bool, true, false, List, [], ◌∷◌, filter, length, Option, Some, None, option_map, option_and_then, slice_get, refl, sym, ap, ◌∙◌, subst, arith, if◌then◌else◌, length-append}
 use Rattle.std.specs.Bool.{⊤}
 use Rattle.std.specs.List.{AllByRecursion}
 use Rattle.std.proofs.lemmas.Bool.{and_parts}
@@ -23,7 +23,6 @@ use Rattle.switch_core.specs.declared.switch.Step.TheVariants.{Moved, Dropped, A
 use Rattle.switch_core.specs.declared.endpoint.Collected.{Collected}
 use Rattle.switch_core.specs.declared.endpoint.Collected.TheVariants as Collects
 use Rattle.switch_core.specs.Faces.{Face, face_at, head_of, has_room}
-use Rattle.switch_core.specs.Order.{least_first}
 use Rattle.switch_core.specs.SwitchSteps.{answer_step, step_to, step_of}
 use Rattle.switch_core.specs.EndpointSteps.{first_held, collected_of, collected_head, collected}
 use Rattle.switch_core.proofs.FirstSteps.{first_step_by}

@@ -1,5 +1,5 @@
 -- The steps of a switch end: each leaves one packet fewer in what its ports have received.
-use Rattle.std.proofs.Common.{◌≡◌, ℕ, ◌+◌, ◌<◌, ◌≤◌, arith, Bool, true, false, List, [], ◌∷◌, Option, Some, None, unwrap_or, refl, sym, subst, if◌then◌else◌}
+use Rattle.std.proofs.Common.{◌≡◌, ℕ, ◌+◌, ◌<◌, ◌≤◌, arith, Bool, true, false, List, [], ◌∷◌, Option, Some, None, sym, subst, if◌then◌else◌}
 use Rattle.std.specs.Bool.{⊤}
 use Rattle.rio_packets.specs.Fields.{prio_of}
 use Rattle.maint_registers.specs.Devices.{Registers}
@@ -12,7 +12,7 @@ use Rattle.maint_packets.specs.Responses.{response_bytes}
 use Rattle.maint_packets.specs.Answers.{request_answered}
 use Rattle.switch_core.specs.declared.switch.Step as switch
 use Rattle.switch_core.specs.declared.switch.Step.TheVariants.{Moved, Dropped, Answered, Nothing}
-use Rattle.switch_core.specs.Faces.{Face, face_at, head_of, has_room}
+use Rattle.switch_core.specs.Faces.{Face, face_at, has_room}
 use Rattle.switch_core.specs.SwitchSteps.{answer_step, step_to, step_of}
 use Rattle.switch_core.proofs.FirstSteps.{first_step_by}
 use Rattle.fabric_script.specs.declared.ports.PortRef.{PortRef}

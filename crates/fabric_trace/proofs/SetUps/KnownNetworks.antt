@@ -1,14 +1,15 @@
 -- What is known of earlier lines of a script is so of the network that they set up.
-use Rattle.std.proofs.Common.{◌≡◌, ℕ, ◌<◌, zero, suc, Bool, false, not, List, [], ◌∷◌, ◌++◌, Option, Some, map, length, length-append, refl, sym, ap, ◌∙◌, arith, append-nil}
+use Rattle.std.proofs.Common.{◌≡◌, ℕ, ◌<◌, zero, suc, Bool, false, not, List, [], ◌∷◌, ◌++◌, Option, Some, map, length, refl, sym, ap, ◌∙◌, arith, append-nil}
 use Rattle.std.proofs.lemmas.Bool.{not-false}
 use Rattle.std.proofs.lemmas.List.{length-map, map-append}
 use Rattle.std.proofs.lemmas.Option.{slice_get-map}
 use Rattle.std.specs.List.{slice_get}
 use Rattle.fabric_script.specs.declared.lines.Line.{Line}
 use Rattle.fabric_script.specs.declared.lines.Line.TheVariants.{Endpoint, Switch}
-use Rattle.fabric_script.specs.Known.{Known, known_after, names_after, nodes_after, links_after, node_is_switch, is_known_switch, nothing_in}
+use Rattle.fabric_script.specs.Known.{Known, known_after, nodes_after, links_after, node_is_switch, is_known_switch, nothing_in}
 use Rattle.maint_registers.specs.Devices.{is_switch}
 use Rattle.fabric_model.specs.Network.{Network, IsEndpoint, IsSwitch, switch_at}
+use Rattle.fabric_script.proofs.KnownLaws.{count-after}
 use Rattle.fabric_trace.specs.Runs.{bare, set_up}
 use Rattle.fabric_trace.proofs.SetUps.SettingUp.{set_up-links, made_by, set_up-kinds}
 use Rattle.fabric_script.specs.declared.known.Mode.{Mode}
@@ -28,21 +29,11 @@ kinds_made known (Switch name ports) =
     sym (map-append (λ node. node_is_switch (Some node)) known.nodes _)
 kinds_made known _ = append-nil _
 
-one_more : {A B : Type 0} (xs : List A) (ys : List B) (x : A) (y : B) → length xs ≡ length ys
-    → length (xs ++ x ∷ []) ≡ length (ys ++ y ∷ [])
-one_more xs ys x y same = omega (arith, length-append xs (x ∷ []), length-append ys (y ∷ []))
-
-count_made : (known : Known) (new : List ℕ) (line : Line) → length known.nodes ≡ length known.names
-    → length (nodes_after known.nodes line) ≡ length (names_after known.names new line)
-count_made known new (Endpoint name id) same = one_more known.nodes known.names _ new same
-count_made known new (Switch name ports) same = one_more known.nodes known.names _ new same
-count_made known new _ same = same
-
 pub knows-after : (known : Known) (new : List ℕ) (net : Network) (line : Line)
     → KnowsNetwork known net → KnowsNetwork (known_after known new line) (set_up net line)
 knows-after known new net line s = record {
   linked = set_up-links net line ∙ ap (λ links. links_after links line) s.linked;
-  count = count_made known new line s.count;
+  count = count-after known new line s.count;
   kinds = set_up-kinds net line ∙ ap (λ kinds. kinds ++ map is_switch (made_by line)) s.kinds
       ∙ kinds_made known line;
 }

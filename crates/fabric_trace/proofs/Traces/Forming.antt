@@ -1,6 +1,6 @@
 -- What a switch makes of a packet is in its link form if all that the network holds is: so each
 -- switch has a move.
-use Rattle.std.proofs.Common.{◌≡◌, ℕ, ◌<◌, true, List, Option, Some, None, option_map, slice_get, unwrap_or, arith, refl, sym, ap, ◌∙◌, subst}
+use Rattle.std.proofs.Common.{◌≡◌, ℕ, ◌<◌, true, List, Option, Some, None, option_map, slice_get, arith, refl, sym, ap, ◌∙◌, subst}
 use Rattle.rio_packets.specs.Fields.{prio_of}
 use Rattle.rio_packets.specs.LinkForm.{Passes}
 use Rattle.maint_registers.specs.Devices.{Registers, is_switch}
@@ -14,7 +14,7 @@ use Rattle.maint_packets.specs.Responses.{response_bytes}
 use Rattle.maint_packets.specs.Answers.{request_answered}
 use Rattle.maint_packets.proofs.AnswerLaws.{responses_pass}
 use Rattle.switch_core.specs.declared.switch.Step as switch
-use Rattle.switch_core.specs.declared.switch.Step.TheVariants.{Moved, Dropped, Answered, Nothing}
+use Rattle.switch_core.specs.declared.switch.Step.TheVariants.{Moved, Dropped, Answered}
 use Rattle.switch_core.specs.Faces.{Face, face_at, head_of, has_room}
 use Rattle.switch_core.specs.SwitchSteps.{answer_step, step_to, step_of}
 use Rattle.switch_core.proofs.FirstSteps.{first_step_by}

@@ -1,8 +1,8 @@
 -- What ports answer says nothing to a receiver: answers have no answer.
 use Rattle.std.proofs.Common.{◌≡◌, ℕ, ◌<◌, Bool, true, false, Option, Some, None, option_to_list, List, [], ◌∷◌, ◌++◌, refl, sym, ap, ◌∙◌, subst, arith, append_assoc}
-use Rattle.link_model.specs.Prelude.{Fields, number_of, Input, Arrival, symbol_arrival, receives, run, place, place_after, Text, Plain, Skipped, Within}
+use Rattle.link_model.specs.Prelude.{Fields, number_of, Input, Arrival, symbol_arrival, receives, run, place, place_after, Text}
 use Rattle.link_buffers.specs.Queues.{Buffered, stored}
-use Rattle.link_port.specs.Prelude.{Event, Ctl, Pkt, Bad, Pending, Nothing, Opened, One, Two, PortState, IsPort, expected_of, acts, replies}
+use Rattle.link_port.specs.Prelude.{Event, Ctl, Pkt, Bad, Pending, Nothing, PortState, IsPort, expected_of, acts, replies}
 use Rattle.link_model.specs.Input as in_half
 use Rattle.link_model.specs.Places.{broken_off, begins_in, opened}
 use Rattle.link_model.specs.Reading.{text_after, told}
@@ -10,6 +10,7 @@ use Rattle.link_model.specs.Input.{InputOk, InputRetryStopped, InputErrorStopped
 use Rattle.link_port.specs.Answers.{IsAnswer, IsReply}
 use Rattle.link_port.proofs.AnswerLaws.{reply_answers, answer_tells, answer_stays}
 use Rattle.link_sound.proofs.PortBounds.{expected_below}
+use Rattle.link_model.proofs.ReadingSpeltLaws.{begins_opened}
 use Rattle.link_machine.specs.Led.{led, chars_of, controls, AreAnswers}
 use Rattle.link_machine.proofs.Settling.SaidLaws.{reads, prepended, symbol_reads}
 
@@ -66,17 +67,6 @@ AreAnswers-append (x ∷ xs) ys are more = (are.0, AreAnswers-append xs ys are.1
 
 -- ---- how answers read
 
-opened_again : (t : Text) → opened (opened t) ≡ opened t
-opened_again Plain = refl
-opened_again Skipped = refl
-opened_again (Within bytes) = refl
-
-opened_before : (t : Text) (k : Pending) → opened (begins_in t k) ≡ begins_in t k
-opened_before t Nothing = opened_again t
-opened_before t (Opened d) = refl
-opened_before t (One d x) = refl
-opened_before t (Two d x y) = refl
-
 -- answers where a symbol may begin
 pub answers_read : (t : Text) (ss : List Fields) → opened t ≡ t → AreAnswers ss
     → reads (place t Nothing) (chars_of ss) ≡ (controls ss, place t Nothing)
@@ -107,7 +97,7 @@ first_breaks t k s ss are =
     ∙ ap
     (λ (v : Text). prepended (broken_off k ++ Ctl s ∷ []) (reads (place v Nothing) (chars_of ss)))
     (answer_stays u s are.0)
-    ∙ ap (prepended (broken_off k ++ Ctl s ∷ [])) (answers_read u ss (opened_before t k) are.1)
+    ∙ ap (prepended (broken_off k ++ Ctl s ∷ [])) (answers_read u ss (begins_opened t k) are.1)
     ∙ ap (λ (es : List Event). (es, place u Nothing))
     (append_assoc (broken_off k) (Ctl s ∷ []) (controls ss))
 

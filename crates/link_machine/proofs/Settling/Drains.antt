@@ -9,9 +9,10 @@ use Rattle.link_machine.specs.Schedules.{NextOf}
 use Rattle.link_machine.specs.Schedules.LoopOf.{LoopRests, LoopGoesOn, LoopLeaves}
 use Rattle.link_machine.specs.Acts.{Act, Reached, At, FoundAt, after_act, goes, OnState}
 use Rattle.link_machine.specs.Settling.{first_has_chars, of_end, all_chars, Empties, is_busy, Drains}
+use Rattle.link_machine.proofs.Machine.{round_keeps}
 use Rattle.link_machine.proofs.Settling.AnswerLaws.{IsNarrow, port_narrow, replies_answer}
 use Rattle.link_machine.proofs.Settling.Signals.{unbroken_leaves, third_is_silent}
-use Rattle.link_machine.proofs.Settling.Lines.{Takes, emptied, emptied_takes, round_sound}
+use Rattle.link_machine.proofs.Settling.Lines.{Takes, emptied, emptied_takes}
 
 -- ---- lists of acts
 
@@ -205,7 +206,7 @@ to_second s m l none t = record {
 
 to_third : (s m : LinkState) → SecondSent s → Takes (turned_round s) (turned_round m) → ThirdSent m
 to_third s m h t = record {
-  sound = round_sound (turned_round m) t.sound;
+  sound = round_keeps (turned_round m) t.sound;
   before = s.b;
   second = h.second;
   are = h.are;
@@ -244,7 +245,7 @@ to_fifth s m h t =
     ap (port_answers s.b) h.wire_a
     ∙ ap (λ (q : PortState). port_answers q (chars_of h.fourth)) h.b
     ∙ third_is_silent h.before h.first h.second h.fourth h.are h.are_too h.is in (
-      round_sound (turned_round m) t.sound,
+      round_keeps (turned_round m) t.sound,
       (
         t.wire_b,
         t.wire_a
@@ -267,7 +268,7 @@ five s l =
     (then_emptied SecondSent B (emptied A (At s)) (λ (n : LinkState)
     (h : IsSoundLink n × (n.wire_a.chars ≡ [])). on_state (emptied B (At n))
     (λ m t. to_second n m h.0 h.1 t) (emptied_takes B n h.0))
-    (on_state (emptied A (At s)) (λ m t. (round_sound (turned_round m) t.sound, t.wire_b))
+    (on_state (emptied A (At s)) (λ m t. (round_keeps (turned_round m) t.sound, t.wire_b))
     (emptied_takes A s l)))))
 
 pub rested_is_idle : (r : Reached) → OnState Rested r → is_busy r ≡ false

@@ -6,7 +6,8 @@ use Rattle.link_machine.specs.Prelude.{other_side, Side, A, B, LinkState, turned
 use Rattle.link_machine.specs.Led.{port_fed, port_answers, chars_of}
 use Rattle.link_machine.specs.Acts.{Act, Reached, At, FoundAt, goes, OnState}
 use Rattle.link_machine.specs.Settling.{all_chars, is_busy, Drains}
-use Rattle.link_machine.proofs.Settling.Lines.{Takes, emptied, emptied_takes, round_sound}
+use Rattle.link_machine.proofs.Machine.{round_keeps}
+use Rattle.link_machine.proofs.Settling.Lines.{Takes, emptied, emptied_takes}
 use Rattle.link_machine.proofs.Settling.Drains.{on_state, then_emptied, rounds, idle_stays, AreEmpty, empty_has, empty_is_idle, drain_is}
 
 -- ---- a drain where one wire alone has characters
@@ -43,7 +44,7 @@ three_takes s one two m none first second third =
     ∙ (λ i. chars_of (port_answers (first.b i) (first_answers i))) in
     let far : two.b ≡ port_fed s.b s.wire_a.chars = second.b ∙ first.a in
     record {
-      sound = round_sound (turned_round m) third.sound;
+      sound = round_keeps (turned_round m) third.sound;
       a = third.b ∙ near;
       b = third.a ∙ (λ i. port_fed (far i) (second_answers i));
       wire_a = third.wire_b;
@@ -67,7 +68,7 @@ three_from_a s l none =
     (emptied A (At s))
     (λ (one : LinkState) (h : Takes (turned_round s) (turned_round one)).
     on_state (emptied B (At one)) (λ two t. (t.sound, (one, h, t)))
-    (emptied_takes B one (round_sound (turned_round one) h.sound)))
+    (emptied_takes B one (round_keeps (turned_round one) h.sound)))
     (on_state (emptied A (At s)) (λ m t. t) (emptied_takes A s l)))
 
 three_from_b : (s : LinkState) → IsSoundLink s → s.wire_a.chars ≡ []
@@ -83,7 +84,7 @@ three_from_b s l none =
     × ((one : LinkState) × Takes s one × Takes (turned_round one) (turned_round two))) A
     (emptied B (At s))
     (λ (one : LinkState) (h : Takes s one).
-    on_state (emptied A (At one)) (λ two t. (round_sound (turned_round two) t.sound, (one, h, t)))
+    on_state (emptied A (At one)) (λ two t. (round_keeps (turned_round two) t.sound, (one, h, t)))
     (emptied_takes A one h.sound))
     (on_state (emptied B (At s)) (λ m t. t) (emptied_takes B s l)))
 

@@ -1,14 +1,16 @@
 -- What a delivery of all characters of a wire makes of a link, where every event was sent.
-use Rattle.std.proofs.Common.{◌≡◌, ℕ, ◌++◌, Bool, true, false, not, List, [], ◌∷◌, map, length, take, Option, Some, None, option_to_list, refl, sym, ap, ◌∙◌, if◌then◌else◌, arith, append_assoc, append-nil, nat_le}
+use Rattle.std.proofs.Common.{◌≡◌, ℕ, ◌++◌, Bool, true, false, not, List, [], ◌∷◌, length, take, Option, Some, None, option_to_list, refl, sym, ap, ◌∙◌, if◌then◌else◌, arith, append_assoc, append-nil, nat_le}
 use Rattle.std.proofs.lemmas.List.{take_all, drop_all}
 use Rattle.std.proofs.lemmas.Bool.{le-leb}
 use Rattle.link_model.specs.Prelude.{Char, Fields, run, place_after, said}
 use Rattle.link_port.specs.Prelude.{Event, PortState, acts, is_acted, replies}
+use Rattle.link_model.proofs.PlacesLaws.{events_of}
 use Rattle.link_machine.specs.Prelude.{other_side, Side, A, B, LinkState, turned_round, from_end, first_takes, has_none, IsSoundLink}
 use Rattle.link_wires.specs.Prelude.{behind, Flow, Delivered, Through, WentUndetected, begun, done, met, goes_on, come, ended, delivered}
 use Rattle.link_machine.specs.Calls.{delivery, after_delivery}
 use Rattle.link_machine.specs.Queues.{queues_between}
 use Rattle.link_machine.proofs.Flowing.{AreFlowing, delivered_flowing}
+use Rattle.link_machine.proofs.Machine.{round_keeps}
 use Rattle.link_machine.proofs.Telling.{AreTelling, delivered_telling}
 use Rattle.link_machine.specs.Led.{led, port_fed, port_answers, chars_of}
 use Rattle.link_machine.specs.Acts.{Act, Deliver, Reached, At, reached_by, after_act, goes, OnState}
@@ -31,9 +33,6 @@ on_flow P Q so (WentUndetected told e) h = tt
 abbrev IsLed : Flow → List Event → Flow → Type 0
 IsLed flow es next =
     (next.port ≡ led flow.port es) × (next.told.replies ≡ flow.told.replies ++ replies flow.port es)
-
-abbrev events_of : List (ℕ × Event) → List Event
-events_of placed = map (λ (p : ℕ × Event). p.1) placed
 
 done_led : (flow : Flow) (e : Event) (acted kept : List Event) (es : List Event) (next : Flow)
     → IsLed (done e acted kept flow) es next → IsLed flow (e ∷ es) next
@@ -177,15 +176,6 @@ goes_one s act = ends (after_act act s)
     ends : (r : Reached) → goes r [] ≡ r
     ends r = refl
 
-pub round_sound : (s : LinkState) → IsSoundLink s → IsSoundLink (turned_round s)
-round_sound s l = record {
-  port_a = l.port_b;
-  port_b = l.port_a;
-  sound = record { a_to_b = l.sound.b_to_a; b_to_a = l.sound.a_to_b };
-  told_b = l.told_a;
-  told_a = l.told_b;
-}
-
 -- the same delivery, with the ends in the other order
 turned_by : (s : LinkState) (next : LinkState) (d : Delivered)
     → OnState (λ m. Takes s m) (reached_by B next d)
@@ -200,7 +190,7 @@ full_takes A s l =
     let t = turned_round s in
     let n = length s.wire_a.chars in
     rw (same_count n)
-    (turned_by t (first_takes n t) (delivery n t) (takes_all t B (round_sound s l)))
+    (turned_by t (first_takes n t) (delivery n t) (takes_all t B (round_keeps s l)))
 full_takes B s l =
     let n = length s.wire_b.chars in
     rw (same_count n) (takes_all s A l)
@@ -210,7 +200,7 @@ pub emptied_takes : (from : Side) (s : LinkState) → IsSoundLink s
 emptied_takes from s l = by_test (first_has_chars (from_end from s)) refl
   where
     none_from : (side : Side) → (from_end side s).wire_a.chars ≡ [] → TakesFrom side s s
-    none_from A none = takes_none (turned_round s) (round_sound s l) none
+    none_from A none = takes_none (turned_round s) (round_keeps s l) none
     none_from B none = takes_none s l none
 
     by_test : (b : Bool) → first_has_chars (from_end from s) ≡ b

@@ -9,14 +9,13 @@ use Rattle.link_sound.specs.Between.{IsBetween}
 use Rattle.link_sound.specs.Meanings.{forward, backward}
 use Rattle.link_machine.specs.Prelude.{Side, A, B, LinkState, at_end, from_end, is_silent, has_none, timed_out_at, IsSoundLink}
 use Rattle.link_machine.specs.Calls.{first_fires}
-use Rattle.link_machine.proofs.Machine.{fired_keeps, none_failed}
+use Rattle.link_machine.proofs.Machine.{fired_keeps, none_failed, from_end_keeps}
 use Rattle.link_machine.specs.Schedules.{NextOf}
 use Rattle.link_machine.specs.Acts.{Act, Fire, Reached, At, FoundAt, goes, OnState}
 use Rattle.link_machine.specs.Settling.{is_retry_stopped, has_failed, may_fire, is_none, is_done, is_ok, first_rests, TakesTurn, Restarts, TimesOut, Requests, Recovers}
 use Rattle.link_machine.specs.Rest.{IsAtRest}
 use Rattle.link_machine.proofs.Settling.Lines.{goes_one}
 use Rattle.link_machine.proofs.Settling.Drains.{goes_none, goes_found, goes-append, on_state, AreEmpty}
-use Rattle.link_machine.proofs.Settling.TurnLaws.{end_sound}
 use Rattle.link_machine.proofs.Settling.Restarting.{Kept, IsAwake, restarted, Rested, requested}
 
 -- ---- a time-out, where it may fire
@@ -179,7 +178,7 @@ alive Output.Failed not_failed = absurd (not_failed refl)
 near_alive : (near : Side) (s : LinkState) → IsSoundLink s
     → has_failed (from_end near s).a.output ≡ false
 near_alive near s l =
-    alive (from_end near s).a.output (none_failed (from_end near s) (end_sound near s l)).0
+    alive (from_end near s).a.output (none_failed (from_end near s) (from_end_keeps near s l)).0
 
 stays_awake : (near : Side) (s : LinkState) (all : List Act) → IsSoundLink s → AreEmpty s → all ≡ []
     → is_retry_stopped (from_end near s).a.output ≡ false
@@ -200,7 +199,7 @@ restarts_by near s all (Output.RetryStopped w) is l none does =
 restarts_by near s all (Output.ErrorStopped asked w) is l none does =
     stays_awake near s all l none does (ap is_retry_stopped is)
 restarts_by near s all Output.Failed is l none does =
-    absurd ((none_failed (from_end near s) (end_sound near s l)).0 is)
+    absurd ((none_failed (from_end near s) (from_end_keeps near s l)).0 is)
 
 -- a link-request, where the direction is not at rest
 then_requested : (near : Side) (s : LinkState) (r : Reached) (rest : List Act)
@@ -221,7 +220,7 @@ requests_by near s all true test awake l none nothing =
     (sym (ap (goes (At s)) nothing ∙ goes_none (At s)))
     (record {
       kept = record { sound = l; none = none; other = λ rests. rests };
-      rests = rests_is (from_end near s) (end_sound near s l) test;
+      rests = rests_is (from_end near s) (from_end_keeps near s l) test;
     })
 requests_by near s all false test awake l none (first, rest, split, times, turn) =
     subst (λ (r : Reached). OnState (Rested near s) r)

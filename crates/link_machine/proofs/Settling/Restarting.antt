@@ -9,7 +9,7 @@ use Rattle.link_model.specs.Output.{responded, reported}
 use Rattle.link_model.specs.Reports.{has_buffer_status, base_of, report_of}
 use Rattle.link_model.specs.Places.{broken_off, rests_by}
 use Rattle.link_machine.specs.Prelude.{Side, A, B, LinkState, turned_round, from_end, IsSoundLink}
-use Rattle.link_machine.proofs.Machine.{none_failed}
+use Rattle.link_machine.proofs.Machine.{none_failed, from_end_keeps, round_keeps}
 use Rattle.link_machine.specs.Led.{led, port_fed, port_answers, chars_of, controls, AreAnswers}
 use Rattle.link_machine.specs.Acts.{Act, At, goes, OnState}
 use Rattle.link_machine.specs.Settling.{is_retry_stopped, TakesTurn}
@@ -18,10 +18,9 @@ use Rattle.link_machine.proofs.Settling.TableLaws.{led-append}
 use Rattle.link_machine.proofs.Settling.AnswerLaws.{IsNarrow, port_narrow, first_breaks}
 use Rattle.link_machine.proofs.Settling.Signals.{IsSignal, fed_by, fed_is, fed_none, break_led, signal_fed, signal_answered, input_signalled, replies_signalled, unbroken_leaves, resting_answered, IsDown, down_fed, request_input, output_after, output_led, response_heard, response_is}
 use Rattle.link_machine.proofs.Settling.Packets.{status_range}
-use Rattle.link_machine.proofs.Settling.Lines.{round_sound}
 use Rattle.link_machine.proofs.Settling.Exchanges.{Exchanged}
 use Rattle.link_machine.proofs.Settling.Drains.{on_state, AreEmpty, answers_are}
-use Rattle.link_machine.proofs.Settling.TurnLaws.{end_sound, third_answers, turn_goes}
+use Rattle.link_machine.proofs.Settling.TurnLaws.{third_answers, turn_goes}
 
 -- ---- places at rest
 
@@ -186,7 +185,7 @@ pub record Kept (near : Side) (s m : LinkState) : Type 0 where
 
 pub unended : (near : Side) (m : LinkState) → IsSoundLink (from_end near m) → IsSoundLink m
 unended A m l = l
-unended B m l = round_sound (turned_round m) l
+unended B m l = round_keeps (turned_round m) l
 
 -- not retry-stopped
 pub record IsAwake (near : Side) (s m : LinkState) : Type 0 where
@@ -215,7 +214,7 @@ pub restarted : (near : Side) (s : LinkState) (all : List Act) (w : Outstanding)
 restarted near s all w l none is turn =
     let t = from_end near s in
     let p = turns_to t.a in
-    let sound = end_sound near s l in
+    let sound = from_end_keeps near s l in
     let symbol = restart_of t.a in
     let signal = restart_is t.a sound.port_a in
     let near_narrow = port_narrow t.a sound.port_a in
@@ -295,7 +294,7 @@ pub requested : (near : Side) (s : LinkState) (all : List Act) (w : Outstanding)
 requested near s all w l none is turn =
     let t = from_end near s in
     let p = turns_to t.a in
-    let sound = end_sound near s l in
+    let sound = from_end_keeps near s l in
     let symbol = request_of t.a in
     let signal = request_is t.a sound.port_a in
     let near_narrow = port_narrow t.a sound.port_a in

@@ -8,8 +8,8 @@ use Rattle.link_machine.specs.Prelude.{Side, A, B, LinkState, from_end, IsSoundL
 use Rattle.link_machine.specs.Acts.{Act, At, goes, OnState}
 use Rattle.link_machine.specs.Settling.{is_retry_stopped, of_end, TakesTurn}
 use Rattle.link_machine.specs.Rest.{IsBlocked, IsQuiet, KnowsRoom, HasPassed, IsRound}
+use Rattle.link_machine.proofs.Machine.{from_end_keeps}
 use Rattle.link_machine.proofs.Settling.Drains.{on_state}
-use Rattle.link_machine.proofs.Settling.TurnLaws.{end_sound}
 use Rattle.link_machine.proofs.Settling.SendingRounds.{Round, Quiet, AfterRound, round_goes}
 use Rattle.link_machine.proofs.Settling.RoomLaws.{starts_with_room}
 
@@ -65,7 +65,7 @@ by_room t u false ack four r =
 pub after_round : (near : Side) (s m : LinkState) → IsSoundLink s → AfterRound near s m
     → IsRound (from_end near s) (from_end near m)
 after_round near s m l h =
-    by_room (from_end near s) (from_end near m) h.room h.ack (end_sound near s l).port_a.sends.four
+    by_room (from_end near s) (from_end near m) h.room h.ack (from_end_keeps near s l).port_a.sends.four
     h.round
 
 -- A round, from a link at rest on which a turn starts a packet.
@@ -83,7 +83,7 @@ told_passes : (near : Side) (s m : LinkState) → Quiet near s
     → HasPassed (from_end near s) (from_end near m)
 told_passes near s m quiet knows tells starts h =
     let t = from_end near s in
-    let l = end_sound near s quiet.sound in
+    let l = from_end_keeps near s quiet.sound in
     let r = h.round in
     let room : h.room ≡ true =
     sym r.has

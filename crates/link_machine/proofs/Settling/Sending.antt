@@ -13,13 +13,14 @@ use Rattle.link_machine.specs.Schedules.LoopOf.{LoopRests, LoopGoesOn, LoopLeave
 use Rattle.link_machine.specs.Acts.{Act, Reached, At, FoundAt, goes, OnState}
 use Rattle.link_machine.specs.Settling.{is_retry_stopped, of_end, TakesTurn, SendsAll}
 use Rattle.link_machine.specs.Rest.{IsAtRest, KnowsRoom, IsDone}
+use Rattle.link_machine.proofs.Machine.{from_end_keeps}
 use Rattle.link_machine.proofs.Settling.AnswerLaws.{port_narrow}
 use Rattle.link_machine.proofs.Settling.Signals.{input_signalled, replies_signalled, fed_none, answered_none, signal_fed, signal_answered}
 use Rattle.link_machine.proofs.Settling.Packets.{told_by, status_after, report_by, one_out}
 use Rattle.link_machine.proofs.Settling.Drains.{goes_none, goes_found, goes-append, on_state, AreEmpty}
 use Rattle.link_machine.proofs.Settling.Restarting.{rest_place, restart_of, restart_chars, restart_state, restart_is, signal_silent, unended}
 use Rattle.link_machine.proofs.Settling.Recovery.{rests_test}
-use Rattle.link_machine.proofs.Settling.TurnLaws.{end_sound, turn_goes}
+use Rattle.link_machine.proofs.Settling.TurnLaws.{turn_goes}
 use Rattle.link_machine.proofs.Settling.SendingRounds.{resting_open, Round, Quiet, AfterRound, round_goes, round_knows, round_tells}
 use Rattle.link_machine.proofs.Settling.RoomLaws.{none_starts}
 
@@ -116,7 +117,7 @@ ends near s knowing none = record {
     t = from_end near s
 
     l : IsSoundLink t
-    l = end_sound near s knowing.quiet.sound
+    l = from_end_keeps near s knowing.quiet.sound
 
 -- The packet had no room, and the port restarts: the far port was retry-stopped, with nothing in
 -- progress.
@@ -130,7 +131,7 @@ left : (near : Side) (s m : LinkState) (all : List Act) (ack : ℕ) → IsSoundL
 unfolding chars_of
 left near s m all ack l none beside r other knows turn =
     let t = from_end near m in
-    let sound = end_sound near m l in
+    let sound = from_end_keeps near m l in
     let report = report_by false ack (status_after false (from_end near s).b r.packet) in
     let window = one_out ack r.prio report in
     let stopped : t.a.output ≡ Output.RetryStopped window = ap (λ (p : PortState). p.output) r.a in

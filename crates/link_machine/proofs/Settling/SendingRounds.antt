@@ -12,13 +12,14 @@ use Rattle.link_machine.specs.Led.{port_fed, port_answers, chars_of, AreAnswers}
 use Rattle.link_machine.specs.Acts.{Act, At, goes, OnState}
 use Rattle.link_machine.specs.Settling.{is_some, TakesTurn}
 use Rattle.link_machine.specs.Rest.{IsAtRest, KnowsRoom}
+use Rattle.link_machine.proofs.Machine.{from_end_keeps}
 use Rattle.link_machine.proofs.Settling.AnswerLaws.{port_narrow}
 use Rattle.link_machine.proofs.Settling.Signals.{fed_none, answered_none, unbroken_leaves}
 use Rattle.link_machine.proofs.Settling.Packets.{sent_by, told_by, status_after, answer_by, held_by, report_by, replied_by, one_out, packet_fed, answer_fed, turn_starts, turn_sends_packet}
 use Rattle.link_machine.proofs.Settling.Exchanges.{Exchanged}
 use Rattle.link_machine.proofs.Settling.Drains.{on_state, AreEmpty, answers_are}
 use Rattle.link_machine.proofs.Settling.Restarting.{rest_place, unended}
-use Rattle.link_machine.proofs.Settling.TurnLaws.{end_sound, third_answers, turn_goes}
+use Rattle.link_machine.proofs.Settling.TurnLaws.{third_answers, turn_goes}
 use Rattle.link_machine.proofs.Settling.Waiting.{First, first_waiting, ready_is, credited_some, All-first}
 
 -- ---- a round
@@ -150,7 +151,7 @@ ready : (near : Side) (s : LinkState) → Quiet near s → is_ready (from_end ne
     → Ready (from_end near s).a (from_end near s).b
 ready near s quiet starts =
     let t = from_end near s in
-    let l = end_sound near s quiet.sound in
+    let l = from_end_keeps near s quiet.sound in
     let some =
     sym (ready_is t.a quiet.out.ack quiet.out.report quiet.out.sender_ok) ∙ starts in
     let same =

@@ -10,7 +10,7 @@ use Rattle.link_port.specs.Turns.{symbol_burst, no_burst}
 use Rattle.link_port.proofs.SentReads.{standing_range}
 use Rattle.link_sound.specs.Told.{last_report}
 use Rattle.link_machine.specs.Prelude.{Side, A, B, LinkState, from_end, told_from, IsSoundLink}
-use Rattle.link_machine.proofs.Machine.{told_keeps}
+use Rattle.link_machine.proofs.Machine.{told_keeps, from_end_keeps}
 use Rattle.link_machine.specs.Led.{led, port_fed, port_answers, chars_of, controls, AreAnswers}
 use Rattle.link_machine.specs.Acts.{Act, Tell, Reached, At, goes, OnState}
 use Rattle.link_machine.specs.Schedules.{NextOf, Is}
@@ -22,7 +22,7 @@ use Rattle.link_machine.proofs.Settling.Packets.{status_range, told_by, bound_te
 use Rattle.link_machine.proofs.Settling.Lines.{goes_one}
 use Rattle.link_machine.proofs.Settling.Drains.{goes_none, goes-append, on_state, AreEmpty}
 use Rattle.link_machine.proofs.Settling.Restarting.{rest_place, unended}
-use Rattle.link_machine.proofs.Settling.TurnLaws.{end_sound, end_empty, third_answers, Over, drain_over}
+use Rattle.link_machine.proofs.Settling.TurnLaws.{end_empty, third_answers, Over, drain_over}
 use Rattle.link_machine.proofs.Settling.SendingRounds.{resting_open, Quiet}
 
 -- the status of a port
@@ -197,7 +197,7 @@ tells_busy near s all quiet tells (first, rest, split, tell, drains) =
     let t = from_end near s in
     let next = told_from near s in
     let cs = symbol_chars_of (status_of t.a) in
-    let l = end_sound near s quiet.sound in
+    let l = from_end_keeps near s quiet.sound in
     let empty = end_empty near s quiet.none in
     let h = status_heard t.a t.b l.port_a quiet.out.place in
     let there : goes (At s) first ≡ At next = ap (goes (At s)) tell ∙ goes_one s (Tell near) in
@@ -233,7 +233,7 @@ tells_none near s quiet silent = record {
   quiet = quiet;
   into =
       untold (from_end near s).a (from_end near s).b silent
-      (end_sound near s quiet.sound).told_b.keeps;
+      (from_end_keeps near s quiet.sound).told_b.keeps;
   out = λ knows. knows;
 }
 

@@ -8,15 +8,11 @@ use Rattle.link_machine.proofs.Machine.{pump_keeps}
 use Rattle.link_machine.specs.Led.{port_fed, port_answers, chars_of}
 use Rattle.link_machine.specs.Acts.{Act, Pump, Reached, At, goes, OnState}
 use Rattle.link_machine.specs.Settling.{Drains, TakesTurn}
-use Rattle.link_machine.proofs.Settling.Lines.{goes_one, round_sound}
+use Rattle.link_machine.proofs.Settling.Lines.{goes_one}
 use Rattle.link_machine.proofs.Settling.Exchanges.{Exchanged, drain_exchanges}
 use Rattle.link_machine.proofs.Settling.Drains.{goes-append, AreEmpty}
 
 -- ---- a link with one of its ends first
-
-pub end_sound : (near : Side) (s : LinkState) → IsSoundLink s → IsSoundLink (from_end near s)
-end_sound A s l = l
-end_sound B s l = round_sound s l
 
 pub end_empty : (near : Side) (s : LinkState) → AreEmpty s → AreEmpty (from_end near s)
 end_empty A s none = none

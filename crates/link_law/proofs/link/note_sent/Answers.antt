@@ -19,6 +19,6 @@ returns-clause-stopped g c =
     err_then c.sent.result
     (λ h. subst (λ (notes : List Note). Stopped g.W.Watch.grew g.W.Watch.cut c.args.watch.now notes
     c.sent.new.self) (sym (sent_one c.args.from c.args.chars.now some))
-    (stopped_in_one g.W.Watch.grew g.W.Watch.cut g.met.W.Watch.grew_none c.args.watch.now
+    (stopped_in_one g.met.W.Watch.is_watch c.args.watch.now
     c.sent.new.self (Sent c.args.from c.args.chars.now) h))
     c.sent.ensures.stopped

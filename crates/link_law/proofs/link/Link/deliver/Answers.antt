@@ -40,7 +40,7 @@ returns-in_err-undetected-clause-noted g c =
 pub returns-in_err-undetected-clause-stopped : goal.returns-in_err-undetected-clause-stopped
 returns-in_err-undetected-clause-stopped g c =
     on_given_up c.from_residual.result
-    (stopped_at_once g.W.Watch.grew g.W.Watch.cut g.met.W.Watch.grew_none g.met.W.Watch.cut_none
+    (stopped_at_once g.met.W.Watch.is_watch
     c.args.watch.now
     (delivery_notes c.args.from c.args.count (link c.args.self.now c.args.a.now c.args.b.now)))
 

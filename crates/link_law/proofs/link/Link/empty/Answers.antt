@@ -2,27 +2,19 @@ use Rattle.std.proofs.Common.{arith, rules}
 use Rattle.link_machine.specs.States.{link}
 use Rattle.link_machine.specs.Settling.{Empties}
 use Rattle.link_law.proofs.DeliverLaws.{empties_none, empties_stop, empties_come, empties_end, delivery_comes, delivery_ends, wire_is}
-use Rattle.link_law.proofs.DoesLaws.{IsWatch, did_end}
-use Rattle.link_law.proofs.link.Link.empty.Given.{Over}
+use Rattle.link_law.proofs.DoesLaws.{did_end}
 use Rattle.link_law.proofs.link.Link.empty.Goals as goal
-
-is_watch : (g : Over) → IsWatch g.W.Watch.grew g.W.Watch.cut
-is_watch g = record {
-  none = g.met.W.Watch.grew_none;
-  on = g.met.W.Watch.grew_on;
-  cut_none = g.met.W.Watch.cut_none;
-}
 
 pub returns-then-length-eq0-clause-does : goal.returns-then-length-eq0-clause-does
 returns-then-length-eq0-clause-does g c =
     let s = link c.args.self.now c.args.a.now c.args.b.now in
-    empties_none g.W.Watch.grew g.W.Watch.cut (is_watch g) c.args.from s c.args.watch.now (let is =
+    empties_none g.W.Watch.grew g.W.Watch.cut g.met.W.Watch.is_watch c.args.from s c.args.watch.now (let is =
     wire_is c.args.from c.args.self.now c.args.a.now c.args.b.now in omega arith)
 
 pub returns-in_default-clause-does : goal.returns-in_default-clause-does
 returns-in_default-clause-does g c =
     let s = link c.args.self.now c.args.a.now c.args.b.now in
-    empties_stop g.W.Watch.grew g.W.Watch.cut (is_watch g) c.args.from s c.args.watch.now
+    empties_stop g.W.Watch.grew g.W.Watch.cut g.met.W.Watch.is_watch c.args.from s c.args.watch.now
     (λ none. let is
     = wire_is c.args.from c.args.self.now c.args.a.now c.args.b.now in omega arith)
 

@@ -2,24 +2,17 @@ use Rattle.std.proofs.Common.{rules}
 use Rattle.link_machine.specs.Prelude.{link, B}
 use Rattle.link_machine.specs.Settling.{SendsAll}
 use Rattle.link_machine.proofs.Settling.Settled.{BothTold, FromSending}
-use Rattle.link_law.proofs.DoesLaws.{IsWatch, did_next, did_early}
+use Rattle.link_law.proofs.DoesLaws.{did_next, did_early}
 use Rattle.link_law.proofs.SettleLaws.{SecondTells, quiet_of, told_at, both_told_at, sent_at, is_quiet, tells_follow, sends_follow, send_follows}
 use Rattle.link_law.proofs.link.Link.finish.Given.{Over}
 use Rattle.link_law.proofs.link.Link.finish.Goals.{In_ok-tell_if_due-2}
 use Rattle.link_law.proofs.link.Link.finish.Goals as goal
 
-is_watch : (g : Over) → IsWatch g.W.Watch.grew g.W.Watch.cut
-is_watch g = record {
-  none = g.met.W.Watch.grew_none;
-  on = g.met.W.Watch.grew_on;
-  cut_none = g.met.W.Watch.cut_none;
-}
-
 pub returns-in_err-tell_if_due-clause-does : goal.returns-in_err-tell_if_due-clause-does
 returns-in_err-tell_if_due-clause-does g c =
     let s = link c.args.self.now c.args.a.now c.args.b.now in
     let first = link c.tell_if_due.new.self c.tell_if_due.new.a c.tell_if_due.new.b in
-    did_early (is_watch g) c.args.watch.now c.tell_if_due.new.watch c.in_err-tell_if_due.field-0.0
+    did_early g.met.W.Watch.is_watch c.args.watch.now c.tell_if_due.new.watch c.in_err-tell_if_due.field-0.0
     c.from_residual.result first (tells_follow s (quiet_of s c.requires)) (search rules)
     c.in_err-tell_if_due.ensures.does
 
@@ -38,9 +31,9 @@ returns-in_err-tell_if_due-2-clause-does g c =
     let told =
     told_at s first c.args.watch.now c.tell_if_due.new.watch (quiet_of s c.requires)
     c.in_ok-tell_if_due.ensures.does in
-    did_next (is_watch g) SecondTells c.tell_if_due-2.new.watch
+    did_next g.met.W.Watch.is_watch SecondTells c.tell_if_due-2.new.watch
     c.from_residual-in_err-tell_if_due-2.result second c.in_ok-tell_if_due.ensures.does
-    (did_early (is_watch g) c.tell_if_due.new.watch c.tell_if_due-2.new.watch
+    (did_early g.met.W.Watch.is_watch c.tell_if_due.new.watch c.tell_if_due-2.new.watch
     c.in_err-tell_if_due-2.field-0.0 c.from_residual-in_err-tell_if_due-2.result second
     (sends_follow first told) (search rules) c.in_err-tell_if_due-2.ensures.does)
 
@@ -65,11 +58,11 @@ returns-in_err-send_all-clause-does g c =
     let at = goal.at.returns-in_err-send_all-clause-does g c in
     let second = link c.tell_if_due-2.new.self c.tell_if_due-2.new.a c.tell_if_due-2.new.b in
     let sent = link c.send_all.new.self c.send_all.new.a c.send_all.new.b in
-    did_next (is_watch g) SecondTells c.send_all.new.watch c.from_residual-in_err-send_all.result
+    did_next g.met.W.Watch.is_watch SecondTells c.send_all.new.watch c.from_residual-in_err-send_all.result
     sent c.in_ok-tell_if_due.ensures.does
-    (did_next (is_watch g) FromSending c.send_all.new.watch c.from_residual-in_err-send_all.result
+    (did_next g.met.W.Watch.is_watch FromSending c.send_all.new.watch c.from_residual-in_err-send_all.result
     sent c.in_ok-tell_if_due-2.ensures.does
-    (did_early (is_watch g) c.tell_if_due-2.new.watch c.send_all.new.watch
+    (did_early g.met.W.Watch.is_watch c.tell_if_due-2.new.watch c.send_all.new.watch
     c.in_err-send_all.field-0.0 c.from_residual-in_err-send_all.result sent
     (send_follows second (both_told g at.In_ok-tell_if_due-2)) (search rules)
     c.in_err-send_all.ensures.does))
@@ -85,9 +78,9 @@ send_all-requires-2 g c =
 pub returns-clause-does : goal.returns-clause-does
 returns-clause-does g c =
     let last = link c.send_all-2.new.self c.send_all-2.new.a c.send_all-2.new.b in
-    did_next (is_watch g) SecondTells c.send_all-2.new.watch c.send_all-2.result last
+    did_next g.met.W.Watch.is_watch SecondTells c.send_all-2.new.watch c.send_all-2.result last
     c.in_ok-tell_if_due.ensures.does
-    (did_next (is_watch g) FromSending c.send_all-2.new.watch c.send_all-2.result last
+    (did_next g.met.W.Watch.is_watch FromSending c.send_all-2.new.watch c.send_all-2.result last
     c.in_ok-tell_if_due-2.ensures.does
-    (did_next (is_watch g) (SendsAll B) c.send_all-2.new.watch c.send_all-2.result last
+    (did_next g.met.W.Watch.is_watch (SendsAll B) c.send_all-2.new.watch c.send_all-2.result last
     c.in_ok-send_all.ensures.does c.send_all-2.ensures.does))

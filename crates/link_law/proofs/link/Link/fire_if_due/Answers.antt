@@ -6,22 +6,14 @@ use Rattle.link_law.specs.Does.{end_of}
 use Rattle.link_law.proofs.Noting.{given_is}
 use Rattle.link_law.proofs.DeliverLaws.{Only}
 use Rattle.link_machine.specs.Acts.{Fire}
-use Rattle.link_law.proofs.DoesLaws.{IsWatch, comes_none, did_end}
+use Rattle.link_law.proofs.DoesLaws.{comes_none, did_end}
 use Rattle.link_law.proofs.DrainLaws.{fire_comes, fire_ends}
-use Rattle.link_law.proofs.link.Link.fire_if_due.Given.{Over}
 use Rattle.link_law.proofs.link.Link.fire_if_due.Goals as goal
-
-is_watch : (g : Over) → IsWatch g.W.Watch.grew g.W.Watch.cut
-is_watch g = record {
-  none = g.met.W.Watch.grew_none;
-  on = g.met.W.Watch.grew_on;
-  cut_none = g.met.W.Watch.cut_none;
-}
 
 pub returns-then-not-fires-clause-does : goal.returns-then-not-fires-clause-does
 returns-then-not-fires-clause-does g c =
     let s = link c.args.self.now c.args.a.now c.args.b.now in
-    comes_none g.W.Watch.grew g.W.Watch.cut (is_watch g) (of_end c.args.side (λ link. may_fire
+    comes_none g.W.Watch.grew g.W.Watch.cut g.met.W.Watch.is_watch (of_end c.args.side (λ link. may_fire
     link.a.output)) (Only (Fire c.args.side)) s c.args.watch.now (ap (λ (p : PortState). may_fire
     p.output) (sym (c.near.ensures c.args.self.now)) ∙ sym c.fires.ensures ∙ c.if-not-fires.true)
 

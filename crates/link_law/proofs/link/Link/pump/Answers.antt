@@ -8,7 +8,7 @@ use Rattle.link_law.proofs.link.Link.pump.Goals as goal
 pub returns-in_err-turn-clause-stopped : goal.returns-in_err-turn-clause-stopped
 returns-in_err-turn-clause-stopped g c =
     on_err c.from_residual.result
-    (stopped_at_once g.W.Watch.grew g.W.Watch.cut g.met.W.Watch.grew_none g.met.W.Watch.cut_none
+    (stopped_at_once g.met.W.Watch.is_watch
     c.args.watch.now
     (pump_notes c.args.from c.args.turns (link c.args.self.now c.args.a.now c.args.b.now)))
 

@@ -4,18 +4,11 @@ use Rattle.link_machine.specs.States.{link}
 use Rattle.link_machine.specs.Schedules.{NextOf}
 use Rattle.link_machine.specs.Acts.{At, goes}
 use Rattle.link_machine.specs.Settling.{Restarts, Requests, has_failed, of_end}
-use Rattle.link_law.proofs.DoesLaws.{IsWatch, comes_none, did_where, did_next, did_early}
+use Rattle.link_law.proofs.DoesLaws.{comes_none, did_where, did_next, did_early}
 use Rattle.link_law.proofs.DrainLaws.{requests_follow, sound_then}
 use Rattle.link_law.proofs.link.Link.recover.Given.{Over}
 use Rattle.link_law.proofs.link.Link.recover.Goals.{After-restart}
 use Rattle.link_law.proofs.link.Link.recover.Goals as goal
-
-is_watch : (g : Over) → IsWatch g.W.Watch.grew g.W.Watch.cut
-is_watch g = record {
-  none = g.met.W.Watch.grew_none;
-  on = g.met.W.Watch.grew_on;
-  cut_none = g.met.W.Watch.cut_none;
-}
 
 pub returns-then-failed-clause-does : goal.returns-then-failed-clause-does
 returns-then-failed-clause-does g c =
@@ -25,7 +18,7 @@ returns-then-failed-clause-does g c =
     (ap (λ (p : PortState). has_failed p.output) (sym (c.near.ensures c.args.self.now))
     ∙ sym c.failed.ensures
     ∙ c.if-failed.true) in
-    comes_none g.W.Watch.grew g.W.Watch.cut (is_watch g)
+    comes_none g.W.Watch.grew g.W.Watch.cut g.met.W.Watch.is_watch
     (of_end c.args.side (λ link. not (has_failed link.a.output)))
     (NextOf goes (Restarts c.args.side) (Requests c.args.side)) s c.args.watch.now lost
 
@@ -56,7 +49,7 @@ returns-in_err-restart-clause-does g c =
     (NextOf goes (Restarts c.args.side) (Requests c.args.side)) s c.args.watch.now
     c.restart.new.watch
     c.from_residual.result restarted alive
-    (did_early (is_watch g) c.args.watch.now c.restart.new.watch c.in_err-restart.field-0.0
+    (did_early g.met.W.Watch.is_watch c.args.watch.now c.restart.new.watch c.in_err-restart.field-0.0
     c.from_residual.result restarted
     (requests_follow c.args.side (Restarts c.args.side) s c.requires) (search rules)
     c.in_err-restart.ensures.does)
@@ -71,5 +64,5 @@ returns-clause-does g c =
     (NextOf goes (Restarts c.args.side) (Requests c.args.side)) s c.args.watch.now
     c.request.new.watch
     c.request.result next alive
-    (did_next (is_watch g) (Requests c.args.side) c.request.new.watch c.request.result next
+    (did_next g.met.W.Watch.is_watch (Requests c.args.side) c.request.new.watch c.request.result next
     c.in_ok-restart.ensures.does c.request.ensures.does)

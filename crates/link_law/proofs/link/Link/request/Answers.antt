@@ -4,18 +4,11 @@ use Rattle.link_machine.specs.States.{link, from_end}
 use Rattle.link_machine.specs.Schedules.{NextOf}
 use Rattle.link_machine.specs.Acts.{At, goes}
 use Rattle.link_machine.specs.Settling.{TimesOut, TakesTurn, rests_to, first_rests, of_end}
-use Rattle.link_law.proofs.DoesLaws.{IsWatch, comes_none, did_where, did_next, did_early}
+use Rattle.link_law.proofs.DoesLaws.{comes_none, did_where, did_next, did_early}
 use Rattle.link_law.proofs.DrainLaws.{turn_follows, sound_then}
 use Rattle.link_law.proofs.link.Link.request.Given.{Over}
 use Rattle.link_law.proofs.link.Link.request.Goals.{After-fire_if_due}
 use Rattle.link_law.proofs.link.Link.request.Goals as goal
-
-is_watch : (g : Over) → IsWatch g.W.Watch.grew g.W.Watch.cut
-is_watch g = record {
-  none = g.met.W.Watch.grew_none;
-  on = g.met.W.Watch.grew_on;
-  cut_none = g.met.W.Watch.cut_none;
-}
 
 pub returns-then-is_quiet-clause-does : goal.returns-then-is_quiet-clause-does
 returns-then-is_quiet-clause-does g c =
@@ -27,7 +20,7 @@ returns-then-is_quiet-clause-does g c =
     ∙ ap (rests_to c.near.result.now) (sym (c.far.ensures c.args.self.now))
     ∙ sym c.is_quiet.ensures
     ∙ c.if-is_quiet.true) in
-    comes_none g.W.Watch.grew g.W.Watch.cut (is_watch g)
+    comes_none g.W.Watch.grew g.W.Watch.cut g.met.W.Watch.is_watch
     (of_end c.args.side (λ link. not (first_rests link)))
     (NextOf goes (TimesOut c.args.side) (TakesTurn c.args.side)) s c.args.watch.now rests
 
@@ -60,7 +53,7 @@ returns-in_err-fire_if_due-clause-does g c =
     (NextOf goes (TimesOut c.args.side) (TakesTurn c.args.side)) s c.args.watch.now
     c.fire_if_due.new.watch
     c.from_residual.result fired due
-    (did_early (is_watch g) c.args.watch.now c.fire_if_due.new.watch c.in_err-fire_if_due.field-0.0
+    (did_early g.met.W.Watch.is_watch c.args.watch.now c.fire_if_due.new.watch c.in_err-fire_if_due.field-0.0
     c.from_residual.result fired (turn_follows c.args.side (TimesOut c.args.side) s c.requires)
     (search rules) c.in_err-fire_if_due.ensures.does)
 
@@ -73,5 +66,5 @@ returns-clause-does g c =
     (NextOf goes (TimesOut c.args.side) (TakesTurn c.args.side)) s c.args.watch.now
     c.take_turn.new.watch
     c.take_turn.result next due
-    (did_next (is_watch g) (TakesTurn c.args.side) c.take_turn.new.watch c.take_turn.result next
+    (did_next g.met.W.Watch.is_watch (TakesTurn c.args.side) c.take_turn.new.watch c.take_turn.result next
     c.in_ok-fire_if_due.ensures.does c.take_turn.ensures.does)

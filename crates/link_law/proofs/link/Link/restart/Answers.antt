@@ -2,16 +2,8 @@ use Rattle.std.proofs.Common.{sym, ap, ◌∙◌}
 use Rattle.link_port.specs.Ports.{PortState}
 use Rattle.link_machine.specs.States.{link}
 use Rattle.link_machine.specs.Settling.{TakesTurn, is_retry_stopped, of_end}
-use Rattle.link_law.proofs.DoesLaws.{IsWatch, comes_none, did_where}
-use Rattle.link_law.proofs.link.Link.restart.Given.{Over}
+use Rattle.link_law.proofs.DoesLaws.{comes_none, did_where}
 use Rattle.link_law.proofs.link.Link.restart.Goals as goal
-
-is_watch : (g : Over) → IsWatch g.W.Watch.grew g.W.Watch.cut
-is_watch g = record {
-  none = g.met.W.Watch.grew_none;
-  on = g.met.W.Watch.grew_on;
-  cut_none = g.met.W.Watch.cut_none;
-}
 
 pub returns-then-not-stands_back-clause-does : goal.returns-then-not-stands_back-clause-does
 returns-then-not-stands_back-clause-does g c =
@@ -20,7 +12,7 @@ returns-then-not-stands_back-clause-does g c =
     ap (λ (p : PortState). is_retry_stopped p.output) (sym (c.near.ensures c.args.self.now))
     ∙ sym c.stands_back.ensures
     ∙ c.if-not-stands_back.true in
-    comes_none g.W.Watch.grew g.W.Watch.cut (is_watch g)
+    comes_none g.W.Watch.grew g.W.Watch.cut g.met.W.Watch.is_watch
     (of_end c.args.side (λ link. is_retry_stopped link.a.output)) (TakesTurn c.args.side) s
     c.args.watch.now stays
 

@@ -1,26 +1,18 @@
 use Rattle.std.proofs.Common.{rules}
 use Rattle.link_machine.specs.Prelude.{B, link}
 use Rattle.link_machine.specs.Settling.{Empties}
-use Rattle.link_law.proofs.DoesLaws.{IsWatch, did_next, did_early, empties_follow}
-use Rattle.link_law.proofs.link.Link.round.Given.{Over}
+use Rattle.link_law.proofs.DoesLaws.{did_next, did_early, empties_follow}
 use Rattle.link_law.proofs.link.Link.round.Goals as goal
-
-is_watch : (g : Over) → IsWatch g.W.Watch.grew g.W.Watch.cut
-is_watch g = record {
-  none = g.met.W.Watch.grew_none;
-  on = g.met.W.Watch.grew_on;
-  cut_none = g.met.W.Watch.cut_none;
-}
 
 pub returns-in_err-empty-clause-does : goal.returns-in_err-empty-clause-does
 returns-in_err-empty-clause-does g c =
     let s = link c.args.self.now c.args.a.now c.args.b.now in
     let first = link c.empty.new.self c.empty.new.a c.empty.new.b in
-    did_early (is_watch g) c.args.watch.now c.empty.new.watch c.in_err-empty.field-0.0
+    did_early g.met.W.Watch.is_watch c.args.watch.now c.empty.new.watch c.in_err-empty.field-0.0
     c.from_residual.result first (empties_follow s) (search rules) c.in_err-empty.ensures.does
 
 pub returns-clause-does : goal.returns-clause-does
 returns-clause-does g c =
     let both = link c.empty-2.new.self c.empty-2.new.a c.empty-2.new.b in
-    did_next (is_watch g) (Empties B) c.empty-2.new.watch c.empty-2.result both
+    did_next g.met.W.Watch.is_watch (Empties B) c.empty-2.new.watch c.empty-2.result both
     c.in_ok-empty.ensures.does c.empty-2.ensures.does

@@ -4,21 +4,13 @@ use Rattle.link_machine.specs.States.{link}
 use Rattle.link_machine.specs.Settling.{is_retry_stopped}
 use Rattle.link_machine.proofs.Settling.Sending.{Sending}
 use Rattle.link_law.proofs.SendLaws.{quiet_first, sent_none, sent_on, sent_over, sent_ends, last_did, sound_round, all_comes, all_did}
-use Rattle.link_law.proofs.DoesLaws.{IsWatch, did_end}
-use Rattle.link_law.proofs.link.Link.send_all.Given.{Over}
+use Rattle.link_law.proofs.DoesLaws.{did_end}
 use Rattle.link_law.proofs.link.Link.send_all.Goals as goal
-
-is_watch : (g : Over) → IsWatch g.W.Watch.grew g.W.Watch.cut
-is_watch g = record {
-  none = g.met.W.Watch.grew_none;
-  on = g.met.W.Watch.grew_on;
-  cut_none = g.met.W.Watch.cut_none;
-}
 
 pub loop-alloc-init : goal.loop-alloc-init
 loop-alloc-init g c =
     let s = link c.args.self.now c.args.a.now c.args.b.now in (
-      sent_none {cut = g.W.Watch.cut} (is_watch g) c.args.side s c.args.watch.now
+      sent_none {cut = g.W.Watch.cut} g.met.W.Watch.is_watch c.args.side s c.args.watch.now
           (quiet_first c.args.side
           s c.requires),
       refl,
@@ -43,7 +35,7 @@ returns-in_err-take_turn-clause-does g c =
     c.from_residual.result next (quiet_first c.args.side s c.requires)
     (did_end g.W.Watch.grew g.W.Watch.cut (Sending c.args.side) s c.args.watch.now
     c.take_turn.new.watch end c.from_residual.result next (search rules)
-    (sent_ends g.W.Watch.grew g.W.Watch.cut (is_watch g) c.args.side s here c.args.watch.now
+    (sent_ends g.W.Watch.grew g.W.Watch.cut g.met.W.Watch.is_watch c.args.side s here c.args.watch.now
     c.loop-alloc.watch c.take_turn.new.watch end busy c.loop-alloc.invariant.0
     c.in_err-take_turn.ensures.does))
 
@@ -76,7 +68,7 @@ returns-then-stands_back-clause-does g c =
     all_did g.W.Watch.grew g.W.Watch.cut c.args.side s c.args.watch.now
     c.take_turn-then-stands_back.new.watch c.take_turn-then-stands_back.result last
     (quiet_first c.args.side s c.requires)
-    (last_did g.W.Watch.grew g.W.Watch.cut (is_watch g) c.args.side s here next c.args.watch.now
+    (last_did g.W.Watch.grew g.W.Watch.cut g.met.W.Watch.is_watch c.args.side s here next c.args.watch.now
     c.loop-alloc.watch c.take_turn.new.watch c.take_turn-then-stands_back.new.watch
     c.take_turn-then-stands_back.result last busy leaves c.loop-alloc.invariant.0
     c.in_ok-take_turn.ensures.does c.take_turn-then-stands_back.ensures.does)
@@ -86,7 +78,7 @@ loop-alloc-smaller g c =
     let s = link c.args.self.now c.args.a.now c.args.b.now in
     let here = link c.loop-alloc.self c.loop-alloc.a c.loop-alloc.b in
     let next = link c.take_turn.new.self c.take_turn.new.a c.take_turn.new.b in
-    (sent_on {cut = g.W.Watch.cut} (is_watch g) c.args.side s here next c.args.watch.now
+    (sent_on {cut = g.W.Watch.cut} g.met.W.Watch.is_watch c.args.side s here next c.args.watch.now
     c.loop-alloc.watch c.take_turn.new.watch (ap (λ (p : PortState). is_ready p)
     (sym (c.near.ensures c.loop-alloc.self)) ∙ sym c.is_ready.ensures ∙ c.loop-alloc-test.true)
     (ap (λ (p :
@@ -99,7 +91,7 @@ loop-alloc-preserved g c =
     let s = link c.args.self.now c.args.a.now c.args.b.now in
     let here = link c.loop-alloc.self c.loop-alloc.a c.loop-alloc.b in
     let next = link c.take_turn.new.self c.take_turn.new.a c.take_turn.new.b in (
-      (sent_on {cut = g.W.Watch.cut} (is_watch g) c.args.side s here next c.args.watch.now
+      (sent_on {cut = g.W.Watch.cut} g.met.W.Watch.is_watch c.args.side s here next c.args.watch.now
           c.loop-alloc.watch c.take_turn.new.watch
           (ap (λ (p : PortState). is_ready p) (sym (c.near.ensures
           c.loop-alloc.self)) ∙ sym c.is_ready.ensures ∙ c.loop-alloc-test.true) (ap (λ (p :
@@ -115,7 +107,7 @@ returns-clause-does g c =
     let s = link c.args.self.now c.args.a.now c.args.b.now in
     let here = link c.loop-alloc.self c.loop-alloc.a c.loop-alloc.b in
     all_comes c.args.side s here c.args.watch.now c.loop-alloc.watch (quiet_first c.args.side s
-    c.requires) (sent_over {cut = g.W.Watch.cut} (is_watch g) c.args.side s here c.args.watch.now
+    c.requires) (sent_over {cut = g.W.Watch.cut} g.met.W.Watch.is_watch c.args.side s here c.args.watch.now
     c.loop-alloc.watch (ap (λ (p : PortState). is_ready p)
     (sym (c.near.ensures c.loop-alloc.self)) ∙ sym c.is_ready.ensures ∙ c.loop-alloc-test.false)
     c.loop-alloc.invariant.0)

@@ -3,17 +3,10 @@ use Rattle.link_machine.specs.Prelude.{link}
 use Rattle.link_machine.specs.Settling.{Settles}
 use Rattle.link_machine.proofs.Settling.Settled.{FromTelling, FromRecovering}
 use Rattle.link_law.specs.Does.{CallDid}
-use Rattle.link_law.proofs.DoesLaws.{IsWatch, did_next, did_early}
+use Rattle.link_law.proofs.DoesLaws.{did_next, did_early}
 use Rattle.link_law.proofs.SettleLaws.{SecondRecovers, drained_at, first_at, second_at, is_quiet, did_comes, did_settles, did_ends, first_follows, second_follows, finish_follows}
 use Rattle.link_law.proofs.link.Link.settle.Given.{Over}
 use Rattle.link_law.proofs.link.Link.settle.Goals as goal
-
-is_watch : (g : Over) → IsWatch g.W.Watch.grew g.W.Watch.cut
-is_watch g = record {
-  none = g.met.W.Watch.grew_none;
-  on = g.met.W.Watch.grew_on;
-  cut_none = g.met.W.Watch.cut_none;
-}
 
 pub returns-in_err-drain-clause-ended : goal.returns-in_err-drain-clause-ended
 returns-in_err-drain-clause-ended g c =
@@ -21,7 +14,7 @@ returns-in_err-drain-clause-ended g c =
     let drained = link c.drain.new.self c.drain.new.a c.drain.new.b in
     did_ends g.W.Watch.grew g.W.Watch.cut s c.args.watch.now c.drain.new.watch
     c.from_residual.result drained
-    (did_early (is_watch g) c.args.watch.now c.drain.new.watch c.in_err-drain.field-0.0
+    (did_early g.met.W.Watch.is_watch c.args.watch.now c.drain.new.watch c.in_err-drain.field-0.0
     c.from_residual.result drained (first_follows s c.requires) (search rules)
     c.in_err-drain.ensures.does)
 
@@ -32,9 +25,9 @@ returns-in_err-recover-clause-ended g c =
     let first = link c.recover.new.self c.recover.new.a c.recover.new.b in
     did_ends g.W.Watch.grew g.W.Watch.cut s c.args.watch.now c.recover.new.watch
     c.from_residual-in_err-recover.result first
-    (did_next (is_watch g) FromRecovering c.recover.new.watch
+    (did_next g.met.W.Watch.is_watch FromRecovering c.recover.new.watch
     c.from_residual-in_err-recover.result first c.in_ok-drain.ensures.does
-    (did_early (is_watch g) c.drain.new.watch c.recover.new.watch c.in_err-recover.field-0.0
+    (did_early g.met.W.Watch.is_watch c.drain.new.watch c.recover.new.watch c.in_err-recover.field-0.0
     c.from_residual-in_err-recover.result first (second_follows drained
     (drained_at s drained c.args.watch.now c.drain.new.watch c.requires c.in_ok-drain.ensures.does))
     (search rules)
@@ -48,11 +41,11 @@ returns-in_err-recover-2-clause-ended g c =
     let second = link c.recover-2.new.self c.recover-2.new.a c.recover-2.new.b in
     did_ends g.W.Watch.grew g.W.Watch.cut s c.args.watch.now c.recover-2.new.watch
     c.from_residual-in_err-recover-2.result second
-    (did_next (is_watch g) FromRecovering c.recover-2.new.watch
+    (did_next g.met.W.Watch.is_watch FromRecovering c.recover-2.new.watch
     c.from_residual-in_err-recover-2.result second c.in_ok-drain.ensures.does
-    (did_next (is_watch g) SecondRecovers c.recover-2.new.watch
+    (did_next g.met.W.Watch.is_watch SecondRecovers c.recover-2.new.watch
     c.from_residual-in_err-recover-2.result second c.in_ok-recover.ensures.does
-    (did_early (is_watch g) c.recover.new.watch c.recover-2.new.watch c.in_err-recover-2.field-0.0
+    (did_early g.met.W.Watch.is_watch c.recover.new.watch c.recover-2.new.watch c.in_err-recover-2.field-0.0
     c.from_residual-in_err-recover-2.result second (finish_follows first
     (first_at drained first c.drain.new.watch c.recover.new.watch
     (drained_at s drained c.args.watch.now c.drain.new.watch c.requires c.in_ok-drain.ensures.does)
@@ -92,11 +85,11 @@ settles : (g : Over) (c : goal.After-finish g)
     c.finish.new.watch
 settles g c =
     let last = link c.finish.new.self c.finish.new.a c.finish.new.b in
-    did_next (is_watch g) FromRecovering c.finish.new.watch c.finish.result last
+    did_next g.met.W.Watch.is_watch FromRecovering c.finish.new.watch c.finish.result last
     c.in_ok-drain.ensures.does
-    (did_next (is_watch g) SecondRecovers c.finish.new.watch c.finish.result last
+    (did_next g.met.W.Watch.is_watch SecondRecovers c.finish.new.watch c.finish.result last
     c.in_ok-recover.ensures.does
-    (did_next (is_watch g) FromTelling c.finish.new.watch c.finish.result last
+    (did_next g.met.W.Watch.is_watch FromTelling c.finish.new.watch c.finish.result last
     c.in_ok-recover-2.ensures.does c.finish.ensures.does))
 
 pub returns-clause-done : goal.returns-clause-done

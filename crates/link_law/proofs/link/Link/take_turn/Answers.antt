@@ -2,17 +2,9 @@ use Rattle.link_machine.specs.States.{link}
 use Rattle.link_machine.specs.Settling.{Drains}
 use Rattle.link_law.specs.Does.{Pumps, end_of}
 use Rattle.link_law.proofs.Noting.{given_is}
-use Rattle.link_law.proofs.DoesLaws.{IsWatch, did_next, did_early}
+use Rattle.link_law.proofs.DoesLaws.{did_next, did_early}
 use Rattle.link_law.proofs.DrainLaws.{drain_follows, sound_then, pump_comes, pump_ends}
-use Rattle.link_law.proofs.link.Link.take_turn.Given.{Over}
 use Rattle.link_law.proofs.link.Link.take_turn.Goals as goal
-
-is_watch : (g : Over) → IsWatch g.W.Watch.grew g.W.Watch.cut
-is_watch g = record {
-  none = g.met.W.Watch.grew_none;
-  on = g.met.W.Watch.grew_on;
-  cut_none = g.met.W.Watch.cut_none;
-}
 
 pub drain-requires : goal.drain-requires
 drain-requires g c =
@@ -27,7 +19,7 @@ returns-in_err-pump-clause-does g c =
     let s = link c.args.self.now c.args.a.now c.args.b.now in
     let turned = link c.pump.new.self c.pump.new.a c.pump.new.b in
     let end = c.in_err-pump.field-0.0 in
-    did_early (is_watch g) c.args.watch.now c.pump.new.watch (end_of end) c.from_residual.result
+    did_early g.met.W.Watch.is_watch c.args.watch.now c.pump.new.watch (end_of end) c.from_residual.result
     turned (drain_follows (Pumps c.args.side) s c.requires)
     (given_is c.from_residual.result (end_of end) c.from_residual.ensures.1)
     (pump_ends g.W.Watch.grew g.W.Watch.cut c.args.side s c.args.watch.now c.pump.new.watch end
@@ -38,6 +30,6 @@ returns-clause-does g c =
     let s = link c.args.self.now c.args.a.now c.args.b.now in
     let turned = link c.pump.new.self c.pump.new.a c.pump.new.b in
     let drained = link c.drain.new.self c.drain.new.a c.drain.new.b in
-    did_next (is_watch g) Drains c.drain.new.watch c.drain.result drained
+    did_next g.met.W.Watch.is_watch Drains c.drain.new.watch c.drain.result drained
     (pump_comes g.W.Watch.grew c.args.side s turned c.args.watch.now c.pump.new.watch
     c.in_ok-pump.ensures.link c.in_ok-pump.ensures.noted) c.drain.ensures.does

@@ -6,17 +6,9 @@ use Rattle.link_machine.specs.Acts.{Tell}
 use Rattle.link_law.specs.Does.{TellsOnce, end_of}
 use Rattle.link_law.specs.declared.answers.LinkEnd.TheVariants.{NoMemory}
 use Rattle.link_law.proofs.Noting.{given_is}
-use Rattle.link_law.proofs.DoesLaws.{IsWatch, did_end, stops_at_once}
+use Rattle.link_law.proofs.DoesLaws.{did_end, stops_at_once}
 use Rattle.link_law.proofs.DrainLaws.{tell_comes, tell_ends}
-use Rattle.link_law.proofs.link.Link.tell.Given.{Over}
 use Rattle.link_law.proofs.link.Link.tell.Goals as goal
-
-is_watch : (g : Over) → IsWatch g.W.Watch.grew g.W.Watch.cut
-is_watch g = record {
-  none = g.met.W.Watch.grew_none;
-  on = g.met.W.Watch.grew_on;
-  cut_none = g.met.W.Watch.cut_none;
-}
 
 pub returns-in_err-tell-clause-does : goal.returns-in_err-tell-clause-does
 returns-in_err-tell-clause-does g c =
@@ -25,7 +17,7 @@ returns-in_err-tell-clause-does g c =
     did_end g.W.Watch.grew g.W.Watch.cut (TellsOnce c.args.side) s c.args.watch.now
     c.args.watch.now NoMemory c.from_residual.result next
     (given_is c.from_residual.result NoMemory c.from_residual.ensures.1)
-    (stops_at_once g.W.Watch.grew g.W.Watch.cut (is_watch g) (TellsOnce c.args.side) s
+    (stops_at_once g.W.Watch.grew g.W.Watch.cut g.met.W.Watch.is_watch (TellsOnce c.args.side) s
     c.args.watch.now (Tell c.args.side ∷ []) refl)
 
 pub returns-in_err-note_sent-clause-does : goal.returns-in_err-note_sent-clause-does

@@ -5,17 +5,9 @@ use Rattle.link_machine.specs.Schedules.{NextOf}
 use Rattle.link_machine.specs.Acts.{goes}
 use Rattle.link_machine.specs.Settling.{Drains, of_end}
 use Rattle.link_law.specs.Does.{TellsOnce}
-use Rattle.link_law.proofs.DoesLaws.{IsWatch, comes_none, did_where, did_next, did_early}
+use Rattle.link_law.proofs.DoesLaws.{comes_none, did_where, did_next, did_early}
 use Rattle.link_law.proofs.DrainLaws.{drain_follows, sound_then}
-use Rattle.link_law.proofs.link.Link.tell_if_due.Given.{Over}
 use Rattle.link_law.proofs.link.Link.tell_if_due.Goals as goal
-
-is_watch : (g : Over) → IsWatch g.W.Watch.grew g.W.Watch.cut
-is_watch g = record {
-  none = g.met.W.Watch.grew_none;
-  on = g.met.W.Watch.grew_on;
-  cut_none = g.met.W.Watch.cut_none;
-}
 
 pub returns-then-not-tells-clause-does : goal.returns-then-not-tells-clause-does
 returns-then-not-tells-clause-does g c =
@@ -24,7 +16,7 @@ returns-then-not-tells-clause-does g c =
     ap (λ (p : PortState). p.tells) (sym (c.near.ensures c.args.self.now))
     ∙ sym c.tells.ensures.value
     ∙ c.if-not-tells.true in
-    comes_none g.W.Watch.grew g.W.Watch.cut (is_watch g)
+    comes_none g.W.Watch.grew g.W.Watch.cut g.met.W.Watch.is_watch
     (of_end c.args.side (λ link. link.a.tells)) (NextOf goes (TellsOnce c.args.side) Drains) s
     c.args.watch.now silent
 
@@ -46,7 +38,7 @@ returns-in_err-tell-clause-does g c =
     did_where g.W.Watch.grew g.W.Watch.cut (of_end c.args.side (λ link. link.a.tells))
     (NextOf goes (TellsOnce c.args.side) Drains) s c.args.watch.now c.tell.new.watch
     c.from_residual.result told due
-    (did_early (is_watch g) c.args.watch.now c.tell.new.watch c.in_err-tell.field-0.0
+    (did_early g.met.W.Watch.is_watch c.args.watch.now c.tell.new.watch c.in_err-tell.field-0.0
     c.from_residual.result told (drain_follows (TellsOnce c.args.side) s c.requires) (search rules)
     c.in_err-tell.ensures.does)
 
@@ -61,5 +53,5 @@ returns-clause-does g c =
     did_where g.W.Watch.grew g.W.Watch.cut (of_end c.args.side (λ link. link.a.tells))
     (NextOf goes (TellsOnce c.args.side) Drains) s c.args.watch.now c.drain.new.watch
     c.drain.result drained due
-    (did_next (is_watch g) Drains c.drain.new.watch c.drain.result drained
+    (did_next g.met.W.Watch.is_watch Drains c.drain.new.watch c.drain.result drained
     c.in_ok-tell.ensures.does c.drain.ensures.does)

@@ -15,7 +15,7 @@ returns-in_err-fire-clause-stopped g c =
     on_err c.from_residual.result
     (subst (λ b. Stopped g.W.Watch.grew g.W.Watch.cut c.args.watch.now
     (if b then Fire c.args.side ∷ [] else []) c.fire.new.self) (sym silent)
-    (stopped_in_one g.W.Watch.grew g.W.Watch.cut g.met.W.Watch.grew_none c.args.watch.now
+    (stopped_in_one g.met.W.Watch.is_watch c.args.watch.now
     c.fire.new.self (Fire c.args.side) c.in_err-fire.ensures.stopped))
 
 pub returns-clause-sound : goal.returns-clause-sound
