@@ -1,6 +1,6 @@
 -- What a walker writes has an offset that a request can name, and while it locks its own host it
 -- asks that alone.
-use Rattle.std.proofs.Common.{◌≡◌, ℕ, ◌+◌, ◌*◌, ◌/◌, ◌%◌, ◌==◌, zero, suc, nat_lt, Bool, true, false, eqb, List, [], ◌∷◌, ◌++◌, length, Option, Some, None, arith, subst, refl, ap, if◌then◌else◌}
+use Rattle.std.proofs.Common.{◌≡◌, ℕ, ◌+◌, ◌*◌, ◌/◌, ◌%◌, ◌==◌, zero, suc, nat_lt, Bool, true, false, eqb, List, [], ◌∷◌, ◌++◌, Option, Some, None, arith, refl, if◌then◌else◌}
 use Rattle.fabric_script.specs.declared.ports.PortRef.{PortRef}
 use Rattle.fabric_map.specs.declared.map.Kind.{Kind}
 use Rattle.fabric_map.specs.declared.map.Kind.TheVariants.{Endpoint, Switch}
@@ -8,7 +8,6 @@ use Rattle.fabric_map.specs.declared.map.Device.{Device}
 use Rattle.fabric_map.specs.Topology.{entered}
 use Rattle.fabric_map.specs.Routes.{AllRegisters}
 use Rattle.fabric_map.specs.Numbered.{toward}
-use Rattle.host_enumerate.specs.declared.maint.Access.TheVariants.{Read, Write}
 use Rattle.host_enumerate.specs.Accesses.{answered}
 use Rattle.host_enumerate.specs.Underway.{id_after, met_as}
 use Rattle.contest_machine.specs.declared.stages.Asked.{Asked}
@@ -18,7 +17,7 @@ use Rattle.contest_machine.specs.declared.stages.Stage.{Stage}
 use Rattle.contest_machine.specs.declared.stages.Stage.TheVariants.{Ask, Claim, Check, Test, Features, Information, Status, Free, Done, Lost}
 use Rattle.contest_machine.specs.Machine.{Walker, write, entry_set, route_of, route_pending, routes_to, cleared_below, home_set, last_path, but_last, freeing, port_after, gone_on, taken, judged, numbered, outward, wants, settled, walker_told, told_at, reached, reaches, stepped}
 use Rattle.contest_machine.specs.Turns.{is_locking}
-use Rattle.host_contest.specs.Reaching.{PathIsReached, CanReach, IsOfLock, IsAtHost, AreLow}
+use Rattle.host_contest.specs.Reaching.{IsOfLock, IsAtHost, AreLow}
 
 low-append : (first second : List PendingWrite) → AreLow first → AreLow second
     → AreLow (first ++ second)
@@ -259,41 +258,3 @@ stays_at_host w r at = go w.todo at.clear
         → StaysAtHost (stepped (record w { todo = todo }) r).walker
     go [] clear = asks w.stage at.stage (wants (record w { todo = [] }))
     go (p ∷ rest) clear = absurd (let none : p ∷ rest ≡ [] = clear in cc)
-
--- what it asks of its host reaches it
-pub host_reached : (w : Walker) (r : AllRegisters) → IsAtHost w → CanReach w r
-host_reached w r at ask wanted = go w.todo at.clear w.stage at.stage w.path at.path wanted
-  where
-    here : (one : Asked) → one.path ≡ [] → Some one ≡ Some ask
-        → (port : PortRef) × PathIsReached w.view r ask.path ask.access port
-    here one empty same =
-        let is : one ≡ ask = cc in
-        subst (λ (a : Asked). (port : PortRef) × PathIsReached w.view r a.path a.access port) is (
-          record { node = w.view.host; port = 0 },
-          record {
-            leads = ap (λ l. entered w.view l) empty;
-            short = (let none = ap (λ (l : List ℕ). length l) empty in omega (arith, none));
-            answered = λ some. absurd (some empty);
-          },
-        )
-
-    go : (todo : List PendingWrite) → todo ≡ [] → (stage : Stage) → IsOfLock stage → (path : List ℕ)
-        → path ≡ []
-        → wants (record w { todo = todo; stage = stage; path = path }) ≡ Some ask
-        → (port : PortRef) × PathIsReached w.view r ask.path ask.access port
-    go (p ∷ rest) clear stage locks path empty wanted =
-        absurd (let none : p ∷ rest ≡ [] = clear in cc)
-    go [] clear Ask locks path empty wanted =
-        here (record { path = path; access = Read 0x68 }) empty wanted
-    go [] clear Claim locks path empty wanted =
-        here (record { path = path; access = Write 0x68 w.id }) empty wanted
-    go [] clear Check locks path empty wanted =
-        here (record { path = path; access = Read 0x68 }) empty wanted
-    go [] clear Test locks path empty wanted =
-        here (record { path = path; access = Read 0x6c }) empty wanted
-    go [] clear Features none path empty wanted = absurd none
-    go [] clear Information none path empty wanted = absurd none
-    go [] clear Status none path empty wanted = absurd none
-    go [] clear Free none path empty wanted = absurd none
-    go [] clear Done none path empty wanted = absurd none
-    go [] clear Lost none path empty wanted = absurd none

@@ -14,7 +14,7 @@ use Rattle.contest_machine.specs.Contest.{IsMine}
 use Rattle.contest_machine.specs.declared.stages.Turn.{Turn}
 use Rattle.contest_machine.specs.Turns.{is_locking, locked_on, walker_turned, came_of}
 use Rattle.contest_machine.specs.Within.{WalkerIsWithin}
-use Rattle.contest_machine.proofs.Apart.{step_leaves, begun_mine}
+use Rattle.contest_machine.proofs.Apart.{step_leaves}
 use Rattle.contest_machine.proofs.Bounding.{stepped_within}
 use Rattle.contest_machine.proofs.Few.{once_few}
 use Rattle.host_contest.specs.declared.machine.Machine.{Machine}
@@ -77,13 +77,6 @@ few view r machine can =
 
 -- ---- a turn
 
-pub locked_yes : (s : State) → is_locking s.walker.stage ≡ true
-    → stepped s.walker s.registers ≡ locked_on s
-locked_yes s is = choose (is_locking s.walker.stage) (stepped s.walker s.registers) s is
-
-pub locked_no : (s : State) → is_locking s.walker.stage ≡ false → s ≡ locked_on s
-locked_no s is = refuse (is_locking s.walker.stage) (stepped s.walker s.registers) s is
-
 pub turned_later : (w : Walker) (r : AllRegisters) → w.begun ≡ true
     → stepped w r ≡ walker_turned w r
 turned_later w r is =
@@ -95,21 +88,6 @@ pub turned_first : (w : Walker) (r : AllRegisters) → w.begun ≡ false
 turned_first w r is =
     refuse w.begun (stepped w r)
     (locked_on (locked_on (stepped (record w { begun = true }) r))) is
-
--- a walker that begins its first turn
-pub can_begin : (view : Topology) (r : AllRegisters) (machine : Machine)
-    → CanStep view r machine → CanStep view r (record machine { begun = true })
-can_begin view r machine can = record {
-  topology = can.topology;
-  id = can.id;
-  mine = begun_mine (machine_of view machine) r can.mine;
-  within = record {
-    proper = can.within.proper;
-    leading = can.within.leading;
-    bounded = can.within.bounded;
-  };
-  low = can.low;
-}
 
 -- three states, each of the one before
 pub chain : {A : Type 0} (f : A → A) (begin first second third end : A) → first ≡ begin

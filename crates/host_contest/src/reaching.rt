@@ -1,9 +1,9 @@
 //! One access to the device on a path.
-ghost use Rattle.std.specs.Prelude.{◌≡◌, ◌<◌, ◌^◌, OnOk, OnErr, IfOk, IfErr, Some};
+ghost use Rattle.std.specs.Prelude.{◌≡◌, ◌<◌, ◌^◌, OnOk, IfOk, Some};
 ghost use Rattle.fabric_script.specs.declared.ports.PortRef.{PortRef};
 ghost use Rattle.fabric_map.specs.Topology.{entered};
 ghost use Rattle.host_enumerate.specs.Accesses.{answered, access_offset, after_access};
-ghost use Rattle.host_enumerate.specs.Carrying.{HasAnswered, StopsInOrder, IsCausedIn};
+ghost use Rattle.host_enumerate.specs.Carrying.{CallWent};
 ghost use Rattle.host_contest.specs.Reaching.{PathIsReached};
 
 use fabric_map::Path;
@@ -28,10 +28,7 @@ pub(crate) fn reach<M: Maint>(
     ensures registers { OnOk result ((at : PortRef)
         → PathIsReached (M.topology maint.old) (M.registers maint.old) path.now access at
         → M.registers maint.new ≡ after_access (M.registers maint.old) at access) }
-    ensures topology { M.topology maint.new ≡ M.topology maint.old }
-    ensures goes_on { OnOk result (HasAnswered M.Maint maint.old maint.new) }
-    ensures leaves { OnErr result (StopsInOrder M.Maint maint.old maint.new) }
-    ensures cause { IfErr result (IsCausedIn M.Maint maint.old maint.new) }
+    ensures went { CallWent M.Maint maint.old maint.new result }
 {
     let ports = path.as_slice().len();
     if ports == 0 {

@@ -1,7 +1,7 @@
 //! The turns of a machine, over whoever carries its accesses.
-ghost use Rattle.std.specs.Prelude.{◌≡◌, ◌<◌, ◌≤◌, ℕ, [], length, true, OnOk, OnErr, IfErr};
+ghost use Rattle.std.specs.Prelude.{◌≡◌, ◌<◌, ◌≤◌, ℕ, [], length, true, OnOk};
 ghost use Rattle.fabric_map.specs.Topology.{Topology};
-ghost use Rattle.host_enumerate.specs.Carrying.{HasAnswered, StopsInOrder, IsCausedIn};
+ghost use Rattle.host_enumerate.specs.Carrying.{CallWent};
 ghost use Rattle.contest_machine.specs.Machine.{stepped};
 ghost use Rattle.contest_machine.specs.Turns.{is_locking, locked_on, walker_turned, came_of};
 ghost use Rattle.host_contest.specs.Machines.{machine_of, is_clear};
@@ -26,10 +26,7 @@ impl Machine {
             (M.registers maint.old)) }
         ensures can { OnOk result (CanStep (M.topology maint.old) (M.registers maint.new)
             self.new) }
-        ensures topology { M.topology maint.new ≡ M.topology maint.old }
-        ensures goes_on { OnOk result (HasAnswered M.Maint maint.old maint.new) }
-        ensures leaves { OnErr result (StopsInOrder M.Maint maint.old maint.new) }
-        ensures cause { IfErr result (IsCausedIn M.Maint maint.old maint.new) }
+        ensures went { CallWent M.Maint maint.old maint.new result }
     {
         if self.begun {
             return self.step(alloc, maint);
@@ -51,10 +48,7 @@ impl Machine {
             self.old)) }
         ensures can { OnOk result (CanStep (M.topology maint.old) (M.registers maint.new)
             self.new) }
-        ensures topology { M.topology maint.new ≡ M.topology maint.old }
-        ensures goes_on { OnOk result (HasAnswered M.Maint maint.old maint.new) }
-        ensures leaves { OnErr result (StopsInOrder M.Maint maint.old maint.new) }
-        ensures cause { IfErr result (IsCausedIn M.Maint maint.old maint.new) }
+        ensures went { CallWent M.Maint maint.old maint.new result }
     {
         if is_locking(self.stage) {
             self.step(alloc, maint)
@@ -74,10 +68,7 @@ impl Machine {
             (M.registers maint.old)) }
         ensures can { OnOk result (CanStep (M.topology maint.old) (M.registers maint.new)
             self.new) }
-        ensures topology { M.topology maint.new ≡ M.topology maint.old }
-        ensures goes_on { OnOk result (HasAnswered M.Maint maint.old maint.new) }
-        ensures leaves { OnErr result (StopsInOrder M.Maint maint.old maint.new) }
-        ensures cause { IfErr result (IsCausedIn M.Maint maint.old maint.new) }
+        ensures went { CallWent M.Maint maint.old maint.new result }
     {
         let Some(asked) = self.wants() else {
             return Ok(());

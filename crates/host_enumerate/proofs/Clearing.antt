@@ -10,10 +10,10 @@ use Rattle.fabric_map.specs.Routes.{AllRegisters}
 use Rattle.fabric_map.specs.Fitting.{Fits}
 use Rattle.fabric_map.proofs.Few.{entered-inside}
 use Rattle.host_enumerate.specs.Asking.{IsAskable, IsApart, Becomes}
+use Rattle.host_enumerate.specs.Setting.{with_entry, IsSameBut, IsCleared}
 use Rattle.host_enumerate.proofs.Frames.{with_device-itself}
 use Rattle.host_enumerate.proofs.Opening.{became}
 use Rattle.host_enumerate.proofs.Entries.{becomes-twice, askable-written}
-use Rattle.host_enumerate.specs.Setting.{with_entry, IsSameBut, IsCleared}
 
 pub same_but-itself : (device : Registers) → IsSameBut device device
 same_but-itself device = record { rest = refl }
@@ -84,10 +84,10 @@ pub is_switch-kind : (one other : Registers) → one.kind ≡ other.kind
 is_switch-kind one other same = ap (λ k. is_switch (record one { kind = k })) same
 
 -- every device has 1,024 destinations
-pub destinations_of : (topology : Topology) (registers : AllRegisters) (path : List ℕ)
-    (at : PortRef) → IsTopology topology → Fits topology registers
+pub destinations_of : {topology : Topology} {registers : AllRegisters} (path : List ℕ)
+    {at : PortRef} → IsTopology topology → Fits topology registers
     → entered topology path ≡ Some at → length (registers at.node).routes ≡ 1024
-destinations_of topology registers path at proper fits enters =
+destinations_of {topology} {registers} path {at} proper fits enters =
     (fits.devices at.node (entered-inside topology path at proper enters)).destinations
 
 -- the device at the end of a path has no entries of its own below a number
@@ -105,13 +105,6 @@ has_cleared-none topology registers host_id path at enters = (
   cleared-none host_id (registers at.node),
 )
 
-pub has_cleared-past : (topology : Topology) (old new : AllRegisters) (host_id : ℕ)
-    (path : List ℕ) (below : ℕ) → below ≡ host_id → HasCleared topology old new host_id path below
-    → HasCleared topology old new host_id path (below + 1)
-has_cleared-past topology old new host_id path below is cleared at enters =
-    let found = cleared at enters in
-    (found.0, found.1, cleared-past host_id below (old at.node) found.0 is found.2)
-
 pub has_cleared-next : (topology now : Topology) (old mid new : AllRegisters) (host_id : ℕ)
     (path : List ℕ) (below : ℕ) → IsTopology topology → Fits topology old → now ≡ topology
     → below < 63 → HasCleared topology old mid host_id path below
@@ -127,20 +120,21 @@ has_cleared-next topology now old mid new host_id path below proper fits is_now 
           (subst (λ d. Becomes mid new at.node (with_entry d below 255)) there
           (set at (ap (λ t. entered t path) is_now ∙ enters))),
       cleared-next host_id below (old at.node) found.0
-          (destinations_of topology old path at proper fits enters) less found.2,
+          (destinations_of path proper fits enters) less found.2,
     )
 
 -- the switch can still be asked
-pub cleared_askable : (topology now : Topology) (old new : AllRegisters) (host_id below : ℕ)
-    (path : List ℕ) (at : PortRef) → now ≡ topology
+pub cleared_askable : {topology now : Topology} {old : AllRegisters} (new : AllRegisters)
+    {host_id : ℕ} (below : ℕ) {path : List ℕ} {at : PortRef} → now ≡ topology
     → IsAskable topology old host_id path at → IsApart topology path at.node
     → is_switch (old at.node) ≡ true → HasCleared topology old new host_id path below
     → IsAskable now new host_id path at × IsApart now path at.node
     × (is_switch (new at.node) ≡ true)
-cleared_askable topology now old new host_id below path at is_now askable apart is cleared =
+cleared_askable {topology} {now} {old} new {host_id} below {path}
+    {at} is_now askable apart is cleared =
     let found = cleared at askable.leads in (
       subst (λ t. IsAskable t new host_id path at) (sym is_now)
-          (askable-written topology old new host_id path at found.0 askable found.1 apart
+          (askable-written new found.0 askable found.1 apart
           (λ _. ap (λ (d : Registers). d.base_id) found.2.same.rest)),
       subst (λ t. IsApart t path at.node) (sym is_now) apart,
       ap is_switch (became old new at.node found.0 found.1)

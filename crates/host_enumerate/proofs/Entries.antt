@@ -1,5 +1,5 @@
 -- What the writes of a host do to the device that it asks.
-use Rattle.std.proofs.Common.{◌≡◌, ◌≢◌, ℕ, ◌%◌, ◌<◌, ◌==◌, Bool, true, false, List, [], slice_set, Some, arith, refl, sym, ap, subst, ◌∙◌, eqb-true}
+use Rattle.std.proofs.Common.{rules, ◌≡◌, ◌≢◌, ℕ, ◌%◌, ◌<◌, ◌==◌, Bool, true, false, List, [], slice_set, Some, arith, refl, sym, ap, subst, ◌∙◌, eqb-true}
 use Rattle.std.proofs.lemmas.Bool.{eqb-false}
 use Rattle.fabric_script.specs.declared.ports.PortRef.{PortRef}
 use Rattle.maint_registers.specs.Devices.{Registers, is_switch}
@@ -11,7 +11,7 @@ use Rattle.host_enumerate.specs.Accesses.{registers_with}
 use Rattle.host_enumerate.specs.Asking.{IsAskable, IsApart, IsWritable, Becomes}
 use Rattle.host_enumerate.specs.Setting.{with_entry}
 use Rattle.host_enumerate.proofs.Frames.{with_device-at, with_device-other}
-use Rattle.host_enumerate.proofs.Opening.{became, stays, opened-apart}
+use Rattle.host_enumerate.proofs.Opening.{base_id_stays, became, stays, opened-apart}
 
 -- a device becomes one thing after another
 pub becomes-twice : (old mid new : AllRegisters) (node : ℕ) (first second : Registers)
@@ -30,29 +30,19 @@ becomes-twice old mid new node first second one two other = go (other == node) r
         ∙ sym (with_device-other old node other second apart))
 
 -- the device can still be asked after it was written
-pub askable-written : (topology : Topology) (old new : AllRegisters) (host_id : ℕ) (path : List ℕ)
-    (at : PortRef) (held : Registers) → IsAskable topology old host_id path at
+pub askable-written : {topology : Topology} {old : AllRegisters} (new : AllRegisters)
+    {host_id : ℕ} {path : List ℕ} {at : PortRef} (held : Registers)
+    → IsAskable topology old host_id path at
     → Becomes old new at.node held → IsApart topology path at.node
     → (path ≡ [] → held.base_id ≡ (old at.node).base_id)
     → IsAskable topology new host_id path at
-askable-written topology old new host_id path at held askable becomes apart keeps = record {
-  id = go (topology.host == at.node) refl ∙ askable.id;
-  opened = opened-apart topology old new host_id at.node held path askable.opened becomes apart;
-  leads = askable.leads;
-  not_host = askable.not_host;
-  short = askable.short;
-}
-  where
-    go : (is : Bool) → (topology.host == at.node) ≡ is
-        → (new topology.host).base_id ≡ (old topology.host).base_id
-    go true is =
-        let same = eqb-true topology.host at.node is in
-        ap (λ n. (new n).base_id) same
-        ∙ (ap (λ (d : Registers). d.base_id) (became old new at.node held becomes)
-        ∙ (keeps (askable.not_host (sym same)) ∙ ap (λ n. (old n).base_id) (sym same)))
-    go false is =
-        ap (λ (d : Registers). d.base_id) (stays old new at.node topology.host held becomes
-        (eqb-false topology.host at.node is))
+askable-written {topology} {old} new {host_id} {path} {at} held askable becomes apart keeps =
+    search (
+      rules,
+      base_id_stays topology old new at.node held becomes
+          (λ same. keeps (askable.not_host (sym same))) ∙ askable.id,
+      opened-apart new at.node held askable.opened becomes apart,
+    )
 
 pub selectable : (topology : Topology) (registers : AllRegisters) (path : List ℕ) (at : PortRef)
     (value : ℕ) → is_switch (registers at.node) ≡ true → IsApart topology path at.node

@@ -3,7 +3,6 @@ use Rattle.std.proofs.Common.{◌≡◌, ◌≢◌, ℕ, ◌<◌, ◌≤◌, tru
 use Rattle.std.specs.Option.{option_and_then}
 use Rattle.std.proofs.lemmas.Bool.{cases_eq, cases_lt}
 use Rattle.std.proofs.lemmas.Option.{same_Some}
-use Rattle.std.proofs.lemmas.List.{length-map}
 use Rattle.std.proofs.lemmas.List.Elements.{All-contains}
 use Rattle.fabric_script.specs.declared.ports.PortRef.{PortRef}
 use Rattle.fabric_script.specs.Ports.{port_at}
@@ -22,18 +21,17 @@ use Rattle.fabric_map.specs.Numbered.{device_has_id, is_given, paths_of, toward,
 use Rattle.fabric_map.proofs.Leading.{along-append, port_of_entry, each_is_reached}
 use Rattle.fabric_map.proofs.Ways.{behind-link}
 use Rattle.fabric_map.proofs.Branches.{further_from_toward}
-use Rattle.fabric_map.proofs.Few.{walked-few}
 use Rattle.fabric_map.proofs.Growing.{path_listed, device_on, described-listed, described-switch, node_at-entered}
 use Rattle.fabric_map.proofs.Given.{has_id-endpoint, is_given-contains, found-by_id}
 use Rattle.fabric_map.proofs.Routing.{SendsById, comes-from}
 use Rattle.fabric_map.proofs.Tabled.{entry_listed, given_device, one_tag}
+use Rattle.fabric_map.proofs.Few.{entered-port}
 use Rattle.host_enumerate.specs.Underway.{given_below, HasTable, HasTableOf, IsUnderway}
 use Rattle.host_enumerate.specs.Ends.{IsLockFree}
 use Rattle.host_enumerate.proofs.Meeting.{underway-outside, underway-inside, member-not_foreign}
 use Rattle.host_enumerate.proofs.Stepping.{followed-ports}
-use Rattle.fabric_map.proofs.Few.{entered-port}
 use Rattle.host_enumerate.proofs.Keeping.{next-home}
-use Rattle.host_enumerate.proofs.Asked.{host_kind}
+use Rattle.host_enumerate.proofs.Asked.{host_kind, most}
 
 next_below : (host_id next : ℕ) → next ≤ given_below host_id next
 next_below host_id next = go (cases_lt host_id next)
@@ -47,11 +45,7 @@ module _ (topology : Topology) (before now : AllRegisters) (host_id next : ℕ)
     (underway : IsUnderway topology before now host_id devices next after_all_paths)
     (fits : Fits topology now) where
   few_devices : length devices ≤ 64
-  few_devices =
-      let few = subst (λ n. n ≤ topology.nodes) (length-map devices (λ (d : Device). d.path))
-      (walked-few topology (paths_of devices) after_all_paths underway.proper underway.walked) in
-      let most = underway.proper.most in
-      omega (arith, few, most)
+  few_devices = most topology before now host_id next devices after_all_paths underway
 
   -- the host is the device to which its ID is given
   host_listed : (host : Device) × Contains devices host × (host.path ≡ [])

@@ -20,65 +20,67 @@ id_of_value : (number id : ℕ) → number ≡ id → id < 255
 id_of_value number id is fits = ap (λ n. value_of_id n / 0x10000 % 0x100) is ∙ omega (arith, fits)
 
 pub id-writable : (topology : Topology) (registers : AllRegisters) (path : List ℕ) (at : PortRef)
-    (number id : ℕ) → number ≡ id → id < 255 → is_switch (registers at.node) ≡ false
+    {number id : ℕ} → number ≡ id → id < 255 → is_switch (registers at.node) ≡ false
     → IsApart topology path at.node → path ≢ []
     → IsWritable topology registers path at 0x60 (value_of_id number)
     (record (registers at.node) { base_id = id })
-id-writable topology registers path at number id is fits kind apart away = record {
+id-writable topology registers path at {number} {id} is fits kind apart away = record {
   written = base_id-written (registers at.node) (value_of_id number) kind
       ∙ ap (λ n. Some (record (registers at.node) { base_id = n })) (id_of_value number id is fits);
   apart = apart;
   id = λ empty. absurd (away empty);
 }
 
-pub id-left : (topology : Topology) (old new : AllRegisters) (path : List ℕ) (at : PortRef)
-    (number id : ℕ) → Leaves topology old new path 0x60 (value_of_id number)
+pub id-left : (topology : Topology) (old new : AllRegisters) (path : List ℕ) {at : PortRef}
+    {number id : ℕ} → Leaves topology old new path 0x60 (value_of_id number)
     → entered topology path ≡ Some at → number ≡ id → id < 255
     → is_switch (old at.node) ≡ false
     → Becomes old new at.node (record (old at.node) { base_id = id })
-id-left topology old new path at number id leaves leads is fits kind =
+id-left topology old new path {at} {number} {id} leaves leads is fits kind =
     leaves at (record (old at.node) { base_id = id }) leads
     (base_id-written (old at.node) (value_of_id number) kind
     ∙ ap (λ n. Some (record (old at.node) { base_id = n })) (id_of_value number id is fits))
 
 -- a path is its first port and the others
-pub first_and_rest : (path slice front host : List ℕ) → slice ≡ path → 1 ≤ length slice
+pub first_and_rest : {path slice front host : List ℕ} → slice ≡ path → 1 ≤ length slice
     → front ≡ onward host (get_or slice 0 0) → host ≡ []
     → (path ≡ get_or slice 0 0 ∷ take (length slice - 1) (drop 1 slice))
     × (front ≡ get_or slice 0 0 ∷ [])
-first_and_rest path slice front host is some is_front is_host = (
+first_and_rest {path} {slice} {front} {host} is some is_front is_host = (
   sym is ∙ split slice some,
   is_front ∙ ap (λ l. onward l (get_or slice 0 0)) is_host,
 )
 
-pub whole_path : (path front tail : List ℕ) (head : ℕ) → path ≡ head ∷ tail → front ≡ head ∷ []
+pub whole_path : {path front tail : List ℕ} {head : ℕ} → path ≡ head ∷ tail → front ≡ head ∷ []
     → path ≡ front ++ tail
-whole_path path front tail head is is_front = is ∙ ap (λ l. l ++ tail) (sym is_front)
+whole_path {path} {front} {tail} {head} is is_front = is ∙ ap (λ l. l ++ tail) (sym is_front)
 
-pub rest_askable : (topology now : Topology) (old new : AllRegisters) (host_id id : ℕ)
-    (path front tail : List ℕ) (at : PortRef) → now ≡ topology → path ≡ front ++ tail → path ≢ []
+pub rest_askable : {topology now : Topology} {old : AllRegisters} (new : AllRegisters) {host_id : ℕ}
+    (id : ℕ) {path : List ℕ} (front tail : List ℕ) {at : PortRef} → now ≡ topology
+    → path ≡ front ++ tail → path ≢ []
     → IsAskable topology old host_id path at → IsApart topology path at.node
     → Becomes old new at.node (record (old at.node) { base_id = id })
     → IsAskable now new host_id (front ++ tail) at
-rest_askable topology now old new host_id id path front tail at is_now is away askable apart
-    becomes =
+rest_askable {topology} {now} {old} new {host_id} id {path} front tail {at} is_now is away askable
+    apart becomes =
     subst (λ t. IsAskable t new host_id (front ++ tail) at) (sym is_now)
     (subst (λ l. IsAskable topology new host_id l at) is
-    (askable-written topology old new host_id path at (record (old at.node) { base_id = id })
+    (askable-written new (record (old at.node) { base_id = id })
     askable becomes apart (λ empty. absurd (away empty))))
 
-pub rest_once : (topology now : Topology) (path front tail : List ℕ) → now ≡ topology
+pub rest_once : {topology now : Topology} {path : List ℕ} (front tail : List ℕ) → now ≡ topology
     → path ≡ front ++ tail → PassesOnce topology path → PassesOnce now (front ++ tail)
-rest_once topology now path front tail is_now is once =
+rest_once {topology} {now} {path} front tail is_now is once =
     subst (λ t. PassesOnce t (front ++ tail)) (sym is_now)
     (subst (λ l. PassesOnce topology l) is once)
 
-pub id-given : (topology now : Topology) (old mid new : AllRegisters) (head node id : ℕ)
-    (path front tail : List ℕ) → now ≡ topology → path ≡ head ∷ tail → front ≡ head ∷ []
+pub id-given : {topology now : Topology} (old : AllRegisters) {mid new : AllRegisters} {head : ℕ}
+    (node : ℕ) {id : ℕ} {path front tail : List ℕ} → now ≡ topology → path ≡ head ∷ tail
+    → front ≡ head ∷ []
     → Becomes old mid node (record (old node) { base_id = id })
     → AreRouted now mid new front tail id → HasNewId topology old new path node id
-id-given topology now old mid new head node id path front tail is_now is is_front one others first
-    rest same = (
+id-given {topology} {now} old {mid} {new} {head} node {id} {path} {front} {tail} is_now is is_front
+    one others first rest same = (
       mid,
       one,
       subst (λ n. AreRouted topology mid new (n ∷ []) rest id) is_head

@@ -1,5 +1,5 @@
 -- What is kept if the entry of 255 is set, and where a switch that was met sends packets.
-use Rattle.std.proofs.Common.{◌≡◌, ◌≢◌, ℕ, ◌<◌, ◌≤◌, true, List, [], length, Some, Contains, arith, ◌⊎◌, inl, inr, subst, sym, ap, ◌∙◌}
+use Rattle.std.proofs.Common.{rules, ◌≡◌, ◌≢◌, ℕ, ◌<◌, ◌≤◌, true, List, [], length, Some, Contains, arith, ◌⊎◌, inl, inr, subst, sym, ap, ◌∙◌}
 use Rattle.std.proofs.lemmas.Bool.{cases_eq}
 use Rattle.std.proofs.lemmas.Option.{same_Some}
 use Rattle.fabric_script.specs.declared.ports.PortRef.{PortRef}
@@ -14,11 +14,11 @@ use Rattle.fabric_map.specs.Routes.{AllRegisters}
 use Rattle.fabric_map.specs.Fitting.{Fits}
 use Rattle.fabric_map.specs.Numbered.{HasBaseId}
 use Rattle.fabric_map.proofs.Growing.{described-listed, described-switch, node_at-entered}
+use Rattle.fabric_map.proofs.Few.{entered-port}
 use Rattle.host_enumerate.specs.Asking.{AreSame, Becomes}
 use Rattle.host_enumerate.specs.Setting.{with_entry}
 use Rattle.host_enumerate.specs.Underway.{HasTableOf, IsHeld, IsUnmet, AreOwnUntagged, IsUnderway}
 use Rattle.host_enumerate.proofs.Frames.{with_device-at, with_device-other}
-use Rattle.fabric_map.proofs.Few.{entered-port}
 
 -- the next ports of a switch
 module _ (device : Registers) (switch : is_switch device ≡ true)
@@ -75,18 +75,7 @@ module _ (topology : Topology) (before now : AllRegisters) (host_id next : ℕ)
       → IsHeld host_id devices member (before node) (after node))
       → ((node : ℕ) → IsUnmet topology devices node → after node ≡ before node)
       → IsUnderway topology before after host_id devices next bound
-  underway_with after held others = record {
-    proper = underway.proper;
-    id = underway.id;
-    host_has_id = underway.host_has_id;
-    untagged = underway.untagged;
-    walked = underway.walked;
-    described = underway.described;
-    counted = underway.counted;
-    short = underway.short;
-    held = held;
-    others = others;
-  }
+  underway_with after held others = search rules
 
   -- equal registers
   pub underway-same : (after : AllRegisters) → AreSame now after

@@ -19,9 +19,9 @@ use Rattle.fabric_map.proofs.Leading.{some_from_same}
 use Rattle.fabric_map.proofs.Steps.{takes_in}
 use Rattle.fabric_map.proofs.Branches.{port_toward-free, port_toward-other, port_toward-new}
 use Rattle.fabric_map.proofs.Growing.{device_on, paths_of-push, described-push, node_at-entered}
+use Rattle.fabric_map.proofs.Given.{has_id-endpoint, has_id-switch}
 use Rattle.host_enumerate.specs.Setting.{with_entry}
 use Rattle.host_enumerate.specs.Underway.{HasTable, HasTableOf, IsHeld, IdsAreCounted, IsUnmet, IsUnderway}
-use Rattle.fabric_map.proofs.Given.{has_id-endpoint, has_id-switch}
 
 -- a switch keeps its table if the list gets longer, if the ports that lead to IDs stay
 longer-table : (host_id : ℕ) (devices more : List Device) (path : List ℕ) (entry : ℕ)
@@ -57,31 +57,32 @@ longer-table_of host_id devices more device old new table default home branches 
     go (Switch ports entry) table =
         longer-table host_id devices more device.path entry old new table default home branches
 
-module _ (host_id : ℕ) (devices : List Device) (device member : Device)
-    (before now : Registers) (held : IsHeld host_id devices member before now) where
-  -- beside a new switch
-  pub held-switch : (ports entry : ℕ) → device.kind ≡ Switch ports entry
+module _ {host_id : ℕ} {devices : List Device} (device : Device) {member : Device}
+    {before now : Registers} (held : IsHeld host_id devices member before now) where
+  held-same : HasTableOf host_id (devices ++ device ∷ []) member now
       → IsHeld host_id (devices ++ device ∷ []) member before now
-  held-switch ports entry is = record {
+  held-same table = record {
     marked = held.marked;
     not_foreign = held.not_foreign;
     changes = held.changes;
-    table = longer-table_of host_id devices (devices ++ device ∷ []) member now now held.table
-        refl refl (λ id few other same. same ∙ ap (λ o. unwrap_or o 255)
-        (sym (port_toward-other devices device member.path id
-        (has_id-switch device id ports entry is))));
+    table = table;
   }
+
+  -- beside a new switch
+  pub held-switch : (ports entry : ℕ) → device.kind ≡ Switch ports entry
+      → IsHeld host_id (devices ++ device ∷ []) member before now
+  held-switch ports entry is =
+      held-same (longer-table_of host_id devices (devices ++ device ∷ []) member now now held.table
+      refl refl (λ id few other same. same ∙ ap (λ o. unwrap_or o 255)
+      (sym (port_toward-other devices device member.path id
+      (has_id-switch device id ports entry is)))))
 
   -- an endpoint has no table
   pub held-endpoint : (given : ℕ) × (member.kind ≡ Endpoint given)
       → IsHeld host_id (devices ++ device ∷ []) member before now
-  held-endpoint is = record {
-    marked = held.marked;
-    not_foreign = held.not_foreign;
-    changes = held.changes;
-    table = subst (λ k. HasTableOf host_id (devices ++ device ∷ [])
-        (record member { kind = k }) now) (sym is.1) tt;
-  }
+  held-endpoint is =
+      held-same (subst (λ k. HasTableOf host_id (devices ++ device ∷ [])
+      (record member { kind = k }) now) (sym is.1) tt)
 
   other_id : (id given : ℕ) → device.kind ≡ Endpoint given → given ≢ id
       → port_toward (devices ++ device ∷ []) member.path id
@@ -102,13 +103,9 @@ module _ (host_id : ℕ) (devices : List Device) (device member : Device)
   pub held-beside : (given : ℕ) → device.kind ≡ Endpoint given
       → is_given devices given ≡ false → toward member.path device.path ≡ None
       → IsHeld host_id (devices ++ device ∷ []) member before now
-  held-beside given is free none = record {
-    marked = held.marked;
-    not_foreign = held.not_foreign;
-    changes = held.changes;
-    table = longer-table_of host_id devices (devices ++ device ∷ []) member now now held.table
-        refl refl (λ id few other same. branch id same (cases_eq given id));
-  }
+  held-beside given is free none =
+      held-same (longer-table_of host_id devices (devices ++ device ∷ []) member now now held.table
+      refl refl (λ id few other same. branch id same (cases_eq given id)))
     where
       branch : (id : ℕ)
           → entry_of now id ≡ unwrap_or (port_toward devices member.path id) 255
@@ -177,8 +174,8 @@ next-short devices path short (inr last) =
     let more = ap (λ p. length p) last.3 ∙ length-append last.0 (last.1 ∷ []) in
     omega (arith, less, same, more)
 
-module _ (topology : Topology) (before now after : AllRegisters) (host_id next next_after : ℕ)
-    (devices : List Device) (device : Device) (at : PortRef)
+module _ {topology : Topology} {before now : AllRegisters} (after : AllRegisters) {host_id next : ℕ}
+    (next_after : ℕ) {devices : List Device} (device : Device) {at : PortRef}
     (underway : IsUnderway topology before now host_id devices next device.path)
     (is_next : IsNext (paths_of devices) device.path)
     (enters : entered topology device.path ≡ Some at)

@@ -1,178 +1,162 @@
 -- What the call that tries a port of a switch knows.
-use Rattle.std.proofs.Common.{◌≡◌, ◌≢◌, ℕ, ◌+◌, ◌<◌, ◌≤◌, List, [], ◌∷◌, length, Contains, Option, Some, None, arith, sym, ap, subst}
+use Rattle.std.proofs.Common.{◌≡◌, ◌≢◌, ℕ, ◌+◌, ◌<◌, ◌≤◌, List, [], ◌∷◌, ◌++◌, length, Contains, Option, Some, None, arith, sym, ap, subst, ◌∙◌, length-append}
+use Rattle.std.proofs.lemmas.List.Elements.{Contains-push}
+use Rattle.std.proofs.lemmas.Option.{same_Some}
 use Rattle.fabric_script.specs.declared.ports.PortRef.{PortRef}
-use Rattle.fabric_script.specs.Ports.{port_at}
 use Rattle.fabric_map.specs.declared.map.Kind.{Kind}
 use Rattle.fabric_map.specs.declared.map.Kind.TheVariants.{Endpoint, Switch}
 use Rattle.fabric_map.specs.declared.map.Device.{Device}
-use Rattle.fabric_map.specs.Topology.{Topology}
+use Rattle.fabric_map.specs.Topology.{Topology, entered}
 use Rattle.fabric_map.specs.Walked.{onward}
 use Rattle.fabric_map.specs.Routes.{AllRegisters}
-use Rattle.fabric_map.specs.Fitting.{Fits}
 use Rattle.fabric_map.specs.Ways.{IsOpened}
-use Rattle.fabric_map.specs.Numbered.{paths_of}
+use Rattle.fabric_map.specs.Numbered.{paths_of, IsDescribed}
+use Rattle.fabric_map.proofs.Order.{onward-not_empty}
+use Rattle.fabric_map.proofs.Growing.{path_listed, described-listed, described-switch, described-endpoint}
 use Rattle.host_enumerate.specs.declared.walk.Found.{Found}
-use Rattle.host_enumerate.specs.Asking.{IsAskable, AreSame, Becomes}
-use Rattle.host_enumerate.specs.Setting.{with_entry}
-use Rattle.host_enumerate.specs.Underway.{IsUnderway}
+use Rattle.host_enumerate.specs.declared.maint.Maint.{Ghosts}
+use Rattle.host_enumerate.specs.declared.taking.Numbering.{Numbering}
+use Rattle.host_enumerate.specs.Underway.{met_as}
+use Rattle.host_enumerate.specs.Carrying.{IsNumbering}
 use Rattle.host_enumerate.specs.TakingIn.{IsTried}
-use Rattle.host_enumerate.specs.Founds.{IsFound}
+use Rattle.host_enumerate.specs.Founds.{HasFound}
+use Rattle.host_enumerate.proofs.Stepping.{followed-none, underway-past, underway-closed}
 use Rattle.host_enumerate.proofs.Tried.{PathTried}
 use Rattle.host_enumerate.proofs.Routing.{opened-front}
-use Rattle.host_enumerate.proofs.Looking.{underway_then, behind_askable, met_passed, one_more, endpoint_passed, path_still, switch_found}
+use Rattle.host_enumerate.proofs.Looking.{still_found, IsSetTo, underway_here, behind_enters, behind_apart}
 
--- A switch that was found sends on through a port that has a link.
-pub record IsSetTo (topology later_topology : Topology) (now mid later : AllRegisters)
-    (host_id next : ℕ) (devices : List Device) (switch : Found) (port : ℕ) (path : List ℕ) : Type 0
-  where
-    pub found : IsFound topology now host_id devices switch
-    pub some : (before : AllRegisters)
-        × IsUnderway topology before now host_id devices next (onward switch.path port)
-    pub is_topology : later_topology ≡ topology
-    pub same : AreSame now mid
-    pub becomes : Becomes mid later found.at.node (with_entry (mid found.at.node) 255 port)
-    pub link : (end : PortRef) × (topology.peer (port_at found.at.node port) ≡ Some end)
-    pub below : port < switch.ports
-    pub apart : port ≢ switch.entry
-    pub is_path : path ≡ onward switch.path port
+module _ {S : Type 0} {m : Ghosts S} {old read end after : S} {numbering new : Numbering}
+    {switch : Found} {port : ℕ} {path : List ℕ} {kind : Option Kind}
+    (set : IsSetTo m old read end numbering switch port path)
+    (met : PathTried m end after numbering new path kind) where
+  abbrev behind : List ℕ
+  behind = onward switch.path port
 
-module _ {topology later_topology : Topology} {now mid later : AllRegisters} {host_id next : ℕ}
-    {devices : List Device} {switch : Found} {port : ℕ} {path : List ℕ}
-    (set : IsSetTo topology later_topology now mid later host_id next devices switch port
-    path) where
-  pub underway_here : (before : AllRegisters)
-      → IsUnderway topology before now host_id devices next (onward switch.path port)
-      → IsUnderway later_topology before later host_id devices next path
-  underway_here before underway =
-      subst (λ t. IsUnderway t before later host_id devices next path) (sym set.is_topology)
-      (subst (λ l. IsUnderway topology before later host_id devices next l) (sym set.is_path)
-      (underway_then topology now host_id next devices switch port set.found set.some mid later
-      set.link.0 set.same set.becomes set.link.1 set.below set.apart before underway))
+  tried_here : (before : AllRegisters) → IsNumbering m old numbering behind before
+      → IsTried m after numbering new behind before kind
+  tried_here before underway =
+      subst (λ l. IsTried m after numbering new l before kind) set.is_path
+      (met.tried before (underway_here set before underway))
 
-  pub askable_here : Fits topology now → Fits later_topology later
-      → IsAskable later_topology later host_id path set.link.0
-  askable_here fits fits_later =
-      subst (λ t. IsAskable t later host_id path set.link.0) (sym set.is_topology)
-      (subst (λ l. IsAskable topology later host_id l set.link.0) (sym set.is_path)
-      (behind_askable topology now host_id next devices switch port set.found set.some mid later
-      set.link.0 set.same set.becomes set.link.1 set.below set.apart fits
-      (subst (λ t. Fits t later) set.is_topology fits_later)))
+  opened_here : IsOpened (m.topology after) (m.registers after) new.host_id behind
+  opened_here = subst (λ l. IsOpened (m.topology after) (m.registers after) new.host_id l)
+      set.is_path met.opened
 
-  module _ {after : AllRegisters} {devices_after : List Device} {next_after : ℕ}
-      {kind : Option Kind}
-      (met : PathTried later_topology later after host_id next next_after devices devices_after path
-      kind) where
-    tried_here : (before : AllRegisters)
-        → IsUnderway topology before now host_id devices next (onward switch.path port)
-        → IsTried topology before after host_id devices devices_after next next_after
-        (onward switch.path port) kind
-    tried_here before underway =
-        subst (λ l. IsTried topology before after host_id devices devices_after next next_after l
-        kind) set.is_path
-        (subst (λ t. IsTried t before after host_id devices devices_after next next_after path kind)
-        set.is_topology (met.tried before (underway_here before underway)))
+  -- the switch can still be asked
+  switch_still : Contains (paths_of new.devices.items) switch.path → HasFound m after new switch
+  switch_still listed =
+      still_found (met.topology ∙ set.is_topology) set.found
+      (opened-front (m.topology after) (m.registers after) new.host_id switch.path (port ∷ [])
+      opened_here) listed
 
-    opened_here : IsOpened topology after host_id (onward switch.path port)
-    opened_here =
-        subst (λ l. IsOpened topology after host_id l) set.is_path
-        (subst (λ t. IsOpened t after host_id path) set.is_topology met.opened)
+  -- it was met before
+  module _ (is : kind ≡ None) where
+    none_tried : (before : AllRegisters) → IsNumbering m old numbering behind before
+        → IsTried m after numbering new behind before None
+    none_tried before underway =
+        subst (λ k. IsTried m after numbering new behind before k) is (tried_here before underway)
 
-    none_tried : kind ≡ None → (before : AllRegisters)
-        → IsUnderway topology before now host_id devices next (onward switch.path port)
-        → IsTried topology before after host_id devices devices_after next next_after
-        (onward switch.path port) None
-    none_tried is before underway =
-        subst (λ k. IsTried topology before after host_id devices devices_after next next_after
-        (onward switch.path port) k) is (tried_here before underway)
+    same : new.devices.items ≡ numbering.devices.items
+    same = (none_tried set.some.0 set.some.1).0
 
-    pub none_looked : kind ≡ None → (before : AllRegisters)
-        → IsUnderway topology before now host_id devices next (onward switch.path port)
-        → IsUnderway topology before after host_id devices_after next_after
-        (onward switch.path (port + 1))
-    none_looked is before underway =
-        let known = none_tried is before underway in
-        subst (λ l. IsUnderway topology before after host_id l next_after
-        (onward switch.path (port + 1))) (sym known.0)
-        (subst (λ n. IsUnderway topology before after host_id devices n
-        (onward switch.path (port + 1))) (sym known.1)
-        (met_passed topology now host_id next devices switch port set.found set.some mid later
-        set.link.0 set.same set.becomes set.link.1 set.below set.apart after before known.2
-        known.3))
+    listed : Contains (paths_of new.devices.items) switch.path
+    listed = subst (λ l. Contains (paths_of l) switch.path) (sym same) set.found.listed
 
-    pub none_found : kind ≡ None → IsOpened topology after host_id switch.path
-        × Contains (paths_of devices_after) switch.path
-    none_found is = (
-      opened-front topology after host_id switch.path (port ∷ []) opened_here,
-      subst (λ l. Contains (paths_of l) switch.path) (sym (none_tried is set.some.0 set.some.1).0)
-          set.found.listed,
-    )
+    pub none_looked : (before : AllRegisters) → IsNumbering m old numbering behind before
+        → IsNumbering m after new (onward switch.path (port + 1)) before
+    none_looked before underway =
+        let known = none_tried before underway in
+        underway-past (m.topology after) before (m.registers after) new.host_id new.next_id
+        new.devices.items switch.path port known.2 listed (λ _. known.3)
 
-    pub none_longer : kind ≡ None → length devices ≤ length devices_after
-    none_longer is =
-        let long = ap (λ l. length l) (none_tried is set.some.0 set.some.1).0 in omega (arith, long)
+    pub none_found : HasFound m after new switch
+    none_found = switch_still listed
 
-    some_tried : (is_kind : Kind) → kind ≡ Some is_kind → (before : AllRegisters)
-        → IsUnderway topology before now host_id devices next (onward switch.path port)
-        → IsTried topology before after host_id devices devices_after next next_after
-        (onward switch.path port) (Some is_kind)
-    some_tried is_kind is before underway =
-        subst (λ k. IsTried topology before after host_id devices devices_after next next_after
-        (onward switch.path port) k) is (tried_here before underway)
+    pub none_longer : length numbering.devices.items ≤ length new.devices.items
+    none_longer = let long = ap (λ l. length l) same in omega (arith, long)
 
-    pub some_more : (is_kind : Kind) → kind ≡ Some is_kind
-        → length devices < length devices_after
-    some_more is_kind is =
-        one_more topology now host_id next devices switch port set.found set.some mid later
-        set.link.0 set.same set.becomes set.link.1 set.below set.apart after devices_after
-        next_after is_kind (some_tried is_kind is set.some.0 set.some.1).0 opened_here
+  -- it was taken in
+  module _ {is_kind : Kind} (is : kind ≡ Some is_kind) where
+    abbrev device : Device
+    device = met_as numbering.devices.items is_kind behind
 
-    pub some_longer : (is_kind : Kind) → kind ≡ Some is_kind
-        → length devices ≤ length devices_after
-    some_longer is_kind is = let more = some_more is_kind is in omega (arith, more)
+    some_tried : (before : AllRegisters) → IsNumbering m old numbering behind before
+        → IsTried m after numbering new behind before (Some is_kind)
+    some_tried before underway =
+        subst (λ k. IsTried m after numbering new behind before k) is (tried_here before underway)
 
-    pub endpoint_looked : (is_kind : Kind) (id : ℕ) → kind ≡ Some is_kind → is_kind ≡ Endpoint id
-        → (before : AllRegisters)
-        → IsUnderway topology before now host_id devices next (onward switch.path port)
-        → IsUnderway topology before after host_id devices_after next_after
-        (onward switch.path (port + 1))
-    endpoint_looked is_kind id is is_endpoint before underway =
-        let known = some_tried is_kind is before underway in
-        endpoint_passed topology now host_id next devices switch port set.found set.some mid later
-        set.link.0 set.same set.becomes set.link.1 set.below set.apart after devices_after
-        next_after is_kind known.0 opened_here id is_endpoint before known.1
+    longer : new.devices.items ≡ numbering.devices.items ++ device ∷ []
+    longer = (some_tried set.some.0 set.some.1).0
 
-    pub some_found : (is_kind : Kind) → kind ≡ Some is_kind
-        → IsOpened topology after host_id switch.path
-        × Contains (paths_of devices_after) switch.path
-    some_found is_kind is =
-        let known = some_tried is_kind is set.some.0 set.some.1 in (
-          opened-front topology after host_id switch.path (port ∷ []) opened_here,
-          path_still topology now host_id next devices switch port set.found set.some mid later
-              set.link.0 set.same set.becomes set.link.1 set.below set.apart after devices_after
-              next_after is_kind known.0 opened_here set.some.0
-              (onward (onward switch.path port) 0) known.1,
-        )
+    underway_now : IsNumbering m after new (onward behind 0) set.some.0
+    underway_now = (some_tried set.some.0 set.some.1).1
 
-    pub switch_looked : (is_kind : Kind) → kind ≡ Some is_kind → (before : AllRegisters)
-        → IsUnderway topology before now host_id devices next (onward switch.path port)
-        → IsUnderway topology before after host_id devices_after next_after (onward path 0)
-    switch_looked is_kind is before underway =
-        subst (λ l. IsUnderway topology before after host_id devices_after next_after (onward l 0))
-        (sym set.is_path) (some_tried is_kind is before underway).1
+    listed_new : Contains new.devices.items device
+    listed_new = subst (λ l. Contains l device) (sym longer)
+        (Contains-push numbering.devices.items device)
 
-    pub switch_is_found : (is_kind : Kind) (ports entry : ℕ) → kind ≡ Some is_kind
-        → is_kind ≡ Switch ports entry
-        → IsFound topology after host_id devices_after
-        record { path = path; ports = ports; entry = entry }
-        × (path ≡ onward switch.path port) × (length devices < length devices_after)
-    switch_is_found is_kind ports entry is is_switch =
-        let known = some_tried is_kind is set.some.0 set.some.1 in (
-          subst (λ l. IsFound topology after host_id devices_after
-              record { path = l; ports = ports; entry = entry }) (sym set.is_path)
-              (switch_found topology now host_id next devices switch port set.found set.some mid
-              later set.link.0 set.same set.becomes set.link.1 set.below set.apart after
-              devices_after next_after is_kind known.0 opened_here ports entry is_switch
-              set.some.0 (onward (onward switch.path port) 0) known.1),
+    described_new : (earlier : List Device)
+        × IsDescribed (m.topology after) new.host_id earlier device
+    described_new =
+        described-listed (m.topology after) new.host_id [] new.devices.items device
+        underway_now.described listed_new
+
+    some_more : length numbering.devices.items < length new.devices.items
+    some_more =
+        let long = ap (λ l. length l) longer in
+        let more = length-append numbering.devices.items (device ∷ []) in
+        omega (arith, long, more)
+
+    pub some_longer : length numbering.devices.items ≤ length new.devices.items
+    some_longer = let more = some_more in omega (arith, more)
+
+    pub endpoint_looked : {id : ℕ} → is_kind ≡ Endpoint id → (before : AllRegisters)
+        → IsNumbering m old numbering behind before
+        → IsNumbering m after new (onward switch.path (port + 1)) before
+    endpoint_looked {id} is_endpoint before underway =
+        let shown = described-endpoint (m.topology after) new.host_id id described_new.0 device
+        described_new.1 is_endpoint in
+        underway-closed (m.topology after) before (m.registers after) new.host_id new.next_id
+        new.devices.items switch.path shown.0 port 0 (some_tried before underway).1 shown.1
+        (followed-none (m.topology after) shown.0.node (behind_still shown.0 shown.1) shown.2)
+      where
+        stays : m.topology after ≡ m.topology old
+        stays = met.topology ∙ set.is_topology
+
+        behind_still : (p : PortRef) → entered (m.topology after) behind ≡ Some p
+            → p.node ≢ (m.topology after).host
+        behind_still p enters =
+            subst (λ (t : Topology). p.node ≢ t.host) (sym stays)
+            (subst (λ (q : PortRef). q.node ≢ (m.topology old).host)
+            (same_Some set.link.0 p (sym (behind_enters set)
+            ∙ (ap (λ t. entered t behind) (sym stays) ∙ enters))) (behind_apart set))
+
+    pub some_found : HasFound m after new switch
+    some_found = switch_still (underway_now.walked.fronts switch.path port
+        (path_listed new.devices.items device listed_new))
+
+    pub switch_looked : (before : AllRegisters) → IsNumbering m old numbering behind before
+        → IsNumbering m after new (onward path 0) before
+    switch_looked before underway =
+        subst (λ l. IsNumbering m after new (onward l 0) before) (sym set.is_path)
+        (some_tried before underway).1
+
+    pub switch_is_found : {ports entry : ℕ} → is_kind ≡ Switch ports entry
+        → HasFound m after new record { path = path; ports = ports; entry = entry }
+        × (path ≡ behind) × (length numbering.devices.items < length new.devices.items)
+    switch_is_found {ports} {entry} is_switch =
+        let shown = described-switch (m.topology after) new.host_id ports entry described_new.0
+        device described_new.1 is_switch in (
+          subst (λ l. HasFound m after new record { path = l; ports = ports; entry = entry })
+              (sym set.is_path) (record {
+                at = shown.0;
+                leads = shown.1;
+                switch = shown.2;
+                entry = sym shown.3;
+                away = λ empty. onward-not_empty switch.path port (sym empty);
+                listed = path_listed new.devices.items device listed_new;
+                opened = opened_here;
+              }),
           set.is_path,
-          some_more is_kind is,
+          some_more,
         )

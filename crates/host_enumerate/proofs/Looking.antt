@@ -1,6 +1,5 @@
 -- What is behind a port of a switch that was met.
-use Rattle.std.proofs.Common.{◌≡◌, ◌≢◌, ℕ, ◌+◌, ◌*◌, ◌<◌, inr, true, List, [], ◌∷◌, ◌++◌, length, Contains, Option, Some, None, IsSome, is_some, unwrap_or, arith, refl, sym, ap, subst, ◌∙◌, if◌then◌else◌, length-append}
-use Rattle.std.proofs.lemmas.List.Elements.{Contains-push}
+use Rattle.std.proofs.Common.{◌≡◌, ◌≢◌, ℕ, ◌+◌, ◌*◌, ◌<◌, inr, true, List, [], length, Contains, Option, Some, None, IsSome, is_some, unwrap_or, arith, refl, sym, ap, subst, ◌∙◌, if◌then◌else◌}
 use Rattle.std.proofs.lemmas.Option.{same_Some}
 use Rattle.fabric_script.specs.declared.ports.PortRef.{PortRef}
 use Rattle.fabric_script.specs.Ports.{port_at}
@@ -11,29 +10,56 @@ use Rattle.fabric_map.specs.declared.map.Kind.{Kind}
 use Rattle.fabric_map.specs.declared.map.Kind.TheVariants.{Endpoint, Switch}
 use Rattle.fabric_map.specs.declared.map.Device.{Device}
 use Rattle.fabric_map.specs.Topology.{Topology, entered, node_at}
-use Rattle.fabric_map.specs.Walked.{onward, IsMet}
+use Rattle.fabric_map.specs.Walked.{onward}
 use Rattle.fabric_map.specs.Routes.{AllRegisters}
 use Rattle.fabric_map.specs.Fitting.{Fits}
 use Rattle.fabric_map.specs.Ways.{IsOpened}
 use Rattle.fabric_map.specs.Numbered.{paths_of, IsKindAt, IsDescribed}
-use Rattle.fabric_map.proofs.Order.{onward-not_empty}
 use Rattle.fabric_map.proofs.Leading.{some_from_same}
 use Rattle.fabric_map.proofs.Few.{entered-inside}
-use Rattle.fabric_map.proofs.Growing.{path_listed, device_on, described-listed, described-switch, described-endpoint, node_at-entered}
+use Rattle.fabric_map.proofs.Growing.{device_on, described-listed, node_at-entered}
 use Rattle.fabric_map.proofs.Steps.{empty-before}
 use Rattle.host_enumerate.specs.declared.walk.Found.{Found}
+use Rattle.host_enumerate.specs.declared.maint.Maint.{Ghosts}
+use Rattle.host_enumerate.specs.declared.taking.Numbering.{Numbering}
 use Rattle.host_enumerate.specs.Asking.{IsAskable, IsApart, AreSame, Becomes}
 use Rattle.host_enumerate.specs.Setting.{with_entry}
-use Rattle.host_enumerate.specs.Underway.{met_as, IsUnderway}
-use Rattle.host_enumerate.specs.Founds.{IsFound}
+use Rattle.host_enumerate.specs.Underway.{IsUnderway}
+use Rattle.host_enumerate.specs.Carrying.{IsNumbering}
+use Rattle.host_enumerate.specs.Founds.{IsFound, HasFound}
+use Rattle.host_enumerate.proofs.Tried.{still_underway, still_opened}
 use Rattle.host_enumerate.proofs.Frames.{status-shows}
 use Rattle.host_enumerate.proofs.Opening.{opened-same, opened-apart, became}
-use Rattle.host_enumerate.proofs.Routing.{opened-front}
 use Rattle.host_enumerate.proofs.Holders.{askable-same}
-use Rattle.host_enumerate.proofs.Stepping.{entered-linked, followed-ports, followed-none, underway-past, underway-unlinked, underway-closed}
+use Rattle.host_enumerate.proofs.Stepping.{entered-linked, followed-ports, underway-unlinked}
 use Rattle.host_enumerate.proofs.Askable.{opened-onward, apart-listed, not_host-next}
 use Rattle.host_enumerate.proofs.Keeping.{next-with_entry, underway-same, underway-255, next-home}
 use Rattle.host_enumerate.proofs.Asked.{most, askable-listed, askable-next}
+
+-- a switch is no host
+pub apart_from_host : (topology : Topology) (node ports : ℕ)
+    → topology.switch_ports topology.host ≡ None → topology.switch_ports node ≡ Some ports
+    → node ≢ topology.host
+apart_from_host topology node ports none some same =
+    absurd (differ (sym none ∙ (ap (λ n. topology.switch_ports n) (sym same) ∙ some)))
+  where
+    differ : None ≡ Some ports → ⊥
+    differ same = absurd (cc)
+
+-- a switch that was found, with a longer list and later registers
+pub still_found : {topology later : Topology} {now after : AllRegisters} {host_id other : ℕ}
+    {devices longer : List Device} {switch : Found} → later ≡ topology
+    → IsFound topology now host_id devices switch → IsOpened later after other switch.path
+    → Contains (paths_of longer) switch.path → IsFound later after other longer switch
+still_found {switch = switch} is found opened listed = record {
+  at = found.at;
+  leads = ap (λ t. entered t switch.path) is ∙ found.leads;
+  switch = ap (λ (t : Topology). t.switch_ports found.at.node) is ∙ found.switch;
+  entry = found.entry;
+  away = found.away;
+  listed = listed;
+  opened = opened;
+}
 
 -- a switch is listed as one
 switch_at : (topology : Topology) (host_id n : ℕ) (earlier : List Device) (member : Device)
@@ -51,23 +77,20 @@ switch_at topology host_id n earlier member described is =
         let same : ports ≡ n = same_Some ports n is in
         shown ∙ (ap (λ p. Switch p entry) (kind.0 ∙ same) ∙ ap (λ e. Switch n e) kind.1)
 
-module _ (topology : Topology) (now : AllRegisters) (host_id next : ℕ) (devices : List Device)
-    (switch : Found) (port : ℕ)
+module _ {topology : Topology} {now : AllRegisters} {host_id next : ℕ} {devices : List Device}
+    {switch : Found} (port : ℕ)
     (found : IsFound topology now host_id devices switch)
     (some : (before : AllRegisters)
     × IsUnderway topology before now host_id devices next (onward switch.path port)) where
   underway : IsUnderway topology some.0 now host_id devices next (onward switch.path port)
   underway = some.1
 
-  member : (device : Device) × Contains devices device × (device.path ≡ switch.path)
+  pub member : (device : Device) × Contains devices device × (device.path ≡ switch.path)
   member = device_on devices switch.path found.listed
 
   pub not_host : found.at.node ≢ topology.host
-  not_host same = none (sym underway.proper.host_is_endpoint
-      ∙ (ap (λ n. topology.switch_ports n) (sym same) ∙ found.switch))
-    where
-      none : None ≡ Some switch.ports → ⊥
-      none same = absurd (cc)
+  not_host = apart_from_host topology found.at.node switch.ports
+      underway.proper.host_is_endpoint found.switch
 
   pub found_askable : IsAskable topology now host_id switch.path found.at
   found_askable =
@@ -146,19 +169,21 @@ module _ (topology : Topology) (now : AllRegisters) (host_id next : ℕ) (device
       go (Some end) link = (end, link)
 
   -- past a port without a link
-  pub unlinked_passed : (later : AllRegisters) → AreSame now later
+  pub unlinked_passed : {later_topology : Topology} (later : AllRegisters)
+      → later_topology ≡ topology → AreSame now later
       → topology.peer (port_at found.at.node port) ≡ None → (before : AllRegisters)
       → IsUnderway topology before now host_id devices next (onward switch.path port)
-      → IsUnderway topology before later host_id devices next (onward switch.path (port + 1))
-  unlinked_passed later same none before underway =
-      underway-unlinked topology before later host_id next devices switch.path found.at port
+      → IsUnderway later_topology before later host_id devices next (onward switch.path (port + 1))
+  unlinked_passed later is same none before underway =
+      still_underway is refl
+      (underway-unlinked topology before later host_id next devices switch.path found.at port
       (underway-same topology before now host_id next devices (onward switch.path port) underway
-      later same)
-      found.listed found.leads none
+      later same) found.listed found.leads none)
 
-  pub same_opened : (later : AllRegisters) → AreSame now later
-      → IsOpened topology later host_id switch.path
-  same_opened later same = opened-same topology now later host_id switch.path found.opened same
+  pub found_now : {later_topology : Topology} (later : AllRegisters) → later_topology ≡ topology
+      → AreSame now later → IsFound later_topology later host_id devices switch
+  found_now later is same =
+      still_found is found (still_opened is refl (opened-same later found.opened same)) found.listed
 
   pub settable_now : (later_topology : Topology) (later : AllRegisters) → later_topology ≡ topology
       → AreSame now later → Fits topology now
@@ -166,153 +191,131 @@ module _ (topology : Topology) (now : AllRegisters) (host_id next : ℕ) (device
       × IsApart later_topology switch.path found.at.node
       × (is_switch (later found.at.node) ≡ true)
   settable_now later_topology later is same fits = (
-    askable-same topology later_topology now later host_id switch.path found.at is same
+    askable-same later is same
         found_askable,
     subst (λ t. IsApart t switch.path found.at.node) (sym is) found_apart,
     ap is_switch (same found.at.node)
         ∙ fits.switches found.at.node switch.ports found_inside found.switch,
   )
 
-  -- behind a port with a link
-  module _ (mid later : AllRegisters) (end : PortRef)
-      (same : AreSame now mid)
-      (becomes : Becomes mid later found.at.node (with_entry (mid found.at.node) 255 port))
-      (link : topology.peer (port_at found.at.node port) ≡ Some end)
-      (below : port < switch.ports) (apart : port ≢ switch.entry) where
-    pub behind_enters : entered topology (onward switch.path port) ≡ Some end
-    behind_enters = entered-linked topology switch.path found.at end port found.leads
-        (subst (λ n. port < n)
-        (sym (followed-ports topology found.at.node switch.ports not_host found.switch)) below) link
+-- A switch that was found sends on through a port that has a link.
+pub record IsSetTo {S : Type 0} (m : Ghosts S) (old read end : S) (numbering : Numbering)
+    (switch : Found) (port : ℕ) (path : List ℕ) : Type 0 where
+  pub found : HasFound m old numbering switch
+  pub some : (before : AllRegisters)
+      × IsNumbering m old numbering (onward switch.path port) before
+  pub is_topology : m.topology end ≡ m.topology old
+  pub same : AreSame (m.registers old) (m.registers read)
+  pub becomes : Becomes (m.registers read) (m.registers end) found.at.node
+      (with_entry (m.registers read found.at.node) 255 port)
+  pub link : (end : PortRef) × ((m.topology old).peer (port_at found.at.node port) ≡ Some end)
+  pub below : port < switch.ports
+  pub apart : port ≢ switch.entry
+  pub is_path : path ≡ onward switch.path port
 
-    pub underway_then : (before : AllRegisters)
-        → IsUnderway topology before now host_id devices next (onward switch.path port)
-        → IsUnderway topology before later host_id devices next (onward switch.path port)
-    underway_then before is_underway =
-        underway-255 topology before mid host_id next devices (onward switch.path port)
-        (underway-same topology before now host_id next devices (onward switch.path port)
-        is_underway mid same) later member.0 found.at.node port member.1
-        (ap (λ l. node_at topology l) member.2
-        ∙ node_at-entered topology switch.path found.at found.leads) becomes
+module _ {S : Type 0} {m : Ghosts S} {old read end : S} {numbering : Numbering} {switch : Found}
+    {port : ℕ} {path : List ℕ} (set : IsSetTo m old read end numbering switch port path) where
+  abbrev topology : Topology
+  topology = m.topology old
 
-    opened_later : IsOpened topology later host_id switch.path
-    opened_later = opened-apart topology mid later host_id found.at.node
-        (with_entry (mid found.at.node) 255 port) switch.path (same_opened mid same) becomes
-        found_apart
+  abbrev now : AllRegisters
+  now = m.registers old
 
-    sends_on : Fits topology now → next_port (later found.at.node) 255 ≡ Some port
-    sends_on fits =
-        ap (λ d. next_port d 255) (became mid later found.at.node
-        (with_entry (mid found.at.node) 255 port) becomes
-        ∙ ap (λ d. with_entry d 255 port) (same found.at.node))
-        ∙ next-with_entry (now found.at.node)
-        (fits.switches found.at.node switch.ports found_inside found.switch)
-        (fits.devices found.at.node found_inside).most_ports
-        (fits.devices found.at.node found_inside).destinations 255 port (omega arith)
-        (subst (λ n. port < n) (sym (fits.ports found.at.node found_inside
-        ∙ ap (λ o. unwrap_or o 1) found.switch)) below)
+  abbrev mid : AllRegisters
+  mid = m.registers read
 
-    kind : member.0.kind ≡ Switch switch.ports found.at.port
-    kind =
-        let described = described-listed topology host_id [] devices member.0 underway.described
-        member.1 in
-        let here : described.1.at ≡ found.at = same_Some described.1.at found.at
-        (sym described.1.path ∙ (ap (λ l. entered topology l) member.2 ∙ found.leads)) in
-        switch_at topology host_id switch.ports described.0 member.0 described.1
-        (ap (λ (p : PortRef). topology.switch_ports p.node) here ∙ found.switch)
-        ∙ ap (λ (p : PortRef). Switch switch.ports p.port) here
+  abbrev later : AllRegisters
+  later = m.registers end
 
-    sends_home : Fits topology later → next_port (later found.at.node) host_id ≡ Some found.at.port
-    sends_home fits =
-        next-home topology some.0 later host_id next devices (onward switch.path port)
-        (underway_then some.0 underway) member.0 found.at switch.ports found.at.port fits member.1
-        kind (ap (λ l. entered topology l) member.2 ∙ found.leads)
+  abbrev host_id : ℕ
+  host_id = numbering.host_id
 
-    pub behind_askable : Fits topology now → Fits topology later
-        → IsAskable topology later host_id (onward switch.path port) end
-    behind_askable fits fits_later =
-        askable-next topology some.0 later host_id next devices (onward switch.path port)
-        (underway_then some.0 underway) (onward switch.path port) end
-        (inr (switch.path, port, found.listed, refl))
-        (opened-onward topology later host_id switch.path found.at port opened_later found.leads
-        (sends_on fits) (sends_home fits_later) not_host)
-        behind_enters
-        (not_host-next topology (paths_of devices) (onward switch.path port) underway.walked
-        switch.path found.at end port underway.proper (empty-before switch.path port) found.listed
-        found.leads (λ _ is. apart (is ∙ sym found.entry)) behind_enters)
+  abbrev next : ℕ
+  next = numbering.next_id
 
-    -- what is behind it was met
-    pub met_passed : (after : AllRegisters) (before : AllRegisters)
-        → IsUnderway topology before after host_id devices next (onward switch.path port)
-        → IsMet topology (paths_of devices) (onward switch.path port)
-        → IsUnderway topology before after host_id devices next (onward switch.path (port + 1))
-    met_passed after before is_underway met =
-        underway-past topology before after host_id next devices switch.path port is_underway
-        found.listed (λ _. met)
+  abbrev devices : List Device
+  devices = numbering.devices.items
 
-    module _ (after : AllRegisters) (devices_after : List Device) (next_after : ℕ) (is_kind : Kind)
-        (longer : devices_after ≡ devices
-        ++ met_as devices is_kind (onward switch.path port) ∷ [])
-        (opened : IsOpened topology after host_id (onward switch.path port)) where
-      listed_new : Contains devices_after (met_as devices is_kind (onward switch.path port))
-      listed_new = subst (λ l. Contains l (met_as devices is_kind (onward switch.path port)))
-          (sym longer) (Contains-push devices (met_as devices is_kind (onward switch.path port)))
+  listed : (device : Device) × Contains devices device × (device.path ≡ switch.path)
+  listed = member port set.found set.some
 
-      pub one_more : length devices < length devices_after
-      one_more =
-          let long = ap (λ l. length l) longer in
-          let more = length-append devices
-          (met_as devices is_kind (onward switch.path port) ∷ []) in
-          omega (arith, long, more)
+  pub behind_enters : entered topology (onward switch.path port) ≡ Some set.link.0
+  behind_enters =
+      entered-linked topology switch.path set.found.at set.link.0 port set.found.leads
+      (subst (λ n. port < n) (sym (followed-ports topology set.found.at.node switch.ports
+      (not_host port set.found set.some) set.found.switch)) set.below) set.link.1
 
-      pub opened_back : IsOpened topology after host_id switch.path
-      opened_back = opened-front topology after host_id switch.path (port ∷ []) opened
+  -- what is behind it is not the host
+  pub behind_apart : set.link.0.node ≢ topology.host
+  behind_apart =
+      not_host-next topology (paths_of devices) (onward switch.path port) set.some.1.walked
+      switch.path set.found.at set.link.0 port set.some.1.proper (empty-before switch.path port)
+      set.found.listed set.found.leads (λ _ is. set.apart (is ∙ sym set.found.entry)) behind_enters
 
-      pub endpoint_passed : (id : ℕ) → is_kind ≡ Endpoint id → (before : AllRegisters)
-          → IsUnderway topology before after host_id devices_after next_after
-          (onward (onward switch.path port) 0)
-          → IsUnderway topology before after host_id devices_after next_after
-          (onward switch.path (port + 1))
-      endpoint_passed id is before is_underway =
-          let described = described-listed topology host_id [] devices_after
-          (met_as devices is_kind (onward switch.path port)) is_underway.described listed_new in
-          let shown = described-endpoint topology host_id id described.0
-          (met_as devices is_kind (onward switch.path port)) described.1 is in
-          underway-closed topology before after host_id next_after devices_after switch.path
-          shown.0 port 0 is_underway shown.1
-          (followed-none topology shown.0.node (other shown.0 shown.1) shown.2)
-        where
-          other : (p : PortRef) → entered topology (onward switch.path port) ≡ Some p
-              → p.node ≢ topology.host
-          other p enters = subst (λ (q : PortRef). q.node ≢ topology.host)
-              (same_Some end p (sym behind_enters ∙ enters))
-              (not_host-next topology (paths_of devices) (onward switch.path port) underway.walked
-              switch.path found.at end port underway.proper (empty-before switch.path port)
-              found.listed found.leads (λ _ is. apart (is ∙ sym found.entry)) behind_enters)
+  underway_then : (before : AllRegisters)
+      → IsUnderway topology before now host_id devices next (onward switch.path port)
+      → IsUnderway topology before later host_id devices next (onward switch.path port)
+  underway_then before underway =
+      underway-255 topology before mid host_id next devices (onward switch.path port)
+      (underway-same topology before now host_id next devices (onward switch.path port)
+      underway mid set.same) later listed.0 set.found.at.node port listed.1
+      (ap (λ l. node_at topology l) listed.2
+      ∙ node_at-entered topology switch.path set.found.at set.found.leads) set.becomes
 
-      pub path_still : (before : AllRegisters) (bound : List ℕ)
-          → IsUnderway topology before after host_id devices_after next_after bound
-          → Contains (paths_of devices_after) switch.path
-      path_still before bound is_underway =
-          is_underway.walked.fronts switch.path port
-          (path_listed devices_after (met_as devices is_kind (onward switch.path port)) listed_new)
+  opened_later : IsOpened topology later host_id switch.path
+  opened_later =
+      opened-apart later set.found.at.node (with_entry (mid set.found.at.node) 255 port)
+      (opened-same mid set.found.opened set.same) set.becomes (found_apart port set.found set.some)
 
-      pub switch_found : (ports entry : ℕ) → is_kind ≡ Switch ports entry → (before : AllRegisters)
-          → (bound : List ℕ)
-          → IsUnderway topology before after host_id devices_after next_after bound
-          → IsFound topology after host_id devices_after
-          record { path = onward switch.path port; ports = ports; entry = entry }
-      switch_found ports entry is before bound is_underway =
-          let described = described-listed topology host_id [] devices_after
-          (met_as devices is_kind (onward switch.path port)) is_underway.described listed_new in
-          let shown = described-switch topology host_id ports entry described.0
-          (met_as devices is_kind (onward switch.path port)) described.1 is in
-          record {
-            at = shown.0;
-            leads = shown.1;
-            switch = shown.2;
-            entry = sym shown.3;
-            away = λ empty. onward-not_empty switch.path port (sym empty);
-            listed = path_listed devices_after (met_as devices is_kind (onward switch.path port))
-                listed_new;
-            opened = opened;
-          }
+  sends_on : Fits topology now → next_port (later set.found.at.node) 255 ≡ Some port
+  sends_on fits =
+      let node = set.found.at.node in
+      let inside = found_inside port set.found set.some in
+      ap (λ d. next_port d 255) (became mid later node (with_entry (mid node) 255 port) set.becomes
+      ∙ ap (λ d. with_entry d 255 port) (set.same node))
+      ∙ next-with_entry (now node) (fits.switches node switch.ports inside set.found.switch)
+      (fits.devices node inside).most_ports (fits.devices node inside).destinations 255 port
+      (omega arith) (subst (λ n. port < n) (sym (fits.ports node inside
+      ∙ ap (λ o. unwrap_or o 1) set.found.switch)) set.below)
+
+  kind : listed.0.kind ≡ Switch switch.ports set.found.at.port
+  kind =
+      let described = described-listed topology host_id [] devices listed.0
+      set.some.1.described listed.1 in
+      let here : described.1.at ≡ set.found.at = same_Some described.1.at set.found.at
+      (sym described.1.path ∙ (ap (λ l. entered topology l) listed.2 ∙ set.found.leads)) in
+      switch_at topology host_id switch.ports described.0 listed.0 described.1
+      (ap (λ (p : PortRef). topology.switch_ports p.node) here ∙ set.found.switch)
+      ∙ ap (λ (p : PortRef). Switch switch.ports p.port) here
+
+  sends_home : Fits topology later
+      → next_port (later set.found.at.node) host_id ≡ Some set.found.at.port
+  sends_home fits =
+      next-home topology set.some.0 later host_id next devices (onward switch.path port)
+      (underway_then set.some.0 set.some.1) listed.0 set.found.at switch.ports set.found.at.port
+      fits listed.1 kind (ap (λ l. entered topology l) listed.2 ∙ set.found.leads)
+
+  behind_askable : Fits topology now → Fits topology later
+      → IsAskable topology later host_id (onward switch.path port) set.link.0
+  behind_askable fits fits_later =
+      askable-next topology set.some.0 later host_id next devices (onward switch.path port)
+      (underway_then set.some.0 set.some.1) (onward switch.path port) set.link.0
+      (inr (switch.path, port, set.found.listed, refl))
+      (opened-onward topology later host_id switch.path set.found.at port opened_later
+      set.found.leads (sends_on fits) (sends_home fits_later)
+      (not_host port set.found set.some)) behind_enters behind_apart
+
+  pub underway_here : (before : AllRegisters)
+      → IsNumbering m old numbering (onward switch.path port) before
+      → IsNumbering m end numbering path before
+  underway_here before underway =
+      still_underway set.is_topology refl
+      (subst (λ l. IsUnderway topology before later host_id devices next l) (sym set.is_path)
+      (underway_then before underway))
+
+  pub askable_here : Fits topology now → Fits (m.topology end) later
+      → IsAskable (m.topology end) later host_id path set.link.0
+  askable_here fits fits_later =
+      subst (λ t. IsAskable t later host_id path set.link.0) (sym set.is_topology)
+      (subst (λ l. IsAskable topology later host_id l set.link.0) (sym set.is_path)
+      (behind_askable fits (subst (λ t. Fits t later) set.is_topology fits_later)))

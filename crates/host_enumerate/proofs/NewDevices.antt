@@ -1,19 +1,19 @@
 -- Devices of a fabric that is set up: what they are, and what stays of it when one of them is
 -- changed.
-use Rattle.std.proofs.Common.{◌≡◌, ◌≢◌, ℕ, zero, suc, ◌/◌, ◌%◌, ◌^◌, ◌<◌, ◌≤◌, ◌||◌, Bool, true, false, List, [], ◌∷◌, ◌++◌, map, length, length-set, slice_get, Option, Some, None, option_map, if◌then◌else◌, arith, ◌⊎◌, inl, inr, refl, sym, ap, subst, ◌∙◌}
+use Rattle.std.proofs.Common.{rules, ◌≡◌, ◌≢◌, ℕ, zero, suc, ◌/◌, ◌%◌, ◌^◌, ◌<◌, ◌≤◌, ◌||◌, Bool, true, false, List, [], ◌∷◌, ◌++◌, map, length, length-set, slice_get, Option, Some, None, option_map, if◌then◌else◌, arith, ◌⊎◌, inl, inr, refl, sym, ap, subst, ◌∙◌}
 use Rattle.std.proofs.Math.Nat.{zero-div}
 use Rattle.std.proofs.lemmas.Bool.{cases_eq, cases_Bool}
 use Rattle.std.proofs.lemmas.Option.{same_Some, slice_get-map}
-use Rattle.maint_registers.specs.Devices.{Registers, IsDevice, is_switch, new_endpoint, new_switch, with_link}
-use Rattle.maint_registers.specs.Changes.{with_device, linked_at, routed, defaulted, held_by, large_set}
-use Rattle.maint_registers.proofs.ChangeLaws.{device-changed, device-kept}
-use Rattle.maint_registers.proofs.LinkLaws.{bit_set, bit_others}
-use Rattle.maint_registers.proofs.WithinLaws.{no_routes_long}
 use Rattle.fabric_script.specs.declared.ports.PortRef.{PortRef}
 use Rattle.fabric_script.specs.declared.known.Node.{Node}
 use Rattle.fabric_script.specs.Known.{same_port, node_is_switch, is_known_switch}
 use Rattle.fabric_script.specs.Ports.{port_at}
 use Rattle.fabric_script.proofs.PeerLaws.{port_is, same_port-refl}
+use Rattle.maint_registers.specs.Devices.{Registers, IsDevice, is_switch, new_endpoint, new_switch, with_link}
+use Rattle.maint_registers.specs.Changes.{with_device, linked_at, routed, defaulted, held_by, large_set}
+use Rattle.maint_registers.proofs.ChangeLaws.{device-changed, device-kept}
+use Rattle.maint_registers.proofs.LinkLaws.{bit_set, bit_others}
+use Rattle.maint_registers.proofs.WithinLaws.{no_routes_long}
 use Rattle.fabric_map.proofs.Given.{or_false}
 use Rattle.host_enumerate.specs.Devised.{with_linked_end}
 
@@ -77,52 +77,18 @@ new_switch_is linked node ports most none = record {
 -- its links, its lock and its default port may be any
 stays_device : (held : Registers) (links lock port : ℕ) → IsDevice held
     → IsDevice (record held { linked = links; lock = lock; default_port = port })
-stays_device held links lock port is = record {
-  most_ports = is.most_ports;
-  endpoint_ports = is.endpoint_ports;
-  switch_id = is.switch_id;
-  switch_large = is.switch_large;
-  destinations = is.destinations;
-  selected = is.selected;
-}
+stays_device held links lock port is = search rules
 
 module _ (linked : PortRef → Bool) (node : ℕ) (held : Registers) (is : IsNew linked node held) where
   pub routed_is : (id port : ℕ) → IsNew linked node (routed id port held)
-  routed_is id port = record {
-    device = record {
-      most_ports = is.device.most_ports;
-      endpoint_ports = is.device.endpoint_ports;
-      switch_id = is.device.switch_id;
-      switch_large = is.device.switch_large;
-      destinations = length-set held.routes id port ∙ is.device.destinations;
-      selected = is.device.selected;
-    };
-    id = is.id;
-    large_id = is.large_id;
-    lock = is.lock;
-    tag = is.tag;
-    shown = is.shown;
-  }
+  routed_is id port = search (rules, length-set held.routes id port ∙ is.device.destinations)
 
   pub defaulted_is : (port : ℕ) → IsNew linked node (defaulted port held)
-  defaulted_is port = record {
-    device = stays_device held held.linked held.lock port is.device;
-    id = is.id;
-    large_id = is.large_id;
-    lock = is.lock;
-    tag = is.tag;
-    shown = is.shown;
-  }
+  defaulted_is port = search (rules, stays_device held held.linked held.lock port is.device)
 
   pub held_by_is : (id : ℕ) → id < 65536 → IsNew linked node (held_by id held)
-  held_by_is id below = record {
-    device = stays_device held held.linked id held.default_port is.device;
-    id = is.id;
-    large_id = is.large_id;
-    lock = below;
-    tag = is.tag;
-    shown = is.shown;
-  }
+  held_by_is id below =
+      search (rules, stays_device held held.linked id held.default_port is.device)
 
 -- an endpoint has the ID
 large_of : (held : Registers) (id : ℕ) → is_switch held ≡ false → is_switch held ≡ true → id ≡ 0
@@ -130,21 +96,7 @@ large_of held id endpoint switch = absurd (cc)
 
 pub large_set_is : (linked : PortRef → Bool) (node : ℕ) (held : Registers) (id : ℕ) → id < 65536
     → is_switch held ≡ false → IsNew linked node held → IsNew linked node (large_set id held)
-large_set_is linked node held id below endpoint is = record {
-  device = record {
-    most_ports = is.device.most_ports;
-    endpoint_ports = is.device.endpoint_ports;
-    switch_id = is.device.switch_id;
-    switch_large = large_of held id endpoint;
-    destinations = is.device.destinations;
-    selected = is.device.selected;
-  };
-  id = is.id;
-  large_id = below;
-  lock = is.lock;
-  tag = is.tag;
-  shown = is.shown;
-}
+large_set_is linked node held id below endpoint is = search (rules, large_of held id endpoint)
 
 -- another port with a link
 abbrev pub also : (PortRef → Bool) → PortRef → PortRef → Bool

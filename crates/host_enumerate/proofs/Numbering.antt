@@ -15,11 +15,11 @@ use Rattle.host_enumerate.specs.Ends.{IsLockFree}
 use Rattle.host_enumerate.proofs.Starting.{begun, own_askable, own_answers, own_id}
 use Rattle.host_enumerate.proofs.Finishing.{underway-numbered, underway-free}
 
-pub can_read : (topology : Topology) (registers : AllRegisters) (path : List ℕ)
+pub can_read : {topology : Topology} {registers : AllRegisters} {path : List ℕ}
     → IsTopology topology → Fits topology registers → path ≡ []
     → (host_id : ℕ) × (at : PortRef) × IsAskable topology registers host_id path at
     × IsSome (value_at (registers at.node) 0x60 at.port)
-can_read topology registers path proper fits empty = (
+can_read {topology} {registers} {path} proper fits empty = (
   (registers topology.host).base_id,
   port_at topology.host 0,
   subst (λ l. IsAskable topology registers (registers topology.host).base_id l
@@ -46,7 +46,7 @@ pub record AllNumbered (one two : Topology) (now after : AllRegisters) (value : 
   pub is_two : two ≡ one
   pub fits_after : Fits two after
   pub numbered : (before : AllRegisters) → IsUnderway one before now (value / 65536) [] 0 []
-      → (next : ℕ) × IsUnderway one before after (value / 65536) devices next after_all_paths
+      → (next : ℕ) × IsUnderway two before after (value / 65536) devices next after_all_paths
 
 module _ {topology one : Topology} {before now : AllRegisters} {path : List ℕ} {value : ℕ}
     (own : OwnIdRead topology one before now path value) where
@@ -69,8 +69,8 @@ module _ {topology one : Topology} {before now : AllRegisters} {path : List ℕ}
         × IsUnderway topology before after (value / 65536) devices next after_all_paths
     done =
         subst (λ t. (next : ℕ)
-        × IsUnderway t before after (value / 65536) devices next after_all_paths) own.is_one
-        (all.numbered before underway_first)
+        × IsUnderway t before after (value / 65536) devices next after_all_paths)
+        (all.is_two ∙ own.is_one) (all.numbered before underway_first)
 
     fits_now : Fits topology after
     fits_now = subst (λ t. Fits t after) (all.is_two ∙ own.is_one) all.fits_after

@@ -1,5 +1,6 @@
 -- An access along a path that is open is answered, and leaves open what it does not touch.
-use Rattle.std.proofs.Common.{◌≡◌, ◌≢◌, ℕ, ◌-◌, ◌==◌, Bool, true, false, List, [], ◌∷◌, ◌++◌, length, Option, Some, None, arith, refl, sym, ap, subst, ◌∙◌, if◌then◌else◌, eqb-true}
+use Rattle.std.proofs.Common.{◌⊎◌, inl, inr, ◌≡◌, ◌≢◌, ℕ, ◌-◌, ◌==◌, Bool, true, false, List, [], ◌∷◌, ◌++◌, length, Option, Some, None, arith, refl, sym, ap, subst, ◌∙◌, if◌then◌else◌, eqb-true}
+use Rattle.std.proofs.lemmas.Bool.{cases_eq}
 use Rattle.std.proofs.lemmas.Option.{same_Some}
 use Rattle.fabric_script.specs.declared.ports.PortRef.{PortRef}
 use Rattle.fabric_script.specs.Ports.{port_at}
@@ -13,8 +14,8 @@ use Rattle.fabric_map.proofs.Ways.{request_ends, answer_returns}
 use Rattle.host_enumerate.specs.declared.maint.Access.{Access}
 use Rattle.host_enumerate.specs.declared.maint.Access.TheVariants.{Read, Write}
 use Rattle.host_enumerate.specs.Accesses.{after_read, after_access, answered, IsAnswered}
-use Rattle.host_enumerate.proofs.Frames.{with_device-at, with_device-other}
 use Rattle.host_enumerate.specs.Asking.{IsAskable, IsOpenAfter, IsApart, IsWritable, AreSame, Becomes}
+use Rattle.host_enumerate.proofs.Frames.{with_device-at, with_device-other}
 
 pub became : (old new : AllRegisters) (node : ℕ) (held : Registers) → Becomes old new node held
     → new node ≡ held
@@ -25,6 +26,20 @@ pub stays : (old new : AllRegisters) (node other : ℕ) (held : Registers) → B
 stays old new node other held becomes apart =
     becomes other ∙ with_device-other old node other held apart
 
+-- the host keeps its ID if it is not written
+pub base_id_stays : (topology : Topology) (old new : AllRegisters) (node : ℕ) (held : Registers)
+    → Becomes old new node held → (topology.host ≡ node → held.base_id ≡ (old node).base_id)
+    → (new topology.host).base_id ≡ (old topology.host).base_id
+base_id_stays topology old new node held becomes keeps = go (cases_eq topology.host node)
+  where
+    go : (topology.host ≡ node) ⊎ (topology.host ≢ node)
+        → (new topology.host).base_id ≡ (old topology.host).base_id
+    go (inl same) =
+        subst (λ n. (new n).base_id ≡ (old n).base_id) (sym same)
+        (ap (λ (d : Registers). d.base_id) (became old new node held becomes) ∙ keeps same)
+    go (inr apart) =
+        ap (λ (d : Registers). d.base_id) (stays old new node topology.host held becomes apart)
+
 -- what each switch on the way sends by
 unfoldable pub SendsAs : Topology → AllRegisters → AllRegisters → ℕ → List ℕ → Type 0
 SendsAs topology old new host_id path =
@@ -33,11 +48,12 @@ SendsAs topology old new host_id path =
     → (next_port (new at.node) 255 ≡ next_port (old at.node) 255)
     × (next_port (new at.node) host_id ≡ next_port (old at.node) host_id)
 
-pub opened-as : (topology : Topology) (old new : AllRegisters) (host_id : ℕ) (path : List ℕ)
+pub opened-as : {topology : Topology} {old : AllRegisters} (new : AllRegisters) {host_id : ℕ}
+    {path : List ℕ}
     → IsOpened topology old host_id path → SendsAs topology old new host_id path
     → IsOpened topology new host_id path
 unfolding SendsAs
-opened-as topology old new host_id path opened sends = record {
+opened-as {topology} {old} new {host_id} {path} opened sends = record {
   onwards = λ first front rest port at is enters.
       (sends first front rest port at is enters).0
       ∙ opened.onwards first front rest port at is enters;
@@ -47,22 +63,23 @@ opened-as topology old new host_id path opened sends = record {
   not_host = opened.not_host;
 }
 
-pub opened-same : (topology : Topology) (old new : AllRegisters) (host_id : ℕ) (path : List ℕ)
+pub opened-same : {topology : Topology} {old : AllRegisters} (new : AllRegisters) {host_id : ℕ}
+    {path : List ℕ}
     → IsOpened topology old host_id path → AreSame old new → IsOpened topology new host_id path
 unfolding SendsAs
-opened-same topology old new host_id path opened same = opened-as topology old new host_id path
+opened-same {topology} {old} new {host_id} {path} opened same = opened-as new
     opened (λ first front rest port at is enters. (
       ap (λ d. next_port d 255) (same at.node),
       ap (λ d. next_port d host_id) (same at.node),
     ))
 
-pub opened-apart : (topology : Topology) (old new : AllRegisters) (host_id node : ℕ)
-    (held : Registers)
-    (path : List ℕ) → IsOpened topology old host_id path → Becomes old new node held
+pub opened-apart : {topology : Topology} {old : AllRegisters} (new : AllRegisters) {host_id : ℕ}
+    (node : ℕ) (held : Registers)
+    {path : List ℕ} → IsOpened topology old host_id path → Becomes old new node held
     → IsApart topology path node → IsOpened topology new host_id path
 unfolding SendsAs
-opened-apart topology old new host_id node held path opened becomes apart =
-    opened-as topology old new host_id path opened (λ first front rest port at is enters.
+opened-apart {topology} {old} new {host_id} node held {path} opened becomes apart =
+    opened-as new opened (λ first front rest port at is enters.
     let same = stays old new node at.node held becomes
     (apart first front rest port at is enters) in (
       ap (λ d. next_port d 255) same,
@@ -75,14 +92,15 @@ pub at_host : (topology : Topology) (path : List ℕ) (at : PortRef) → length 
 at_host topology [] at none enters = same_Some (port_at topology.host 0) at enters
 at_host topology (x ∷ path) at none enters = absurd (omega (arith, none))
 
-pub answerable : (topology : Topology) (registers : AllRegisters) (host_id : ℕ) (path : List ℕ)
-    (at : PortRef) (access : Access) → IsTopology topology
+pub answerable : {topology : Topology} {registers : AllRegisters} {host_id : ℕ} (path : List ℕ)
+    {at : PortRef} (access : Access) → IsTopology topology
     → IsAskable topology registers host_id path at
     → IsOpenAfter topology registers host_id path at access → length path ≢ 0
     → IsAnswered topology registers 255 (length path - 1) access at
-answerable topology registers host_id [] at access proper askable open_after some =
+answerable [] access proper askable open_after some =
     absurd (some refl)
-answerable topology registers host_id (first ∷ rest) at access proper askable open_after some =
+answerable {topology} {registers} {host_id} (first ∷ rest) {at} access proper askable open_after
+    some =
     record {
       ends = subst (λ n. walk topology registers 255 n (port_at topology.host 0) ≡ Some at)
           shorter (request_ends topology registers host_id first rest at proper askable.opened
@@ -128,15 +146,16 @@ pub open_after_read : (topology : Topology) (registers : AllRegisters) (host_id 
     (at : PortRef) (offset : ℕ) → IsOpened topology registers host_id path
     → IsOpenAfter topology registers host_id path at (Read offset)
 open_after_read topology registers host_id path at offset opened =
-    opened-same topology registers (after_access registers at (Read offset)) host_id path opened
+    opened-same (after_access registers at (Read offset)) opened
     (same_after_read registers (after_access registers at (Read offset)) at offset (λ other. refl))
 
-pub open_after_write : (topology : Topology) (registers : AllRegisters) (host_id : ℕ)
-    (path : List ℕ) (at : PortRef) (offset value : ℕ) (held : Registers)
+pub open_after_write : {topology : Topology} {registers : AllRegisters} {host_id : ℕ}
+    {path : List ℕ} {at : PortRef} {offset value : ℕ} {held : Registers}
     → IsOpened topology registers host_id path
     → IsWritable topology registers path at offset value held
     → IsOpenAfter topology registers host_id path at (Write offset value)
-open_after_write topology registers host_id path at offset value held opened writable =
-    opened-apart topology registers (after_access registers at (Write offset value)) host_id at.node
-    (answered (registers at.node) at.port (Write offset value)).device path opened (λ other. refl)
+open_after_write {topology} {registers} {host_id} {path} {at} {offset} {value} {held} opened
+    writable =
+    opened-apart (after_access registers at (Write offset value)) at.node
+    (answered (registers at.node) at.port (Write offset value)).device opened (λ other. refl)
     writable.apart

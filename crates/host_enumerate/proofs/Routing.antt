@@ -1,5 +1,5 @@
 -- The entries of an ID are set along a path, one switch after another.
-use Rattle.std.proofs.Common.{◌≡◌, ◌≢◌, ℕ, ◌-◌, ◌≤◌, ◌<◌, ◌==◌, Bool, true, false, List, [], ◌∷◌, ◌++◌, length, take, drop, get_or, Option, Some, None, arith, refl, sym, ap, subst, ◌∙◌, eqb-true, append_assoc, append-nil, if◌then◌else◌, ◌&&◌, nat_lt}
+use Rattle.std.proofs.Common.{rules, ◌≡◌, ◌≢◌, ℕ, ◌-◌, ◌≤◌, ◌<◌, ◌==◌, Bool, true, false, List, [], ◌∷◌, ◌++◌, length, take, drop, get_or, Option, Some, None, arith, refl, sym, ap, subst, ◌∙◌, eqb-true, append_assoc, append-nil, if◌then◌else◌, ◌&&◌, nat_lt}
 use Rattle.std.specs.Option.{option_and_then}
 use Rattle.std.proofs.lemmas.Bool.{eqb-false}
 use Rattle.std.proofs.lemmas.List.{take_all}
@@ -14,7 +14,7 @@ use Rattle.fabric_map.specs.Routes.{AllRegisters}
 use Rattle.fabric_map.specs.Ways.{IsOpened}
 use Rattle.host_enumerate.specs.Asking.{IsAskable, IsApart, PassesOnce, Becomes}
 use Rattle.host_enumerate.specs.Setting.{with_entry, PathPasses, AreRouted}
-use Rattle.host_enumerate.proofs.Opening.{SendsAs, opened-as, became, stays, same_end}
+use Rattle.host_enumerate.proofs.Opening.{SendsAs, opened-as, base_id_stays, became, stays, same_end}
 
 -- a path that leads on enters a device before
 along_front : (topology : Topology) (at : PortRef) (front rest : List ℕ) (last : PortRef)
@@ -87,25 +87,26 @@ shorter (x ∷ front) rest port most short = go front (port ∷ rest) most short
         length_of (y ∷ l) m = omega (arith, length_of l m)
 
 -- each switch that a path passes can be asked for itself
-pub passed_askable : (topology : Topology) (registers : AllRegisters) (host_id first port : ℕ)
-    (front rest : List ℕ) (at mid : PortRef)
+pub passed_askable : {topology : Topology} {registers : AllRegisters} {host_id : ℕ} (first port : ℕ)
+    (front rest : List ℕ) {at mid : PortRef}
     → IsAskable topology registers host_id (first ∷ front ++ port ∷ rest) at
     → entered topology (first ∷ front) ≡ Some mid
     → IsAskable topology registers host_id (first ∷ front) mid
-passed_askable topology registers host_id first port front rest at mid askable enters = record {
-  id = askable.id;
-  opened = opened-front topology registers host_id (first ∷ front) (port ∷ rest) askable.opened;
-  leads = enters;
-  not_host = λ is. absurd (askable.opened.not_host first front rest port mid refl enters is);
-  short = shorter (first ∷ front) rest port 64 askable.short;
-}
+passed_askable {topology} {registers} {host_id} first port front rest {at} {mid} askable enters =
+    record {
+      id = askable.id;
+      opened = opened-front topology registers host_id (first ∷ front) (port ∷ rest) askable.opened;
+      leads = enters;
+      not_host = λ is. absurd (askable.opened.not_host first front rest port mid refl enters is);
+      short = shorter (first ∷ front) rest port 64 askable.short;
+    }
 
-pub passed_switch : (topology : Topology) (registers : AllRegisters) (host_id first port : ℕ)
-    (front rest : List ℕ) (at mid : PortRef)
+pub passed_switch : {topology : Topology} {registers : AllRegisters} {host_id : ℕ} (first port : ℕ)
+    (front rest : List ℕ) {at mid : PortRef}
     → IsAskable topology registers host_id (first ∷ front ++ port ∷ rest) at
     → entered topology (first ∷ front) ≡ Some mid
     → is_switch (registers mid.node) ≡ true
-passed_switch topology registers host_id first port front rest at mid askable enters =
+passed_switch {topology} {registers} {host_id} first port front rest {at} {mid} askable enters =
     sends_is_switch (registers mid.node) 255 port
     (askable.opened.onwards first front rest port mid refl enters)
 
@@ -122,8 +123,7 @@ pub opened-entry : (topology : Topology) (old new : AllRegisters) (host_id node 
     → IsOpened topology new host_id path
 unfolding SendsAs
 opened-entry topology old new host_id node id port path opened becomes not_all not_host =
-    opened-as topology old new host_id path opened
-    (λ first front rest by at is enters. go at.node (at.node == node) refl)
+    opened-as new opened (λ first front rest by at is enters. go at.node (at.node == node) refl)
   where
     go : (other : ℕ) (is : Bool) → (other == node) ≡ is
         → (next_port (new other) 255 ≡ next_port (old other) 255)
@@ -141,47 +141,24 @@ opened-entry topology old new host_id node id port path opened becomes not_all n
         (eqb-false other node is) in
         (ap (λ d. next_port d 255) there, ap (λ d. next_port d host_id) there)
 
-pub askable-entry : (topology : Topology) (old new : AllRegisters) (host_id node id port : ℕ)
-    (path : List ℕ) (at : PortRef) → IsAskable topology old host_id path at
+pub askable-entry : {topology : Topology} {old : AllRegisters} (new : AllRegisters) {host_id : ℕ}
+    (node id port : ℕ) {path : List ℕ} {at : PortRef} → IsAskable topology old host_id path at
     → Becomes old new node (with_entry (old node) id port) → 255 ≢ id → host_id ≢ id
     → IsAskable topology new host_id path at
-askable-entry topology old new host_id node id port path at askable becomes not_all not_host =
-    record {
-      id = go (topology.host == node) refl ∙ askable.id;
-      opened = opened-entry topology old new host_id node id port path askable.opened becomes
-          not_all not_host;
-      leads = askable.leads;
-      not_host = askable.not_host;
-      short = askable.short;
-    }
-  where
-    go : (is : Bool) → (topology.host == node) ≡ is
-        → (new topology.host).base_id ≡ (old topology.host).base_id
-    go true is =
-        let same = eqb-true topology.host node is in
-        subst (λ n. (new n).base_id ≡ (old n).base_id) (sym same)
-        (ap (λ (d : Registers). d.base_id)
-        (became old new node (with_entry (old node) id port) becomes))
-    go false is =
-        ap (λ (d : Registers). d.base_id) (stays old new node topology.host
-        (with_entry (old node) id port) becomes (eqb-false topology.host node is))
-
--- no switch is left
-pub routed-none : (topology : Topology) (registers : AllRegisters) (front : List ℕ) (id : ℕ)
-    → AreRouted topology registers registers front [] id
-routed-none topology registers front id = record {
-  passed = λ node port passes. absurd (none passes.0 port passes.1 passes.3);
-  others = λ node not. refl;
-}
-  where
-    none : (mid : List ℕ) (port : ℕ) (later : List ℕ) → [] ≡ mid ++ port ∷ later → ⊥
-    none [] port later same = absurd (cc)
-    none (x ∷ mid) port later same = absurd (cc)
+askable-entry {topology} {old} new {host_id} node id port {path} {at} askable becomes not_all
+    not_host =
+    search (
+      rules,
+      base_id_stays topology old new node (with_entry (old node) id port) becomes (λ _. refl)
+          ∙ askable.id,
+      opened-entry topology old new host_id node id port path askable.opened becomes not_all
+          not_host,
+    )
 
 -- one switch, and then the others
-module _ (topology : Topology) (old mid new : AllRegisters) (first port id : ℕ)
-    (front rest : List ℕ)
-    (at : PortRef)
+module _ {topology : Topology} (old : AllRegisters) {mid new : AllRegisters} {first : ℕ} (port : ℕ)
+    {id : ℕ}
+    (front : List ℕ) {rest : List ℕ} {at : PortRef}
     (once : PassesOnce topology (first ∷ front ++ port ∷ rest))
     (enters : entered topology (first ∷ front) ≡ Some at)
     (one : Becomes old mid at.node (with_entry (old at.node) id port))
@@ -280,15 +257,17 @@ joined front next whole tail port is_next is_whole =
     ∙ (sym (append_assoc front (port ∷ []) tail) ∙ ap (λ l. l ++ tail) (sym is_next))
 
 -- The switch at the front of a path can be asked to send on.
-pub front_askable : (topology : Topology) (registers : AllRegisters) (host_id : ℕ)
-    (front whole tail : List ℕ) (port : ℕ) (at : PortRef) → front ≢ [] → whole ≡ port ∷ tail
+pub front_askable : {topology : Topology} {registers : AllRegisters} {host_id : ℕ}
+    (front : List ℕ) {whole tail : List ℕ} {port : ℕ} {at : PortRef} → front ≢ []
+    → whole ≡ port ∷ tail
     → IsAskable topology registers host_id (front ++ whole) at
     → PassesOnce topology (front ++ whole)
     → (mid : PortRef) × IsAskable topology registers host_id front mid
     × IsApart topology front mid.node × (is_switch (registers mid.node) ≡ true)
-front_askable topology registers host_id [] whole tail port at some is askable once =
+front_askable {topology} {registers} {host_id} [] {whole} {tail} {port} {at} some is askable once =
     absurd (some refl)
-front_askable topology registers host_id (first ∷ front) whole tail port at some is askable once =
+front_askable {topology} {registers} {host_id} (first ∷ front) {whole} {tail} {port}
+    {at} some is askable once =
     go (enters_before topology (first ∷ front) whole at askable.leads)
   where
     asked : IsAskable topology registers host_id (first ∷ front ++ port ∷ tail) at
@@ -299,45 +278,49 @@ front_askable topology registers host_id (first ∷ front) whole tail port at so
         × IsApart topology (first ∷ front) mid.node × (is_switch (registers mid.node) ≡ true)
     go (mid, enters) = (
       mid,
-      passed_askable topology registers host_id first port front tail at mid asked enters,
+      passed_askable first port front tail asked enters,
       once first front tail port mid (ap (λ l. first ∷ front ++ l) is) enters,
-      passed_switch topology registers host_id first port front tail at mid asked enters,
+      passed_switch first port front tail asked enters,
     )
 
 -- and when it was, so can the next one
-pub next_askable : (topology now : Topology) (old new : AllRegisters) (host_id id : ℕ)
-    (front next whole tail : List ℕ) (port : ℕ) (at mid : PortRef) → now ≡ topology
+pub next_askable : {topology now : Topology} {old : AllRegisters} (new : AllRegisters) {host_id : ℕ}
+    (id : ℕ) (front : List ℕ) {next whole tail : List ℕ} {port : ℕ} {at : PortRef} (mid : PortRef)
+    → now ≡ topology
     → next ≡ onward front port → whole ≡ port ∷ tail → id < 255 → host_id ≢ id
     → IsAskable topology old host_id (front ++ whole) at
     → Becomes old new mid.node (with_entry (old mid.node) id port)
     → IsAskable now new host_id (next ++ tail) at
-next_askable topology now old new host_id id front next whole tail port at mid is_now is_next is
+next_askable {topology} {now} {old} new {host_id} id front {next} {whole} {tail} {port}
+    {at} mid is_now is_next is
     fits not_host askable becomes =
     subst (λ t. IsAskable t new host_id (next ++ tail) at) (sym is_now)
-    (askable-entry topology old new host_id mid.node id port (next ++ tail) at
-    (subst (λ l. IsAskable topology old host_id l at)
+    (askable-entry new mid.node id port (subst (λ l. IsAskable topology old host_id l at)
     (joined front next whole tail port is_next is) askable) becomes
     (λ same. absurd (omega (arith, same, fits))) not_host)
 
-pub next_once : (topology now : Topology) (front next whole tail : List ℕ) (port : ℕ)
+pub next_once : {topology now : Topology} (front : List ℕ) {next whole tail : List ℕ} {port : ℕ}
     → now ≡ topology → next ≡ onward front port → whole ≡ port ∷ tail
     → PassesOnce topology (front ++ whole) → PassesOnce now (next ++ tail)
-next_once topology now front next whole tail port is_now is_next is once =
+next_once {topology} {now} front {next} {whole} {tail} {port} is_now is_next is once =
     subst (λ t. PassesOnce t (next ++ tail)) (sym is_now)
     (subst (λ l. PassesOnce topology l) (joined front next whole tail port is_next is) once)
 
-pub routed-step : (topology now : Topology) (old mid new : AllRegisters) (id port : ℕ)
-    (front next whole tail : List ℕ) (at : PortRef) → front ≢ [] → now ≡ topology
+pub routed-step : {topology now : Topology} (old : AllRegisters) {mid new : AllRegisters}
+    {id port : ℕ}
+    (front : List ℕ) {next whole tail : List ℕ} {at : PortRef} → front ≢ [] → now ≡ topology
     → next ≡ onward front port → whole ≡ port ∷ tail → PassesOnce topology (front ++ whole)
     → entered topology front ≡ Some at
     → Becomes old mid at.node (with_entry (old at.node) id port)
     → AreRouted now mid new next tail id → AreRouted topology old new front whole id
-routed-step topology now old mid new id port [] next whole tail at some is_now is_next is once
+routed-step {topology} {now} old {mid} {new} {id} {port} [] {next} {whole} {tail}
+    {at} some is_now is_next is once
     enters one others = absurd (some refl)
-routed-step topology now old mid new id port (first ∷ front) next whole tail at some is_now is_next
+routed-step {topology} {now} old {mid} {new} {id} {port} (first ∷ front) {next} {whole} {tail}
+    {at} some is_now is_next
     is once enters one others =
     subst (λ l. AreRouted topology old new (first ∷ front) l id) (sym is)
-    (routed-one topology old mid new first port id front tail at
+    (routed-one old port front
     (subst (λ l. PassesOnce topology (first ∷ front ++ l)) is once) enters one
     (subst (λ l. AreRouted topology mid new l tail id) is_next
     (subst (λ t. AreRouted t mid new next tail id) is_now others)))

@@ -10,10 +10,10 @@ use Rattle.fabric_map.specs.Topology.{Topology, IsTopology, entered}
 use Rattle.fabric_map.specs.Routes.{AllRegisters}
 use Rattle.fabric_map.specs.Fitting.{Fits}
 use Rattle.fabric_map.proofs.Few.{entered-inside}
+use Rattle.fabric_map.proofs.Few.{entered-port}
 use Rattle.host_enumerate.specs.Asking.{IsAskable, IsApart, IsWritable, AreSame, Becomes}
 use Rattle.host_enumerate.specs.Setting.{with_entry, IsSameBut, IsCleared, SwitchIsSetUp}
 use Rattle.host_enumerate.proofs.Frames.{with_device-itself}
-use Rattle.fabric_map.proofs.Few.{entered-port}
 use Rattle.host_enumerate.proofs.Opening.{became}
 use Rattle.host_enumerate.proofs.Entries.{Leaves, becomes-twice, askable-written}
 use Rattle.host_enumerate.proofs.Clearing.{same_but-itself, same_but-entry, is_switch-kind, destinations_of}
@@ -25,12 +25,12 @@ pub record IsInformed (device : Registers) (port information : ℕ) : Type 0 whe
   pub few_ports : information / 0x100 < 256
   pub few : port < 256
 
-pub informed : (topology : Topology) (registers : AllRegisters) (path : List ℕ) (at : PortRef)
-    (information : ℕ) → IsTopology topology → Fits topology registers
+pub informed : {topology : Topology} {registers : AllRegisters} (path : List ℕ) {at : PortRef}
+    {information : ℕ} → IsTopology topology → Fits topology registers
     → entered topology path ≡ Some at → is_switch (registers at.node) ≡ true
     → value_at (registers at.node) 0x14 at.port ≡ Some information
     → IsInformed (registers at.node) at.port information
-informed topology registers path at information proper fits enters is told = record {
+informed {topology} {registers} path {at} {information} proper fits enters is told = record {
   ports = omega (arith, same, few);
   entry = omega (arith, same, few);
   few_ports = omega (arith, same, few, many);
@@ -63,7 +63,7 @@ pub stage_askable : {topology now : Topology} {old new : AllRegisters} {host_id 
     × (is_switch (new at.node) ≡ true)
 stage_askable {topology} {now} {old} {new} {host_id} {path} {at} {held} askable apart is stage = (
   subst (λ t. IsAskable t new host_id path at) (sym stage.stays)
-      (askable-written topology old new host_id path at held askable stage.becomes apart
+      (askable-written new held askable stage.becomes apart
       (λ _. ap (λ (d : Registers). d.base_id) stage.same.rest)),
   subst (λ t. IsApart t path at.node) (sym stage.stays) apart,
   ap is_switch (became old new at.node held stage.becomes)
@@ -80,11 +80,11 @@ stage_read {topology} {now} {old} {new} at is_now same = record {
 }
 
 pub default-writable : (topology : Topology) (registers : AllRegisters) (path : List ℕ)
-    (at : PortRef) (value port : ℕ) → value ≡ port → port < 256
+    (at : PortRef) {value port : ℕ} → value ≡ port → port < 256
     → is_switch (registers at.node) ≡ true → IsApart topology path at.node
     → IsWritable topology registers path at 0x78 value
     (record (registers at.node) { default_port = port })
-default-writable topology registers path at value port is fits kind apart = record {
+default-writable topology registers path at {value} {port} is fits kind apart = record {
   written = default_port-written (registers at.node) value kind
       ∙ ap (λ n. Some (record (registers at.node) { default_port = n }))
       (ap (λ n. n % 0x100) is ∙ omega (arith, fits));
@@ -144,16 +144,16 @@ stage_cleared {topology} {first} {second} {old} {mid} {new} {host_id} {at} {base
         cleared
 
 -- and the entry of the host's ID is set
-pub set_up : (topology first : Topology) (old mid new : AllRegisters) (host_id : ℕ)
-    (path : List ℕ) (at : PortRef) (port : ℕ) (held : Registers) → IsTopology topology
+pub set_up : {topology first : Topology} {old mid : AllRegisters} (new : AllRegisters) {host_id : ℕ}
+    (path : List ℕ) {at : PortRef} {port : ℕ} {held : Registers} → IsTopology topology
     → Fits topology old → host_id < 255 → port ≡ at.port → entered topology path ≡ Some at
     → IsStage topology first old mid at held
     → IsCleared host_id 63 (record (old at.node) { default_port = at.port }) held
     → Becomes mid new at.node (with_entry (mid at.node) host_id port)
     → Becomes old new at.node (with_entry held host_id at.port)
     × SwitchIsSetUp host_id at.port (old at.node) (with_entry held host_id at.port)
-set_up topology first old mid new host_id path at port held proper fits below is enters stage
-    cleared becomes = (
+set_up {topology} {first} {old} {mid} new {host_id} path {at} {port} {held} proper fits below is
+    enters stage cleared becomes = (
       becomes-twice old mid new at.node held (with_entry held host_id at.port) stage.becomes
           (subst (λ d. Becomes mid new at.node d) there becomes),
       record {
@@ -164,8 +164,7 @@ set_up topology first old mid new host_id path at port held proper fits below is
               arith,
               below,
               cleared.destinations,
-              destinations_of topology old path at proper
-                  fits enters,
+              destinations_of path proper fits enters,
             ));
         cleared = λ id less other.
             entry-set_other held.routes host_id id at.port other ∙ cleared.cleared id less other;

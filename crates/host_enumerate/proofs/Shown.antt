@@ -1,6 +1,6 @@
 -- What registers show of a kind, and which paths stay open while IDs are given.
 use Rattle.std.proofs.Common.{◌≡◌, ◌≢◌, ℕ, ◌+◌, ◌<◌, ◌≤◌, ◌⊎◌, inl, inr, true, false, List, [], ◌∷◌, ◌++◌, Option, Some, None, unwrap_or, arith, refl, sym, ap, subst, ◌∙◌, eq-eqb, ne_eqb, if◌then◌else◌}
-use Rattle.std.proofs.lemmas.Bool.{cases_eq}
+use Rattle.std.proofs.lemmas.Bool.{cases_eq, false≢true}
 use Rattle.fabric_script.specs.declared.ports.PortRef.{PortRef}
 use Rattle.maint_registers.specs.Devices.{is_switch}
 use Rattle.maint_registers.specs.Routes.{next_port}
@@ -14,13 +14,13 @@ use Rattle.host_enumerate.proofs.Opening.{SendsAs, opened-as}
 use Rattle.host_enumerate.proofs.Routing.{entry_sends}
 
 -- the path stays open if the entries of an ID are set along it
-pub opened-routed : (topology : Topology) (old new : AllRegisters) (host_id id first : ℕ)
-    (rest : List ℕ) → IsOpened topology old host_id (first ∷ rest)
+pub opened-routed : {topology : Topology} {old new : AllRegisters} {host_id id first : ℕ}
+    {rest : List ℕ} → IsOpened topology old host_id (first ∷ rest)
     → AreRouted topology old new (first ∷ []) rest id → 255 ≢ id → host_id ≢ id
     → IsOpened topology new host_id (first ∷ rest)
 unfolding SendsAs
-opened-routed topology old new host_id id first rest opened routed not_all not_host =
-    opened-as topology old new host_id (first ∷ rest) opened sends
+opened-routed {topology} {old} {new} {host_id} {id} {first} {rest} opened routed not_all not_host =
+    opened-as new opened sends
   where
     sends : (x : ℕ) (front later : List ℕ) (port : ℕ) (at : PortRef)
         → first ∷ rest ≡ x ∷ front ++ port ∷ later → entered topology (x ∷ front) ≡ Some at
@@ -46,17 +46,14 @@ opened-routed topology old new host_id id first rest opened routed not_all not_h
         is_first = cc
 
 -- registers show a switch where there is one
-pub switch_shown : (topology : Topology) (registers : AllRegisters) (node : ℕ)
+pub switch_shown : {topology : Topology} {registers : AllRegisters} (node : ℕ)
     → Fits topology registers → node < topology.nodes → is_switch (registers node) ≡ true
     → topology.switch_ports node ≡ Some (registers node).ports
-switch_shown topology registers node fits inside is = go (topology.switch_ports node) refl
+switch_shown {topology} {registers} node fits inside is = go (topology.switch_ports node) refl
   where
     go : (o : Option ℕ) → topology.switch_ports node ≡ o
         → topology.switch_ports node ≡ Some (registers node).ports
-    go None none = absurd (differ (sym is ∙ fits.endpoints node inside none))
-      where
-        differ : true ≡ false → ⊥
-        differ same = absurd (cc)
+    go None none = absurd (false≢true (sym (fits.endpoints node inside none) ∙ is))
     go (Some ports) some =
         some ∙ ap (λ n. Some n)
         (sym (fits.ports node inside ∙ ap (λ o. unwrap_or o 1) some))
@@ -68,10 +65,7 @@ endpoint_shown topology registers node fits inside is = go (topology.switch_port
   where
     go : (o : Option ℕ) → topology.switch_ports node ≡ o → topology.switch_ports node ≡ None
     go None none = none
-    go (Some ports) some = absurd (differ (sym is ∙ fits.switches node ports inside some))
-      where
-        differ : false ≡ true → ⊥
-        differ same = absurd (cc)
+    go (Some ports) some = absurd (false≢true (sym is ∙ fits.switches node ports inside some))
 
 -- the ID that is given is another than these
 pub id_after-apart : (host_id next : ℕ) → next < 254 → (255 ≢ id_after host_id next)

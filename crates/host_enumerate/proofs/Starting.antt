@@ -1,5 +1,5 @@
 -- A walk begins with the host and its neighbour.
-use Rattle.std.proofs.Common.{◌≡◌, ◌+◌, ◌≢◌, ℕ, ◌<◌, ◌*◌, ◌/◌, inr, List, [], ◌∷◌, ◌++◌, Contains, Option, Some, None, IsSome, arith, refl, sym, subst, ◌∙◌}
+use Rattle.std.proofs.Common.{◌≡◌, ◌+◌, ℕ, ◌<◌, ◌*◌, ◌/◌, inr, List, [], ◌∷◌, Contains, Option, Some, None, IsSome, arith, refl, sym, subst, ◌∙◌}
 use Rattle.std.proofs.lemmas.List.Elements.{Contains-push}
 use Rattle.std.proofs.lemmas.Option.{same_Some}
 use Rattle.fabric_script.specs.declared.ports.PortRef.{PortRef}
@@ -10,20 +10,23 @@ use Rattle.fabric_map.specs.declared.map.Kind.{Kind}
 use Rattle.fabric_map.specs.declared.map.Kind.TheVariants.{Endpoint, Switch}
 use Rattle.fabric_map.specs.declared.map.Device.{Device}
 use Rattle.fabric_map.specs.Topology.{Topology, IsTopology, entered}
-use Rattle.fabric_map.specs.Walked.{onward, IsMet, after_all_paths}
+use Rattle.fabric_map.specs.Walked.{onward, after_all_paths}
 use Rattle.fabric_map.specs.Routes.{AllRegisters}
 use Rattle.fabric_map.specs.Fitting.{Fits}
-use Rattle.fabric_map.specs.Ways.{IsOpened}
 use Rattle.fabric_map.specs.Locked.{IsNext}
-use Rattle.fabric_map.specs.Numbered.{paths_of}
+use Rattle.fabric_map.specs.Numbered.{paths_of, IsDescribed}
 use Rattle.fabric_map.proofs.Lists.{not_in_empty}
 use Rattle.fabric_map.proofs.Steps.{begins}
 use Rattle.fabric_map.proofs.Leading.{followed-host, some_from_same}
 use Rattle.fabric_map.proofs.Growing.{path_listed, described-listed, described-switch, described-endpoint}
+use Rattle.host_enumerate.specs.declared.maint.Maint.{Ghosts}
+use Rattle.host_enumerate.specs.declared.taking.Numbering.{Numbering}
 use Rattle.host_enumerate.specs.Asking.{IsAskable, AreSame}
 use Rattle.host_enumerate.specs.Underway.{met_as, AreUntagged, IsUnderway}
+use Rattle.host_enumerate.specs.Carrying.{IsNumbering}
 use Rattle.host_enumerate.specs.TakingIn.{IsTried}
-use Rattle.host_enumerate.specs.Founds.{IsFound}
+use Rattle.host_enumerate.specs.Founds.{IsFound, HasFound}
+use Rattle.host_enumerate.proofs.Tried.{PathTried}
 use Rattle.host_enumerate.proofs.Counting.{counted-none}
 use Rattle.host_enumerate.proofs.Stepping.{entered-linked, followed-ports, followed-none, underway-past, underway-closed}
 use Rattle.host_enumerate.proofs.Askable.{opened-empty, opened-first, not_host-first}
@@ -47,10 +50,10 @@ begun topology before now host_id proper id has untagged same = record {
 }
 
 -- the host asks itself
-pub host_askable : (topology : Topology) (before now : AllRegisters) (host_id : ℕ)
+pub host_askable : {topology : Topology} {before now : AllRegisters} {host_id : ℕ}
     → IsUnderway topology before now host_id [] 0 []
     → IsAskable topology now host_id [] (port_at topology.host 0)
-host_askable topology before now host_id underway =
+host_askable {topology} {before} {now} {host_id} underway =
     askable-host topology before now host_id 0 [] [] underway
 
 -- the host's own ID can be read
@@ -88,15 +91,14 @@ own_id topology registers value proper fits told =
         (fits.endpoints topology.host proper.host proper.host_is_endpoint))
 
 -- the host is met
-pub host_met : (topology : Topology) (before now : AllRegisters) (host_id next_after : ℕ)
-    (devices_after : List Device) (path : List ℕ) (kind : Option Kind) → path ≡ []
-    → IsTried topology before now host_id [] devices_after 0 next_after path kind
-    → IsUnderway topology before now host_id devices_after next_after (0 ∷ [])
-host_met topology before now host_id next_after devices_after path None empty tried =
-    absurd (not_in_empty tried.3.met_on tried.3.listed)
-host_met topology before now host_id next_after devices_after path (Some kind) empty tried =
-    subst (λ l. IsUnderway topology before now host_id devices_after next_after (onward l 0)) empty
-    tried.1
+pub host_met : {S : Type 0} (m : Ghosts S) {met : S} (none numbering : Numbering) {path : List ℕ}
+    {before : AllRegisters} (kind : Option Kind) → none.devices.items ≡ [] → path ≡ []
+    → IsTried m met none numbering path before kind → IsNumbering m met numbering (0 ∷ []) before
+host_met m none numbering None is_none empty tried =
+    absurd (not_in_empty tried.3.met_on
+    (subst (λ l. Contains (paths_of l) tried.3.met_on) (tried.0 ∙ is_none) tried.3.listed))
+host_met m {met = met} none numbering {before = before} (Some kind) is_none empty tried =
+    subst (λ l. IsNumbering m met numbering (onward l 0) before) empty tried.1
 
 -- its neighbour is entered
 pub first_enters : (topology : Topology) → IsTopology topology
@@ -113,8 +115,8 @@ first_enters topology proper = go (topology.peer (port_at topology.host 0)) refl
           (subst (λ n. 0 < n) (sym (followed-host topology)) (omega arith)) link,
     )
 
-module _ (topology : Topology) (before now : AllRegisters) (host_id next : ℕ)
-    (devices : List Device)
+module _ {topology : Topology} {before now : AllRegisters} {host_id next : ℕ}
+    {devices : List Device}
     (underway : IsUnderway topology before now host_id devices next (0 ∷ [])) where
   pub first_next : IsNext (paths_of devices) (0 ∷ [])
   first_next = inr ([], 0, underway.walked.host_met tt, refl)
@@ -127,72 +129,81 @@ module _ (topology : Topology) (before now : AllRegisters) (host_id next : ℕ)
       first_next (opened-first topology now host_id 0) enters.1
       (not_host-first topology enters.0 underway.proper enters.1)
 
-module _ (topology : Topology) (before now : AllRegisters) (host_id next : ℕ)
-    (devices : List Device)
-    (proper : IsTopology topology) where
-  other_node : (at : PortRef) → entered topology (0 ∷ []) ≡ Some at → at.node ≢ topology.host
-  other_node at enters = not_host-first topology at proper enters
+-- it was tried
+module _ {S : Type 0} {m : Ghosts S} {met after : S} {numbering last : Numbering}
+    {answer : Option Kind}
+    (second : PathTried m met after numbering last (0 ∷ []) answer)
+    (some : (before : AllRegisters) × IsNumbering m met numbering (0 ∷ []) before) where
+  -- it was met before: there is nothing else
+  pub first_past : answer ≡ None → (before : AllRegisters)
+      → IsNumbering m met numbering (0 ∷ []) before
+      → IsNumbering m after last after_all_paths before
+  first_past is before underway =
+      let known = subst (λ a. IsTried m after numbering last (0 ∷ []) before a) is
+      (second.tried before underway) in
+      underway-past (m.topology after) before (m.registers after) last.host_id last.next_id
+      last.devices.items [] 0 known.2 (known.2.walked.host_met tt) (λ _. known.3)
 
-  -- the neighbour was met: there is nothing else
-  pub first_past : (devices_after : List Device) (next_after : ℕ)
-      → (devices_after ≡ devices) × (next_after ≡ next)
-      × IsUnderway topology before now host_id devices next (0 ∷ [])
-      × IsMet topology (paths_of devices) (0 ∷ [])
-      → IsUnderway topology before now host_id devices_after next_after after_all_paths
-  first_past devices_after next_after (same, same_next, underway, met) =
-      subst (λ l. IsUnderway topology before now host_id l next_after after_all_paths) (sym same)
-      (subst (λ n. IsUnderway topology before now host_id devices n after_all_paths)
-      (sym same_next)
-      (underway-past topology before now host_id next devices [] 0 underway
-      (underway.walked.host_met tt) (λ _. met)))
+  module _ {kind : Kind} (is : answer ≡ Some kind) where
+    abbrev device : Device
+    device = met_as numbering.devices.items kind (0 ∷ [])
 
-  module _ (devices_after : List Device) (next_after : ℕ) (kind : Kind)
-      (longer : devices_after ≡ devices ++ met_as devices kind (0 ∷ []) ∷ [])
-      (underway : IsUnderway topology before now host_id devices_after next_after
-      (onward (0 ∷ []) 0)) where
-    listed : Contains devices_after (met_as devices kind (0 ∷ []))
-    listed = subst (λ l. Contains l (met_as devices kind (0 ∷ []))) (sym longer)
-        (Contains-push devices (met_as devices kind (0 ∷ [])))
+    pub first_underway : (before : AllRegisters) → IsNumbering m met numbering (0 ∷ []) before
+        → IsNumbering m after last (onward (0 ∷ []) 0) before
+    first_underway before underway =
+        (subst (λ a. IsTried m after numbering last (0 ∷ []) before a) is
+        (second.tried before underway)).1
+
+    underway_now : IsNumbering m after last (onward (0 ∷ []) 0) some.0
+    underway_now = first_underway some.0 some.1
+
+    listed : Contains last.devices.items device
+    listed =
+        subst (λ l. Contains l device)
+        (sym (subst (λ a. IsTried m after numbering last (0 ∷ []) some.0 a) is
+        (second.tried some.0 some.1)).0) (Contains-push numbering.devices.items device)
+
+    described : (earlier : List Device)
+        × IsDescribed (m.topology after) last.host_id earlier device
+    described = described-listed (m.topology after) last.host_id [] last.devices.items device
+        underway_now.described listed
 
     -- it is an endpoint
-    pub first_endpoint : (id : ℕ) → kind ≡ Endpoint id
-        → IsUnderway topology before now host_id devices_after next_after after_all_paths
-    first_endpoint id is =
-        let described = described-listed topology host_id [] devices_after
-        (met_as devices kind (0 ∷ [])) underway.described listed in
-        let shown = described-endpoint topology host_id id described.0
-        (met_as devices kind (0 ∷ [])) described.1 is in
-        underway-closed topology before now host_id next_after devices_after [] shown.0 0 0 underway
-        shown.1 (followed-none topology shown.0.node (other_node shown.0 shown.1) shown.2)
+    pub first_endpoint : {id : ℕ} → kind ≡ Endpoint id → (before : AllRegisters)
+        → IsNumbering m met numbering (0 ∷ []) before
+        → IsNumbering m after last after_all_paths before
+    first_endpoint {id} is_endpoint before underway =
+        let shown = described-endpoint (m.topology after) last.host_id id described.0 device
+        described.1 is_endpoint in
+        underway-closed (m.topology after) before (m.registers after) last.host_id last.next_id
+        last.devices.items [] shown.0 0 0 (first_underway before underway) shown.1
+        (followed-none (m.topology after) shown.0.node
+        (not_host-first (m.topology after) shown.0 underway_now.proper shown.1) shown.2)
 
     -- it is a switch
-    pub first_found : (ports entry : ℕ) → kind ≡ Switch ports entry
-        → IsOpened topology now host_id (0 ∷ [])
-        → IsFound topology now host_id devices_after
-        record { path = 0 ∷ []; ports = ports; entry = entry }
-    first_found ports entry is opened =
-        let described = described-listed topology host_id [] devices_after
-        (met_as devices kind (0 ∷ [])) underway.described listed in
-        let shown = described-switch topology host_id ports entry described.0
-        (met_as devices kind (0 ∷ [])) described.1 is in
+    pub first_found : {ports entry : ℕ} → kind ≡ Switch ports entry
+        → HasFound m after last record { path = 0 ∷ []; ports = ports; entry = entry }
+    first_found {ports} {entry} is_switch =
+        let shown = described-switch (m.topology after) last.host_id ports entry described.0 device
+        described.1 is_switch in
         record {
           at = shown.0;
           leads = shown.1;
           switch = shown.2;
           entry = sym shown.3;
           away = λ empty. absurd (cc);
-          listed = path_listed devices_after (met_as devices kind (0 ∷ [])) listed;
-          opened = opened;
+          listed = path_listed last.devices.items device listed;
+          opened = second.opened;
         }
 
 -- all ports of the neighbour are tried
-pub first_done : (topology : Topology) (before now : AllRegisters) (host_id next ports entry : ℕ)
-    (devices : List Device)
-    → IsUnderway topology before now host_id devices next (onward (0 ∷ []) ports)
+pub first_done : {topology : Topology} {before now : AllRegisters} {host_id next ports entry : ℕ}
+    {devices : List Device}
     → IsFound topology now host_id devices
     record { path = 0 ∷ []; ports = ports; entry = entry }
+    → IsUnderway topology before now host_id devices next (onward (0 ∷ []) ports)
     → IsUnderway topology before now host_id devices next after_all_paths
-first_done topology before now host_id next ports entry devices underway found =
+first_done {topology} {before} {now} {host_id} {next} {ports} {entry} {devices} found underway =
     underway-closed topology before now host_id next devices [] found.at 0 ports underway
     found.leads
     (followed-ports topology found.at.node ports

@@ -1,5 +1,5 @@
 -- Which path is tried next: past a port, behind a device that was taken in, and back.
-use Rattle.std.proofs.Common.{◌≡◌, ◌≢◌, ℕ, ◌+◌, ◌<◌, nat_lt, Bool, true, false, List, [], Option, Some, None, IsSome, option_map, Contains, inr, subst, sym, refl, ap, ◌∙◌, if◌then◌else◌, ne_eqb, lt-ltb}
+use Rattle.std.proofs.Common.{rules, ◌≡◌, ◌≢◌, ℕ, ◌+◌, ◌<◌, nat_lt, Bool, true, false, List, [], Option, Some, None, IsSome, option_map, Contains, inr, subst, sym, refl, ap, ◌∙◌, if◌then◌else◌, ne_eqb, lt-ltb}
 use Rattle.std.specs.Option.{option_and_then}
 use Rattle.fabric_script.specs.declared.ports.PortRef.{PortRef}
 use Rattle.fabric_script.specs.Ports.{port_at}
@@ -98,18 +98,7 @@ module _ (topology : Topology) (before now : AllRegisters) (host_id next : ℕ)
       → IsUnderway topology before now host_id devices next bound
       → Walked topology (paths_of devices) later
       → IsUnderway topology before now host_id devices next later
-  underway-bound bound later underway walked = record {
-    proper = underway.proper;
-    id = underway.id;
-    host_has_id = underway.host_has_id;
-    untagged = underway.untagged;
-    walked = walked;
-    described = underway.described;
-    counted = underway.counted;
-    short = underway.short;
-    held = underway.held;
-    others = underway.others;
-  }
+  underway-bound bound later underway walked = search rules
 
   -- past a port behind which nothing is, or what is met
   pub underway-past : (path : List ℕ) (port : ℕ)

@@ -25,6 +25,7 @@ use Rattle.fabric_map.proofs.Fronts.{not_before_empty, passed_listed}
 use Rattle.fabric_map.proofs.Given.{has_id-endpoint}
 use Rattle.host_enumerate.specs.Setting.{with_entry, PathPasses, AreRouted}
 use Rattle.host_enumerate.specs.Underway.{id_after, met_as, IsHeld, IsUnmet, IsUnderway}
+use Rattle.host_enumerate.proofs.Askable.{never_empty}
 use Rattle.host_enumerate.proofs.Counting.{id_after-few, counted-endpoint, counted-least}
 use Rattle.host_enumerate.proofs.Lengthening.{held-beside, held-passed, held-endpoint, underway-taken}
 use Rattle.host_enumerate.proofs.TakingSwitch.{IsTaken}
@@ -189,13 +190,10 @@ module _ (topology : Topology) (before now mid after : AllRegisters) (host_id ne
       node_at-entered topology (first ∷ p) passes.2 passes.4 ∙ ap (λ n. Some n) passes.5 in
       let equal = underway.walked.once member.path (first ∷ p)
       (path_listed devices member listed) front (same ∙ sym leads) in (
-        λ empty. not_empty p (sym empty ∙ equal),
+        λ empty. never_empty first p (sym empty ∙ equal),
         ap (λ l. toward l (first ∷ rest)) equal
             ∙ (ap (λ l. toward (first ∷ p) l) way ∙ toward-further (first ∷ p) port later),
       )
-    where
-      not_empty : (p : List ℕ) → ¬ ([] ≡ first ∷ p)
-      not_empty p same = absurd (cc)
 
   -- a device that is not passed stays
   unpassed : (node : ℕ) → node ≢ at.node
@@ -266,7 +264,7 @@ module _ (topology : Topology) (before now mid after : AllRegisters) (host_id ne
           subst (λ d. IsHeld host_id (devices ++ endpoint ∷ []) member (before node) d)
           (ap (λ d. with_entry d id port) (sym (beside node apart))
           ∙ sym (routed.passed node port (passes_from_toward member node port same some leads)))
-          (held-passed host_id devices endpoint member (before node) (now node) held id port refl
+          (held-passed endpoint held id port refl
           least.free leads (few_ids member is_switch.0 is_switch.1 listed is_switch.2)
           not_host_id (fits.devices node inside).destinations)
 
@@ -281,12 +279,10 @@ module _ (topology : Topology) (before now mid after : AllRegisters) (host_id ne
           → toward member.path (first ∷ rest) ≡ o
           → IsHeld host_id (devices ++ endpoint ∷ []) member (before node) (after node)
       go p None is leads =
-          stays (none leads) (held-beside host_id devices endpoint member (before node) (now node)
-          held id refl least.free leads)
+          stays (none leads) (held-beside endpoint held id refl least.free leads)
       go [] (Some port) is leads =
           stays (host_path is)
-          (held-endpoint host_id devices endpoint member (before node) (now node)
-          held (host_kind is))
+          (held-endpoint endpoint held (host_kind is))
         where
           host_kind : member.path ≡ [] → (given : ℕ) × (member.kind ≡ Endpoint given)
           host_kind is =
@@ -297,10 +293,8 @@ module _ (topology : Topology) (before now mid after : AllRegisters) (host_id ne
               (same_Some described.1.at (port_at topology.host 0)
               (sym described.1.path ∙ ap (λ l. entered topology l) is))
               ∙ underway.proper.host_is_endpoint)
-      go (x ∷ p) (Some port) is leads = passed port leads (λ empty. not_empty (sym empty ∙ is))
-        where
-          not_empty : ¬ ([] ≡ x ∷ p)
-          not_empty same = absurd (cc)
+      go (x ∷ p) (Some port) is leads =
+          passed port leads (λ empty. never_empty x p (sym empty ∙ is))
 
   -- An endpoint is taken in, and the switches on the way send to it.
   pub underway-endpoint : IsTaken host_id devices (before at.node) (mid at.node)
@@ -309,8 +303,7 @@ module _ (topology : Topology) (before now mid after : AllRegisters) (host_id ne
       (devices ++ met_as devices (Endpoint id) (first ∷ rest) ∷ []) (id + 1)
       (onward (first ∷ rest) 0)
   underway-endpoint taken base =
-      underway-taken topology before now after host_id next (id + 1) devices endpoint at underway
-      is_next enters unmet described
+      underway-taken after (id + 1) endpoint underway is_next enters unmet described
       (counted-endpoint host_id next id devices host.0 endpoint underway.counted host.1 is_id refl)
       held-member
       (subst (λ d. IsHeld host_id (devices ++ endpoint ∷ []) endpoint (before at.node) d)

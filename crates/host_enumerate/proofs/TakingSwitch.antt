@@ -15,9 +15,9 @@ use Rattle.fabric_map.specs.Numbered.{paths_of, port_toward, IsKindAt, IsDescrib
 use Rattle.fabric_map.proofs.Lists.{Contains-first, not_in_empty}
 use Rattle.fabric_map.proofs.Branches.{port_toward-unbegun, port_toward-other}
 use Rattle.fabric_map.proofs.Growing.{device_on, node_at-entered}
+use Rattle.fabric_map.proofs.Given.{has_id-switch}
 use Rattle.host_enumerate.specs.Setting.{SwitchIsSetUp}
 use Rattle.host_enumerate.specs.Underway.{met_as, IsHeld, IsUnmet, IsUnderway}
-use Rattle.fabric_map.proofs.Given.{has_id-switch}
 use Rattle.host_enumerate.proofs.Counting.{counted-switch, counted-host}
 use Rattle.host_enumerate.proofs.Lengthening.{held-switch, underway-taken}
 
@@ -74,15 +74,13 @@ module _ (topology : Topology) (before now after : AllRegisters) (host_id next :
       → IsUnderway topology before after host_id
       (devices ++ met_as devices (Switch ports at.port) path ∷ []) next (onward path 0)
   underway-switch ports mid is taken set_up others =
-      underway-taken topology before now after host_id next next devices switch at underway
-      is_next enters unmet described
+      underway-taken after next switch underway is_next enters unmet described
       (counted-switch host_id next ports at.port devices host.0 switch underway.counted host.1
       refl)
       (λ member node listed same.
       subst (λ d. IsHeld host_id (devices ++ switch ∷ []) member (before node) d)
       (sym (others node (λ equal. unmet member listed (same ∙ ap (λ n. Some n) equal))))
-      (held-switch host_id devices switch member (before node) (now node)
-      (underway.held member node listed same) ports at.port refl))
+      (held-switch switch (underway.held member node listed same) ports at.port refl))
       new (λ node none apart. others node apart)
     where
       switch : Device
@@ -149,7 +147,7 @@ pub underway-host : (topology : Topology) (before now after : AllRegisters) (hos
     → ((node : ℕ) → node ≢ topology.host → after node ≡ now node)
     → IsUnderway topology before after host_id (met_as [] (Endpoint host_id) [] ∷ []) 0 (0 ∷ [])
 underway-host topology before now after host_id underway taken id others =
-    underway-taken topology before now after host_id 0 0 [] host (port_at topology.host 0) underway
+    underway-taken after 0 host underway
     (inl refl) refl (λ device listed same. not_in_empty device listed) described
     (counted-host host_id host refl)
     (λ member node listed same. absurd (not_in_empty member listed))

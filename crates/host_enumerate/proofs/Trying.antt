@@ -1,6 +1,5 @@
 -- A path is tried: the device on it is taken in.
 use Rattle.std.proofs.Common.{◌≡◌, ◌≢◌, ℕ, ◌+◌, ◌<◌, ◌≤◌, inl, inr, true, false, List, [], ◌∷◌, ◌++◌, length, All, Bool, Some, arith, refl, sym, ap, subst, ◌∙◌}
-use Rattle.std.proofs.lemmas.List.{length-map}
 use Rattle.fabric_script.specs.declared.ports.PortRef.{PortRef}
 use Rattle.fabric_script.specs.Ports.{port_at}
 use Rattle.maint_registers.specs.Devices.{Registers, is_switch}
@@ -15,7 +14,7 @@ use Rattle.fabric_map.specs.Ways.{IsOpened}
 use Rattle.fabric_map.specs.Locked.{IsForeign, IsNext}
 use Rattle.fabric_map.specs.Numbered.{paths_of}
 use Rattle.fabric_map.proofs.Fronts.{not_before_empty}
-use Rattle.fabric_map.proofs.Few.{entered-inside, walked-few}
+use Rattle.fabric_map.proofs.Few.{entered-inside}
 use Rattle.fabric_map.proofs.Growing.{device_on}
 use Rattle.host_enumerate.specs.Asking.{IsAskable, IsApart, PassesOnce, AreSame, Becomes}
 use Rattle.host_enumerate.specs.Setting.{AreRouted, HasNewId, SwitchIsSetUp}
@@ -25,13 +24,14 @@ use Rattle.host_enumerate.specs.TakingIn.{IsKindLeft}
 use Rattle.host_enumerate.proofs.Opening.{opened-same, opened-apart, became, stays, same_end}
 use Rattle.host_enumerate.proofs.Counting.{id_after-few}
 use Rattle.host_enumerate.proofs.Meeting.{unmet-lock, unmet-untagged}
-use Rattle.host_enumerate.proofs.Askable.{apart-next, passes-once}
+use Rattle.host_enumerate.proofs.Askable.{never_empty, apart-next, passes-once}
+use Rattle.host_enumerate.proofs.Asked.{most}
 use Rattle.host_enumerate.proofs.TakingSwitch.{IsTaken, host_listed, underway-switch, underway-host}
 use Rattle.host_enumerate.proofs.TakingEndpoint.{underway-endpoint}
 use Rattle.host_enumerate.proofs.Shown.{opened-routed, switch_shown, endpoint_shown, id_after-apart, id_after-rises}
 
-module _ (topology : Topology) (before now : AllRegisters) (host_id next : ℕ)
-    (devices : List Device) (path : List ℕ) (at : PortRef)
+module _ {topology : Topology} {before now : AllRegisters} {host_id next : ℕ}
+    {devices : List Device} {path : List ℕ} {at : PortRef}
     (underway : IsUnderway topology before now host_id devices next path)
     (is_next : IsNext (paths_of devices) path)
     (askable : IsAskable topology now host_id path at) where
@@ -56,11 +56,7 @@ module _ (topology : Topology) (before now : AllRegisters) (host_id next : ℕ)
   passes_once = passes-once topology (paths_of devices) path underway.walked path is_next
 
   pub few_met : length devices ≤ 64
-  few_met =
-      let few = subst (λ n. n ≤ topology.nodes) (length-map devices (λ (d : Device). d.path))
-      (walked-few topology (paths_of devices) path underway.proper underway.walked) in
-      let most = underway.proper.most in
-      omega (arith, few, most)
+  few_met = most topology before now host_id next devices path underway
 
   pub next_few : (path ≡ [] → next ≡ 0) → next < 254
   next_few begins = go path refl
@@ -75,11 +71,8 @@ module _ (topology : Topology) (before now : AllRegisters) (host_id next : ℕ)
       go [] empty = let none = begins empty in omega (arith, none)
       go (x ∷ p) is =
           let host = host_listed topology before now host_id next devices path underway
-          (λ empty. not_empty (sym empty ∙ is)) in
+          (λ empty. never_empty x p (sym empty ∙ is)) in
           below (underway.counted.endpoints host.0 host.1)
-        where
-          not_empty : [] ≡ x ∷ p → ⊥
-          not_empty same = absurd (cc)
 
   -- no device of a list stands before the host
   none_before_host : path ≡ [] → devices ≡ []
@@ -151,10 +144,9 @@ module _ (topology : Topology) (before now : AllRegisters) (host_id next : ℕ)
 
     opened_mid : IsOpened topology mid host_id path
     opened_mid =
-        opened-apart topology locked mid host_id at.node
-        (record (locked at.node) { tag = length devices + 1 }) path
-        (opened-apart topology now locked host_id at.node (record (now at.node) { lock = host_id })
-        path askable.opened lock apart) tag apart
+        opened-apart mid at.node (record (locked at.node) { tag = length devices + 1 })
+        (opened-apart locked at.node
+        (record (now at.node) { lock = host_id }) askable.opened lock apart) tag apart
 
     shown : (is : Bool) → is_switch (mid at.node) ≡ is → is_switch (now at.node) ≡ is
     shown is same =
@@ -182,7 +174,7 @@ module _ (topology : Topology) (before now : AllRegisters) (host_id next : ℕ)
               (subst (λ n. IsUnderway topology before after host_id
               (devices ++ met_as devices (Switch (mid at.node).ports n) path ∷ []) next
               (onward path 0)) (sym is_entry) on)),
-          opened-apart topology mid after host_id at.node held path opened_mid becomes apart,
+          opened-apart after at.node held opened_mid becomes apart,
         )
       where
         on : IsUnderway topology before after host_id
@@ -190,7 +182,7 @@ module _ (topology : Topology) (before now : AllRegisters) (host_id next : ℕ)
             (onward path 0)
         on = underway-switch topology before now after host_id next devices path at underway is_next
             askable.leads unmet (mid at.node).ports (mid at.node)
-            (switch_shown topology now at.node fits inside (shown true is)
+            (switch_shown at.node fits inside (shown true is)
             ∙ ap (λ n. Some n) (sym ports_shown))
             taken
             (subst (λ d. SwitchIsSetUp host_id at.port (mid at.node) d)
@@ -205,7 +197,7 @@ module _ (topology : Topology) (before now : AllRegisters) (host_id next : ℕ)
         × IsOpened topology after host_id path
     host_tried id empty (is_id, is_next_id, same) = (
       whole,
-      opened-same topology mid after host_id path opened_mid same,
+      opened-same after opened_mid same,
     )
       where
         no_devices : devices ≡ []
@@ -282,10 +274,9 @@ module _ (topology : Topology) (before now : AllRegisters) (host_id next : ℕ)
               (subst (λ l. IsUnderway topology before after host_id
               (devices ++ met_as devices (Endpoint id) l ∷ []) (id + 1) (onward l 0)) (sym is) on),
           subst (λ l. IsOpened topology after host_id l) (sym is)
-              (opened-routed topology numbered after host_id id first rest
-              (subst (λ l. IsOpened topology numbered host_id l) is
-              (opened-apart topology mid numbered host_id at.node
-              (record (mid at.node) { base_id = id }) path opened_mid one apart))
+              (opened-routed (subst (λ l. IsOpened topology numbered host_id l) is
+              (opened-apart numbered at.node
+              (record (mid at.node) { base_id = id }) opened_mid one apart))
               routed apart_ids.0 apart_ids.1),
         )
           where
@@ -330,7 +321,4 @@ module _ (topology : Topology) (before now : AllRegisters) (host_id next : ℕ)
             by_path [] empty = host_tried id empty (given.0 empty)
             by_path (first ∷ rest) same =
                 endpoint_tried id first rest same kind_is
-                (given.1 (λ empty. not_empty (sym empty ∙ same)))
-              where
-                not_empty : [] ≡ first ∷ rest → ⊥
-                not_empty same = absurd (cc)
+                (given.1 (λ empty. never_empty first rest (sym empty ∙ same)))

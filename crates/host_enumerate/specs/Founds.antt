@@ -8,7 +8,8 @@ use Rattle.fabric_map.specs.Routes.{AllRegisters}
 use Rattle.fabric_map.specs.Ways.{IsOpened}
 use Rattle.fabric_map.specs.Numbered.{paths_of}
 use Rattle.host_enumerate.specs.declared.walk.Found.{Found}
-use Rattle.host_enumerate.specs.Underway.{IsUnderway}
+use Rattle.host_enumerate.specs.declared.maint.Maint.{Ghosts}
+use Rattle.host_enumerate.specs.declared.taking.Numbering.{Numbering}
 
 -- A switch was met and can be asked.
 pub record IsFound (topology : Topology) (registers : AllRegisters) (host_id : ℕ)
@@ -21,22 +22,22 @@ pub record IsFound (topology : Topology) (registers : AllRegisters) (host_id : �
   pub listed : Contains (paths_of devices) found.path
   pub opened : IsOpened topology registers host_id found.path
 
--- After a port of the switch on a path was tried: the next one may be tried, or the ports of a
--- switch that was found behind it.
-abbrev pub IsUnderwayBehind : Topology → AllRegisters → AllRegisters → ℕ → List Device → ℕ → List ℕ
-    → ℕ
-    → Option Found → Type 0
-IsUnderwayBehind topology before now host_id devices next path port None =
-    IsUnderway topology before now host_id devices next (onward path (port + 1))
-IsUnderwayBehind topology before now host_id devices next path port (Some found) =
-    IsUnderway topology before now host_id devices next (onward found.path 0)
+-- as far as a numbering has come
+abbrev pub HasFound : {S : Type 0} → Ghosts S → S → Numbering → Found → Type 0
+HasFound m now numbering found =
+    IsFound (m.topology now) (m.registers now) numbering.host_id numbering.devices.items found
 
--- The switch on the path can still be asked; and so can one that was found behind it, which is one
--- device more.
-abbrev pub IsFoundBehind : Topology → AllRegisters → ℕ → List Device → List Device → List ℕ → ℕ
+-- The path that is tried after a port of the switch on a path: that by the next port, or by the
+-- first of a switch that was found behind it.
+abbrev pub tried_after : List ℕ → ℕ → Option Found → List ℕ
+tried_after path port None = onward path (port + 1)
+tried_after path port (Some found) = onward found.path 0
+
+-- The switch can still be asked; or one that was found behind its port can, which is one device
+-- more.
+abbrev pub IsFoundBehind : {S : Type 0} → Ghosts S → S → Numbering → Numbering → Found → ℕ
     → Option Found → Type 0
-IsFoundBehind topology now host_id devices devices_after path port None =
-    IsOpened topology now host_id path × Contains (paths_of devices_after) path
-IsFoundBehind topology now host_id devices devices_after path port (Some found) =
-    IsFound topology now host_id devices_after found × (found.path ≡ onward path port)
-    × (length devices < length devices_after)
+IsFoundBehind m now old new switch port None = HasFound m now new switch
+IsFoundBehind m now old new switch port (Some found) =
+    HasFound m now new found × (found.path ≡ onward switch.path port)
+    × (length old.devices.items < length new.devices.items)

@@ -9,9 +9,12 @@ use Rattle.fabric_map.specs.Topology.{Topology}
 use Rattle.fabric_map.specs.Walked.{onward, IsMet}
 use Rattle.fabric_map.specs.Routes.{AllRegisters}
 use Rattle.fabric_map.specs.Numbered.{paths_of}
+use Rattle.host_enumerate.specs.declared.maint.Maint.{Ghosts}
+use Rattle.host_enumerate.specs.declared.taking.Numbering.{Numbering}
 use Rattle.host_enumerate.specs.Asking.{AreSame, Becomes}
 use Rattle.host_enumerate.specs.Setting.{HasNewId, SwitchIsSetUp}
-use Rattle.host_enumerate.specs.Underway.{id_after, met_as, IsUnderway}
+use Rattle.host_enumerate.specs.Underway.{id_after, met_as}
+use Rattle.host_enumerate.specs.Carrying.{IsNumbering}
 
 -- The host keeps its own ID. Another endpoint has the next one.
 abbrev pub IsIdGiven : Topology → ℕ → ℕ → ℕ → AllRegisters → AllRegisters → List ℕ → PortRef → ℕ
@@ -41,14 +44,12 @@ IsTakenIn topology host_id devices next next_after old new path at kind =
     × Becomes old mid at.node (record (old at.node) { tag = length devices + 1 })
     × IsKindLeft topology host_id next next_after mid new path at kind
 
--- After a path was tried: the device on it is met before, or it is taken in. `devices` and
--- `next` are those before, `devices_after` and `next_after` those after.
-abbrev pub IsTried : Topology → AllRegisters → AllRegisters → ℕ → List Device → List Device → ℕ → ℕ
-    → List ℕ → Option Kind → Type 0
-IsTried topology before now host_id devices devices_after next next_after path None =
-    (devices_after ≡ devices) × (next_after ≡ next)
-    × IsUnderway topology before now host_id devices next path
-    × IsMet topology (paths_of devices) path
-IsTried topology before now host_id devices devices_after next next_after path (Some kind) =
-    (devices_after ≡ devices ++ met_as devices kind path ∷ [])
-    × IsUnderway topology before now host_id devices_after next_after (onward path 0)
+-- After a path was tried: the device on it was met before, or it is taken in.
+abbrev pub IsTried : {S : Type 0} → Ghosts S → S → Numbering → Numbering → List ℕ → AllRegisters
+    → Option Kind → Type 0
+IsTried m now old new path before None =
+    (new.devices.items ≡ old.devices.items) × (new.next_id ≡ old.next_id)
+    × IsNumbering m now new path before × IsMet (m.topology now) (paths_of new.devices.items) path
+IsTried m now old new path before (Some kind) =
+    (new.devices.items ≡ old.devices.items ++ met_as old.devices.items kind path ∷ [])
+    × IsNumbering m now new (onward path 0) before

@@ -1,11 +1,11 @@
 //! Single accesses to the device on a path.
-ghost use Rattle.std.specs.Prelude.{◌≡◌, ◌<◌, ◌≤◌, ◌^◌, ℕ, IsSome, OnOk, OnErr, IfOk, IfErr, Some};
+ghost use Rattle.std.specs.Prelude.{◌≡◌, ◌<◌, ◌≤◌, ◌^◌, ℕ, IsSome, OnOk, IfOk, Some};
 ghost use Rattle.fabric_script.specs.declared.ports.PortRef.{PortRef};
 ghost use Rattle.maint_registers.specs.Devices.{Registers};
 ghost use Rattle.maint_registers.specs.Access.{value_at, written_at};
 ghost use Rattle.fabric_map.specs.Topology.{entered};
 ghost use Rattle.host_enumerate.specs.Accesses.{answered, access_offset};
-ghost use Rattle.host_enumerate.specs.Carrying.{HasAnswered, StopsInOrder, IsCausedIn};
+ghost use Rattle.host_enumerate.specs.Carrying.{CallWent};
 ghost use Rattle.host_enumerate.specs.Asking.{IsAskable, IsOpenAfter, IsWritable, AreSame, Becomes};
 
 use crate::maint::{Access, Answer, Maint, MaintEnd};
@@ -32,10 +32,7 @@ fn ask<M: Maint>(
         → entered (M.topology maint.old) path.now ≡ Some at
         → Becomes (M.registers maint.old) (M.registers maint.new) at.node
         (answered (M.registers maint.old at.node) at.port access).device) }
-    ensures topology { M.topology maint.new ≡ M.topology maint.old }
-    ensures goes_on { OnOk result (HasAnswered M.Maint maint.old maint.new) }
-    ensures leaves { OnErr result (StopsInOrder M.Maint maint.old maint.new) }
-    ensures cause { IfErr result (IsCausedIn M.Maint maint.old maint.new) }
+    ensures went { CallWent M.Maint maint.old maint.new result }
 {
     let ports = path.as_slice().len();
     if ports == 0 {
@@ -60,10 +57,7 @@ pub(crate) fn read<M: Maint>(
         → entered (M.topology maint.old) path.now ≡ Some at
         → value_at (M.registers maint.old at.node) offset at.port ≡ Some value) }
     ensures registers { OnOk result (AreSame (M.registers maint.old) (M.registers maint.new)) }
-    ensures topology { M.topology maint.new ≡ M.topology maint.old }
-    ensures goes_on { OnOk result (HasAnswered M.Maint maint.old maint.new) }
-    ensures leaves { OnErr result (StopsInOrder M.Maint maint.old maint.new) }
-    ensures cause { IfErr result (IsCausedIn M.Maint maint.old maint.new) }
+    ensures went { CallWent M.Maint maint.old maint.new result }
 {
     let answer = ask(alloc, maint, path, Access::Read(offset))?;
     Ok(answer.value)
@@ -86,10 +80,7 @@ pub(crate) fn write<M: Maint>(
         → entered (M.topology maint.old) path.now ≡ Some at
         → written_at (M.registers maint.old at.node) offset value ≡ Some held
         → Becomes (M.registers maint.old) (M.registers maint.new) at.node held) }
-    ensures topology { M.topology maint.new ≡ M.topology maint.old }
-    ensures goes_on { OnOk result (HasAnswered M.Maint maint.old maint.new) }
-    ensures leaves { OnErr result (StopsInOrder M.Maint maint.old maint.new) }
-    ensures cause { IfErr result (IsCausedIn M.Maint maint.old maint.new) }
+    ensures went { CallWent M.Maint maint.old maint.new result }
 {
     ask(alloc, maint, path, Access::Write(offset, value))?;
     Ok(())

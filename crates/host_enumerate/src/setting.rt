@@ -1,10 +1,10 @@
 //! What a host writes to a device that it takes in.
-ghost use Rattle.std.specs.Prelude.{◌≡◌, ◌≢◌, ◌<◌, ◌≤◌, ◌+◌, ℕ, true, false, [], ◌++◌, length, OnOk, OnErr, IfOk, IfErr, Some};
+ghost use Rattle.std.specs.Prelude.{◌≡◌, ◌≢◌, ◌<◌, ◌≤◌, ◌+◌, ℕ, true, false, [], ◌++◌, length, OnOk, IfOk, Some};
 ghost use Rattle.fabric_script.specs.declared.ports.PortRef.{PortRef};
 ghost use Rattle.maint_registers.specs.Devices as registers;
 ghost use Rattle.maint_registers.specs.Devices.{Registers, is_switch};
 ghost use Rattle.fabric_map.specs.Topology.{entered};
-ghost use Rattle.host_enumerate.specs.Carrying.{HasAnswered, StopsInOrder, IsCausedIn};
+ghost use Rattle.host_enumerate.specs.Carrying.{CallWent};
 ghost use Rattle.host_enumerate.specs.Asking.{IsAskable, IsApart, PassesOnce, Becomes};
 ghost use Rattle.host_enumerate.specs.Setting.{with_entry, AreRouted, HasNewId, IsCleared, SwitchIsSetUp};
 
@@ -37,10 +37,7 @@ pub(crate) fn set_entry<M: Maint>(
         → entered (M.topology maint.old) path.now ≡ Some at
         → Becomes (M.registers maint.old) (M.registers maint.new) at.node
         (with_entry (M.registers maint.old at.node) id port)) }
-    ensures topology { M.topology maint.new ≡ M.topology maint.old }
-    ensures goes_on { OnOk result (HasAnswered M.Maint maint.old maint.new) }
-    ensures leaves { OnErr result (StopsInOrder M.Maint maint.old maint.new) }
-    ensures cause { IfErr result (IsCausedIn M.Maint maint.old maint.new) }
+    ensures went { CallWent M.Maint maint.old maint.new result }
 {
     write(alloc, maint, path, ROUTE_SELECT, u32::from(id))?;
     write(alloc, maint, path, ROUTE_ENTRY, u32::from(port))
@@ -64,10 +61,7 @@ fn set_entries<M: Maint>(
     ensures registers { OnOk result
         (AreRouted (M.topology maint.old) (M.registers maint.old) (M.registers maint.new) front.now
         rest.now id) }
-    ensures topology { M.topology maint.new ≡ M.topology maint.old }
-    ensures goes_on { OnOk result (HasAnswered M.Maint maint.old maint.new) }
-    ensures leaves { OnErr result (StopsInOrder M.Maint maint.old maint.new) }
-    ensures cause { IfErr result (IsCausedIn M.Maint maint.old maint.new) }
+    ensures went { CallWent M.Maint maint.old maint.new result }
 {
     let [port, rest @ ..] = rest else {
         return Ok(());
@@ -96,10 +90,7 @@ pub(crate) fn give_id<M: Maint>(
         → entered (M.topology maint.old) path.now ≡ Some at
         → HasNewId (M.topology maint.old) (M.registers maint.old) (M.registers maint.new) path.now
         at.node id) }
-    ensures topology { M.topology maint.new ≡ M.topology maint.old }
-    ensures goes_on { OnOk result (HasAnswered M.Maint maint.old maint.new) }
-    ensures leaves { OnErr result (StopsInOrder M.Maint maint.old maint.new) }
-    ensures cause { IfErr result (IsCausedIn M.Maint maint.old maint.new) }
+    ensures went { CallWent M.Maint maint.old maint.new result }
 {
     write(alloc, maint, path, BASE_ID, u32::from(id) << 16)?;
     let [first, rest @ ..] = path.as_slice() else {
@@ -126,10 +117,7 @@ fn clear_entries<M: Maint>(
         → (held : Registers)
         × Becomes (M.registers maint.old) (M.registers maint.new) at.node held
         × IsCleared host_id 63 (M.registers maint.old at.node) held) }
-    ensures topology { M.topology maint.new ≡ M.topology maint.old }
-    ensures goes_on { OnOk result (HasAnswered M.Maint maint.old maint.new) }
-    ensures leaves { OnErr result (StopsInOrder M.Maint maint.old maint.new) }
-    ensures cause { IfErr result (IsCausedIn M.Maint maint.old maint.new) }
+    ensures went { CallWent M.Maint maint.old maint.new result }
 {
     for id in 0..GIVEN_IDS {
         if id == host_id {
@@ -161,10 +149,7 @@ pub(crate) fn send_home<M: Maint>(
         → (held : Registers)
         × Becomes (M.registers maint.old) (M.registers maint.new) at.node held
         × SwitchIsSetUp host_id at.port (M.registers maint.old at.node) held) }
-    ensures topology { M.topology maint.new ≡ M.topology maint.old }
-    ensures goes_on { OnOk result (HasAnswered M.Maint maint.old maint.new) }
-    ensures leaves { OnErr result (StopsInOrder M.Maint maint.old maint.new) }
-    ensures cause { IfErr result (IsCausedIn M.Maint maint.old maint.new) }
+    ensures went { CallWent M.Maint maint.old maint.new result }
 {
     let information = read(alloc, maint, path, PORT_INFORMATION)?;
     let ports = (information / 0x100) as u8;

@@ -1,9 +1,9 @@
 //! A device is taken in: it gets the host's lock and a tag, and then what its kind asks for.
-ghost use Rattle.std.specs.Prelude.{◌≡◌, ◌≢◌, ◌<◌, ◌≤◌, ◌+◌, ℕ, false, [], ◌∷◌, ◌++◌, length, OnOk, OnErr, IfOk, IfErr, Some};
+ghost use Rattle.std.specs.Prelude.{◌≡◌, ◌≢◌, ◌<◌, ◌≤◌, ◌+◌, ℕ, false, [], ◌∷◌, ◌++◌, length, IfOk, Some};
 ghost use Rattle.fabric_script.specs.declared.ports.PortRef.{PortRef};
 ghost use Rattle.maint_registers.specs.Devices.{is_switch};
 ghost use Rattle.fabric_map.specs.Topology.{entered};
-ghost use Rattle.host_enumerate.specs.Carrying.{HasAnswered, StopsInOrder, IsCausedIn};
+ghost use Rattle.host_enumerate.specs.Carrying.{CallWent};
 ghost use Rattle.host_enumerate.specs.Asking.{IsAskable, IsApart, PassesOnce};
 ghost use Rattle.host_enumerate.specs.Holding.{IsHolder};
 ghost use Rattle.host_enumerate.specs.Underway.{met_as};
@@ -60,10 +60,7 @@ pub(crate) fn take<M: Maint>(
     ensures holder { IfOk result (λ holder. (at : PortRef)
         → entered (M.topology maint.old) path.now ≡ Some at
         → IsHolder host_id (M.registers maint.old) (M.registers maint.new) at.node holder) }
-    ensures topology { M.topology maint.new ≡ M.topology maint.old }
-    ensures goes_on { OnOk result (HasAnswered M.Maint maint.old maint.new) }
-    ensures leaves { OnErr result (StopsInOrder M.Maint maint.old maint.new) }
-    ensures cause { IfErr result (IsCausedIn M.Maint maint.old maint.new) }
+    ensures went { CallWent M.Maint maint.old maint.new result }
 {
     let lock = read(alloc, maint, path, HOST_LOCK)?;
     if lock == FREE {
@@ -100,10 +97,7 @@ fn number<M: Maint>(
         numbering.new.next_id (M.registers maint.old) (M.registers maint.new) path.now at id) }
     ensures host { numbering.new.host_id ≡ numbering.old.host_id }
     ensures devices { numbering.new.devices ≡ numbering.old.devices }
-    ensures topology { M.topology maint.new ≡ M.topology maint.old }
-    ensures goes_on { OnOk result (HasAnswered M.Maint maint.old maint.new) }
-    ensures leaves { OnErr result (StopsInOrder M.Maint maint.old maint.new) }
-    ensures cause { IfErr result (IsCausedIn M.Maint maint.old maint.new) }
+    ensures went { CallWent M.Maint maint.old maint.new result }
 {
     if path.as_slice().is_empty() {
         return Ok(numbering.host_id);
@@ -139,10 +133,7 @@ fn prepare<M: Maint>(
         numbering.new.next_id (M.registers maint.old) (M.registers maint.new) path.now at kind) }
     ensures host { numbering.new.host_id ≡ numbering.old.host_id }
     ensures devices { numbering.new.devices ≡ numbering.old.devices }
-    ensures topology { M.topology maint.new ≡ M.topology maint.old }
-    ensures goes_on { OnOk result (HasAnswered M.Maint maint.old maint.new) }
-    ensures leaves { OnErr result (StopsInOrder M.Maint maint.old maint.new) }
-    ensures cause { IfErr result (IsCausedIn M.Maint maint.old maint.new) }
+    ensures went { CallWent M.Maint maint.old maint.new result }
 {
     let features = read(alloc, maint, path, FEATURES)?;
     if features & SWITCH == 0 {
@@ -176,10 +167,7 @@ pub(crate) fn take_in<M: Maint>(
         ≡ numbering.old.devices.items
         ++ met_as numbering.old.devices.items kind path.now ∷ []) }
     ensures host { numbering.new.host_id ≡ numbering.old.host_id }
-    ensures topology { M.topology maint.new ≡ M.topology maint.old }
-    ensures goes_on { OnOk result (HasAnswered M.Maint maint.old maint.new) }
-    ensures leaves { OnErr result (StopsInOrder M.Maint maint.old maint.new) }
-    ensures cause { IfErr result (IsCausedIn M.Maint maint.old maint.new) }
+    ensures went { CallWent M.Maint maint.old maint.new result }
 {
     let tag = numbering.devices.len() as u32 + 1;
     write(alloc, maint, path, COMPONENT_TAG, tag)?;

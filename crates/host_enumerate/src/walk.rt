@@ -9,9 +9,9 @@ ghost use Rattle.fabric_map.specs.Numbered.{paths_of, IsNumbered};
 ghost use Rattle.host_enumerate.specs.Asking.{IsAskable};
 ghost use Rattle.host_enumerate.specs.Underway.{AreUntagged, IsUnderway};
 ghost use Rattle.host_enumerate.specs.TakingIn.{IsTried};
-ghost use Rattle.host_enumerate.specs.Founds.{IsFound, IsUnderwayBehind, IsFoundBehind};
+ghost use Rattle.host_enumerate.specs.Founds.{HasFound, IsFoundBehind, tried_after};
 ghost use Rattle.host_enumerate.specs.Ends.{IsEnded, EndsAtLock, IsLockFree};
-ghost use Rattle.host_enumerate.specs.Carrying.{HasAnswered, StopsInOrder, IsNumbering, HasWalkEnded};
+ghost use Rattle.host_enumerate.specs.Carrying.{IsNumbering, WalkWent};
 
 use crate::asking::read;
 use crate::ends::EnumEnd;
@@ -41,17 +41,12 @@ fn meet<M: Maint>(
         × IsAskable (M.topology maint.old) (M.registers maint.old) numbering.old.host_id path.now at }
     ensures tried { IfOk result (λ kind. (before : AllRegisters)
         → IsNumbering M.Maint maint.old numbering.old path.now before
-        → IsTried (M.topology maint.old) before (M.registers maint.new) numbering.old.host_id
-        numbering.old.devices.items numbering.new.devices.items numbering.old.next_id
-        numbering.new.next_id path.now kind) }
+        → IsTried M.Maint maint.new numbering.old numbering.new path.now before kind) }
     ensures opened { OnOk result
-        (IsOpened (M.topology maint.old) (M.registers maint.new) numbering.old.host_id path.now) }
-    ensures end { IfErr result (HasWalkEnded M.Maint maint.old maint.new
-        (IsNumbering M.Maint maint.old numbering.old path.now)) }
+        (IsOpened (M.topology maint.new) (M.registers maint.new) numbering.new.host_id path.now) }
+    ensures went { WalkWent M.Maint maint.old maint.new
+        (IsNumbering M.Maint maint.old numbering.old path.now) result }
     ensures host { numbering.new.host_id ≡ numbering.old.host_id }
-    ensures topology { M.topology maint.new ≡ M.topology maint.old }
-    ensures goes_on { OnOk result (HasAnswered M.Maint maint.old maint.new) }
-    ensures leaves { OnErr result (StopsInOrder M.Maint maint.old maint.new) }
 {
     match take(alloc, maint, numbering.host_id, path)? {
         Holder::Taken => {
@@ -84,28 +79,22 @@ fn look_behind<M: Maint>(
     port: u8,
 ) -> Result<Option<Found>, EnumEnd>
     requires whole { M.IsWhole maint.old }
-    requires found { IsFound (M.topology maint.old) (M.registers maint.old) numbering.old.host_id
-        numbering.old.devices.items switch.now }
+    requires found { HasFound M.Maint maint.old numbering.old switch.now }
     requires underway { (before : AllRegisters)
         × IsNumbering M.Maint maint.old numbering.old (onward switch.now.path port) before }
     requires below { port < switch.now.ports }
     requires apart { port ≢ switch.now.entry }
     ensures looked { IfOk result (λ found. (before : AllRegisters)
         → IsNumbering M.Maint maint.old numbering.old (onward switch.now.path port) before
-        → IsUnderwayBehind (M.topology maint.old) before (M.registers maint.new)
-        numbering.old.host_id numbering.new.devices.items numbering.new.next_id switch.now.path port
-        found) }
-    ensures found { IfOk result (λ found. IsFoundBehind (M.topology maint.old)
-        (M.registers maint.new) numbering.old.host_id numbering.old.devices.items
-        numbering.new.devices.items switch.now.path port found) }
-    ensures end { IfErr result (HasWalkEnded M.Maint maint.old maint.new
-        (IsNumbering M.Maint maint.old numbering.old (onward switch.now.path port))) }
+        → IsNumbering M.Maint maint.new numbering.new (tried_after switch.now.path port found)
+        before) }
+    ensures found { IfOk result (IsFoundBehind M.Maint maint.new numbering.old numbering.new
+        switch.now port) }
+    ensures went { WalkWent M.Maint maint.old maint.new
+        (IsNumbering M.Maint maint.old numbering.old (onward switch.now.path port)) result }
     ensures host { numbering.new.host_id ≡ numbering.old.host_id }
     ensures longer { OnOk result
         (length numbering.old.devices.items ≤ length numbering.new.devices.items) }
-    ensures topology { M.topology maint.new ≡ M.topology maint.old }
-    ensures goes_on { OnOk result (HasAnswered M.Maint maint.old maint.new) }
-    ensures leaves { OnErr result (StopsInOrder M.Maint maint.old maint.new) }
 {
     let offset = FIRST_STATUS + STATUS_STEP * u32::from(port);
     let status = read(alloc, maint, &switch.path, offset)?;
@@ -131,25 +120,19 @@ fn explore<M: Maint>(
     switch: &Found,
 ) -> Result<(), EnumEnd>
     requires whole { M.IsWhole maint.old }
-    requires found { IsFound (M.topology maint.old) (M.registers maint.old) numbering.old.host_id
-        numbering.old.devices.items switch.now }
+    requires found { HasFound M.Maint maint.old numbering.old switch.now }
     requires underway { (before : AllRegisters)
         × IsNumbering M.Maint maint.old numbering.old (onward switch.now.path 0) before }
     ensures tried { OnOk result ((before : AllRegisters)
         → IsNumbering M.Maint maint.old numbering.old (onward switch.now.path 0) before
-        → IsUnderway (M.topology maint.old) before (M.registers maint.new) numbering.old.host_id
-        numbering.new.devices.items numbering.new.next_id
-        (onward switch.now.path switch.now.ports)) }
-    ensures found { OnOk result (IsFound (M.topology maint.old) (M.registers maint.new)
-        numbering.old.host_id numbering.new.devices.items switch.now) }
-    ensures end { IfErr result (HasWalkEnded M.Maint maint.old maint.new
-        (IsNumbering M.Maint maint.old numbering.old (onward switch.now.path 0))) }
+        → IsNumbering M.Maint maint.new numbering.new (onward switch.now.path switch.now.ports)
+        before) }
+    ensures found { OnOk result (HasFound M.Maint maint.new numbering.new switch.now) }
+    ensures went { WalkWent M.Maint maint.old maint.new
+        (IsNumbering M.Maint maint.old numbering.old (onward switch.now.path 0)) result }
     ensures host { numbering.new.host_id ≡ numbering.old.host_id }
     ensures longer { OnOk result
         (length numbering.old.devices.items ≤ length numbering.new.devices.items) }
-    ensures topology { M.topology maint.new ≡ M.topology maint.old }
-    ensures goes_on { OnOk result (HasAnswered M.Maint maint.old maint.new) }
-    ensures leaves { OnErr result (StopsInOrder M.Maint maint.old maint.new) }
 {
     for port in 0..switch.ports {
         if port == switch.entry {
@@ -174,14 +157,11 @@ fn number_devices<M: Maint>(
         × IsUnderway (M.topology maint.old) before (M.registers maint.old) host_id [] 0 [] }
     ensures numbered { IfOk result (λ devices. (before : AllRegisters)
         → IsUnderway (M.topology maint.old) before (M.registers maint.old) host_id [] 0 []
-        → (next : ℕ) × IsUnderway (M.topology maint.old) before (M.registers maint.new) host_id
+        → (next : ℕ) × IsUnderway (M.topology maint.new) before (M.registers maint.new) host_id
         devices.items next after_all_paths) }
-    ensures end { IfErr result (HasWalkEnded M.Maint maint.old maint.new
+    ensures went { WalkWent M.Maint maint.old maint.new
         (λ before. IsUnderway (M.topology maint.old) before (M.registers maint.old) host_id []
-        0 [])) }
-    ensures topology { M.topology maint.new ≡ M.topology maint.old }
-    ensures goes_on { OnOk result (HasAnswered M.Maint maint.old maint.new) }
-    ensures leaves { OnErr result (StopsInOrder M.Maint maint.old maint.new) }
+        0 []) result }
 {
     let mut numbering = Numbering {
         host_id,

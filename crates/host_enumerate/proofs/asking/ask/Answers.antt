@@ -3,7 +3,6 @@ use Rattle.std.proofs.lemmas.Result.{IfOk-weaker}
 use Rattle.fabric_script.specs.declared.ports.PortRef.{PortRef}
 use Rattle.fabric_map.specs.Topology.{entered}
 use Rattle.host_enumerate.specs.Accesses.{answered, after_access, IsAnswered}
-use Rattle.host_enumerate.specs.Asking.{Becomes}
 use Rattle.host_enumerate.proofs.Opening.{answerable, at_host, same_end}
 use Rattle.host_enumerate.proofs.asking.ask.Given as given
 use Rattle.host_enumerate.proofs.asking.ask.Goals as goal
@@ -16,8 +15,7 @@ ask-requires-clause-answered g c =
       subst (λ n. IsAnswered (g.M.Maint.topology c.args.maint.now)
           (g.M.Maint.registers c.args.maint.now) 255 (n - 1) c.args.access asked.1)
           (sym same)
-          (answerable (g.M.Maint.topology c.args.maint.now) (g.M.Maint.registers c.args.maint.now)
-          asked.0 c.args.path.now asked.1 c.args.access
+          (answerable c.args.path.now c.args.access
           (g.M.Maint.whole_is_proper c.args.maint.now c.requires.whole)
           asked.2 asked.3 (λ none. c.if-ports-eq0.false (same ∙ none))),
     )
@@ -52,35 +50,18 @@ answered_at g c at enters =
     (subst (λ n. IsAnswered (g.M.Maint.topology c.args.maint.now)
     (g.M.Maint.registers c.args.maint.now) 255 (n - 1) c.args.access asked.1)
     (sym same)
-    (answerable (g.M.Maint.topology c.args.maint.now) (g.M.Maint.registers c.args.maint.now)
-    asked.0 c.args.path.now asked.1 c.args.access
+    (answerable c.args.path.now c.args.access
     (g.M.Maint.whole_is_proper c.args.maint.now c.requires.whole)
     asked.2 asked.3 (λ none. c.if-ports-eq0.false (same ∙ none))))
 
 pub returns-clause-answer : goal.returns-clause-answer
 returns-clause-answer g c = IfOk-weaker c.ask.result
-    (λ answer. (at : PortRef)
-    → IsAnswered (g.M.Maint.topology c.args.maint.now) (g.M.Maint.registers c.args.maint.now) 255
-    (length c.as_slice-ports.result.now - 1) c.args.access at
-    → answer ≡ (answered (g.M.Maint.registers c.args.maint.now at.node) at.port
-    c.args.access).answer)
-    (λ answer. (at : PortRef)
-    → entered (g.M.Maint.topology c.args.maint.now) c.args.path.now ≡ Some at
-    → answer ≡ (answered (g.M.Maint.registers c.args.maint.now at.node) at.port
-    c.args.access).answer)
+    _ _
     (λ answer said at enters. said at (answered_at g c at enters))
     c.ask.ensures.answer
 
 pub returns-clause-registers : goal.returns-clause-registers
 returns-clause-registers g c = IfOk-weaker c.ask.result
-    (λ _. (at : PortRef)
-    → IsAnswered (g.M.Maint.topology c.args.maint.now) (g.M.Maint.registers c.args.maint.now) 255
-    (length c.as_slice-ports.result.now - 1) c.args.access at
-    → g.M.Maint.registers c.ask.new.self ≡ after_access (g.M.Maint.registers c.args.maint.now) at
-    c.args.access)
-    (λ _. (at : PortRef)
-    → entered (g.M.Maint.topology c.args.maint.now) c.args.path.now ≡ Some at
-    → Becomes (g.M.Maint.registers c.args.maint.now) (g.M.Maint.registers c.ask.new.self) at.node
-    (answered (g.M.Maint.registers c.args.maint.now at.node) at.port c.args.access).device)
+    _ _
     (λ _ said at enters other. ap (λ r. r other) (said at (answered_at g c at enters)))
     c.ask.ensures.registers

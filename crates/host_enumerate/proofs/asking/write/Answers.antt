@@ -7,6 +7,5 @@ ask-requires-clause-askable g c =
       asked.0,
       asked.1,
       asked.3,
-      open_after_write (g.M.Maint.topology c.args.maint.now) (g.M.Maint.registers c.args.maint.now)
-          asked.0 c.args.path.now asked.1 c.args.offset c.args.value asked.2 asked.3.opened asked.4,
+      open_after_write asked.3.opened asked.4,
     )

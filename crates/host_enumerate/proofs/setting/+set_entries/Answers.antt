@@ -1,7 +1,6 @@
 use Rattle.std.proofs.Common.{rules, ◌-◌, length, take, drop, get_or, sym, ◌∙◌}
 use Rattle.std.proofs.lemmas.Result.{IfOk-weaker}
 use Rattle.fabric_map.proofs.Order.{onward-not_empty}
-use Rattle.host_enumerate.specs.Setting.{AreRouted}
 use Rattle.host_enumerate.proofs.Routing.{split, front_askable, next_askable, next_once, routed-step}
 use Rattle.host_enumerate.proofs.setting.+set_entries.Goals as goal
 
@@ -9,9 +8,7 @@ pub set_entry-requires-clause-askable : goal.set_entry-requires-clause-askable
 set_entry-requires-clause-askable g t c =
     let asked = c.requires.askable in
     let tail = take (length c.args.rest.now - 1) (drop 1 c.args.rest.now) in
-    let found = front_askable (g.M.Maint.topology c.args.maint.now)
-    (g.M.Maint.registers c.args.maint.now) asked.0 c.args.front.now c.args.rest.now tail
-    (get_or c.args.rest.now 0 0) asked.1 c.requires.front
+    let found = front_askable c.args.front.now c.requires.front
     (split c.args.rest.now c.in-len1-up.len_at_least) asked.2 c.requires.once in
     (asked.0, found.0, found.1, found.2, found.3)
 
@@ -25,20 +22,17 @@ set_entries-requires g t c κs within =
     let whole = c.args.rest.now in
     let tail = take (length whole - 1) (drop 1 whole) in
     let is = split whole c.in-len1-up.len_at_least in
-    let found = front_askable topology old asked.0 c.args.front.now whole tail
-    (get_or whole 0 0) asked.1 c.requires.front is asked.2 c.requires.once in
-    let same = c.in_ok-set_entry.ensures.topology in
-    let askable = next_askable topology now old new asked.0 c.args.id c.args.front.now
-    c.onward-next.result whole tail (get_or whole 0 0) asked.1 found.0 same
+    let found = front_askable c.args.front.now c.requires.front is asked.2 c.requires.once in
+    let same = c.in_ok-set_entry.ensures.went.topology in
+    let askable = next_askable new c.args.id c.args.front.now found.0 same
     c.onward-next.ensures is c.requires.id asked.3 asked.2
     (c.in_ok-set_entry.ensures.registers found.0 found.1.leads) in
-    let once = next_once topology now c.args.front.now c.onward-next.result whole tail
-    (get_or whole 0 0) same c.onward-next.ensures is c.requires.once in (
+    let once = next_once c.args.front.now same c.onward-next.ensures is c.requires.once in (
       search rules,
       (
         within,
         (
-          c.in_ok-set_entry.ensures.goes_on.whole,
+          c.in_ok-set_entry.ensures.went.whole,
           (
             λ empty. onward-not_empty c.args.front.now (get_or whole 0 0)
                 (sym empty ∙ c.onward-next.ensures),
@@ -59,14 +53,11 @@ returns-clause-registers g t c =
     let whole = c.args.rest.now in
     let tail = take (length whole - 1) (drop 1 whole) in
     let is = split whole c.in-len1-up.len_at_least in
-    let found = front_askable topology old asked.0 c.args.front.now whole tail
-    (get_or whole 0 0) asked.1 c.requires.front is asked.2 c.requires.once in
-    let same = c.in_ok-set_entry.ensures.topology in
+    let found = front_askable c.args.front.now c.requires.front is asked.2 c.requires.once in
+    let same = c.in_ok-set_entry.ensures.went.topology in
     IfOk-weaker c.set_entries.result
-    (λ _. AreRouted now mid new c.onward-next.result tail c.args.id)
-    (λ _. AreRouted topology old new c.args.front.now whole c.args.id)
-    (λ _ others. routed-step topology now old mid new c.args.id (get_or whole 0 0)
-    c.args.front.now c.onward-next.result whole tail found.0 c.requires.front same
+    _ _
+    (λ _ others. routed-step old c.args.front.now c.requires.front same
     c.onward-next.ensures is c.requires.once found.1.leads
     (c.in_ok-set_entry.ensures.registers found.0 found.1.leads) others)
     c.set_entries.ensures.registers

@@ -9,7 +9,6 @@ use Rattle.host_enumerate.proofs.setting.clear_entries.Given as goal
 
 abbrev pub invariant-loop-id : goal.invariant-loop-id
 invariant-loop-id g l = record {
-  topology : g.M.Maint.topology l.maint ≡ g.M.Maint.topology l.initial.maint;
   goes_on : HasAnswered g.M.Maint l.initial.maint l.maint;
   cleared : (at : PortRef)
       → entered (g.M.Maint.topology l.initial.maint) l.path ≡ Some at

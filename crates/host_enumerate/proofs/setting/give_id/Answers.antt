@@ -1,8 +1,7 @@
-use Rattle.std.proofs.Common.{◌≡◌, ◌-◌, length, take, drop, get_or, Some, subst}
+use Rattle.std.proofs.Common.{◌-◌, length, take, drop, subst}
 use Rattle.std.proofs.lemmas.Result.{IfOk-weaker}
 use Rattle.fabric_script.specs.declared.ports.PortRef.{PortRef}
-use Rattle.fabric_map.specs.Topology.{entered}
-use Rattle.host_enumerate.specs.Setting.{AreRouted, HasNewId}
+use Rattle.host_enumerate.specs.Setting.{HasNewId}
 use Rattle.host_enumerate.proofs.Opening.{same_end}
 use Rattle.host_enumerate.proofs.Giving.{id-writable, id-left, first_and_rest, whole_path, rest_askable, rest_once, id-given}
 use Rattle.host_enumerate.proofs.setting.give_id.Goals as goal
@@ -15,8 +14,7 @@ write-requires-clause-askable g c =
       record (g.M.Maint.registers c.args.maint.now asked.1.node) { base_id = c.args.id },
       asked.2,
       id-writable (g.M.Maint.topology c.args.maint.now) (g.M.Maint.registers c.args.maint.now)
-          c.args.path.now asked.1 c.from.result c.args.id c.from.ensures c.requires.id asked.4
-          asked.3 c.requires.away,
+          c.args.path.now asked.1 c.from.ensures c.requires.id asked.4 asked.3 c.requires.away,
     )
 
 pub set_entries-requires-clause-askable : goal.set_entries-requires-clause-askable
@@ -27,15 +25,13 @@ set_entries-requires-clause-askable g c =
     let mid = g.M.Maint.registers c.write.new.maint in
     let slice = c.as_slice.result.now in
     let tail = take (length slice - 1) (drop 1 slice) in
-    let parts = first_and_rest c.args.path.now slice c.onward-front.result c.of_host.result
+    let parts = first_and_rest
     c.as_slice.ensures c.in-len1-up.len_at_least c.onward-front.ensures c.of_host.ensures in (
       asked.0,
       asked.1,
-      rest_askable topology (g.M.Maint.topology c.write.new.maint) old mid asked.0 c.args.id
-          c.args.path.now c.onward-front.result tail asked.1 c.in_ok-write.ensures.topology
-          (whole_path c.args.path.now c.onward-front.result tail (get_or slice 0 0) parts.0 parts.1)
-          c.requires.away asked.2 asked.3
-          (id-left topology old mid c.args.path.now asked.1 c.from.result c.args.id
+      rest_askable mid c.args.id c.onward-front.result tail c.in_ok-write.ensures.went.topology
+          (whole_path parts.0 parts.1) c.requires.away asked.2 asked.3
+          (id-left topology old mid c.args.path.now
           c.in_ok-write.ensures.registers asked.2.leads c.from.ensures c.requires.id asked.4),
       asked.5,
     )
@@ -44,12 +40,10 @@ pub set_entries-requires-clause-once : goal.set_entries-requires-clause-once
 set_entries-requires-clause-once g c =
     let slice = c.as_slice.result.now in
     let tail = take (length slice - 1) (drop 1 slice) in
-    let parts = first_and_rest c.args.path.now slice c.onward-front.result c.of_host.result
+    let parts = first_and_rest
     c.as_slice.ensures c.in-len1-up.len_at_least c.onward-front.ensures c.of_host.ensures in
-    rest_once (g.M.Maint.topology c.args.maint.now) (g.M.Maint.topology c.write.new.maint)
-    c.args.path.now c.onward-front.result tail c.in_ok-write.ensures.topology
-    (whole_path c.args.path.now c.onward-front.result tail (get_or slice 0 0) parts.0 parts.1)
-    c.requires.once
+    rest_once c.onward-front.result tail c.in_ok-write.ensures.went.topology
+    (whole_path parts.0 parts.1) c.requires.once
 
 pub returns-clause-registers : goal.returns-clause-registers
 returns-clause-registers g c =
@@ -61,17 +55,14 @@ returns-clause-registers g c =
     let new = g.M.Maint.registers c.set_entries.new.maint in
     let slice = c.as_slice.result.now in
     let tail = take (length slice - 1) (drop 1 slice) in
-    let parts = first_and_rest c.args.path.now slice c.onward-front.result c.of_host.result
+    let parts = first_and_rest
     c.as_slice.ensures c.in-len1-up.len_at_least c.onward-front.ensures c.of_host.ensures in
     IfOk-weaker c.set_entries.result
-    (λ _. AreRouted now mid new c.onward-front.result tail c.args.id)
-    (λ _. (at : PortRef) → entered topology c.args.path.now ≡ Some at
-    → HasNewId topology old new c.args.path.now at.node c.args.id)
+    _ _
     (λ _ others at enters.
     subst (λ (p : PortRef). HasNewId topology old new c.args.path.now p.node c.args.id)
     (same_end topology c.args.path.now asked.1 at asked.2.leads enters)
-    (id-given topology now old mid new (get_or slice 0 0) asked.1.node c.args.id c.args.path.now
-    c.onward-front.result tail c.in_ok-write.ensures.topology parts.0 parts.1
-    (id-left topology old mid c.args.path.now asked.1 c.from.result c.args.id
+    (id-given old asked.1.node c.in_ok-write.ensures.went.topology parts.0 parts.1
+    (id-left topology old mid c.args.path.now
     c.in_ok-write.ensures.registers asked.2.leads c.from.ensures c.requires.id asked.4) others))
     c.set_entries.ensures.registers

@@ -16,9 +16,7 @@ told : (g : Over) (c : In_ok-information g)
     → IsInformed (g.M.Maint.registers c.args.maint.now c.requires.askable.0.node)
     c.requires.askable.0.port c.in_ok-information.information
 told g c =
-    informed (g.M.Maint.topology c.args.maint.now) (g.M.Maint.registers c.args.maint.now)
-    c.args.path.now c.requires.askable.0 c.in_ok-information.information
-    (g.M.Maint.whole_is_proper c.args.maint.now c.requires.whole)
+    informed c.args.path.now (g.M.Maint.whole_is_proper c.args.maint.now c.requires.whole)
     (g.M.Maint.whole_fits c.args.maint.now c.requires.whole) c.requires.askable.1.leads
     c.requires.askable.3
     (c.in_ok-information.ensures.value c.requires.askable.0 c.requires.askable.1.leads)
@@ -39,13 +37,13 @@ cleared : (g : Over) (c : In_ok-clear_entries g)
 cleared g c said =
     let at = c.requires.askable.0 in
     let stage = stage_default (g.M.Maint.registers c.write.new.maint) c.args.path.now
-    (c.from.ensures ∙ said.entry) said.few c.in_ok-write.ensures.topology c.requires.askable.3
+    (c.from.ensures ∙ said.entry) said.few c.in_ok-write.ensures.went.topology c.requires.askable.3
     c.requires.askable.1.leads
-    (stage_read at c.in_ok-information.ensures.topology c.in_ok-information.ensures.registers)
+    (stage_read at c.in_ok-information.ensures.went.topology c.in_ok-information.ensures.registers)
     c.in_ok-write.ensures.registers in
     let found = c.in_ok-clear_entries.ensures.registers at
     (ap (λ t. entered t c.args.path.now) stage.stays ∙ c.requires.askable.1.leads) in
-    let next = stage_cleared c.in_ok-clear_entries.ensures.topology stage found.1 found.2 in
+    let next = stage_cleared c.in_ok-clear_entries.ensures.went.topology stage found.1 found.2 in
     (found.0, next.0, next.1)
 
 pub overflow_cast-ports : goal.overflow_cast-ports
@@ -58,14 +56,14 @@ write-requires-clause-askable g c =
     let at = c.requires.askable.0 in
     let mid = g.M.Maint.registers c.read.new.maint in
     let asked = stage_askable c.requires.askable.1 c.requires.askable.2 c.requires.askable.3
-    (stage_read at c.in_ok-information.ensures.topology
+    (stage_read at c.in_ok-information.ensures.went.topology
     c.in_ok-information.ensures.registers) in (
       c.args.host_id,
       at,
       record (mid at.node) { default_port = at.port },
       asked.0,
-      default-writable (g.M.Maint.topology c.read.new.maint) mid c.args.path.now at c.from.result
-          at.port (c.from.ensures ∙ said.entry) said.few asked.2 asked.1,
+      default-writable (g.M.Maint.topology c.read.new.maint) mid c.args.path.now at
+          (c.from.ensures ∙ said.entry) said.few asked.2 asked.1,
     )
 
 pub clear_entries-requires-clause-askable : goal.clear_entries-requires-clause-askable
@@ -75,8 +73,8 @@ clear_entries-requires-clause-askable g c =
     let asked = stage_askable c.requires.askable.1 c.requires.askable.2 c.requires.askable.3
     (stage_default (g.M.Maint.registers c.write.new.maint) c.args.path.now
     (c.from.ensures ∙ said.entry) said.few
-    c.in_ok-write.ensures.topology c.requires.askable.3 c.requires.askable.1.leads
-    (stage_read at c.in_ok-information.ensures.topology c.in_ok-information.ensures.registers)
+    c.in_ok-write.ensures.went.topology c.requires.askable.3 c.requires.askable.1.leads
+    (stage_read at c.in_ok-information.ensures.went.topology c.in_ok-information.ensures.registers)
     c.in_ok-write.ensures.registers) in
     (at, asked.0, asked.1, asked.2)
 
@@ -108,9 +106,7 @@ returns-clause-registers g c goal_at enters =
     let end = g.M.Maint.registers c.set_entry.new.maint in
     let said = told g here.In_ok-information in
     let next = cleared g here.In_ok-clear_entries said in
-    let done = set_up topology (g.M.Maint.topology c.clear_entries.new.maint) old
-    (g.M.Maint.registers c.clear_entries.new.maint) end c.args.host_id c.args.path.now at
-    (c.in_ok-information.information % 256) next.0
+    let done = set_up end c.args.path.now
     (g.M.Maint.whole_is_proper c.args.maint.now c.requires.whole)
     (g.M.Maint.whole_fits c.args.maint.now c.requires.whole) c.requires.host said.entry
     c.requires.askable.1.leads next.1 next.2

@@ -1,10 +1,8 @@
-use Rattle.std.proofs.Common.{◌≡◌, ◌%◌, slice_set, Some, true, sym, subst, refl}
+use Rattle.std.proofs.Common.{◌≡◌, ◌%◌, slice_set, true, sym, subst, refl}
 use Rattle.std.proofs.lemmas.Result.{IfOk-weaker}
 use Rattle.fabric_script.specs.declared.ports.PortRef.{PortRef}
 use Rattle.maint_registers.specs.Devices.{Registers, is_switch}
-use Rattle.fabric_map.specs.Topology.{entered}
-use Rattle.host_enumerate.specs.Asking.{IsAskable, IsWritable, Becomes}
-use Rattle.host_enumerate.specs.Setting.{with_entry}
+use Rattle.host_enumerate.specs.Asking.{IsAskable, IsWritable}
 use Rattle.host_enumerate.proofs.Opening.{same_end}
 use Rattle.host_enumerate.proofs.Entries.{Leaves, askable-written, selectable, settable, selected, still_switch, entry-left}
 use Rattle.host_enumerate.proofs.setting.set_entry.Goals as goal
@@ -25,7 +23,7 @@ write-requires-clause-askable g c =
 pub write-requires-2-clause-askable : goal.write-requires-2-clause-askable
 write-requires-2-clause-askable g c =
     let asked = c.requires.askable in
-    let topology = c.in_ok-write.ensures.topology in
+    let topology = c.in_ok-write.ensures.went.topology in
     let old = g.M.Maint.registers c.args.maint.now in
     let mid = g.M.Maint.registers c.write.new.maint in
     let first = selected (g.M.Maint.topology c.args.maint.now) old mid c.args.path.now asked.1
@@ -38,8 +36,7 @@ write-requires-2-clause-askable g c =
       asked.1,
       there,
       subst (λ t. IsAskable t mid asked.0 c.args.path.now asked.1) (sym topology)
-          (askable-written (g.M.Maint.topology c.args.maint.now) old mid asked.0
-          c.args.path.now asked.1 (record (old asked.1.node) { select = c.from.result % 0x400 })
+          (askable-written mid (record (old asked.1.node) { select = c.from.result % 0x400 })
           asked.2 first asked.3 (λ _. refl)),
       subst (λ t. IsWritable t mid c.args.path.now asked.1 0x74 c.from-2.result there)
           (sym topology)
@@ -55,16 +52,12 @@ returns-clause-registers g c =
     let mid = g.M.Maint.registers c.write.new.maint in
     let new = g.M.Maint.registers c.write-2.new.maint in
     IfOk-weaker c.write-2.result
-    (λ _. Leaves (g.M.Maint.topology c.write.new.maint) mid new c.args.path.now 0x74
-    c.from-2.result)
-    (λ _. (at : PortRef) → entered topology c.args.path.now ≡ Some at
-    → Becomes old new at.node (with_entry (old at.node) c.args.id c.args.port))
+    _ _
     (λ _ said at enters.
     entry-left topology old mid new c.args.path.now at c.args.id c.args.port c.from.result
     c.from-2.result c.in_ok-write.ensures.registers
     (subst (λ t. Leaves t mid new c.args.path.now 0x74 c.from-2.result)
-    c.in_ok-write.ensures.topology said)
-    enters
+    c.in_ok-write.ensures.went.topology said) enters
     (subst (λ (p : PortRef). is_switch (old p.node) ≡ true)
     (same_end topology c.args.path.now asked.1 at asked.2.leads enters) asked.4)
     c.from.ensures c.from-2.ensures c.ranges.id.fits c.ranges.port.fits)

@@ -1,4 +1,3 @@
-use Rattle.std.proofs.Common.{true, false}
 use Rattle.host_enumerate.proofs.Preparing.{is_endpoint, is_a_switch, same_askable}
 use Rattle.host_enumerate.proofs.taking.prepare.Goals as goal
 
@@ -6,11 +5,10 @@ pub number-requires-clause-askable : goal.number-requires-clause-askable
 number-requires-clause-askable g c =
     let at = c.requires.askable.0 in
     let old = g.M.Maint.registers c.args.maint.now in
-    let found = same_askable (g.M.Maint.topology c.args.maint.now)
-    (g.M.Maint.topology c.read.new.maint) old (g.M.Maint.registers c.read.new.maint)
-    c.args.numbering.now.host_id c.args.path.now at false c.in_ok-features.ensures.topology
+    let found = same_askable
+    (g.M.Maint.registers c.read.new.maint) c.in_ok-features.ensures.went.topology
     c.in_ok-features.ensures.registers c.requires.askable.1 c.requires.askable.2
-    (is_endpoint (old at.node) at.port c.in_ok-features.features
+    (is_endpoint (old at.node) at.port
     (c.in_ok-features.ensures.value at c.requires.askable.1.leads) c.if-features-eq0.true) in
     (at, found.0, found.1, found.2)
 
@@ -18,10 +16,9 @@ pub send_home-requires-clause-askable : goal.send_home-requires-clause-askable
 send_home-requires-clause-askable g c =
     let at = c.requires.askable.0 in
     let old = g.M.Maint.registers c.args.maint.now in
-    let found = same_askable (g.M.Maint.topology c.args.maint.now)
-    (g.M.Maint.topology c.read.new.maint) old (g.M.Maint.registers c.read.new.maint)
-    c.args.numbering.now.host_id c.args.path.now at true c.in_ok-features.ensures.topology
+    let found = same_askable
+    (g.M.Maint.registers c.read.new.maint) c.in_ok-features.ensures.went.topology
     c.in_ok-features.ensures.registers c.requires.askable.1 c.requires.askable.2
-    (is_a_switch (old at.node) at.port c.in_ok-features.features
+    (is_a_switch (old at.node) at.port
     (c.in_ok-features.ensures.value at c.requires.askable.1.leads) c.if-features-eq0.false) in
     (at, found.0, found.1, found.2)

@@ -11,7 +11,7 @@ write-requires-clause-askable g c =
       at,
       record (old at.node) { tag = length devices + 1 },
       c.requires.askable.1,
-      tag-writable (g.M.Maint.topology c.args.maint.now) old c.args.path.now at c.len.result
+      tag-writable (g.M.Maint.topology c.args.maint.now) old c.args.path.now at
           devices (c.len.ensures ∙ c.args.numbering.now.devices.ok.0) c.requires.askable.2,
     )
 
@@ -21,21 +21,20 @@ prepare-requires-clause-askable g c =
     let topology = g.M.Maint.topology c.args.maint.now in
     let old = g.M.Maint.registers c.args.maint.now in
     let devices = c.args.numbering.now.devices.items in
-    let found = tagged_askable topology (g.M.Maint.topology c.write.new.maint) old
-    (g.M.Maint.registers c.write.new.maint) c.args.numbering.now.host_id c.args.path.now at
-    (length devices + 1) c.in_ok-write.ensures.topology c.requires.askable.1
+    let found = tagged_askable (g.M.Maint.registers c.write.new.maint)
+    (length devices + 1) c.in_ok-write.ensures.went.topology c.requires.askable.1
     c.requires.askable.2
-    (tagged topology old (g.M.Maint.registers c.write.new.maint) c.args.path.now at c.len.result
+    (tagged topology old (g.M.Maint.registers c.write.new.maint) c.args.path.now
     devices (c.len.ensures ∙ c.args.numbering.now.devices.ok.0) c.in_ok-write.ensures.registers
     c.requires.askable.1.leads) in
     (at, found.0, found.1)
 
 pub returns-in-Ok-clause-taken : goal.returns-in-Ok-clause-taken
 returns-in-Ok-clause-taken g c at enters =
-    taken_in (g.M.Maint.topology c.args.maint.now) (g.M.Maint.topology c.write.new.maint)
+    taken_in
     c.args.numbering.now.host_id c.args.numbering.now.next_id c.prepare.new.numbering.next_id
     c.args.numbering.now.devices.items (g.M.Maint.registers c.args.maint.now)
     (g.M.Maint.registers c.write.new.maint) (g.M.Maint.registers c.prepare.new.maint)
-    c.args.path.now at c.len.result c.in_ok-kind.kind c.in_ok-write.ensures.topology
+    c.args.path.now c.in_ok-kind.kind c.in_ok-write.ensures.went.topology
     (c.len.ensures ∙ c.args.numbering.now.devices.ok.0) enters c.in_ok-write.ensures.registers
     c.in_ok-kind.ensures.kind

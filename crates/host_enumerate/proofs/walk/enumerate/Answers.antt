@@ -1,6 +1,5 @@
-use Rattle.std.proofs.Common.{◌/◌, [], ◌∙◌, sym, ap, subst}
+use Rattle.std.proofs.Common.{◌∙◌, sym, ap, subst}
 use Rattle.fabric_map.specs.Numbered.{entries_of, IsNumbered}
-use Rattle.host_enumerate.specs.Underway.{IsUnderway}
 use Rattle.host_enumerate.proofs.Carrying.{end_of_walk}
 use Rattle.host_enumerate.proofs.Numbering.{OwnIdRead, AllNumbered, can_read, id_fits, underway_first, is_numbered, is_free}
 use Rattle.host_enumerate.proofs.walk.enumerate.Given.{Over}
@@ -9,8 +8,7 @@ use Rattle.host_enumerate.proofs.walk.enumerate.Goals as goal
 
 pub read-requires-clause-askable : goal.read-requires-clause-askable
 read-requires-clause-askable g c =
-    can_read (g.M.Maint.topology c.args.maint.now) (g.M.Maint.registers c.args.maint.now)
-    c.of_host.result (g.M.Maint.whole_is_proper c.args.maint.now c.requires.whole)
+    can_read (g.M.Maint.whole_is_proper c.args.maint.now c.requires.whole)
     (g.M.Maint.whole_fits c.args.maint.now c.requires.whole) c.of_host.ensures
 
 -- the host has read its own ID
@@ -22,7 +20,7 @@ own g c = record {
   proper = g.M.Maint.whole_is_proper c.args.maint.now c.requires.whole;
   fits = g.M.Maint.whole_fits c.args.maint.now c.requires.whole;
   empty = c.of_host.ensures;
-  is_one = c.in_ok-own_id.ensures.topology;
+  is_one = c.in_ok-own_id.ensures.went.topology;
   same = c.in_ok-own_id.ensures.registers;
   told = c.in_ok-own_id.ensures.value;
   below = c.requires.host;
@@ -36,9 +34,9 @@ all : (g : Over) (c : In_ok-devices g)
     (g.M.Maint.registers c.number_devices.new.maint) c.in_ok-own_id.own_id
     c.in_ok-devices.devices.items
 all g c = record {
-  is_two = c.in_ok-devices.ensures.topology;
+  is_two = c.in_ok-devices.ensures.went.topology;
   fits_after = g.M.Maint.whole_fits c.number_devices.new.maint
-      c.in_ok-devices.ensures.goes_on.whole;
+      c.in_ok-devices.ensures.went.whole;
   numbered = c.in_ok-devices.ensures.numbered;
 }
 
@@ -54,14 +52,10 @@ number_devices-requires-clause-begun g c = (
 
 pub returns-in_err-devices-clause-end : goal.returns-in_err-devices-clause-end
 returns-in_err-devices-clause-end g c =
-    end_of_walk g.M.Maint c.args.maint.now c.read.new.maint c.number_devices.new.maint
-    (λ before. IsUnderway (g.M.Maint.topology c.read.new.maint) before
-    (g.M.Maint.registers c.read.new.maint) (c.in_ok-own_id.own_id / 65536) [] 0 [])
-    c.from_residual-in_err-devices.result c.in_err-devices.field-0.0
+    end_of_walk c.in_ok-own_id.ensures.went c.from_residual-in_err-devices.result
     c.from_residual-in_err-devices.ensures.1
-    c.in_ok-own_id.ensures.topology c.in_ok-own_id.ensures.goes_on
     (underway_first (own g (goal.at.returns-in_err-devices-clause-end g c).In_ok-own_id))
-    c.in_err-devices.ensures.end
+    c.in_err-devices.ensures.went
 
 pub returns-clause-numbered : goal.returns-clause-numbered
 returns-clause-numbered g c =
