@@ -79,7 +79,12 @@ module _ (names : List (List ℕ)) (lines : List Numbered) (passes : ScriptPasse
   none_tagged A node inside own = (made f host_f).untagged node inside
   none_tagged B node inside own = (made s host_s).untagged node inside
 
--- a contest that was made of a new fabric
+-- a contest that was made of a new fabric, as it is told of one
+pub record IsNewContest (contest : Contest) : Type 0 where
+  pub both : both_of contest
+      ≡ new_both (contest_lines contest) contest.first_node contest.second_node
+  pub can : CanTurn contest
+
 module _ (contest : Contest)
     (passes : ScriptPasses contest.script.now.names.items (contest_lines contest))
     (stands : Stands (start (contest_lines contest)) [] contest.fabric)
@@ -107,7 +112,7 @@ module _ (contest : Contest)
   with_both one other =
       record { first = one; second = other; registers = registers_of contest.fabric.devices.items }
 
-  pub new_both_is : both_of contest ≡ new_both lines contest.first_node contest.second_node
+  new_both_is : both_of contest ≡ new_both lines contest.first_node contest.second_node
   new_both_is =
       ap (λ (w : Walker). with_both w (both_of contest).second)
       (first_is (view_of lines contest.first_node)
@@ -119,21 +124,24 @@ module _ (contest : Contest)
       (devices_here contest.script.now.names.items lines contest.first_node contest.fabric passes
       host_f stands named))
 
-  pub new_can : AreLow contest.first.machine.todo → AreLow contest.second.machine.todo
-      → HasEntries contest.first → HasEntries contest.second → CanTurn contest
-  new_can low_f low_s entries_f entries_s = record {
-    stands = new_stands contest.script.now.names.items lines contest.first_node contest.fabric
-        passes host_f stands named;
-    second_host = host_s;
-    begun = new_both lines contest.first_node contest.second_node;
-    turns = [];
-    both_is = new_both_is;
-    start = are_begun contest.script.now.names.items lines passes contest.first_node
-        contest.second_node host_f host_s differ;
-    untagged = none_tagged contest.script.now.names.items lines passes contest.first_node
-        contest.second_node host_f host_s differ;
-    low_first = low_f;
-    low_second = low_s;
-    entries_first = entries_f;
-    entries_second = entries_s;
+  pub new_contest : AreLow contest.first.machine.todo → AreLow contest.second.machine.todo
+      → HasEntries contest.first → HasEntries contest.second → IsNewContest contest
+  new_contest low_f low_s entries_f entries_s = record {
+    both = new_both_is;
+    can = record {
+      stands = new_stands contest.script.now.names.items lines contest.first_node contest.fabric
+          passes host_f stands named;
+      second_host = host_s;
+      begun = new_both lines contest.first_node contest.second_node;
+      turns = [];
+      both_is = new_both_is;
+      start = are_begun contest.script.now.names.items lines passes contest.first_node
+          contest.second_node host_f host_s differ;
+      untagged = none_tagged contest.script.now.names.items lines passes contest.first_node
+          contest.second_node host_f host_s differ;
+      low_first = low_f;
+      low_second = low_s;
+      entries_first = entries_f;
+      entries_second = entries_s;
+    };
   }

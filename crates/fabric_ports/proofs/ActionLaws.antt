@@ -107,14 +107,13 @@ Says place action cable before result wires after a b a2 b2 =
     (link cable.link a b) before result (link wires a2 b2) after
     × IfOk result (λ answer. answer ≡ answer_of place.side action (link cable.link a b))
 
-module _ {K : Type 0} {S : Ghosts K} (fabric : Fabric)
-    (port : PortRef) (place : LinkPlace) (action : Action) (cable : Cable)
-    (ports next : List PortState) (wires : Wires)
-    (before after : LinkLines K S) (result : Result Acted LinkEnd)
+module _ {K : Type 0} {S : Ghosts K} {fabric : Fabric} {port : PortRef} {place : LinkPlace}
+    (action : Action) {cable : Cable} {ports next : List PortState} (wires : Wires)
+    {before : LinkLines K S} (after : LinkLines K S) (result : Result Acted LinkEnd)
     (m : IsMet fabric port place cable ports)
     (two : AtTwo place.a place.b ports next
     (Says place action cable before result wires after))
-    (writer : TraceWriter K) (lent : IsLent writer before cable.a cable.b) where
+    {writer : TraceWriter K} (lent : IsLent writer before cable.a cable.b) where
   says : (r : Result Acted LinkEnd) → result ≡ r
       → Says place action cable before r wires after two.first two.second
       two.next_first two.next_second
@@ -136,8 +135,7 @@ module _ {K : Type 0} {S : Ghosts K} (fabric : Fabric)
       let k = is_known stands in
       let changed = changed_with fabric place cable wires ports next two.next_first two.next_second
       m.ports_are k.first k.second two.becomes in
-      link_blocked action wires two.next_first two.next_second before after writer last answer
-      k does.0 does.1 lent lacks changed
+      link_blocked action after answer k does.0 does.1 lent lacks changed
 
   pub act_ended : (end : LinkEnd) → result ≡ Err end → (from : Seen) (lines : List TraceLine)
       → Stands from lines fabric
@@ -145,12 +143,11 @@ module _ {K : Type 0} {S : Ghosts K} (fabric : Fabric)
       lines
       (Err (event_end cable.a cable.b end))
   act_ended (Undetected side e) is from lines stands =
-      link_exposed action side e before after writer (is_known stands)
-      (says (Err (Undetected side e)) is).0 lent
+      link_exposed action side e after (is_known stands) (says (Err (Undetected side e)) is).0 lent
   act_ended Failed is from lines stands =
-      link_cut action before after writer (is_known stands) (says (Err Failed) is).0 lent
+      link_cut action after (is_known stands) (says (Err Failed) is).0 lent
   act_ended NoMemory is from lines stands =
-      link_cut action before after writer (is_known stands) (says (Err NoMemory) is).0 lent
+      link_cut action after (is_known stands) (says (Err NoMemory) is).0 lent
 
 -- ---- the writer behind the call
 

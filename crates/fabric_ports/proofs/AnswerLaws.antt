@@ -1,5 +1,5 @@
 -- What is said of an ask by what was told of it.
-use Rattle.std.proofs.Common.{◌≡◌, ℕ, ◌<◌, List, [], ◌∷◌, ◌++◌, Option, Some, None, Result, Ok, Err, IfOk, IfErr, refl, sym, ap, ◌∙◌, subst, append-nil, append_assoc}
+use Rattle.std.proofs.Common.{◌≡◌, ℕ, ◌<◌, List, [], ◌∷◌, ◌++◌, Option, Some, None, Result, Ok, Err, refl, sym, ap, ◌∙◌, subst, append-nil, append_assoc}
 use Rattle.std.proofs.lemmas.Grind.{flat_map-append}
 use Rattle.std.proofs.lemmas.List.{same_from_push}
 use Rattle.std.specs.Io.KnownBytes.{Appends}
@@ -36,7 +36,7 @@ use Rattle.fabric_ask.proofs.Laying.{laid_heard}
 use Rattle.fabric_ask.proofs.Uncollected.{nothing_answers, answers-append}
 use Rattle.fabric_ports.specs.Asking.{CanAsk, Returns, Replied, AskEnds, AskedTextFront}
 use Rattle.fabric_ports.specs.Fetching.{NoneLeaves, AskLeaves, response_or_end, response_in, ask_answer}
-use Rattle.fabric_ports.specs.Ran.{AddsFront, Ran}
+use Rattle.fabric_ports.specs.Ran.{AddsFront, Ran, end_with}
 use Rattle.fabric_ports.specs.declared.answers.FabricEnd.{FabricEnd}
 use Rattle.fabric_ports.specs.declared.answers.FabricEnd.TheVariants as Ends
 use Rattle.fabric_ports.specs.declared.asking.AskEnd.{AskEnd}
@@ -50,57 +50,42 @@ pub record IsSendable (request : Request) : Type 0 where
   pub op : IsGoodOp request.op
   pub prio : request.prio < 4
 
-read : (request : Request) (packet : List ℕ) → IsSendable request
+read : {request : Request} (packet : List ℕ) → IsSendable request
     → LinkForm (request_body request) packet → request_of packet ≡ Some request
-read request packet sendable form = read_back request packet sendable.prio sendable.op form
+read {request = request} packet sendable form = read_back request packet sendable.prio sendable.op
+    form
 
 -- its hop count is a byte of its packet
-low_hop : (request : Request) (packet : List ℕ) → IsSendable request
+low_hop : {request : Request} (packet : List ℕ) → IsSendable request
     → LinkForm (request_body request) packet → request.hop < 256
-low_hop request packet sendable form =
+low_hop {request = request} packet sendable form =
     hop_low packet request.dest request.hop (on_request packet request
-    (Passes-from_form (request_body request) packet form) (read request packet sendable form))
+    (Passes-from_form (request_body request) packet form) (read packet sendable form))
 
 -- what was told of an ask, by what left at the host or why it ended
 abbrev pub IsTold : {K : Type 0} → TraceWriter K → TraceWriter K → ℕ → Request → List Edit → Seen
     → List TraceLine → Fabric → Result (Option (List ℕ)) FabricEnd → Type 0
-IsTold a b host request noise from lines new (Ok left) =
-    Ran (AskLeaves host request noise left) a b from lines (Ok new)
-IsTold a b host request noise from lines new (Err end) =
-    Ran (IsAsk host request noise) a b from lines (Err end)
+IsTold a b host request noise from lines new told =
+    Ran (AskLeaves host request noise told) a b from lines (end_with new told)
 
-module _ {K : Type 0} (a b : TraceWriter K) (host : ℕ) (request : Request) (noise : List Edit)
-    (old new : Fabric) where
-  pub is_told : (told : Result (Option (List ℕ)) FabricEnd)
-      → IfOk told (λ left. (from : Seen) (lines : List TraceLine) → CanAsk host from lines old
-      → Ran (AskLeaves host request noise left) a b from lines (Ok new))
-      → IfErr told (λ end. (from : Seen) (lines : List TraceLine) → CanAsk host from lines old
-      → Ran (IsAsk host request noise) a b from lines (Err end))
-      → (from : Seen) (lines : List TraceLine) → CanAsk host from lines old
-      → IsTold a b host request noise from lines new told
-  is_told (Ok left) done ended from lines can = done from lines can
-  is_told (Err end) done ended from lines can = ended from lines can
-
+module _ {K : Type 0} {a b : TraceWriter K} (host : ℕ) (request : Request) (noise : List Edit)
+    (new : Fabric) where
   -- some lines were told
-  pub told_lines : (told : Result (Option (List ℕ)) FabricEnd) (from : Seen)
-      (lines : List TraceLine)
-      → IsTold a b host request noise from lines new told
+  pub told_lines : (told : Result (Option (List ℕ)) FabricEnd) {from : Seen}
+      {lines : List TraceLine} → IsTold a b host request noise from lines new told
       → (block : List TraceLine) × Adds a b block
-  told_lines (Ok left) from lines ran = (ran.block, ran.ends.0)
-  told_lines (Err (Ends.Undetected port event)) from lines ran = (ran.block, ran.ends.0)
-  told_lines (Err Ends.Failed) from lines ran = (ran.ends.0.front, ran.ends.0.adds)
-  told_lines (Err Ends.NoMemory) from lines ran = (ran.ends.front, ran.ends.adds)
+  told_lines (Ok left) ran = (ran.block, ran.ends.0)
+  told_lines (Err (Ends.Undetected port event)) ran = (ran.block, ran.ends.0)
+  told_lines (Err Ends.Failed) ran = (ran.ends.0.front, ran.ends.0.adds)
+  told_lines (Err Ends.NoMemory) ran = (ran.ends.front, ran.ends.adds)
 
   -- the lines go to the outbox of before
-  pub told_same : (told : Result (Option (List ℕ)) FabricEnd)
-      → IfOk told (λ left. (from : Seen) (lines : List TraceLine) → CanAsk host from lines old
-      → Ran (AskLeaves host request noise left) a b from lines (Ok new))
-      → IfErr told (λ end. (from : Seen) (lines : List TraceLine) → CanAsk host from lines old
-      → Ran (IsAsk host request noise) a b from lines (Err end))
+  pub told_same : (told : Result (Option (List ℕ)) FabricEnd) {old : Fabric}
+      → ((from : Seen) (lines : List TraceLine) → CanAsk host from lines old
+      → IsTold a b host request noise from lines new told)
       → (from : Seen) × (lines : List TraceLine) × CanAsk host from lines old
       → b.outbox.ghost_name ≡ a.outbox.ghost_name
-  told_same told done ended can =
-      (told_lines told can.0 can.1 (is_told told done ended can.0 can.1 can.2)).1.same
+  told_same told tells can = (told_lines told (tells can.0 can.1 can.2)).1.same
 
 module _ (names : List (List ℕ)) (before after : Option (List ℕ)) (host : ℕ) (request : Request)
     (noise : List Edit) (from : Seen) (lines : List TraceLine) (old new : Fabric) where
@@ -117,10 +102,10 @@ module _ (names : List (List ℕ)) (before after : Option (List ℕ)) (host : �
 
     reads : (packet : List ℕ) → LinkForm (request_body request) packet
         → request_of packet ≡ Some request
-    reads packet form = read request packet sendable form
+    reads packet form = read packet sendable form
 
     module _ (left : Option (List ℕ))
-        (ran : Ran (AskLeaves host request noise left) a b from lines (Ok new))
+        (ran : IsTold a b host request noise from lines new (Ok left))
         (told : Appends before after (trace_text names ran.block)) where
       abbrev block : List TraceLine
       block = ran.block
@@ -129,7 +114,7 @@ module _ (names : List (List ℕ)) (before after : Option (List ℕ)) (host : �
       ask = ran.is.0
 
       low : request.hop < 256
-      low = low_hop request ran.is.0.3.packet sendable ran.is.0.3.form
+      low = low_hop ran.is.0.3.packet sendable ran.is.0.3.form
 
       still : (seen (seen from lines) ran.block).undetected ≡ None
       still = still_behind lines ran.block ran.ends.1
@@ -232,7 +217,7 @@ module _ (names : List (List ℕ)) (before after : Option (List ℕ)) (host : �
 
     -- the lines were told whole
     told_whole : (left : Option (List ℕ))
-        → (ran : Ran (AskLeaves host request noise left) a b from lines (Ok new))
+        → (ran : IsTold a b host request noise from lines new (Ok left))
         → Appends before after (trace_text names ran.block)
         → IsAnswered (response_or_end (response_in left))
     told_whole None ran told = nothing_came None ran told ran.is.1
@@ -252,11 +237,11 @@ module _ (names : List (List ℕ)) (before after : Option (List ℕ)) (host : �
     }
 
     -- the first lines were told, and a front of their text was written
-    told_short : (block : List TraceLine) → IsAsk host request noise (seen from lines) block
+    told_short : {block : List TraceLine} → IsAsk host request noise (seen from lines) block
         → (short : AddsFront a b block)
         → AppendsFront before after (trace_text names short.front)
         → AskedTextFront names before after host request noise from lines
-    told_short block is short front = record {
+    told_short {block = block} is short front = record {
       block = block;
       told = subst (λ (l : List TraceLine). AppendsFront before after (trace_text names l))
           (sym short.whole) (front_more short.front short.rest front);
@@ -275,18 +260,18 @@ module _ (names : List (List ℕ)) (before after : Option (List ℕ)) (host : �
         let found = sym (ap (λ (t : Seen). t.undetected) (seen-append from lines ran.block))
         ∙ ran.ends.1 in
         let apart = ask_found host request noise (seen from lines) ran.block
-        (good_behind can.stands.ready can.stands.made) can.stands.sent ran.is
+        (good_behind can.stands.ready can.stands.made) can.stands.sent ran.is.0
         (record { port = port; event = event }) found in
         record {
           block = ran.block;
           told = whole ran.block ran.ends.0;
-          is = ran.is;
+          is = ran.is.0;
           made = made-append can.stands.made apart.made;
           found = ran.ends.1;
           own = nothing_answers host ran.block apart.nothing;
         }
     told_answers (Err Ends.Failed) ran whole =
-        told_short ran.block ran.is ran.ends.0 (record {
+        told_short ran.is.0 ran.ends.0 (record {
           front = trace_text names ran.ends.0.front;
           rest = [];
           whole = sym (append-nil _);
@@ -297,7 +282,7 @@ module _ (names : List (List ℕ)) (before after : Option (List ℕ)) (host : �
       front = ran.ends.front;
       rest = ran.ends.rest;
       told = whole ran.ends.front ran.ends.adds;
-      is = ran.is;
+      is = ran.is.0;
       whole = ran.ends.whole;
     }
 
@@ -315,9 +300,9 @@ module _ (names : List (List ℕ)) (before after : Option (List ℕ)) (host : �
     told_fails (Err (Ends.Undetected port event)) ran front = record {
       block = ran.block;
       told = front ran.block ran.ends.0;
-      is = ran.is;
+      is = ran.is.0;
     }
     told_fails (Err Ends.Failed) ran front =
-        told_short ran.block ran.is ran.ends.0 (front ran.ends.0.front ran.ends.0.adds)
+        told_short ran.is.0 ran.ends.0 (front ran.ends.0.front ran.ends.0.adds)
     told_fails (Err Ends.NoMemory) ran front =
-        told_short ran.block ran.is ran.ends (front ran.ends.front ran.ends.adds)
+        told_short ran.is.0 ran.ends (front ran.ends.front ran.ends.adds)

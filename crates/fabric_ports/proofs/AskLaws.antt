@@ -1,5 +1,5 @@
 -- What an ask tells, and how it ends.
-use Rattle.std.proofs.Common.{◌≡◌, ℕ, Bool, true, false, List, [], ◌∷◌, ◌++◌, length, Option, Some, None, Ok, refl, sym, ap, ◌∙◌, subst, arith, append-nil, append_assoc, inl, inr, ◌⊎◌, if◌then◌else◌}
+use Rattle.std.proofs.Common.{◌≡◌, ℕ, Bool, true, false, List, [], ◌∷◌, ◌++◌, length, Option, Some, None, Result, Ok, refl, sym, ap, ◌∙◌, subst, arith, append-nil, append_assoc, inl, inr, ◌⊎◌, if◌then◌else◌}
 use Rattle.trace_lines.specs.declared.writer.TraceWriter.{TraceWriter}
 use Rattle.rio_packets.specs.Fields.{prio_of}
 use Rattle.rio_packets.specs.LinkForm.{LinkForm, Passes}
@@ -34,11 +34,12 @@ use Rattle.fabric_ports.specs.Asking.{CanAsk, NeverBefore}
 use Rattle.fabric_ports.specs.Events.{Did, answer_taken}
 use Rattle.fabric_ports.specs.Fetching.{RoundsLeave, AskLeaves}
 use Rattle.fabric_ports.specs.Places.{IsEndpointAt}
-use Rattle.fabric_ports.specs.Ran.{Ran}
+use Rattle.fabric_ports.specs.Ran.{Ran, end_with}
+use Rattle.fabric_ports.specs.declared.answers.FabricEnd.{FabricEnd}
 use Rattle.fabric_ports.specs.declared.answers.Happened.{Happened}
 use Rattle.fabric_ports.specs.declared.fabric.Fabric.{Fabric}
 use Rattle.fabric_ports.proofs.LeaveLaws.{leaves_behind, nothing_leaves as none_of, did_stands}
-use Rattle.fabric_ports.proofs.RanLaws.{ran_joined}
+use Rattle.fabric_ports.proofs.RanLaws.{if_ok, ran_joined}
 
 -- ---- the request is taken
 
@@ -96,13 +97,13 @@ host_at {host} can = can.stands.shows.endpoints host (host_is can)
 
 module _ {K : Type 0} (host : ℕ) (request : Request) where
   -- the request is taken, and nothing else
-  pub asked : (a b : TraceWriter K) (from : Seen) (lines : List TraceLine) (old new : Fabric)
+  pub asked : {a b : TraceWriter K} {from : Seen} {lines : List TraceLine} {old new : Fabric}
       (packet : List ℕ) (happened : Happened) → CanAsk host from lines old
       → LinkForm (request_body request) packet
       → Did (λ block. (block ≡ take_lines (seen from lines) host packet)
       × (happened ≡ answer_taken block)) a b (seen from lines) new
       → Ran (λ s block. Asks s host request block) a b from lines (Ok new)
-  asked a b from lines old new packet happened can form did =
+  asked {from = from} {lines = lines} packet happened can form did =
       let s = seen from lines in
       let own = taking host s packet did.block (host_is can)
       (Passes-from_form (request_body request) packet form) did.is.0 in
@@ -118,16 +119,15 @@ module _ {K : Type 0} (host : ℕ) (request : Request) where
       }
 
   -- and then the rounds are made
-  pub asked_whole : (noise : List Edit) (a b c : TraceWriter K) (from : Seen)
-      (lines : List TraceLine) (mid new : Fabric) (left : Option (List ℕ))
+  pub asked_whole : (noise : List Edit) {a b c : TraceWriter K} {from : Seen}
+      {lines : List TraceLine} {mid : Fabric} (new : Fabric)
+      (told : Result (Option (List ℕ)) FabricEnd)
       → (first : Ran (λ s block. Asks s host request block) a b from lines (Ok mid))
-      → Ran (RoundsLeave host most_rounds noise left) b c from (lines ++ first.block) (Ok new)
-      → Ran (AskLeaves host request noise left) a c from lines (Ok new)
-  asked_whole noise a b c from lines mid new left first second =
-      ran_joined (λ s block. Asks s host request block)
-      (RoundsLeave host most_rounds noise left) (AskLeaves host request noise left) a b c from lines
-      mid (Ok new)
-      (λ x y own still more. (
+      → Ran (RoundsLeave host most_rounds noise told) b c from (lines ++ first.block)
+      (end_with new told)
+      → Ran (AskLeaves host request noise told) a c from lines (end_with new told)
+  asked_whole noise {from = from} {lines = lines} new told first second =
+      ran_joined (λ x y own still more. (
         (
           x,
           y,
@@ -138,8 +138,8 @@ module _ {K : Type 0} (host : ℕ) (request : Request) where
               (sym still)
               more.0,
         ),
-        leaves_behind host left x y
-            (none_of host x (asking host (seen from lines) request x own).apart.nothing) more.1,
+        if_ok told (λ left. leaves_behind host left x y
+            (none_of host x (asking host (seen from lines) request x own).apart.nothing)) more.1,
       ))
       first second
 

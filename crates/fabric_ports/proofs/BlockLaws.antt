@@ -11,7 +11,7 @@ use Rattle.link_wires.specs.Deliveries.{told_of}
 use Rattle.link_machine.specs.Calls.{pump_notes, has_chars, told_notes, delivery_from, delivered_from, delivery_notes, is_silent, time_out_notes}
 use Rattle.link_machine.specs.States.{LinkState}
 use Rattle.link_machine.specs.Acts as acts
-use Rattle.link_machine.specs.Acts.{Act, Reached, At, FoundAt, reached_by, after_act, act_notes, acts_notes, goes}
+use Rattle.link_machine.specs.Acts.{Act, At, FoundAt, reached_by, after_act, act_notes, acts_notes, goes}
 use Rattle.link_machine.proofs.Settling.Lines.{goes_one}
 use Rattle.fabric_script.specs.declared.ports.PortRef.{PortRef}
 use Rattle.fabric_model.specs.Network.{peer_in, link_in}
@@ -98,7 +98,8 @@ times_first s a b =
     elim (is_silent (link_at s a b)) as
     (λ x. lines_of a b (if x then Notes.Fire A ∷ [] else []) ++ lack_lines
     (if x then Done else Early)
-    ≡ (if x then lines_of a b (if x then Notes.Fire A ∷ [] else []) else Lacked traced.Early ∷ [])) [
+    ≡ (if x then lines_of a b (if x then Notes.Fire A ∷ [] else [])
+    else Lacked traced.Early ∷ [])) [
       | true ↦ refl
       | false ↦ refl
     ]

@@ -10,18 +10,15 @@ use Rattle.link_machine.specs.States.{Wires, LinkState, link}
 use Rattle.maint_registers.specs.Devices.{Registers, is_switch}
 use Rattle.fabric_script.specs.declared.ports.PortRef.{PortRef}
 use Rattle.fabric_model.specs.Network.{Item, Network, IsEndpoint, same_port, peer_in}
-use Rattle.rio_chars.specs.declared.chars.Char.{Char}
 use Rattle.link_watch.specs.declared.note.Note.{Note}
 use Rattle.link_watch.specs.declared.note.Note.TheVariants as Notes
-use Rattle.fabric_model.specs.Steps.{Step, after, after_all, after_hold}
+use Rattle.fabric_model.specs.Steps.{after_hold}
 use Rattle.fabric_model.specs.Laws.Proper.{AreProper}
-use Rattle.fabric_model.proofs.Joining.{links_stay}
 use Rattle.fabric_model.proofs.Peers.{apart_back}
 use Rattle.trace_lines.specs.Notes.{port_at_side, line_of, lines_of}
+use Rattle.fabric_trace.proofs.Parts.Folding.{got_net, fired_net}
 use Rattle.fabric_trace.specs.Known.{Seen, peer_of, link_at, port_seen, wire_state}
-use Rattle.fabric_trace.specs.Fold.{got_from, fired_from, seen_line, seen}
-use Rattle.trace_lines.specs.Lines.{TraceLine, steps_of}
-use Rattle.fabric_trace.proofs.Parts.Folding.{network_is}
+use Rattle.fabric_trace.specs.Fold.{seen_line, seen}
 use Rattle.fabric_trace.specs.Views.{lists_in}
 use Rattle.fabric_trace.proofs.Parts.Making.{AreOthers}
 use Rattle.fabric_trace.proofs.Links.Serving.{Untouched}
@@ -186,29 +183,19 @@ held_registers : (net : Network) (q : PortRef) (p : Option PortRef) (r : ℕ)
 held_registers net q None r = refl
 held_registers net q (Some p) r = refl
 
-got_network : (s : Seen) (peer : Option PortRef) (q : PortRef) (chars : List Char)
-    → (got_from s peer q chars).network ≡ s.network
-got_network s None q chars = refl
-got_network s (Some p) q chars = refl
-
-fired_network : (s : Seen) (peer : Option PortRef) (p : PortRef)
-    → (fired_from s peer p).network ≡ s.network
-fired_network s None p = refl
-fired_network s (Some q) p = refl
-
 note_registers : (s : Seen) (a b : PortRef) (note : Note)
     → (seen_line s (line_of a b note)).network.registers ≡ s.network.registers
 note_registers s a b (Notes.Sent side chars) = refl
 note_registers s a b (Notes.Got side chars) =
     ap (λ (net : Network). net.registers)
-    (got_network s (peer_of s (port_at_side a b side)) (port_at_side a b side) chars)
+    (got_net s (peer_of s (port_at_side a b side)) (port_at_side a b side) chars)
 note_registers s a b (Notes.Hold side packet) =
     held_registers s.network (port_at_side a b side)
     (peer_in s.network.links (port_at_side a b side)) (prio_of packet)
 note_registers s a b (Notes.Free side packet) = refl
 note_registers s a b (Notes.Fire side) =
     ap (λ (net : Network). net.registers)
-    (fired_network s (peer_of s (port_at_side a b side)) (port_at_side a b side))
+    (fired_net s (peer_of s (port_at_side a b side)) (port_at_side a b side))
 
 -- whatever is noted of a link
 pub notes_registers : (s : Seen) (a b : PortRef) (notes : List Note)
@@ -216,15 +203,6 @@ pub notes_registers : (s : Seen) (a b : PortRef) (notes : List Note)
 notes_registers s a b [] = refl
 notes_registers s a b (note ∷ notes) = notes_registers (seen_line s (line_of a b note)) a b notes
     ∙ note_registers s a b note
-
-all_links_stay : (net : Network) (steps : List Step) → (after_all net steps).links ≡ net.links
-all_links_stay net [] = refl
-all_links_stay net (step ∷ steps) = all_links_stay (after net step) steps ∙ links_stay net step
-
-pub seen_links : (s : Seen) (lines : List TraceLine)
-    → (seen s lines).network.links ≡ s.network.links
-seen_links s lines = ap (λ (net : Network). net.links) (network_is s lines)
-    ∙ all_links_stay s.network (steps_of lines)
 
 -- ---- the whole fabric
 

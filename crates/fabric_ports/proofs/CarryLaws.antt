@@ -4,6 +4,7 @@ use Rattle.link_wires.specs.declared.edits.Edit.{Edit}
 use Rattle.fabric_script.specs.declared.ports.PortRef.{PortRef}
 use Rattle.fabric_model.specs.Network.{link_in}
 use Rattle.fabric_model.proofs.Peers.{ArePeers, link_peers}
+use Rattle.fabric_trace.proofs.Shown.Wiring.{seen_links}
 use Rattle.fabric_trace.specs.Fold.{seen}
 use Rattle.fabric_trace.specs.Known.{UndetectedAt, Seen}
 use Rattle.trace_lines.specs.Lines.{TraceLine}
@@ -22,7 +23,6 @@ use Rattle.fabric_ports.specs.Ran.{Kind}
 use Rattle.fabric_ports.specs.Showing.{ends_of}
 use Rattle.fabric_ports.specs.Standing.{Stands}
 use Rattle.fabric_ports.specs.declared.fabric.Fabric.{Fabric}
-use Rattle.fabric_ports.proofs.Cables.{seen_links}
 use Rattle.fabric_ports.proofs.EndLaws.{links_stand}
 use Rattle.fabric_ports.proofs.RanLaws.{Both, GoesOn, IsMade}
 use Rattle.fabric_ports.proofs.SettlingLaws.{Settles, good_behind}
@@ -146,11 +146,11 @@ both_stir_fair {s} {lines} ends noise left is_open both =
     (λ first rest fair own. stirs_fair both.0 left (open_round (open_on is_open fair)) own) both.1
 
 -- all that a link does in a round, one behind the other
-pub carry_is : (ends : PortRef × PortRef) (noise left : List Edit) (s : Seen)
+pub carry_is : (ends : PortRef × PortRef) (noise left : List Edit) {s : Seen}
     (lines : List TraceLine) → IsOpen s ends.0 ends.1
     → Both (BothTurn ends) (Both (BothStir ends noise left) (Settles ends)) s lines
     → LinkCarries ends noise left s lines
-carry_is ends noise left s lines is_open both =
+carry_is ends noise left {s = s} lines is_open both =
     let a = ends.0 in
     let b = ends.1 in
     let one = split (BothTurn ends) (Both (BothStir ends noise left) (Settles ends)) s lines

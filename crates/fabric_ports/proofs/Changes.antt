@@ -1,7 +1,7 @@
 -- Where ports stand when a device changes that has as many ports as before: where they stood.
-use Rattle.std.proofs.Common.{◌≡◌, ℕ, Bool, zero, suc, ◌+◌, ◌<◌, List, [], ◌∷◌, All, Some, option_map, length, get_or, set, refl, sym, ap, ◌∙◌, subst}
+use Rattle.std.proofs.Common.{◌≡◌, ℕ, Bool, zero, suc, ◌+◌, ◌<◌, List, [], ◌∷◌, All, Some, option_map, set, refl, sym, ap, subst}
 use Rattle.std.proofs.lemmas.List.Elements.{All-cons, All-head, All-tail}
-use Rattle.std.proofs.lemmas.Option.{same_Some, slice_get_read}
+use Rattle.std.proofs.lemmas.Option.{same_Some}
 use Rattle.std.specs.List.{slice_get}
 use Rattle.maint_registers.specs.Devices.{Registers, is_switch}
 use Rattle.fabric_model.specs.Network.{Network, switch_at, with_device}
@@ -84,15 +84,6 @@ set-change (d ∷ devices) zero read change there =
     ap (λ x. change x ∷ devices) (sym (same_Some d read there))
 set-change (d ∷ devices) (suc n) read change there =
     ap (λ more. d ∷ more) (set-change devices n read change there)
-
-pub changed_at : (devices : List Registers) (node i : ℕ) (read written : Registers)
-    (change : Registers → Registers) → i ≡ node → i < length devices → read ≡ get_or devices i read
-    → written ≡ change read → set devices i written ≡ with_device devices node change
-changed_at devices node i read written change same within value is =
-    ap (set devices i) is
-    ∙ set-change devices i read change
-    (slice_get_read devices (length devices) i read refl within value)
-    ∙ ap (λ n. with_device devices n change) same
 
 -- an endpoint or a switch of the network is one of its devices
 pub kind_of : (switch : Bool) (net : Network) (devices : List Registers) (node : ℕ)

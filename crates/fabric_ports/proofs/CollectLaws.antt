@@ -131,8 +131,8 @@ pub record WasCollected (device next : Registers) (x y : PortState)
   pub alike : AreAlike x y
   pub forms : AreForms told
 
-pub did_collect : {K : Type 0} (b b2 : TraceWriter K) (s : Seen) (old new : Fabric) (n : ℕ)
-    (device next : Registers) (x y : PortState) (told : Collected) (happens : Happened)
+pub did_collect : {K : Type 0} {b b2 : TraceWriter K} {s : Seen} {old new : Fabric} {n : ℕ}
+    {device next : Registers} {x y : PortState} (told : Collected) {happens : Happened}
     → ShowsFabric old s → s.undetected ≡ None → IsEndpointAt old.devices.items n
     → slice_get old.devices.items n ≡ Some device → port_seen s (port_of n) ≡ x
     → WasCollected device next x y told → HasBoth old new n next (port_of n) y
@@ -141,7 +141,8 @@ pub did_collect : {K : Type 0} (b b2 : TraceWriter K) (s : Seen) (old new : Fabr
     → Did (λ block. IsCollect s.network n block
     × (happens ≡ answer_collected block))
     b b2 s new
-did_collect b b2 s old new n device next x y told happens shows sent at stands
+did_collect {s = s} {old = old} {new = new} {n = n} {device = device} {next = next}
+    {y = y} told shows sent at stands
     is was has answers adds =
     let net = s.network in
     let p = port_of n in

@@ -108,15 +108,15 @@ endpoint_stays [] (e ∷ new) n same at = absurd same
 endpoint_stays (d ∷ old) [] n same at = absurd same
 
 -- the device that stands where an endpoint does is one
-pub kind_read : (devices : List Registers) (n : ℕ) (device : Registers) → IsEndpointAt devices n
+pub kind_read : {devices : List Registers} {n : ℕ} {device : Registers} → IsEndpointAt devices n
     → slice_get devices n ≡ Some device → is_switch device ≡ false
-kind_read devices n device at stands =
+kind_read {device = device} at stands =
     let same : at.device ≡ device = (let known = at.stands in cc) in
     ap is_switch (sym same) ∙ at.kind
 
 -- the same of a switch
-pub switch_read : (devices : List Registers) (n : ℕ) (device : Registers) → IsSwitchAt devices n
+pub switch_read : {devices : List Registers} {n : ℕ} {device : Registers} → IsSwitchAt devices n
     → slice_get devices n ≡ Some device → is_switch device ≡ true
-switch_read devices n device at stands =
+switch_read {device = device} at stands =
     let same : at.device ≡ device = (let known = at.stands in cc) in
     ap is_switch (sym same) ∙ at.kind

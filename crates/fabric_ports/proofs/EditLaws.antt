@@ -173,9 +173,9 @@ edit_known {from} {lines} {fabric} {port} {place} stands p =
 module _ (fabric : Fabric) (port : PortRef) (place : LinkPlace) (p : IsPlaceOf fabric port place)
     (cable : Cable) (met : cable ≡ slice_index_or fabric.cables.items place.cable cable) where
   -- its wire has the characters that are known
-  pub edit_chars : (from : Seen) (lines : List TraceLine) → Stands from lines fabric
+  pub edit_chars : {from : Seen} {lines : List TraceLine} → Stands from lines fabric
       → (wire_at place.side cable.link).chars ≡ ((seen from lines).wires port).chars
-  edit_chars from lines stands =
+  edit_chars {from = from} {lines = lines} stands =
       let s = seen from lines in
       let d = p.is.cable in
       let same = cable_is fabric.cables.items port place.cable place.side p.is cable met in
@@ -220,8 +220,8 @@ module _ (fabric : Fabric) (port : PortRef) (place : LinkPlace) (p : IsPlaceOf f
       k.good.proper others refl there)
 
 -- the block is written, and the fabric shows what is known after it
-pub edit_did : {K : Type 0} (fabric : Fabric)
-    (port : PortRef) (place : LinkPlace) (p : IsPlaceOf fabric port place) (cable : Cable)
+pub edit_did : {K : Type 0} {fabric : Fabric}
+    {port : PortRef} {place : LinkPlace} (p : IsPlaceOf fabric port place) {cable : Cable}
     → cable ≡ slice_index_or fabric.cables.items place.cable cable → (asked : WireEdit)
     (edit : Edit) → edit ≡ edit_asked asked → (wires : Wires)
     → ((x y : PortState) → link wires x y ≡ edited_from place.side edit (link cable.link x y))
@@ -231,7 +231,9 @@ pub edit_did : {K : Type 0} (fabric : Fabric)
     → Did (Blocks (line_editing port asked) (seen from lines)) old new
     (edited_by (seen from lines) (Some (port, edit_asked asked)))
     (fabric_edited fabric place.cable cable wires)
-edit_did fabric port place p cable met asked edit same wires becomes answer answers old new adds
+edit_did {fabric = fabric} {port = port} {place = place} p {cable = cable} met asked edit same wires
+    becomes
+    answer answers old new adds
     from lines stands =
     let s = seen from lines in
     let new_fabric = fabric_edited fabric place.cable cable wires in
@@ -241,8 +243,7 @@ edit_did fabric port place p cable met asked edit same wires becomes answer answ
     ap (λ z. lack_lines (edit_acted z)) answers
     ∙ lacks_is (fits edit (wire_at place.side cable.link).chars)
     ∙ ap (λ z. if fits edit z then [] else Lacked traced.Short ∷ [])
-    (edit_chars fabric port place p cable met from lines stands)
-    ∙ ap (λ e. edits s (Some (port, e))) same in
+    (edit_chars fabric port place p cable met stands) ∙ ap (λ e. edits s (Some (port, e))) same in
     let still = lack_same t (edit_acted answer) in
     let shows : ShowsFabric new_fabric t = subst (λ e. ShowsFabric new_fabric
     (edited_by s (Some (port, e)))) same

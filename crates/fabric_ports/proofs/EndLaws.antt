@@ -15,8 +15,9 @@ use Rattle.fabric_ports.specs.Standing.{Stands}
 use Rattle.fabric_ports.specs.declared.ends.LinkPlace.{LinkPlace}
 use Rattle.fabric_ports.specs.declared.fabric.Cable.{Cable}
 use Rattle.fabric_ports.specs.declared.fabric.Fabric.{Fabric}
-use Rattle.fabric_ports.proofs.Cables.{own_apart, seen_links}
+use Rattle.fabric_ports.proofs.Cables.{own_apart}
 use Rattle.fabric_ports.proofs.PlaceLaws.{places_apart}
+use Rattle.fabric_trace.proofs.Shown.Wiring.{seen_links}
 use Rattle.fabric_trace.specs.Fold.{seen}
 use Rattle.fabric_trace.specs.Known.{Seen}
 use Rattle.trace_lines.specs.Lines.{TraceLine}
@@ -97,9 +98,9 @@ pub links_stand : {from : Seen} {lines : List TraceLine} {fabric : Fabric}
 links_stand {from} {lines} {fabric} stands = stands.shows.links ∙ seen_links from lines
 
 -- a port with a link has one of the fabric
-pub cable_of : (fabric : Fabric) (port : PortRef) → PortIsLinked fabric port
+pub cable_of : {fabric : Fabric} {port : PortRef} → PortIsLinked fabric port
     → HasCable fabric.cables.items port
-cable_of fabric port is =
+cable_of {fabric = fabric} {port = port} is =
     has_cable fabric.cables.items port
     (subst (λ (l : List (PortRef × PortRef)). IsSome (peer_in l port)) (sym (links_stand is.stands))
     is.linked)
@@ -133,10 +134,10 @@ at_side P a b A first second = first
 at_side P a b B first second = second
 
 -- a port with a link is one of the devices
-pub linked_port : (fabric : Fabric) (port : PortRef) → PortIsLinked fabric port
+pub linked_port : {fabric : Fabric} {port : PortRef} → PortIsLinked fabric port
     → IsPortOf fabric.devices.items port
-linked_port fabric port is =
-    let own = cable_of fabric port is in
+linked_port {fabric = fabric} {port = port} is =
+    let own = cable_of is in
     let shown = cable_shown own.place own.cable is.stands own.at in
     subst (IsPortOf fabric.devices.items) (sym own.end)
     (at_side (IsPortOf fabric.devices.items) own.cable.a own.cable.b (side_in own.cable.a port)
@@ -148,11 +149,11 @@ IsNumber fabric n port =
     slice_get fabric.cable_at.items (place_of fabric.firsts.items port) ≡ Some n
 
 -- it leads to the port's link
-pub number_at : (fabric : Fabric) (port : PortRef) (is : PortIsLinked fabric port)
+pub number_at : {fabric : Fabric} {port : PortRef} (is : PortIsLinked fabric port)
     → slice_get fabric.cable_at.items (place_of fabric.firsts.items port)
-    ≡ Some (cable_of fabric port is).place
-number_at fabric port is =
-    let own = cable_of fabric port is in
+    ≡ Some (cable_of is).place
+number_at {fabric = fabric} {port = port} is =
+    let own = cable_of is in
     let shows = is.stands.shows in
     let leads = shows.lead own.place (ends_of own.cable)
     (ap (λ (l : List (PortRef × PortRef)). slice_get l own.place) (sym shows.links)
@@ -162,30 +163,30 @@ number_at fabric port is =
     leads.1)
 
 -- the number that was read there
-pub number_is : (fabric : Fabric) (port : PortRef) (is : PortIsLinked fabric port) (place n : ℕ)
+pub number_is : {fabric : Fabric} {port : PortRef} (is : PortIsLinked fabric port) {place n : ℕ}
     → place ≡ place_of fabric.firsts.items port → n ≡ slice_index_or fabric.cable_at.items place n
-    → n ≡ (cable_of fabric port is).place
-number_is fabric port is place n stands read =
+    → n ≡ (cable_of is).place
+number_is {fabric = fabric} {port = port} is {n = n} stands read =
     read ∙ ap (λ i. slice_index_or fabric.cable_at.items i n) stands
     ∙ get_or_from_slice_get fabric.cable_at.items (place_of fabric.firsts.items port)
-    (cable_of fabric port is).place n (number_at fabric port is)
+    (cable_of is).place n (number_at is)
 
 -- the link that stands there, and the end of it
-pub cable_read : (fabric : Fabric) (port : PortRef) (is : PortIsLinked fabric port) (n : ℕ)
-    (cable : Cable) → n ≡ (cable_of fabric port is).place
-    → cable ≡ slice_index_or fabric.cables.items n cable → cable ≡ (cable_of fabric port is).cable
-cable_read fabric port is n cable number read =
-    let own = cable_of fabric port is in
+pub cable_read : {fabric : Fabric} {port : PortRef} (is : PortIsLinked fabric port) {n : ℕ}
+    {cable : Cable} → n ≡ (cable_of is).place
+    → cable ≡ slice_index_or fabric.cables.items n cable → cable ≡ (cable_of is).cable
+cable_read {fabric = fabric} is {n = n} {cable = cable} number read =
+    let own = cable_of is in
     read ∙ get_or_from_slice_get fabric.cables.items n own.cable cable
     (ap (slice_get fabric.cables.items) number ∙ own.at)
 
-pub end_read : (fabric : Fabric) (port : PortRef) (is : PortIsLinked fabric port) (n : ℕ)
-    (cable : Cable) (side : Side) → n ≡ (cable_of fabric port is).place
+pub end_read : {fabric : Fabric} {port : PortRef} (is : PortIsLinked fabric port) {n : ℕ}
+    {cable : Cable} {side : Side} → n ≡ (cable_of is).place
     → cable ≡ slice_index_or fabric.cables.items n cable → side ≡ side_in cable.a port
     → IsEndOf fabric.cables.items port n side
-end_read fabric port is n cable side number read told =
-    let own = cable_of fabric port is in
-    let same = cable_read fabric port is n cable number read in
+end_read {fabric = fabric} {port = port} is {cable = cable} number read told =
+    let own = cable_of is in
+    let same = cable_read is number read in
     record {
       cable = own.cable;
       at = ap (slice_get fabric.cables.items) number ∙ own.at;
@@ -200,14 +201,16 @@ pub cable_is : (cables : List Cable) (port : PortRef) (k : ℕ) (side : Side)
     → cable ≡ e.cable
 cable_is cables port k side e cable is = is ∙ get_or_from_slice_get cables k e.cable cable e.at
 
-pub places_found : (fabric : Fabric) (port : PortRef) (place : LinkPlace) (cable : Cable)
+pub places_found : {fabric : Fabric} {port : PortRef} (place : LinkPlace) {cable : Cable}
     → PortIsLinked fabric port → IsEndOf fabric.cables.items port place.cable place.side
     → cable ≡ slice_index_or fabric.cables.items place.cable cable
     → place.a ≡ place_of fabric.firsts.items cable.a
     → place.b ≡ place_of fabric.firsts.items cable.b
     → place.a < length fabric.ports.items → place.b < length fabric.ports.items
     → IsPlaceOf fabric port place
-places_found fabric port place cable linked e is first second first_within second_within =
+places_found {fabric = fabric} {port = port} place {cable = cable} linked e is first second
+    first_within
+    second_within =
     let same = cable_is fabric.cables.items port place.cable place.side e cable is in
     let at_a = first ∙ ap (λ (c : Cable). place_of fabric.firsts.items c.a) same in
     let at_b = second ∙ ap (λ (c : Cable). place_of fabric.firsts.items c.b) same in

@@ -21,6 +21,7 @@ use Rattle.fabric_script.specs.declared.operations.WireEdit.{WireEdit}
 use Rattle.fabric_script.specs.declared.operations.WireEdit.TheVariants as Edit
 use Rattle.fabric_script.specs.declared.lines.Line.{Line}
 use Rattle.fabric_model.specs.Network.{Network, IsEndpoint, IsSwitch, sender_id, id_of, peer_in}
+use Rattle.fabric_trace.proofs.Shown.Wiring.{seen_links}
 use Rattle.fabric_trace.specs.Blocks.{take_lines, SendsBody, edits, IsBlock}
 use Rattle.fabric_trace.specs.Events.{IsInRange, HasLink, IsThere}
 use Rattle.fabric_trace.specs.Fold.{edit_of, edited_by, seen}
@@ -38,10 +39,9 @@ use Rattle.fabric_ports.specs.declared.fabric.Fabric.{Fabric}
 use Rattle.fabric_trace.proofs.Traces.Unique.{block_one}
 use Rattle.fabric_ports.specs.Events.{body_in, request_by, answer_taken, happened, Did, IsOwnBlock, IsAnsweredBlock, Evented}
 use Rattle.fabric_ports.specs.Places.{IsEndpointAt, IsSwitchAt}
-use Rattle.fabric_ports.specs.Ran.{Kind, Blocks, Ran}
+use Rattle.fabric_ports.specs.Ran.{Blocks, Ran}
 use Rattle.fabric_ports.specs.Showing.{ShowsFabric}
 use Rattle.fabric_ports.specs.Standing.{Stands}
-use Rattle.fabric_ports.proofs.Cables.{seen_links}
 use Rattle.fabric_ports.proofs.EditLaws.{edit_block}
 use Rattle.fabric_ports.proofs.RanLaws.{ran_behind}
 use Rattle.fabric_ports.proofs.StandLaws.{stands_begun, stands_on}
@@ -53,9 +53,9 @@ pub record IsEnd (fabric : Fabric) (node : ℕ) : Type 0 where
   pub device : IsEndpointAt fabric.devices.items node
   pub known : (s : Seen) → ShowsFabric fabric s → IsEndpoint s.network node
 
-pub switch_of : (fabric : Fabric) (s : Seen) (node : ℕ) → ShowsFabric fabric s
+pub switch_of : {fabric : Fabric} {s : Seen} (node : ℕ) → ShowsFabric fabric s
     → IsSwitch s.network node → IsSwitchAt fabric.devices.items node
-switch_of fabric s node shows is = by_device (slice_get fabric.devices.items node) refl
+switch_of {fabric = fabric} node shows is = by_device (slice_get fabric.devices.items node) refl
     (ap (λ (l : List Registers). option_map is_switch (slice_get l node)) (sym shows.registers)
     ∙ is)
   where
@@ -65,18 +65,18 @@ switch_of fabric s node shows is = by_device (slice_get fabric.devices.items nod
     by_device (Some device) stands kind =
         record { device = device; stands = stands; kind = cc }
 
-pub end_of : (fabric : Fabric) (s : Seen) (node : ℕ) → ShowsFabric fabric s
+pub end_of : {fabric : Fabric} {s : Seen} (node : ℕ) → ShowsFabric fabric s
     → IsEndpoint s.network node → IsEnd fabric node
-end_of fabric s node shows is = record {
+end_of node shows is = record {
   device = shows.endpoints node is;
   known = λ t other. rw (other.registers, sym shows.registers) is;
 }
 
 -- the IDs that are read of an endpoint are those that are known
-pub ids_are : (fabric : Fabric) (s : Seen) (node place : ℕ) (device : Registers)
+pub ids_are : {fabric : Fabric} {s : Seen} {node : ℕ} (place : ℕ) (device : Registers)
     → ShowsFabric fabric s → IsEndpointAt fabric.devices.items node → place ≡ node
     → device ≡ get_or fabric.devices.items place device → sender_id device ≡ id_of s.network node
-ids_are fabric s node place device shows at same value =
+ids_are {fabric = fabric} {s = s} {node = node} place device shows at same value =
     let within = slice_get_within fabric.devices.items node at.device at.stands in
     let read : slice_get fabric.devices.items node ≡ Some device =
     slice_get-get_or fabric.devices.items node device within
@@ -118,57 +118,65 @@ module _ (node prio : ℕ) where
 -- ---- afterwards
 
 -- an event, by what was done behind the line with which it begins
-pub evented : (line : Line) {K : Type 0} (b b2 b3 : TraceWriter K)
-    (from : Seen) (lines : List TraceLine) (begins : Seen) (old new : Fabric) (told : Happened)
-    (Is : List TraceLine → Type 0)
-    → edited_by (seen from lines) (edit_of line) ≡ begins
-    → Stands from lines old
-    → Adds b b2 (Begun line ∷ [])
-    → Did Is b2 b3 begins new
-    → ((block : List TraceLine) → Is block → IsBlock (seen from lines) line block
-    × (told ≡ happened line block))
+pub evented : {line asked : Line} {K : Type 0} {b b2 b3 : TraceWriter K} {from : Seen}
+    {lines : List TraceLine} {begins : Seen} {old new : Fabric} {Is : List TraceLine → Type 0}
+    (told : Happened) → line ≡ asked → edited_by (seen from lines) (edit_of asked) ≡ begins
+    → Stands from lines old → Adds b b2 (Begun line ∷ []) → Did Is b2 b3 begins new
+    → ((block : List TraceLine) → Is block → IsBlock (seen from lines) asked block
+    × (told ≡ happened asked block))
     → Evented line (IsAnsweredBlock line told) b b3 from lines (Ok new)
-evented line b b2 b3 from lines begins old new told Is same stands begun did
-    is =
-    let all = is did.block did.is in
+evented {line = line} {from = from} {lines = lines} {begins = begins} {new = new} told asks same
+    stands begun did is =
+    let s = seen from lines in
+    let all = subst (λ (l : Line). IsBlock s l did.block × (told ≡ happened l did.block)) (sym asks)
+    (is did.block did.is) in
+    let begins_so : begins ≡ edited_by s (edit_of line) =
+    sym same ∙ ap (λ (l : Line). edited_by s (edit_of l)) (sym asks) in
     record {
       block = did.block;
-      is = (
-        all.0,
-        (λ other own. block_one line (seen from lines) other did.block own all.0),
-        all.1,
-      );
+      is = (all.0, (λ other own. block_one line s other did.block own all.0), all.1);
       ends = (
         Adds-then begun did.adds,
-        stands_on from lines old new line did.block stands all.0
-            (subst (λ (t : Seen). (seen t did.block).undetected ≡ None) (sym same) did.sent)
-            (subst (λ (t : Seen). ShowsFabric new (seen t did.block)) (sym same) did.shows),
+        stands_on line did.block stands all.0
+            (subst (λ (t : Seen). (seen t did.block).undetected ≡ None) begins_so did.sent)
+            (subst (λ (t : Seen). ShowsFabric new (seen t did.block)) begins_so did.shows),
       );
     }
 
 -- an event that edits no wire, by what ran behind the line with which it begins
-pub ran_evented : (line asked : Line) (Q : Kind) {K : Type 0} (b b2 b3 : TraceWriter K)
-    (from : Seen) (lines : List TraceLine) (old : Fabric) (end : Result Fabric FabricEnd)
-    → line ≡ asked → edited_by (seen from lines) (edit_of asked) ≡ seen from lines
-    → ((block : List TraceLine) → IsOwnBlock line (seen from lines) block → Q
-    (seen from lines) block)
-    → Stands from lines old
+pub ran_evented : {line asked : Line} {K : Type 0} {b b2 b3 : TraceWriter K} {from : Seen}
+    {lines : List TraceLine} {old : Fabric} {end : Result Fabric FabricEnd} → line ≡ asked
+    → edited_by (seen from lines) (edit_of asked) ≡ seen from lines → Stands from lines old
     → Adds b b2 (Begun line ∷ [])
-    → ((more : List TraceLine) → Stands from more old
-    → Ran (Blocks asked) b2 b3 from more end)
-    → Evented line Q b b3 from lines end
-ran_evented line asked Q b b2 b3 from lines old end is same turns stands begun
-    runs =
+    → ((more : List TraceLine) → Stands from more old → Ran (Blocks asked) b2 b3 from more end)
+    → Evented line (IsOwnBlock line) b b3 from lines end
+ran_evented {line = line} {asked = asked} {from = from} {lines = lines} is same stands begun runs =
     let s = seen from lines in
-    let still : edited_by s (edit_of line) ≡ s = ap (λ (l : Line). edited_by s (edit_of l)) is
-    ∙ same in
+    let still : edited_by s (edit_of line) ≡ s =
+    ap (λ (l : Line). edited_by s (edit_of l)) is ∙ same in
     let joined : seen from (lines ++ Begun line ∷ []) ≡ s =
     seen-append from lines (Begun line ∷ []) ∙ still in
-    ran_behind (Blocks asked) Q (Begun line) b b2 b3 from lines end
+    ran_behind (Begun line) lines
     (λ block blocks. (let own = subst (λ (l : Line). IsBlock s l block) (sym is)
     (subst (λ (t : Seen). IsBlock t asked block) joined blocks) in
-    turns block (own, λ other also. block_one line s other block also own))) begun
-    (runs (lines ++ Begun line ∷ []) (stands_begun from lines old line still stands))
+    (own, λ other also. block_one line s other block also own))) begun
+    (runs (lines ++ Begun line ∷ []) (stands_begun line still stands))
+
+-- and what it answers, whatever its block is
+pub answered_so : {line asked : Line} {K : Type 0} {b b2 : TraceWriter K} {from : Seen}
+    {lines : List TraceLine} {end : Result Fabric FabricEnd} (told : Happened) → line ≡ asked
+    → ((block : List TraceLine) → told ≡ happened asked block)
+    → Evented line (IsOwnBlock line) b b2 from lines end
+    → Evented line (IsAnsweredBlock line told) b b2 from lines end
+answered_so told is tells own = record {
+  block = own.block;
+  is = (
+    own.is.0,
+    own.is.1,
+    tells own.block ∙ ap (λ (l : Line). happened l own.block) (sym is),
+  );
+  ends = own.ends;
+}
 
 -- the line has a packet taken at this node
 pub record IsTaken (line : Line) (node : ℕ) : Type 0 where
@@ -229,12 +237,12 @@ pub taken_line : (line : Line) (given : GivenPacket) → line ≡ line_giving gi
 taken_line line given is = subst (λ (l : Line). IsTaken l given.node) (sym is)
     (is_taken given.node given.prio given.large given.dest given.contents)
 
-pub sent_block : (s : Seen) (line : Line) (node : ℕ) (ids : Bool → ℕ) (packet : List ℕ)
+pub sent_block : (s : Seen) {line : Line} {node : ℕ} (ids : Bool → ℕ) (packet : List ℕ)
     (told : Happened) → IsTaken line node → IsEndpoint s.network node
     → ids ≡ id_of s.network node → LinkForm (body_in line ids) packet
     → (block : List TraceLine) → (block ≡ take_lines s node packet) × (told ≡ answer_taken block)
     → IsBlock s line block × (told ≡ happened line block)
-sent_block s line node ids packet told takes_it endpoint same form block is = (
+sent_block s {line = line} ids packet told takes_it endpoint same form block is = (
   takes_it.block s packet block endpoint
       (subst (λ (own : Bool → ℕ). LinkForm (body_in line own) packet) same form) is.0,
   is.1 ∙ sym (takes_it.answers block),
@@ -243,10 +251,10 @@ sent_block s line node ids packet told takes_it endpoint same form block is = (
 -- ---- at a link
 
 -- a port that has a link now had one when the fabric was made
-pub is_linked : (fabric : Fabric) (from : Seen) (lines : List TraceLine) (port : PortRef)
+pub is_linked : {fabric : Fabric} {from : Seen} {lines : List TraceLine} (port : PortRef)
     → Stands from lines fabric → HasLink (seen from lines).network port
     → PortIsLinked fabric port
-is_linked fabric from lines port stands has = record {
+is_linked {from = from} {lines = lines} port stands has = record {
   from = from;
   lines = lines;
   stands = stands;
@@ -291,12 +299,13 @@ edit_answers port (Edit.Erase place count) block = refl
 
 -- no line of an edit was written but that with which it begins
 pub edit_unmade : (line : Line) (port : PortRef) (edit : WireEdit) {K : Type 0}
-    (b b2 b3 : TraceWriter K) (from : Seen) (lines : List TraceLine) (end : FabricEnd)
+    {b b2 : TraceWriter K} (b3 : TraceWriter K) (from : Seen) (lines : List TraceLine)
+    (end : FabricEnd)
     → line ≡ line_editing port edit
     → Adds b b2 (Begun line ∷ [])
     → (end ≡ NoMemory) × (b3 ≡ b2)
     → Evented line (IsOwnBlock line) b b3 from lines (Err end)
-edit_unmade line port edit b b2 b3 from lines end is begun unmade =
+edit_unmade line port edit {b = b} b3 from lines end is begun unmade =
     let s = seen from lines in
     let block = edits s (Some (port, edit_asked edit)) in
     let own = subst (λ (l : Line). IsBlock s l block) (sym is) (edit_block s port edit block refl)

@@ -28,7 +28,7 @@ use Rattle.fabric_ports.specs.declared.answers.FabricEnd.TheVariants.{Undetected
 use Rattle.fabric_ports.specs.declared.answers.Happened.{Happened}
 use Rattle.fabric_ports.specs.declared.fabric.Fabric.{Fabric}
 use Rattle.fabric_ports.proofs.LeaveLaws.{leaves_behind, nothing_leaves, left_leaves, did_stands, still_behind}
-use Rattle.fabric_ports.proofs.RanLaws.{Both, Nothing, ran_nothing, both_as, both_nothing, nothing_both, both_assoc, front_on, ran_both, ran_as}
+use Rattle.fabric_ports.proofs.RanLaws.{Both, ran_nothing, both_as, both_nothing, nothing_both, both_assoc, front_on, ran_both, ran_as}
 use Rattle.fabric_ports.proofs.RoundLaws.{rounds_left}
 use Rattle.fabric_ports.proofs.SettlingLaws.{good_behind}
 
@@ -138,25 +138,26 @@ rounds_held host m noise left s first rest still round collect = (
 -- ---- what follows a round
 
 -- lines behind a round: none if something was found
-after_round : (host m : ℕ) (left : List Edit) (t : Seen) (found : Option UndetectedAt) → IsReady t
+after_round : (host m : ℕ) (left : List Edit) {t : Seen} (found : Option UndetectedAt) → IsReady t
     → IsEndpoint t.network host → t.undetected ≡ found
     → (rest : List TraceLine) × Follows found (Continues host m left t) NamesNothing rest
-after_round host m left t None ready endpoint is =
+after_round host m left {t = t} None ready endpoint is =
     let own = more_exists host m left t ready is endpoint in (own.lines, own.is)
-after_round host m left t (Some found) ready endpoint is = ([], refl)
+after_round host m left (Some found) ready endpoint is = ([], refl)
 
 -- a round that did not come to its end, and rounds behind it
-rounds_on : (host : ℕ) (from : Seen) (lines block : List TraceLine) (mid : Fabric) (m : ℕ)
+rounds_on : (host : ℕ) {from : Seen} {lines : List TraceLine} (block : List TraceLine)
+    {mid : Fabric} (m : ℕ)
     (noise : List Edit) → Stands from lines mid → IsEndpoint (seen from lines).network host
     → WithLeft (AskRound host noise) (seen from lines) block
     → (more : List TraceLine) × AskRounds host (suc m) noise (seen from lines) (block ++ more)
-rounds_on host from lines block mid m noise stands is round =
+rounds_on host {from = from} {lines = lines} block m noise stands is round =
     let s = seen from lines in
     let t = seen s block in
     let ready = ready_on stands.ready stands.made in
     let made = (round_apart host noise round.0 s block (good_of ready) stands.sent is
     round.1).made in
-    let more = after_round host m round.0 t t.undetected (ready_on ready made)
+    let more = after_round host m round.0 t.undetected (ready_on ready made)
     (stays_endpoint s host block is) refl in
     (more.0, (round.0, (block, more.0, refl, round.1, more.1)))
 
@@ -164,21 +165,21 @@ rounds_on host from lines block mid m noise stands is round =
 
 module _ {K : Type 0} (host : ℕ) where
   -- before the first round
-  pub unheld_none : (out : TraceWriter K) (from : Seen) (lines : List TraceLine) (fabric : Fabric)
+  pub unheld_none : (out : TraceWriter K) {from : Seen} {lines : List TraceLine} {fabric : Fabric}
       (noise : List Edit) → Stands from lines fabric
       → Ran (Unheld host 0 noise noise) out out from lines (Ok fabric)
-  unheld_none out from lines fabric noise stands =
-      ran_as Nothing (Unheld host 0 noise noise) out out from lines (Ok fabric)
-      (λ block none. (none, refl)) (ran_nothing out from lines fabric stands)
+  unheld_none out noise stands =
+      ran_as (λ block none. (none, refl)) (ran_nothing out stands)
 
   -- one round more after which the host holds none
-  pub unheld_more : (a b c : TraceWriter K) (from : Seen) (lines : List TraceLine)
-      (old mid new : Fabric) (k : ℕ) (noise left last : List Edit) → Stands from lines old
+  pub unheld_more : {a b c : TraceWriter K} {from : Seen} {lines : List TraceLine}
+      {old mid new : Fabric} (k : ℕ) (noise left last : List Edit) → Stands from lines old
       → (first : Ran (Unheld host k noise left) a b from lines (Ok mid))
       → (round : Ran (AskRound host left last) b c from (lines ++ first.block) (Ok new))
       → holds_some host (seen from ((lines ++ first.block) ++ round.block)) ≡ false
       → Ran (Unheld host (k + 1) noise last) a c from lines (Ok new)
-  unheld_more a b c from lines old mid new k noise left last stands first round none =
+  unheld_more {b = b} {c = c} {from = from} {lines = lines} {new = new} k noise left last stands
+      first round none =
       let t = seen from (lines ++ first.block) in
       let held = sym (ap (holds_some host) (seen-append from (lines ++ first.block) round.block))
       ∙ none in
@@ -188,19 +189,17 @@ module _ {K : Type 0} (host : ℕ) where
             (still_behind (lines ++ first.block) round.block round.ends.1) (round.is, held);
         ends = round.ends;
       } in
-      ran_as (Both (Unheld host k noise left) (Unheld host 1 left last))
-      (Unheld host (k + 1) noise last) a c from lines (Ok new)
+      ran_as
       (λ block both. unheld_behind host k 1 noise left last (seen from lines) block stands.sent
-      both) (ran_both (Unheld host k noise left) (Unheld host 1 left last) a b c from
-      lines mid (Ok new) first one)
+      both) (ran_both first one)
 
   -- no round is left
-  pub fetched_none : (a b : TraceWriter K) (from : Seen) (lines : List TraceLine) (old new : Fabric)
+  pub fetched_none : {a b : TraceWriter K} {from : Seen} {lines : List TraceLine} {old new : Fabric}
       (k n : ℕ) (noise left : List Edit) → k ≡ n → Stands from lines old
       → IsEndpoint (seen from lines).network host
       → Ran (Unheld host k noise left) a b from lines (Ok new)
-      → Ran (RoundsLeave host n noise None) a b from lines (Ok new)
-  fetched_none a b from lines old new k n noise left same stands is ran =
+      → Ran (RoundsLeave host n noise (Ok None)) a b from lines (Ok new)
+  fetched_none {from = from} {lines = lines} k n noise left same stands is ran =
       let s = seen from lines in
       let many : k + 0 ≡ n = omega (arith, same) in
       let good = good_behind stands.ready stands.made in
@@ -217,8 +216,8 @@ module _ {K : Type 0} (host : ℕ) where
       }
 
   -- the host held a packet after a round, and has collected it
-  pub fetched : (a b c d : TraceWriter K) (from : Seen) (lines : List TraceLine)
-      (old mid next new : Fabric) (k n : ℕ) (noise left last : List Edit) (happened : Happened)
+  pub fetched : {a b c d : TraceWriter K} {from : Seen} {lines : List TraceLine}
+      {old mid next new : Fabric} (k n : ℕ) (noise left last : List Edit) (happened : Happened)
       → k < n → Stands from lines old → IsEndpoint (seen from lines).network host
       → (first : Ran (Unheld host k noise left) a b from lines (Ok mid))
       → (round : Ran (AskRound host left last) b c from (lines ++ first.block) (Ok next))
@@ -226,9 +225,9 @@ module _ {K : Type 0} (host : ℕ) where
       → Did (λ block. IsCollect (seen from ((lines ++ first.block) ++ round.block)).network host
       block × (happened ≡ answer_collected block)) c d
       (seen from ((lines ++ first.block) ++ round.block)) new
-      → Ran (RoundsLeave host n noise (left_of happened)) a d from lines (Ok new)
-  fetched a b c d from lines old mid next new k n noise left last happened less stands is first
-      round some did =
+      → Ran (RoundsLeave host n noise (Ok (left_of happened))) a d from lines (Ok new)
+  fetched {from = from} {lines = lines} {new = new} k n noise left last happened less stands is
+      first round some did =
       let s = seen from lines in
       let here = lines ++ first.block in
       let t = seen from here in
@@ -279,12 +278,12 @@ module _ {K : Type 0} (host : ℕ) where
         );
       }
 
-  round_ends : (b c : TraceWriter K) (from : Seen) (lines : List TraceLine) (mid : Fabric) (m : ℕ)
+  round_ends : {b c : TraceWriter K} {from : Seen} {lines : List TraceLine} {mid : Fabric} (m : ℕ)
       (noise : List Edit) (end : FabricEnd) → Stands from lines mid
       → IsEndpoint (seen from lines).network host
       → Ran (WithLeft (AskRound host noise)) b c from lines (Err end)
       → Ran (AskRounds host (suc m) noise) b c from lines (Err end)
-  round_ends b c from lines mid m noise (Undetected port event) stands is ran =
+  round_ends {from = from} {lines = lines} m noise (Undetected port event) stands is ran =
       let s = seen from lines in
       let found = sym (ap (λ (t : Seen). t.undetected) (seen-append from lines ran.block))
       ∙ ran.ends.1 in
@@ -303,37 +302,36 @@ module _ {K : Type 0} (host : ℕ) where
         );
         ends = ran.ends;
       }
-  round_ends b c from lines mid m noise Failed stands is ran =
-      let rounds = rounds_on host from lines ran.block mid m noise stands is ran.is in
+  round_ends m noise Failed stands is ran =
+      let rounds = rounds_on host ran.block m noise stands is ran.is in
       record {
         block = ran.block ++ rounds.0;
         is = rounds.1;
-        ends = (front_on b c ran.block rounds.0 ran.ends.0, ran.ends.1);
+        ends = (front_on rounds.0 ran.ends.0, ran.ends.1);
       }
-  round_ends b c from lines mid m noise NoMemory stands is ran =
-      let rounds = rounds_on host from lines ran.block mid m noise stands is ran.is in
+  round_ends m noise NoMemory stands is ran =
+      let rounds = rounds_on host ran.block m noise stands is ran.is in
       record {
         block = ran.block ++ rounds.0;
         is = rounds.1;
-        ends = front_on b c ran.block rounds.0 ran.ends;
+        ends = front_on rounds.0 ran.ends;
       }
 
   -- a round did not come to its end
-  pub fetch_ends : (a b c : TraceWriter K) (from : Seen) (lines : List TraceLine) (old mid : Fabric)
-      (k n : ℕ) (noise left : List Edit) (end : FabricEnd) → k < n → Stands from lines old
+  pub fetch_ends : {a b c : TraceWriter K} {from : Seen} {lines : List TraceLine} {old mid : Fabric}
+      (k n : ℕ) (noise left : List Edit) {end : FabricEnd} → k < n → Stands from lines old
       → IsEndpoint (seen from lines).network host
       → (first : Ran (Unheld host k noise left) a b from lines (Ok mid))
       → Ran (WithLeft (AskRound host left)) b c from (lines ++ first.block) (Err end)
-      → Ran (AskRounds host n noise) a c from lines (Err end)
-  fetch_ends a b c from lines old mid k n noise left end less stands is first ends =
+      → Ran (RoundsLeave host n noise (Err end)) a c from lines (Err end)
+  fetch_ends {from = from} {lines = lines} k n noise left {end = end} less stands is first ends =
       let count = rounds_left k n less in
       let endpoint = subst (λ (x : Seen). IsEndpoint x.network host)
       (sym (seen-append from lines first.block))
       (stays_endpoint (seen from lines) host first.block is) in
-      ran_as (Both (Unheld host k noise left)
-      (AskRounds host (suc count.0) left)) (AskRounds host n noise) a c from lines (Err end)
-      (λ block both. subst (λ j. AskRounds host j noise (seen from lines) block) count.1
-      (rounds_behind host k (suc count.0) noise left (seen from lines) block stands.sent both))
-      (ran_both (Unheld host k noise left)
-      (AskRounds host (suc count.0) left) a b c from lines mid (Err end) first
-      (round_ends b c from (lines ++ first.block) mid count.0 left end first.ends.1 endpoint ends))
+      ran_as (λ block both. (
+        subst (λ j. AskRounds host j noise (seen from lines) block) count.1
+            (rounds_behind host k (suc count.0) noise left (seen from lines) block stands.sent
+            both),
+        tt,
+      )) (ran_both first (round_ends count.0 left end first.ends.1 endpoint ends))

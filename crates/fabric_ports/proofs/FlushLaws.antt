@@ -15,37 +15,28 @@ use Rattle.fabric_trace.specs.Fold.{seen}
 use Rattle.fabric_trace.specs.Known.{Seen}
 use Rattle.trace_lines.specs.Lines.{TraceLine}
 use Rattle.fabric_trace.proofs.Traces.Existing.{ready_on}
-use Rattle.fabric_ask.specs.Asks.{IsAsk}
 use Rattle.fabric_ask.proofs.Beginning.{ask_exists}
 use Rattle.fabric_ports.specs.Asking.{CanAsk, Replied, AskEnds, AskedTextFront}
-use Rattle.fabric_ports.specs.Fetching.{AskLeaves, ask_answer}
-use Rattle.fabric_ports.specs.Ran.{Ran}
+use Rattle.fabric_ports.specs.Fetching.{ask_answer}
 use Rattle.fabric_ports.specs.declared.answers.FabricEnd.{FabricEnd}
 use Rattle.fabric_ports.specs.declared.asking.AskEnd.{AskEnd}
 use Rattle.fabric_ports.specs.declared.fabric.Fabric.{Fabric}
-use Rattle.fabric_ports.proofs.AnswerLaws.{IsSendable, IsTold, is_told, IsAnswered, told_answers, told_fails}
+use Rattle.fabric_ports.proofs.AnswerLaws.{IsSendable, IsTold, IsAnswered, told_answers, told_fails}
 
 -- ---- through an outbox that is flushed
 
-module _ {K : Type 0}
-    (a b : TraceWriter K) (c : Outgoing) (host : ℕ) (request : Request) (noise : List Edit)
-    (old new : Fabric) (told : Result (Option (List ℕ)) FabricEnd)
-    (done : IfOk told (λ left. (from : Seen) (lines : List TraceLine) → CanAsk host from lines old
-    → Ran (AskLeaves host request noise left) a b from lines (Ok new)))
-    (ended : IfErr told (λ end. (from : Seen) (lines : List TraceLine) → CanAsk host from lines old
-    → Ran (IsAsk host request noise) a b from lines (Err end)))
+module _ {K : Type 0} {a b : TraceWriter K} {c : Outgoing} {host : ℕ} (request : Request)
+    (noise : List Edit) {old : Fabric} (new : Fabric) (told : Result (Option (List ℕ)) FabricEnd)
+    (tells : (from : Seen) (lines : List TraceLine) → CanAsk host from lines old
+    → IsTold a b host request noise from lines new told)
     (op : IsGoodOp request.op) (prio : request.prio < 4)
     (empty : a.outbox.now.waiting ≡ []) (flushed : Writes b.outbox.now c []) where
-  tells : (from : Seen) (lines : List TraceLine) → CanAsk host from lines old
-      → IsTold a b host request noise from lines new told
-  tells = is_told a b host request noise old new told done ended
-
   sendable : IsSendable request
   sendable = record { op = op; prio = prio }
 
-  flushed_lines : (block : List TraceLine) → Adds a b block
+  flushed_lines : {block : List TraceLine} → Adds a b block
       → Writes a.outbox.now c (trace_text a.names.now block)
-  flushed_lines block own =
+  flushed_lines {block = block} own =
       subst (Writes a.outbox.now c) (append-nil (trace_text a.names.now block))
       (Writes-then _ [] own.writes flushed)
 
@@ -61,7 +52,7 @@ module _ {K : Type 0}
       (told_answers a.names.now a.outbox.now.written c.written host request noise from lines old
       new a b can sendable told (tells from lines can)
       (λ block own. Writes-whole a.outbox.now c (trace_text a.names.now block) empty
-      (flushed_lines block own) went none))
+      (flushed_lines own) went none))
 
   pub front_told : (from : Seen) (lines : List TraceLine) → CanAsk host from lines old
       → AskedTextFront a.names.now a.outbox.now.written c.written host request noise from lines
@@ -69,7 +60,7 @@ module _ {K : Type 0}
       told_fails a.names.now a.outbox.now.written c.written host request noise from lines old new a
       b can sendable told (tells from lines can)
       (λ block own. Writes-front a.outbox.now c (trace_text a.names.now block) empty
-      (flushed_lines block own))
+      (flushed_lines own))
 
 -- ---- by the kind of the answer
 

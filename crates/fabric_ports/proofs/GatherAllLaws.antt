@@ -59,31 +59,28 @@ node_rests host device node s lines is none =
 -- ---- a round
 
 module _ {K : Type 0} where
-  pub round_ran : (a b c d : TraceWriter K) (from : Seen) (lines : List TraceLine)
-      (carried served new : Fabric) (host : ℕ) (noise left : List Edit)
+  pub round_ran : {a b : TraceWriter K} (c d : TraceWriter K) {from : Seen} {lines : List TraceLine}
+      {carried : Fabric} (served new : Fabric) (host : ℕ) (noise left : List Edit)
       → (first : Ran (LinksCarry noise left) a b from lines (Ok carried))
       → ((more : List TraceLine) → Stands from more carried
       → Ran SwitchesServe b c from more (Ok served))
       → ((more : List TraceLine) → Stands from more served
       → Ran (OthersCollect host) c d from more (Ok new))
       → Ran (AskRound host noise left) a d from lines (Ok new)
-  round_ran a b c d from lines carried served new host noise left first serve collect =
+  round_ran c d {lines = lines} served new host noise left first serve collect =
       let serves = serve (lines ++ first.block) first.ends.1 in
-      ran_both (LinksCarry noise left) (Handles host) a b d from lines carried (Ok new) first
-      (ran_both SwitchesServe (OthersCollect host) b c d from
-      (lines ++ first.block) served (Ok new) serves
+      ran_both first (ran_both serves
       (collect ((lines ++ first.block) ++ serves.block) serves.ends.1))
 
   -- a link did not come to its end
-  pub round_short : (a b : TraceWriter K) (from : Seen) (lines : List TraceLine) (old : Fabric)
-      (host : ℕ) (noise : List Edit) (end : FabricEnd) → Stands from lines old
+  pub round_short : {a b : TraceWriter K} {from : Seen} {lines : List TraceLine} {old : Fabric}
+      (host : ℕ) (noise : List Edit) {end : FabricEnd} → Stands from lines old
       → Ran (WithLeft (LinksCarry noise)) a b from lines (Err end)
       → Ran (WithLeft (AskRound host noise)) a b from lines (Err end)
-  round_short a b from lines old host noise end stands ended =
-      let own = ran_left (LinksCarry noise) a b from lines (Err end) ended in
+  round_short {from = from} host noise {end = end} stands ended =
+      let own = ran_left ended in
       let on : GoesOn from (Handles host) =
       λ more made sent. (let exist = handles_exist host (seen from more)
       (ready_on stands.ready made) sent in (exist.lines, exist.is)) in
-      with_left (AskRound host noise) own.0 a b from lines (Err end)
-      (ends_first (LinksCarry noise own.0) (Handles host) a b from lines old
+      with_left (AskRound host noise) own.0 (ends_first (Handles host)
       end (links_carry_made noise own.0 stands.ready) on stands own.1)

@@ -33,7 +33,7 @@ use Rattle.fabric_ports.specs.declared.answers.Happened.{Happened}
 use Rattle.fabric_ports.specs.declared.answers.Happened.TheVariants.{Full, Left, Answered, Empty}
 use Rattle.fabric_ports.specs.declared.fabric.Fabric.{Fabric}
 use Rattle.fabric_ports.proofs.NodeLaws.{endpoint_port}
-use Rattle.fabric_ports.proofs.RanLaws.{Nothing, ran_nothing, ran_as, ran_joined}
+use Rattle.fabric_ports.proofs.RanLaws.{ran_nothing, ran_as, ran_joined}
 use Rattle.fabric_ports.proofs.ServeLaws.{packets_in, held_in, held_lanes, did_ran}
 use Rattle.fabric_ports.proofs.SettlingLaws.{good_behind, kinds_stay}
 
@@ -54,9 +54,9 @@ lists_held s node =
     has_some (lists_in lanes) ∙ ap (nat_lt 0) (held_lanes lanes)
 
 -- a port that is known has a packet if the node holds one
-pub holds_is : (s : Seen) (node : ℕ) (x : PortState) → port_seen s (port_of node) ≡ x
+pub holds_is : (s : Seen) (node : ℕ) {x : PortState} → port_seen s (port_of node) ≡ x
     → has_packets x.received.lists ≡ holds_some node s
-holds_is s node x is =
+holds_is s node is =
     ap (λ (z : PortState). has_packets z.received.lists) (sym is) ∙ lists_held s node
 
 no_first : (packets : List (List ℕ)) → is_some (slice_get packets 0) ≡ false → packets ≡ []
@@ -191,40 +191,41 @@ endpoint_of n stands kind =
     (ap (λ (l : List Registers). option_map is_switch (slice_get l n)) stands.shows.registers
     ∙ kind)
 
-pub endpoint_kind : (devices : List Registers) (n : ℕ) → IsEndpointAt devices n
+pub endpoint_kind : {devices : List Registers} {n : ℕ} → IsEndpointAt devices n
     → option_map is_switch (slice_get devices n) ≡ Some false
-endpoint_kind devices n at = ap (option_map is_switch) at.stands ∙ ap Some at.kind
+endpoint_kind at = ap (option_map is_switch) at.stands ∙ ap Some at.kind
 
-pub endpoint_on : {from : Seen} {lines more : List TraceLine} {old new : Fabric} (n : ℕ)
+pub endpoint_on : {from : Seen} {lines more : List TraceLine} {old new : Fabric} {n : ℕ}
     → Stands from lines old → Stands from more new → IsEndpointAt old.devices.items n
     → IsEndpointAt new.devices.items n
-endpoint_on {from} {lines} {more} {old} {new} n before after at =
-    endpoint_of n after (kinds_stay before after n ∙ endpoint_kind old.devices.items n at)
+endpoint_on {from} {lines} {more} {old} {new} {n = n} before after at =
+    endpoint_of n after (kinds_stay before after n ∙ endpoint_kind at)
 
 -- how many packets a fabric has at the port of an endpoint
 abbrev pub held_at : Fabric → ℕ → ℕ
 held_at fabric node =
     held_in (slice_get fabric.ports.items (place_of fabric.firsts.items (port_of node)))
 
-held_is : (fabric : Fabric) (s : Seen) (node : ℕ) → ShowsFabric fabric s
+held_is : {fabric : Fabric} {s : Seen} {node : ℕ} → ShowsFabric fabric s
     → IsEndpointAt fabric.devices.items node
     → held_at fabric node ≡ held s.network (port_of node)
-held_is fabric s node shows at =
+held_is {fabric = fabric} {s = s} {node = node} shows at =
     ap held_in (shows.ports (port_of node) (endpoint_port fabric.devices.items node at))
     ∙ held_lanes (s.network.received (port_of node))
 
-pub gathered_fewer : (s : Seen) (old new : Fabric) (node : ℕ) (block : List TraceLine)
+pub gathered_fewer : {s : Seen} {old new : Fabric} {node : ℕ} (block : List TraceLine)
     (told : Happened) → IsGood s → ShowsFabric old s → ShowsFabric new (seen s block)
     → IsEndpointAt old.devices.items node → holds_some node s ≡ true
     → IsCollect s.network node block → told ≡ answer_collected block → told ≢ Full
     → held_at new node < held_at old node
-gathered_fewer s old new node block told good shows later at some is answers other =
+gathered_fewer {s = s} {new = new} {node = node} block told good shows later at some is answers
+    other =
     let still = later.endpoints node (stays_endpoint s node block is.endpoint) in
     let one = collected_step s node block told some is answers other in
     let fewer = collected_fewer s node one.0 good (subst (IsCollect s.network node) one.1 is) in
     let next = subst (λ (b : List TraceLine). ShowsFabric new (seen s b)) one.1 later in
-    let before = held_is old s node shows at in
-    let behind = held_is new (seen s (Stepped one.0 ∷ [])) node next still in
+    let before = held_is shows at in
+    let behind = held_is next still in
     omega (arith, fewer, before, behind)
 
 -- ---- steps, of which the last need not be the last of all
@@ -266,62 +267,60 @@ all_stopped node s first second own last =
 -- ---- what was written
 
 module _ {K : Type 0} where
-  pub gather_begins : (a : TraceWriter K) (from : Seen) (lines : List TraceLine) (fabric : Fabric)
+  pub gather_begins : (a : TraceWriter K) {from : Seen} {lines : List TraceLine} {fabric : Fabric}
       (node : ℕ) → Stands from lines fabric
       → Ran (CollectsFirst node) a a from lines (Ok fabric)
-  gather_begins a from lines fabric node stands =
-      ran_as Nothing (CollectsFirst node) a a from lines (Ok fabric)
-      (λ block none. subst (λ (b : List TraceLine). CollectsFirst node (seen from lines) b)
-      (sym none) (λ rest own. own)) (ran_nothing a from lines fabric stands)
+  gather_begins a {from = from} {lines = lines} node stands =
+      ran_as (λ block none. subst (λ (b : List TraceLine). CollectsFirst node (seen from lines) b)
+      (sym none) (λ rest own. own)) (ran_nothing a stands)
 
-  pub gather_more : (a b c : TraceWriter K) (from : Seen) (lines : List TraceLine)
-      (mid new : Fabric) (node : ℕ) (told : Happened)
+  pub gather_more : {a b c : TraceWriter K} {from : Seen} {lines : List TraceLine}
+      {mid new : Fabric} (node : ℕ) (told : Happened)
       → (first : Ran (CollectsFirst node) a b from lines (Ok mid))
       → holds_some node (seen from (lines ++ first.block)) ≡ true → told ≢ Full
       → Did (λ block. IsCollect (seen from (lines ++ first.block)).network node block
       × (told ≡ answer_collected block)) b c (seen from (lines ++ first.block)) new
       → Ran (CollectsFirst node) a c from lines (Ok new)
-  gather_more a b c from lines mid new node told first some other did =
+  gather_more {b = b} {c = c} {from = from} {lines = lines} {mid = mid} {new = new} node told first
+      some other did =
       let s = seen from (lines ++ first.block) in
       let good = good_behind first.ends.1.ready first.ends.1.made in
-      ran_joined (CollectsFirst node) (One node) (CollectsFirst node) a b c from lines mid (Ok new)
-      (λ x y own still one. first_more node (seen from lines) x y own one) first (did_ran
-      (λ block. IsCollect s.network node block × (told ≡ answer_collected block)) (One node) b c
-      from (lines ++ first.block) mid new first.ends.1 (λ block is. (
+      ran_joined (λ x y own still one. first_more node (seen from lines) x y own one) first (did_ran
+      (One node) first.ends.1 (λ block is. (
         (is.0, collected_step s node block told some is.0 is.1 other),
         collect_lines_made s node block good first.ends.1.sent is.0,
       )) did)
 
   -- there is no room for a response
-  pub gather_stops : (a b c : TraceWriter K) (from : Seen) (lines : List TraceLine)
-      (mid new : Fabric) (node : ℕ) (told : Happened)
+  pub gather_stops : {a b c : TraceWriter K} {from : Seen} {lines : List TraceLine}
+      {mid new : Fabric} (node : ℕ) (told : Happened)
       → (first : Ran (CollectsFirst node) a b from lines (Ok mid))
       → told ≡ Full
       → Did (λ block. IsCollect (seen from (lines ++ first.block)).network node block
       × (told ≡ answer_collected block)) b c (seen from (lines ++ first.block)) new
       → Ran (CollectsAt node) a c from lines (Ok new)
-  gather_stops a b c from lines mid new node told first full did =
+  gather_stops {b = b} {c = c} {from = from} {lines = lines} {mid = mid} {new = new} node told first
+      full did =
       let s = seen from (lines ++ first.block) in
       let good = good_behind first.ends.1.ready first.ends.1.made in
-      ran_joined (CollectsFirst node) (Stop node) (CollectsAt node) a b c from lines mid (Ok new)
+      ran_joined
       (λ x y own still last. all_stopped node (seen from lines) x y own last) first (did_ran
-      (λ block. IsCollect s.network node block × (told ≡ answer_collected block)) (Stop node) b c
-      from (lines ++ first.block) mid new first.ends.1 (λ block is. (
+      (Stop node) first.ends.1 (λ block is. (
         (is.0, collected_full s node block told is.0 is.1 full),
         collect_lines_made s node block good first.ends.1.sent is.0,
       )) did)
 
   -- nothing is held any more
-  pub gather_rests : (a b : TraceWriter K) (from : Seen) (lines : List TraceLine) (new : Fabric)
-      (node : ℕ) (first : Ran (CollectsFirst node) a b from lines (Ok new))
+  pub gather_rests : {a b : TraceWriter K} {from : Seen} {lines : List TraceLine} {new : Fabric}
+      {node : ℕ} (first : Ran (CollectsFirst node) a b from lines (Ok new))
       → IsEndpointAt new.devices.items node
       → holds_some node (seen from (lines ++ first.block)) ≡ false
       → Ran (CollectsAt node) a b from lines (Ok new)
-  gather_rests a b from lines new node first at none =
+  gather_rests {from = from} {lines = lines} {node = node} first at none =
       let s = seen from (lines ++ first.block) in
       let endpoint : IsEndpoint s.network node =
       ap (λ (l : List Registers). option_map is_switch (slice_get l node))
-      first.ends.1.shows.registers ∙ endpoint_kind new.devices.items node at in
+      first.ends.1.shows.registers ∙ endpoint_kind at in
       let found = collect_exists s node (ready_on first.ends.1.ready first.ends.1.made) endpoint in
       let is : IsCollect s.network node (Lacked NoPacket ∷ []) =
       subst (λ (c : Collected). IsCollect s.network node (collect_lines node c))

@@ -1,5 +1,5 @@
 -- What leaves at a host, and for which lines a fabric stands behind a call.
-use Rattle.std.proofs.Common.{◌≡◌, ℕ, ◌<◌, List, [], ◌∷◌, ◌++◌, Option, Some, None, option_map, slice_get, length, ◌≤◌, Ok, refl, sym, ap, ◌∙◌, subst, arith, append_assoc}
+use Rattle.std.proofs.Common.{◌≡◌, ℕ, ◌<◌, List, [], ◌∷◌, ◌++◌, Option, Some, None, option_map, slice_get, length, ◌≤◌, refl, sym, ap, ◌∙◌, subst, arith, append_assoc}
 use Rattle.std.proofs.lemmas.Option.{slice_get_within}
 use Rattle.trace_lines.specs.declared.writer.TraceWriter.{TraceWriter}
 use Rattle.maint_registers.specs.Devices.{Registers, is_switch}
@@ -18,11 +18,9 @@ use Rattle.fabric_ask.specs.Own.{IsElsewhere, CollectsNothing}
 use Rattle.fabric_ports.specs.Events.{Did, answer_collected}
 use Rattle.fabric_ports.specs.Fetching.{left_of, NoLeave, NoneLeaves, Leaves}
 use Rattle.fabric_ports.specs.Places.{IsEndpointAt}
-use Rattle.fabric_ports.specs.Ran.{Kind, Ran}
 use Rattle.fabric_ports.specs.Standing.{Stands}
 use Rattle.fabric_ports.specs.declared.answers.Happened.{Happened}
 use Rattle.fabric_ports.specs.declared.fabric.Fabric.{Fabric}
-use Rattle.fabric_ports.proofs.SettlingLaws.{devices_stay}
 use Rattle.fabric_ports.proofs.StandLaws.{stands_with}
 
 -- ---- what leaves
@@ -87,7 +85,7 @@ pub did_stands : {Is : List TraceLine → Type 0} {K : Type 0} {a b : TraceWrite
     {lines : List TraceLine} {old new : Fabric} → Stands from lines old
     → (did : Did Is a b (seen from lines) new)
     → Made (seen from lines) did.block → Stands from (lines ++ did.block) new
-did_stands stands did made = stands_with did.block stands made did.sent did.shows
+did_stands stands did made = stands_with stands made did.sent did.shows
 
 -- nothing was found in lines for which a fabric stands
 pub still_behind : {from : Seen} {new : Fabric} (lines block : List TraceLine)
@@ -97,25 +95,16 @@ still_behind {from} {new} lines block stands =
 
 -- ---- the host stays an endpoint
 
-pub end_known : {from : Seen} {lines : List TraceLine} {fabric : Fabric} (n : ℕ)
+pub end_known : {from : Seen} {lines : List TraceLine} {fabric : Fabric} {n : ℕ}
     → Stands from lines fabric → IsEndpointAt fabric.devices.items n
     → IsEndpoint (seen from lines).network n
-end_known {from} {lines} {fabric} n stands at =
+end_known {from} {lines} {fabric} {n = n} stands at =
     ap (λ (l : List Registers). option_map is_switch (slice_get l n)) stands.shows.registers
     ∙ ap (option_map is_switch) at.stands ∙ ap Some at.kind
 
 -- it has a name, as each device has
-pub end_named : (fabric : Fabric) (count n : ℕ) → length fabric.devices.items ≤ count
+pub end_named : (fabric : Fabric) (count : ℕ) {n : ℕ} → length fabric.devices.items ≤ count
     → IsEndpointAt fabric.devices.items n → n < count
-end_named fabric count n named at =
+end_named fabric count {n = n} named at =
     let within = slice_get_within fabric.devices.items n at.device at.stands in
     omega (arith, named, within)
-
--- so has each device of the fabric behind a call
-pub named_on : {Is : Kind} {K : Type 0} {a b : TraceWriter K} {from : Seen} {lines : List TraceLine}
-    {old new : Fabric} → Stands from lines old → Ran Is a b from lines (Ok new)
-    → length old.devices.items ≤ length a.names.now
-    → length new.devices.items ≤ length b.names.now
-named_on stands ran named =
-    let devices = devices_stay stands ran.ends.1 in
-    rw ran.ends.0.names (omega (arith, devices, named))

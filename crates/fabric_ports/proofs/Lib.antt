@@ -1,4 +1,5 @@
 pub mod ActLaws
+pub mod AfterLaws
 pub mod ActionLaws
 pub mod AnswerLaws
 pub mod AskLaws

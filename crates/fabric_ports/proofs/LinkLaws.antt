@@ -1,5 +1,5 @@
 -- What an event at a link writes, and for which lines the fabric stands then.
-use Rattle.std.proofs.Common.{◌≡◌, List, [], ◌∷◌, ◌++◌, Option, Some, None, Ok, Err, slice_get, refl, sym, ap, ◌∙◌, subst}
+use Rattle.std.proofs.Common.{◌≡◌, List, [], ◌∷◌, ◌++◌, Some, Ok, Err, slice_get, refl, sym, ap, ◌∙◌, subst}
 use Rattle.trace_lines.specs.Writing.{Adds}
 use Rattle.trace_lines.specs.declared.writer.TraceWriter.{TraceWriter}
 use Rattle.trace_lines.specs.AddsLaws.{Adds-nil, Adds-then}
@@ -14,7 +14,7 @@ use Rattle.link_machine.specs.Acts.{Act, At, FoundAt, goes, acts_notes}
 use Rattle.link_law.specs.Does.{Comes, Stops}
 use Rattle.fabric_script.specs.declared.ports.PortRef.{PortRef}
 use Rattle.fabric_model.specs.Network.{link_in}
-use Rattle.fabric_model.proofs.Peers.{ArePeers, link_peers}
+use Rattle.fabric_model.proofs.Peers.{some_is, ArePeers, link_peers}
 use Rattle.fabric_trace.specs.Fold.{seen}
 use Rattle.fabric_trace.specs.Known.{Seen, port_seen, link_at}
 use Rattle.trace_lines.specs.Lines.{TraceLine}
@@ -51,10 +51,6 @@ use Rattle.fabric_ports.proofs.RanLaws.{front_on}
 use Rattle.fabric_ports.proofs.StandLaws.{stands_with}
 
 -- ---- the link, before
-
-some_is : {X : Type 0} (o : Option X) (x y : X) → o ≡ Some x → o ≡ Some y → x ≡ y
-some_is None x y p q = absurd cc
-some_is (Some z) x y p q = cc
 
 -- what is known of a link that stands at this place
 pub record IsKnown (from : Seen) (lines : List TraceLine) (fabric : Fabric) (port : PortRef)
@@ -140,13 +136,14 @@ known_reaches {from} {lines} {d = d} {x} {y} all k =
 -- the fabric stands for the lines with the block
 known_stands : {from : Seen} {lines : List TraceLine} {fabric new : Fabric} {port : PortRef}
     {place : LinkPlace} {d : Cable} {x y : PortState} (action : Action) (all : List Act)
-    (wires : Wires) (x2 y2 : PortState) → IsKnown from lines fabric port place d x y
+    {wires : Wires} {x2 y2 : PortState} → IsKnown from lines fabric port place d x y
     → part_of place.side action (At (link d.link x y)) all
     → goes (At (link d.link x y)) all ≡ At (link wires x2 y2)
     → IsChanged fabric new place.cable d wires x2 y2
     → Stands from (lines ++ block_of d.a d.b (link d.link x y) all
     (answer_of place.side action (link d.link x y))) new
-known_stands {from} {lines} {fabric} {new} {port} {place} {d} {x} {y} action all wires x2 y2 k part
+known_stands {from} {lines} {fabric} {new} {port} {place} {d} {x} {y} action all {wires = wires}
+    {x2 = x2} {y2 = y2} k part
     reached changed =
     let s = seen from lines in
     let l = link d.link x y in
@@ -162,8 +159,7 @@ known_stands {from} {lines} {fabric} {new} {port} {place} {d} {x} {y} action all
     let made = subst (λ (z : Seen). Made z block) (begun_same s port action)
     (block_made (line_for port action) s block k.good k.stands.sent
     (known_block action all k part)) in
-    stands_with block k.stands made
-    (ap (λ (z : Seen). z.undetected) same ∙ there.0)
+    stands_with k.stands made (ap (λ (z : Seen). z.undetected) same ∙ there.0)
     (subst (ShowsFabric new) (sym same) shows)
 
 -- the event that was not sent is known
@@ -209,15 +205,16 @@ told_as lent told = record {
 -- the whole block was written
 pub link_blocked : {K : Type 0} {S : Ghosts K} {from : Seen} {lines : List TraceLine}
     {fabric new : Fabric} {port : PortRef} {place : LinkPlace} {d : Cable} {x y : PortState}
-    (action : Action) (wires : Wires) (x2 y2 : PortState) (before after : LinkLines K S)
-    (writer last : TraceWriter K) (answer : Acted) → IsKnown from lines fabric port place d x y
+    (action : Action) {wires : Wires} {x2 y2 : PortState} {before : LinkLines K S}
+    (after : LinkLines K S)
+    {writer last : TraceWriter K} (answer : Acted) → IsKnown from lines fabric port place d x y
     → Comes WritesNotes (part_of place.side action) (link d.link x y) before
     (At (link wires x2 y2)) after
     → answer ≡ answer_of place.side action (link d.link x y)
     → IsLent writer before d.a d.b → Adds (back writer after.outbox.now) last (lack_lines answer)
     → IsChanged fabric new place.cable d wires x2 y2
     → Ran (Blocks (line_for port action)) writer last from lines (Ok new)
-link_blocked {place = place} {d} {x} {y} action wires x2 y2 before after writer last answer k comes
+link_blocked {place = place} {d} {x} {y} action after {writer = writer} {last = last} answer k comes
     answered lent lacks changed =
     let l = link d.link x y in
     record {
@@ -227,22 +224,22 @@ link_blocked {place = place} {d} {x} {y} action wires x2 y2 before after writer 
         Adds-then (told_as lent comes.grown)
             (subst (λ (z : Acted). Adds (back writer after.outbox.now) last (lack_lines z))
             answered lacks),
-        known_stands action comes.acts wires x2 y2 k comes.part comes.reached changed,
+        known_stands action comes.acts k comes.part comes.reached changed,
       );
     }
 
 -- it was written up to an event that was not sent
 pub link_exposed : {K : Type 0} {S : Ghosts K} {from : Seen} {lines : List TraceLine}
     {fabric : Fabric} {port : PortRef} {place : LinkPlace} {d : Cable} {x y : PortState}
-    (action : Action) (side : Side) (e : Event) (before after : LinkLines K S)
-    (writer : TraceWriter K)
+    (action : Action) (side : Side) (e : Event) {before : LinkLines K S} (after : LinkLines K S)
+    {writer : TraceWriter K}
     → IsKnown from lines fabric port place d x y
     → Comes WritesNotes (part_of place.side action) (link d.link x y) before (FoundAt side e) after
     → IsLent writer before d.a d.b
     → Ran (Blocks (line_for port action)) writer (back writer after.outbox.now) from lines
     (Err (Undetected (port_at_side d.a d.b side) e))
-link_exposed {from = from} {lines} {port = port} {place} {d} {x} {y} action side e before after
-    writer k comes lent =
+link_exposed {from = from} {lines} {port = port} {place} {d} {x} {y} action side e after
+    {writer = writer} k comes lent =
     let l = link d.link x y in
     let full = found_done place.side action l comes.acts side e comes.part comes.reached in
     record {
@@ -263,29 +260,27 @@ nothing_cut mid new (note ∷ rest) cut = cut
 -- a front of it was written
 pub link_cut : {K : Type 0} {S : Ghosts K} {from : Seen} {lines : List TraceLine}
     {fabric : Fabric} {port : PortRef} {place : LinkPlace} {d : Cable} {x y : PortState}
-    (action : Action) (before after : LinkLines K S) (writer : TraceWriter K)
+    (action : Action) {before : LinkLines K S} (after : LinkLines K S) {writer : TraceWriter K}
     → IsKnown from lines fabric port place d x y
     → Stops WritesNotes (λ watch note next. next ≡ watch) (part_of place.side action)
     (link d.link x y) before after
     → IsLent writer before d.a d.b
     → Ran (Blocks (line_for port action)) writer (back writer after.outbox.now) from lines
     (Err NoMemory)
-link_cut {place = place} {d} {x} {y} action before after writer k stops lent =
+link_cut {place = place} {d} {x} {y} action after {writer = writer} k stops lent =
     let l = link d.link x y in
     let s = stops.stopped in
     let answer = answer_of place.side action l in
     record {
       block = block_of d.a d.b l stops.acts answer;
       is = known_block action stops.acts k stops.part;
-      ends = front_on writer (back writer after.outbox.now)
-          (lines_of d.a d.b (acts_notes (At l) stops.acts)) (lack_lines answer)
-          (record {
-            front = lines_of d.a d.b s.front;
-            rest = lines_of d.a d.b s.rest;
-            adds = subst
-                (λ w. Adds writer (back writer w.outbox.now) (lines_of d.a d.b s.front))
-                (sym (nothing_cut s.mid after s.rest s.cut_at)) (told_as lent s.grown);
-            whole = ap (λ (notes : List Note). lines_of d.a d.b notes) s.whole
-                ∙ lines-append d.a d.b s.front s.rest;
-          });
+      ends = front_on (lack_lines answer) (record {
+        front = lines_of d.a d.b s.front;
+        rest = lines_of d.a d.b s.rest;
+        adds = subst
+            (λ w. Adds writer (back writer w.outbox.now) (lines_of d.a d.b s.front))
+            (sym (nothing_cut s.mid after s.rest s.cut_at)) (told_as lent s.grown);
+        whole = ap (λ (notes : List Note). lines_of d.a d.b notes) s.whole
+            ∙ lines-append d.a d.b s.front s.rest;
+      });
     }

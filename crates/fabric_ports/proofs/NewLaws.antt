@@ -1,6 +1,6 @@
 -- What a new fabric shows, and what a plan is for after more lines.
 use Rattle.std.proofs.Common.{◌≡◌, ℕ, zero, suc, ◌+◌, ◌<◌, List, [], ◌∷◌, ◌++◌, All, Some, None, false, map, get_or, take, drop, length, length-append, option_map, refl, sym, ap, ◌∙◌, subst, filter, ◌==◌, arith}
-use Rattle.std.proofs.lemmas.List.{take_more, drop_more, take-append-drop, length-map}
+use Rattle.std.proofs.lemmas.List.{take_more, length-map}
 use Rattle.std.proofs.lemmas.List.Elements.{All-head, All-tail, All-weaker}
 use Rattle.std.proofs.lemmas.Option.{same_Some, slice_get-map}
 use Rattle.std.specs.List.{slice_get}
@@ -20,6 +20,7 @@ use Rattle.fabric_script.specs.Scripts.{PassesFrom, ScriptPasses}
 use Rattle.fabric_model.specs.Network.{Network}
 use Rattle.fabric_model.specs.Laws.History.{IsEmptyNetwork}
 use Rattle.fabric_model.specs.Laws.Proper.{AreProper}
+use Rattle.fabric_trace.proofs.SetUps.SettingUp.{set_up_all-append, lines_at}
 use Rattle.fabric_trace.specs.Events.{ArePorts, counts_after, counts_after_all, port_counts}
 use Rattle.fabric_trace.specs.Known.{port_seen}
 use Rattle.fabric_trace.specs.Parts.{Done}
@@ -133,11 +134,6 @@ plan_proper names lines plan passes is =
 
 -- ---- from line to line
 
-set_up_all-append : (net : Network) (lines more : List Numbered)
-    → set_up_all net (lines ++ more) ≡ set_up_all (set_up_all net lines) more
-set_up_all-append net [] more = refl
-set_up_all-append net (line ∷ lines) more = set_up_all-append (set_up net line.line) lines more
-
 counts-append : (counts : List ℕ) (lines more : List Numbered)
     → counts_after_all counts (lines ++ more) ≡ counts_after_all (counts_after_all counts lines)
     more
@@ -149,14 +145,6 @@ may_at : (net : Network) (before behind : List Numbered) (line : Numbered)
 may_at net [] behind line may = may.0
 may_at net (first ∷ before) behind line may =
     may_at (set_up net first.line) before behind line may.1
-
--- the lines as those before a place, the one there, and those behind it
-split_at : (lines : List Numbered) (i : ℕ) (line : Numbered) → i < length lines
-    → line ≡ get_or lines i line → lines ≡ take i lines ++ line ∷ drop (i + 1) lines
-split_at lines i line within at =
-    sym (take-append-drop i lines)
-    ∙ ap (λ rest. take i lines ++ rest) (drop_more lines i line within
-    ∙ ap (λ x. x ∷ drop (i + 1) lines) (sym at))
 
 -- A plan is for the network of the first lines of a script.
 pub record PlansFirst (plan : Plan) (lines : List Numbered) (i : ℕ) : Type 0 where
@@ -170,7 +158,7 @@ pub next_ports : (names : List (List ℕ)) (lines : List Numbered) (i : ℕ) (li
 next_ports names lines i line plan passes within at first =
     subst (λ counts. ArePorts counts line.line) (sym first.counts)
     (ports_there names (take i lines) (drop (i + 1) lines) line
-    (subst (ScriptPasses names) (split_at lines i line within at) passes))
+    (subst (ScriptPasses names) (lines_at lines i line within at) passes))
 
 -- the next line may be set up
 next_set_up : (names : List (List ℕ)) (lines : List Numbered) (i : ℕ) (line : Numbered)
@@ -178,7 +166,7 @@ next_set_up : (names : List (List ℕ)) (lines : List Numbered) (i : ℕ) (line 
     → MaySetUp (set_up_all bare (take i lines)) line.line
 next_set_up names lines i line passes within at =
     may_at bare (take i lines) (drop (i + 1) lines) line
-    (subst (MaySetUpAll bare) (split_at lines i line within at) (may_set_up names lines passes))
+    (subst (MaySetUpAll bare) (lines_at lines i line within at) (may_set_up names lines passes))
 
 -- and added to the plan
 pub next_may : (names : List (List ℕ)) (lines : List Numbered) (i : ℕ) (line : Numbered)

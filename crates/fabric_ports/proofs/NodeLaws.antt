@@ -23,10 +23,10 @@ set_same (y ∷ xs) zero x is = let same : y ≡ x = cc in ap (λ z. z ∷ xs) (
 set_same (y ∷ xs) (suc n) x is = ap (λ zs. y ∷ zs) (set_same xs n x is)
 
 -- the device that was read at its place
-pub device_read : (devices : List Registers) (n place : ℕ) (known device : Registers)
+pub device_read : (devices : List Registers) {n place : ℕ} {known device : Registers}
     → slice_get devices n ≡ Some known → place ≡ n → device ≡ get_or devices place device
     → slice_get devices n ≡ Some device
-device_read devices n place known device stands same value =
+device_read devices {n = n} {known = known} {device = device} stands same value =
     slice_get-get_or devices n device (slice_get_within devices n known stands)
     ∙ ap Some (ap (λ k. get_or devices k device) (sym same) ∙ sym value)
 
@@ -117,11 +117,11 @@ port_shows old new s t n device next y shows at stands same has becomes others w
     (registers ∙ ap (λ (l : List Registers). slice_set l n next) shows.registers ∙ sym has.devices)
 
 -- the port that was read at the place of an endpoint is the one that is known
-pub port_read : (fabric : Fabric) (s : Seen) (n place : ℕ) (x : PortState) → ShowsFabric fabric s
+pub port_read : {fabric : Fabric} {s : Seen} {n place : ℕ} {x : PortState} → ShowsFabric fabric s
     → IsEndpointAt fabric.devices.items n
     → place ≡ place_of fabric.firsts.items (port_of n) → x ≡ get_or fabric.ports.items place x
     → port_seen s (port_of n) ≡ x
-port_read fabric s n place x shows at is value =
+port_read {fabric = fabric} {s = s} {n = n} {x = x} shows at is value =
     let there = shows.ports (port_of n) (endpoint_port fabric.devices.items n at) in
     sym (get_or_from_slice_get fabric.ports.items (place_of fabric.firsts.items (port_of n))
     (port_seen s (port_of n)) x there)
@@ -137,10 +137,10 @@ with_both fabric n device place port = record {
   cable_at = fabric.cable_at;
 }
 
-pub has_both : (fabric : Fabric) (p : PortRef) (node n place : ℕ) (next : Registers) (y : PortState)
+pub has_both : (fabric : Fabric) (p : PortRef) {node n place : ℕ} (next : Registers) (y : PortState)
     → place ≡ place_of fabric.firsts.items p → node ≡ n
     → HasBoth fabric (with_both fabric node next place y) n next p y
-has_both fabric p node n place next y is same = record {
+has_both fabric p next y is same = record {
   devices = ap (λ k. slice_set fabric.devices.items k next) same;
   firsts = refl;
   ports = ap (λ i. slice_set fabric.ports.items i y) is;
@@ -158,10 +158,11 @@ with_port fabric place port = record {
   cable_at = fabric.cable_at;
 }
 
-pub has_port : (fabric : Fabric) (p : PortRef) (n place : ℕ) (device : Registers) (y : PortState)
+pub has_port : (fabric : Fabric) (p : PortRef) (n : ℕ) {place : ℕ} {device : Registers}
+    (y : PortState)
     → place ≡ place_of fabric.firsts.items p → slice_get fabric.devices.items n ≡ Some device
     → HasBoth fabric (with_port fabric place y) n device p y
-has_port fabric p n place device y is stands = record {
+has_port fabric p n {device = device} y is stands = record {
   devices = sym (set_same fabric.devices.items n device stands);
   firsts = refl;
   ports = ap (λ i. slice_set fabric.ports.items i y) is;

@@ -29,15 +29,15 @@ pub endpoint_at : {fabric : Fabric} {node : ℕ} → HasEndpoint fabric node
 endpoint_at {fabric} {node} has = has.stands.shows.endpoints node has.endpoint
 
 -- the device that was read is the one that is known
-pub own_is : {from : Seen} {lines : List TraceLine} {fabric : Fabric} (node place : ℕ)
-    (device read : Registers) → Stands from lines fabric
+pub own_is : {from : Seen} {lines : List TraceLine} {fabric : Fabric} {node place : ℕ}
+    {device read : Registers} → Stands from lines fabric
     → slice_get (seen from lines).network.registers node ≡ Some device → place ≡ node
     → read ≡ get_or fabric.devices.items place read → read ≡ device
-own_is {from} {lines} {fabric} node place device read stands known same value =
+own_is {from} {lines} {fabric} {node = node} {device = device} {read = read} stands known same
+    value =
     let there = ap (λ (l : List Registers). slice_get l node) (sym stands.shows.registers)
     ∙ known in
-    same_Some read device
-    (sym (device_read fabric.devices.items node place device read there same value) ∙ there)
+    same_Some read device (sym (device_read fabric.devices.items there same value) ∙ there)
 
 -- ---- links stay laid
 

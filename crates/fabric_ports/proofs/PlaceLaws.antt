@@ -86,14 +86,21 @@ first_within base (device ∷ devices) (first ∷ firsts) (suc n) port are has =
     let later = first_within (base + device.ports) devices firsts n port are.1 has in
     omega (arith, later)
 
--- where a port stands, by the place that was read of its device's first one
-pub place_read : (devices : List Registers) (firsts : List ℕ) (p : PortRef) (node first port : ℕ)
+-- what was read is the place of a port
+pub record IsRead (devices : List Registers) (firsts : List ℕ) (p : PortRef) (place : ℕ) : Type 0
+  where
+    pub is : place ≡ place_of firsts p
+    pub within : place < port_count devices
+
+-- it is, if the place of its device's first port was read
+pub place_read : (devices : List Registers) (firsts : List ℕ) (p : PortRef) {node first port : ℕ}
     → AreFirsts 0 devices firsts → IsPortOf devices p
     → node ≡ p.node → first ≡ get_or firsts node first → port ≡ p.port
-    → first + port ≡ place_of firsts p
-place_read devices firsts p node first port are has same value ends =
+    → IsRead devices firsts p (first + port)
+place_read devices firsts p {node = node} {first = first} are has same value ends =
     let at = first_within 0 devices firsts p.node p.port are has in
     let here : node < length firsts = omega (arith, at, same) in
     let read : first ≡ slice_index_or firsts p.node 0 = value
     ∙ get_or_default firsts node first 0 here ∙ ap (λ n. get_or firsts n 0) same in
-    omega (arith, read, ends)
+    let below = place_within devices firsts p are has in
+    record { is = omega (arith, read, ends); within = omega (arith, read, ends, below) }

@@ -1,5 +1,5 @@
 -- What is done one behind the other, by the lines of each and for which a fabric stands then.
-use Rattle.std.proofs.Common.{◌≡◌, true, List, [], ◌∷◌, ◌++◌, Option, Some, None, Result, Ok, Err, OnOk, IfOk, IfErr, IsErrAnd, refl, sym, ap, ◌∙◌, subst, append-nil, append_assoc}
+use Rattle.std.proofs.Common.{◌≡◌, true, List, [], ◌∷◌, ◌++◌, Option, Some, None, Result, Ok, Err, IfOk, IsErrAnd, refl, sym, ap, ◌∙◌, subst, append-nil, append_assoc}
 use Rattle.trace_lines.specs.Writing.{Adds}
 use Rattle.trace_lines.specs.declared.writer.TraceWriter.{TraceWriter}
 use Rattle.trace_lines.specs.AddsLaws.{Adds-nil, Adds-then}
@@ -138,44 +138,36 @@ more_exists Q from lines block None on made is =
 more_exists Q from lines block (Some found) on made is = ([], refl)
 
 -- what was told of the first, and behind it what may be told
-both_on : (P Q : Kind) (from : Seen) (lines block : List TraceLine) (old : Fabric)
+both_on : (P Q : Kind) {from : Seen} {lines : List TraceLine} (block : List TraceLine)
+    {old : Fabric}
     → IsMade from P → GoesOn from Q → Stands from lines old → P (seen from lines) block
     → (more : List TraceLine) × Both P Q (seen from lines) (block ++ more)
-both_on P Q from lines block old made on stands is =
+both_on P Q {from = from} {lines = lines} block made on stands is =
     let more = more_exists Q from lines block (seen (seen from lines) block).undetected on
     (made lines block stands.made stands.sent is) refl in
     (more.0, (block, more.0, refl, is, more.1))
 
 -- ---- what an answer says
 
-pub on_ok : {T X Y : Type 0} (r : Result T FabricEnd) → (X → Y) → OnOk r X → OnOk r Y
-on_ok (Ok x) turns own = turns own
-on_ok (Err end) turns own = own
-
 pub if_ok : {T : Type 0} {P Q : T → Type 0} (r : Result T FabricEnd) → ((x : T) → P x → Q x)
     → IfOk r P → IfOk r Q
 if_ok (Ok x) turns own = turns x own
 if_ok (Err end) turns own = own
 
-pub if_err : {T : Type 0} {P Q : FabricEnd → Type 0} (r : Result T FabricEnd)
-    → ((end : FabricEnd) → P end → Q end) → IfErr r P → IfErr r Q
-if_err (Ok x) turns own = own
-if_err (Err end) turns own = turns end own
-
 -- a call ended as the one in it
-pub handed_on : {T : Type 0} (r : Result T FabricEnd) (end : FabricEnd) (P : FabricEnd → Type 0)
-    → IsErrAnd r (λ y. y ≡ end) → P end → IfErr r P
-handed_on {T} (Ok x) end P gives holds = absurd gives
-handed_on {T} (Err y) end P gives holds = subst P (sym gives) holds
+pub err_is : {T : Type 0} (r : Result T FabricEnd) (end : FabricEnd)
+    → IsErrAnd r (λ y. y ≡ end) → r ≡ Err end
+err_is (Ok x) end gives = absurd gives
+err_is (Err y) end gives = ap Err gives
 
 -- ---- what was written
 
 module _ {K : Type 0} where
   -- a front of lines is one of those with more behind
-  pub front_on : (a b : TraceWriter K) (lines more : List TraceLine)
+  pub front_on : {a b : TraceWriter K} {lines : List TraceLine} (more : List TraceLine)
       → AddsFront a b lines
       → AddsFront a b (lines ++ more)
-  front_on a b lines more own = record {
+  front_on more own = record {
     front = own.front;
     rest = own.rest ++ more;
     adds = own.adds;
@@ -184,15 +176,15 @@ module _ {K : Type 0} where
   }
 
   -- and whole lines are a front of themselves
-  pub front_whole : (a b : TraceWriter K) (lines : List TraceLine) → Adds a b lines
+  pub front_whole : {a b : TraceWriter K} {lines : List TraceLine} → Adds a b lines
       → AddsFront a b lines
-  front_whole a b lines told =
+  front_whole {lines = lines} told =
       record { front = lines; rest = []; adds = told; whole = sym (append-nil lines) }
 
-  front_behind : (a b c : TraceWriter K) (first lines : List TraceLine) → Adds a b first
+  front_behind : {a b c : TraceWriter K} {first lines : List TraceLine} → Adds a b first
       → AddsFront b c lines
       → AddsFront a c (first ++ lines)
-  front_behind a b c first lines told own = record {
+  front_behind {first = first} told own = record {
     front = first ++ own.front;
     rest = own.rest;
     adds = Adds-then told own.adds;
@@ -201,27 +193,28 @@ module _ {K : Type 0} where
   }
 
   -- how a call ended, by the lines that were told before it with its own
-  writes_behind : (a b c : TraceWriter K) (from : Seen) (lines first told : List TraceLine)
+  writes_behind : {a b : TraceWriter K} (c : TraceWriter K) (from : Seen) (lines : List TraceLine)
+      {first : List TraceLine} (told : List TraceLine)
       (end : Result Fabric FabricEnd) → Adds a b first
       → WritesTo b c from (lines ++ first) told end
       → WritesTo a c from lines (first ++ told) end
-  writes_behind a b c from lines first told (Ok fabric) before own = (
+  writes_behind c from lines {first = first} told (Ok fabric) before own = (
     Adds-then before own.0,
     subst (λ (l : List TraceLine). Stands from l fabric) (append_assoc lines first told) own.1,
   )
-  writes_behind a b c from lines first told (Err (Undetected port event)) before own = (
+  writes_behind c from lines {first = first} told (Err (Undetected port event)) before own = (
     Adds-then before own.0,
     ap (λ (l : List TraceLine). (seen from l).undetected) (sym (append_assoc lines first told))
         ∙ own.1,
   )
-  writes_behind a b c from lines first told (Err Failed) before own =
-      (front_behind a b c first told before own.0, own.1)
-  writes_behind a b c from lines first told (Err NoMemory) before own =
-      front_behind a b c first told before own
+  writes_behind c from lines told (Err Failed) before own =
+      (front_behind before own.0, own.1)
+  writes_behind c from lines told (Err NoMemory) before own =
+      front_behind before own
 
-  pub ran_nothing : (out : TraceWriter K) (from : Seen) (lines : List TraceLine) (fabric : Fabric)
+  pub ran_nothing : (out : TraceWriter K) {from : Seen} {lines : List TraceLine} {fabric : Fabric}
       → Stands from lines fabric → Ran Nothing out out from lines (Ok fabric)
-  ran_nothing out from lines fabric stands = record {
+  ran_nothing out {from = from} {lines = lines} {fabric = fabric} stands = record {
     block = [];
     is = refl;
     ends = (
@@ -231,8 +224,8 @@ module _ {K : Type 0} where
   }
 
   -- one behind the other
-  pub ran_joined : (P Q R : Kind) (a b c : TraceWriter K) (from : Seen) (lines : List TraceLine)
-      (mid : Fabric) (end : Result Fabric FabricEnd)
+  pub ran_joined : {P Q R : Kind} {a b c : TraceWriter K} {from : Seen} {lines : List TraceLine}
+      {mid : Fabric} {end : Result Fabric FabricEnd}
       → ((first second : List TraceLine) → P (seen from lines) first
       → (seen (seen from lines) first).undetected ≡ None
       → Q (seen (seen from lines) first) second
@@ -240,65 +233,64 @@ module _ {K : Type 0} where
       → (first : Ran P a b from lines (Ok mid))
       → Ran Q b c from (lines ++ first.block) end
       → Ran R a c from lines end
-  ran_joined P Q R a b c from lines mid end join first second =
+  ran_joined {Q = Q} {c = c} {from = from} {lines = lines} {end = end} join first second =
       let joined = seen-append from lines first.block in
       record {
         block = first.block ++ second.block;
         is = join first.block second.block first.is
             (sym (ap (λ (t : Seen). t.undetected) joined) ∙ first.ends.1.sent)
             (subst (λ (t : Seen). Q t second.block) joined second.is);
-        ends = writes_behind a b c from lines first.block second.block end first.ends.0 second.ends;
+        ends = writes_behind c from lines second.block end first.ends.0 second.ends;
       }
 
-  pub ran_both : (P Q : Kind) (a b c : TraceWriter K) (from : Seen) (lines : List TraceLine)
-      (mid : Fabric) (end : Result Fabric FabricEnd)
+  pub ran_both : {P Q : Kind} {a b c : TraceWriter K} {from : Seen} {lines : List TraceLine}
+      {mid : Fabric} {end : Result Fabric FabricEnd}
       → (first : Ran P a b from lines (Ok mid))
       → Ran Q b c from (lines ++ first.block) end
       → Ran (Both P Q) a c from lines end
-  ran_both P Q a b c from lines mid end first second =
-      ran_joined P Q (Both P Q) a b c from lines mid end (joined_both P Q (seen from lines)) first
-      second
+  ran_both {P = P} {Q = Q} {from = from} {lines = lines} first second =
+      ran_joined (joined_both P Q (seen from lines)) first second
 
   -- what is known before the lines may say that they are of another kind
-  pub ran_as : (P Q : Kind) (a b : TraceWriter K) (from : Seen) (lines : List TraceLine)
-      (end : Result Fabric FabricEnd)
+  pub ran_as : {P Q : Kind} {a b : TraceWriter K} {from : Seen} {lines : List TraceLine}
+      {end : Result Fabric FabricEnd}
       → ((block : List TraceLine) → P (seen from lines) block
       → Q (seen from lines) block)
       → Ran P a b from lines end
       → Ran Q a b from lines end
-  ran_as P Q a b from lines end turns ran =
+  ran_as turns ran =
       record { block = ran.block; is = turns ran.block ran.is; ends = ran.ends }
 
   -- it was told whole, but a write failed
-  pub failed_behind : (Is : Kind) (a b : TraceWriter K) (from : Seen) (lines : List TraceLine)
-      (fabric : Fabric) → b.outbox.now.failed ≡ true → Ran Is a b from lines (Ok fabric)
+  pub failed_behind : {Is : Kind} {a b : TraceWriter K} {from : Seen} {lines : List TraceLine}
+      {fabric : Fabric} → b.outbox.now.failed ≡ true → Ran Is a b from lines (Ok fabric)
       → Ran Is a b from lines (Err Failed)
-  failed_behind Is a b from lines fabric failed ran = record {
+  failed_behind failed ran = record {
     block = ran.block;
     is = ran.is;
-    ends = (front_whole a b ran.block ran.ends.0, failed);
+    ends = (front_whole ran.ends.0, failed);
   }
 
   -- a line was told before the call
-  pub ran_behind : (P Q : Kind) (line : TraceLine) (a b c : TraceWriter K) (from : Seen)
-      (lines : List TraceLine) (end : Result Fabric FabricEnd)
+  pub ran_behind : {P Q : Kind} (line : TraceLine) {a b c : TraceWriter K} {from : Seen}
+      (lines : List TraceLine) {end : Result Fabric FabricEnd}
       → ((block : List TraceLine) → P (seen from (lines ++ line ∷ [])) block
       → Q (seen from lines) block) → Adds a b (line ∷ [])
       → Ran P b c from (lines ++ line ∷ []) end
       → RanBehind (line ∷ []) Q a c from lines end
-  ran_behind P Q line a b c from lines end turns told ran = record {
+  ran_behind line {c = c} {from = from} lines {end = end} turns told ran = record {
     block = ran.block;
     is = turns ran.block ran.is;
-    ends = writes_behind a b c from lines (line ∷ []) ran.block end told
-        ran.ends;
+    ends = writes_behind c from lines ran.block end told ran.ends;
   }
 
   -- It ended in the first: nothing stands behind an event that was not sent, and else what would.
-  pub ends_first : (P Q : Kind) (a b : TraceWriter K) (from : Seen) (lines : List TraceLine)
-      (old : Fabric) (end : FabricEnd) → IsMade from P → GoesOn from Q → Stands from lines old
+  pub ends_first : {P : Kind} (Q : Kind) {a b : TraceWriter K} {from : Seen}
+      {lines : List TraceLine}
+      {old : Fabric} (end : FabricEnd) → IsMade from P → GoesOn from Q → Stands from lines old
       → Ran P a b from lines (Err end)
       → Ran (Both P Q) a b from lines (Err end)
-  ends_first P Q a b from lines old (Undetected port event) made on stands ran =
+  ends_first Q {from = from} {lines = lines} (Undetected port event) made on stands ran =
       let joined = seen-append from lines ran.block in
       let found = sym (ap (λ (t : Seen). t.undetected) joined) ∙ ran.ends.1 in
       record {
@@ -313,17 +305,17 @@ module _ {K : Type 0} where
         );
         ends = ran.ends;
       }
-  ends_first P Q a b from lines old Failed made on stands ran =
-      let both = both_on P Q from lines ran.block old made on stands ran.is in
+  ends_first {P = P} Q {from = from} {lines = lines} {old = old} Failed made on stands ran =
+      let both = both_on P Q ran.block made on stands ran.is in
       record {
         block = ran.block ++ both.0;
         is = both.1;
-        ends = (front_on a b ran.block both.0 ran.ends.0, ran.ends.1);
+        ends = (front_on both.0 ran.ends.0, ran.ends.1);
       }
-  ends_first P Q a b from lines old NoMemory made on stands ran =
-      let both = both_on P Q from lines ran.block old made on stands ran.is in
+  ends_first {P = P} Q {from = from} {lines = lines} {old = old} NoMemory made on stands ran =
+      let both = both_on P Q ran.block made on stands ran.is in
       record {
         block = ran.block ++ both.0;
         is = both.1;
-        ends = front_on a b ran.block both.0 ran.ends;
+        ends = front_on both.0 ran.ends;
       }

@@ -105,18 +105,17 @@ module _ {K : Type 0} (Nodes : ℕ → List Registers → Kind)
     (appends : (xs ys : List Registers) (node last : ℕ) (s : Seen) (lines : List TraceLine)
     → node + length xs ≡ last → s.undetected ≡ None
     → Both (Nodes node xs) (Nodes last ys) s lines → Nodes node (xs ++ ys) s lines)
-    (from : Seen) (lines : List TraceLine) (old mid : Fabric) (devices : List Registers)
+    {from : Seen} {lines : List TraceLine} {old mid : Fabric} (devices : List Registers)
     (stands : Stands from lines old) where
-  pub nodes_on : (P : Kind) (a b c : TraceWriter K) (new : Fabric) (k : ℕ) (kind : Bool)
+  pub nodes_on : {P : Kind} {a b c : TraceWriter K} {new : Fabric} {k : ℕ} {kind : Bool}
       → (node : IsNode devices k kind)
       → ((s : Seen) (block : List TraceLine) → P s block → Nodes k (node.device ∷ []) s block)
       → (first : Ran (Nodes 0 (take k devices)) a b from lines (Ok mid))
       → Ran P b c from (lines ++ first.block) (Ok new)
       → Ran (Nodes 0 (take (k + 1) devices)) a c from lines (Ok new)
-  nodes_on P a b c new k kind node does first own =
+  nodes_on {k = k} node does first own =
       let at : 0 + length (take k devices) ≡ k = let many = node.many in omega (arith, many) in
-      ran_joined (Nodes 0 (take k devices)) P (Nodes 0 (take (k + 1) devices)) a b c from lines mid
-      (Ok new)
+      ran_joined
       (λ x y before still one. subst (λ (l : List Registers). Nodes 0 l (seen from lines) (x ++ y))
       (sym node.more)
       (appends (take k devices) (node.device ∷ []) 0 k (seen from lines) (x ++ y) at stands.sent
@@ -124,23 +123,20 @@ module _ {K : Type 0} (Nodes : ℕ → List Registers → Kind)
       before still (does (seen (seen from lines) x) y one))))
       first own
 
-  pub nodes_none : (a b : TraceWriter K) (k : ℕ) (kind : Bool) → (node : IsNode devices k kind)
+  pub nodes_none : {a b : TraceWriter K} {k : ℕ} {kind : Bool} → (node : IsNode devices k kind)
       → ((s : Seen) (block : List TraceLine) → Nothing s block
       → Nodes k (node.device ∷ []) s block)
       → Ran (Nodes 0 (take k devices)) a b from lines (Ok mid)
       → Ran (Nodes 0 (take (k + 1) devices)) a b from lines (Ok mid)
-  nodes_none a b k kind node rests first =
-      nodes_on Nothing a b b mid k kind node rests first
-      (ran_nothing b from (lines ++ first.block) mid first.ends.1)
+  nodes_none {b = b} node rests first =
+      nodes_on node rests first (ran_nothing b first.ends.1)
 
   -- all nodes of the fabric
-  pub nodes_all : (a b : TraceWriter K) → devices ≡ old.devices.items
+  pub nodes_all : {a b : TraceWriter K} → devices ≡ old.devices.items
       → Ran (Nodes 0 devices) a b from lines (Ok mid)
       → Ran (λ s block. Nodes 0 s.network.registers s block) a b from lines (Ok mid)
-  nodes_all a b same ran =
-      ran_as (Nodes 0 devices) (λ s block. Nodes 0 s.network.registers s block) a b from lines
-      (Ok mid)
-      (λ block own. subst (λ (l : List Registers). Nodes 0 l (seen from lines) block)
+  nodes_all same ran =
+      ran_as (λ block own. subst (λ (l : List Registers). Nodes 0 l (seen from lines) block)
       (same ∙ sym stands.shows.registers) own) ran
 
 -- ---- rounds, one after another
@@ -166,23 +162,23 @@ settles_come : (s : Seen) (a b : PortRef) (lines : List TraceLine) → IsGood s
 settles_come s a b lines good sent peers own =
     (link_made s a b lines good sent peers own, own)
 
-links_made : (from : Seen) → IsReady from → IsMade from LinksSettle
-links_made from ready lines block made sent own =
+links_made : {from : Seen} → IsReady from → IsMade from LinksSettle
+links_made {from = from} ready lines block made sent own =
     let s = seen from lines in
     let good = good_behind ready made in
     made-append made
     (settle_all_come IsSettle IsSettle settles_come move_made s.network.links s.network.links s
     block good sent refl (all_found s.network.links good.proper) own).0
 
-round_made : (from : Seen) → IsReady from → IsMade from (Round IsSettle)
-round_made from ready lines block made sent own =
+round_made : {from : Seen} → IsReady from → IsMade from (Round IsSettle)
+round_made {from = from} ready lines block made sent own =
     let s = seen from lines in
     made-append made
     (round_come IsSettle IsSettle settles_come move_made s block (good_behind ready made) sent
     own).0
 
-switches_go_on : (from : Seen) → IsReady from → GoesOn from SwitchesServe
-switches_go_on from ready lines made sent =
+switches_go_on : {from : Seen} → IsReady from → GoesOn from SwitchesServe
+switches_go_on {from = from} ready lines made sent =
     let own = serve_all_exist (seen from lines) (ready_on ready made) in
     (own.lines, own.is)
 
@@ -197,53 +193,44 @@ rounds_left (suc k) (suc n) less =
 
 module _ {K : Type 0} where
   -- one round more
-  pub ran_more : (a b c d : TraceWriter K) (from : Seen) (lines : List TraceLine)
-      (old mid linked new : Fabric) (k : ℕ) → Stands from lines old
+  pub ran_more : {a b : TraceWriter K} (c d : TraceWriter K) {from : Seen} {lines : List TraceLine}
+      {old mid : Fabric} (linked new : Fabric) (k : ℕ) → Stands from lines old
       → Ran (Rounds IsSettle k) a b from lines (Ok mid)
       → ((more : List TraceLine) → Stands from more mid
       → Ran LinksSettle b c from more (Ok linked))
       → ((more : List TraceLine) → Stands from more linked
       → Ran SwitchesServe c d from more (Ok new))
       → Ran (Rounds IsSettle (k + 1)) a d from lines (Ok new)
-  ran_more a b c d from lines old mid linked new k stands first links switches =
+  ran_more c d {from = from} {lines = lines} linked new k stands first links switches =
       let settled = links (lines ++ first.block) first.ends.1 in
-      let round = ran_both LinksSettle SwitchesServe b c d from (lines ++ first.block) linked
-      (Ok new) settled
+      let round = ran_both settled
       (switches ((lines ++ first.block) ++ settled.block) settled.ends.1) in
-      let one = ran_as (Round IsSettle) (Rounds IsSettle 1) b d from (lines ++ first.block) (Ok new)
+      let one = ran_as {Q = Rounds IsSettle 1}
       (λ block own. both_nothing (Round IsSettle) (seen from (lines ++ first.block)) block
       own) round in
-      ran_as (Both (Rounds IsSettle k) (Rounds IsSettle 1)) (Rounds IsSettle (k + 1)) a d from lines
-      (Ok new)
-      (λ block both. rounds_append k 1 (seen from lines) block stands.sent both)
-      (ran_both (Rounds IsSettle k) (Rounds IsSettle 1) a b d from lines mid (Ok new) first one)
+      ran_as (λ block both. rounds_append k 1 (seen from lines) block stands.sent both)
+      (ran_both first one)
 
   -- the links of a round did not all settle
-  pub ran_short : (a b c : TraceWriter K) (from : Seen) (lines : List TraceLine) (old mid : Fabric)
+  pub ran_short : {a b : TraceWriter K} (c : TraceWriter K) {from : Seen} {lines : List TraceLine}
+      {old mid : Fabric}
       (k n : ℕ) (end : FabricEnd) → k < n → Stands from lines old
       → Ran (Rounds IsSettle k) a b from lines (Ok mid)
       → ((more : List TraceLine) → Stands from more mid
       → Ran LinksSettle b c from more (Err end))
       → Ran (Rounds IsSettle n) a c from lines (Err end)
-  ran_short a b c from lines old mid k n end less stands first links =
+  ran_short c {from = from} {lines = lines} k n end less stands first links =
       let left : (m : ℕ) × (k + suc m ≡ n) = rounds_left k n less in
-      let own = ends_first LinksSettle SwitchesServe b c from (lines ++ first.block) mid end
-      (links_made from stands.ready)
-      (switches_go_on from stands.ready) first.ends.1 (links (lines ++ first.block) first.ends.1) in
-      let more = ends_first (Round IsSettle) (Rounds IsSettle left.0) b c from
-      (lines ++ first.block) mid end (round_made from stands.ready)
-      (λ l made sent.
+      let own = ends_first SwitchesServe end (links_made stands.ready)
+      (switches_go_on stands.ready) first.ends.1 (links (lines ++ first.block) first.ends.1) in
+      let more = ends_first (Rounds IsSettle left.0) end (round_made stands.ready) (λ l made sent.
       (let own = rounds_exist left.0 (seen from l) (ready_on stands.ready made) sent in
       (own.lines, own.is))) first.ends.1 own in
-      ran_as (Both (Rounds IsSettle k) (Rounds IsSettle (suc left.0))) (Rounds IsSettle n) a c from
-      lines (Err end)
-      (λ block both. subst (λ m. Rounds IsSettle m (seen from lines) block) left.1
-      (rounds_append k (suc left.0) (seen from lines) block stands.sent both))
-      (ran_both (Rounds IsSettle k) (Rounds IsSettle (suc left.0)) a b c from lines mid (Err end)
-      first more)
+      ran_as (λ block both. subst (λ m. Rounds IsSettle m (seen from lines) block) left.1
+      (rounds_append k (suc left.0) (seen from lines) block stands.sent both)) (ran_both first more)
 
-  pub ran_all : (a b : TraceWriter K) (from : Seen) (lines : List TraceLine) (new : Fabric)
+  pub ran_all : {a b : TraceWriter K} {from : Seen} {lines : List TraceLine} {new : Fabric}
       (k n : ℕ) → k ≡ n → Ran (Rounds IsSettle k) a b from lines (Ok new)
       → Ran (Rounds IsSettle n) a b from lines (Ok new)
-  ran_all a b from lines new k n same ran =
+  ran_all {a = a} {b = b} {from = from} {lines = lines} {new = new} k n same ran =
       subst (λ m. Ran (Rounds IsSettle m) a b from lines (Ok new)) same ran

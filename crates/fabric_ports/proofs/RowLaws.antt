@@ -47,24 +47,24 @@ rows_apart base (d ∷ devices) (f ∷ firsts) (suc m) (suc n) device are stands
 
 -- a device's ports stand before the end
 pub row_within : (base : ℕ) (devices : List Registers) (firsts : List ℕ) (n : ℕ)
-    (device : Registers)
+    {device : Registers}
     → AreFirsts base devices firsts → slice_get devices n ≡ Some device
     → slice_index_or firsts n 0 + device.ports ≤ base + port_count devices
-row_within base [] firsts n device are stands = absurd cc
-row_within base (d ∷ devices) [] n device are stands = absurd are
-row_within base (d ∷ devices) (f ∷ firsts) zero device are stands =
+row_within base [] firsts n are stands = absurd cc
+row_within base (d ∷ devices) [] n are stands = absurd are
+row_within base (d ∷ devices) (f ∷ firsts) zero {device = device} are stands =
     let same : d ≡ device = cc in
     let many = ap (λ (x : Registers). x.ports) same in
     let start = are.0 in
     omega (arith, many, start)
-row_within base (d ∷ devices) (f ∷ firsts) (suc n) device are stands =
-    let rest = row_within (base + d.ports) devices firsts n device are.1 stands in
+row_within base (d ∷ devices) (f ∷ firsts) (suc n) {device = device} are stands =
+    let rest = row_within (base + d.ports) devices firsts n are.1 stands in
     omega (arith, rest)
 
 -- where the first port stands, by the place that was read
-pub first_read : (firsts : List ℕ) (node place first : ℕ) → node < length firsts → place ≡ node
+pub first_read : (firsts : List ℕ) {node place first : ℕ} → node < length firsts → place ≡ node
     → first ≡ slice_index_or firsts place first → first ≡ slice_index_or firsts node 0
-first_read firsts node place first within same value =
+first_read firsts {place = place} {first = first} within same value =
     value ∙ get_or_default firsts place first 0 (omega (arith, within, same))
     ∙ ap (λ n. slice_index_or firsts n 0) same
 
@@ -182,7 +182,7 @@ row_set devices firsts ports own s t node device are count shown stands many bec
     by_node (cases_eq q.node node)
   where
     within : slice_index_or firsts node 0 + device.ports ≤ length ports
-    within = let row = row_within 0 devices firsts node device are stands in
+    within = let row = row_within 0 devices firsts node are stands in
         omega (arith, row, count)
 
     all : List PortState

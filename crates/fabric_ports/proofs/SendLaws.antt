@@ -43,7 +43,7 @@ module _ {K : Type 0}
   }
 
   -- it is taken
-  pub did_take : (new : Fabric) (x y : PortState) → ShowsFabric old s → s.undetected ≡ None
+  pub did_take : {new : Fabric} {x y : PortState} → ShowsFabric old s → s.undetected ≡ None
       → room_out s.network (port_of n) (prio_of packet) ≡ true → prio_of packet < 4
       → (at : IsEndpointAt old.devices.items n) → port_seen s (port_of n) ≡ x
       → HasBoth old new n at.device (port_of n) y
@@ -52,7 +52,7 @@ module _ {K : Type 0}
       → Adds b b2 (Stepped (AtNode (Take n packet)) ∷ [])
       → Did (λ block. (block ≡ take_lines s n packet)
       × (Took ≡ answer_taken block)) b b2 s new
-  did_take new x y shows sent room few at is has alike put same adds =
+  did_take {new = new} {x = x} {y = y} shows sent room few at is has alike put same adds =
       let net = s.network in
       let p = port_of n in
       let next = after net (AtNode (Take n packet)) in

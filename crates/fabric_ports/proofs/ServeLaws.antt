@@ -1,5 +1,5 @@
 -- A switch that makes one step after another.
-use Rattle.std.proofs.Common.{◌≡◌, ◌≢◌, ℕ, zero, suc, ◌+◌, ◌<◌, ◌≤◌, Bool, true, false, List, [], ◌∷◌, ◌++◌, length, Option, Some, None, option_map, slice_get, refl, sym, ap, ◌∙◌, subst, arith, append_assoc, length-append, Ok}
+use Rattle.std.proofs.Common.{◌≡◌, ◌≢◌, ℕ, zero, suc, ◌+◌, ◌<◌, ◌≤◌, Bool, true, false, List, [], ◌∷◌, ◌++◌, length, length-append, Option, Some, None, option_map, slice_get, refl, sym, ap, ◌∙◌, subst, arith, append_assoc, Ok}
 use Rattle.std.proofs.lemmas.List.{length-map}
 use Rattle.trace_lines.specs.declared.writer.TraceWriter.{TraceWriter}
 use Rattle.link_port.specs.Ports.{PortState}
@@ -67,17 +67,17 @@ held_lanes lanes =
     let high = length-append (lanes 3) (lanes 2 ++ (lanes 1 ++ lanes 0)) in
     omega (arith, zeroth, first, second, third, low, mid, high)
 
-held_is : (fabric : Fabric) (s : Seen) (node n : ℕ) (device : Registers) → ShowsFabric fabric s
+held_is : {fabric : Fabric} {s : Seen} (node n : ℕ) (device : Registers) → ShowsFabric fabric s
     → slice_get fabric.devices.items node ≡ Some device → n ≤ device.ports
     → held_from fabric node n ≡ packets_at s.network.received node n
-held_is fabric s node zero device shows stands within = refl
-held_is fabric s node (suc n) device shows stands within =
+held_is node zero device shows stands within = refl
+held_is {fabric = fabric} {s = s} node (suc n) device shows stands within =
     let below : n < device.ports = omega (arith, within) in
     let here : held_in (slice_get fabric.ports.items (place_of fabric.firsts.items (port node n)))
     ≡ length (in_turn (s.network.received (port node n))) =
     ap held_in (shows.ports (port node n) (rw stands below))
     ∙ held_lanes (s.network.received (port node n)) in
-    let rest = held_is fabric s node n device shows stands (omega (arith, within)) in
+    let rest = held_is node n device shows stands (omega (arith, within)) in
     λ i. here i + rest i
 
 -- ---- how many ports a device has
@@ -100,10 +100,10 @@ one_step node (Answered at request response) block is other =
     (Answer (port node at) request response, is)
 one_step node Nothing block is other = absurd (other is)
 
-pub held_fewer : (s : Seen) (old new : Fabric) (node : ℕ) (block : List TraceLine) → IsGood s
+pub held_fewer : {s : Seen} {old new : Fabric} (node : ℕ) (block : List TraceLine) → IsGood s
     → ShowsFabric old s → ShowsFabric new (seen s block) → IsMove s.network node block
     → block ≢ Lacked NoStep ∷ [] → held_by new node < held_by old node
-held_fewer s old new node block good shows later move other =
+held_fewer {s = s} {old = old} {new = new} node block good shows later move other =
     let own = one_step node (step_of move.device (faces_in s.network node move.device)) block
     move.lines other in
     let step = own.0 in
@@ -119,12 +119,11 @@ held_fewer s old new node block good shows later move other =
     ∙ ports_stay s.network (ByDevice step) node ∙ ap (option_map count_ports) moved.stands) in
     let before : held_by old node ≡ packets_at s.network.received node device.ports =
     ap (λ (o : Option Registers). held_from old node (ports_in o)) here
-    ∙ held_is old s node device.ports device shows here same in
+    ∙ held_is node device.ports device shows here same in
     let after_it : held_by new node
     ≡ packets_at (after s.network (ByDevice step)).received node device.ports =
     ap (λ (o : Option Registers). held_from new node (ports_in o)) there.1
-    ∙ held_is new (seen s (Stepped (ByDevice step) ∷ [])) node there.0.ports there.0 next there.1
-    (omega arith)
+    ∙ held_is node there.0.ports there.0 next there.1 (omega arith)
     ∙ ap (λ n. packets_at (after s.network (ByDevice step)).received node n) there.2 in
     omega (arith, fewer, before, after_it)
 
@@ -171,53 +170,47 @@ all_served node s first second own last =
 -- ---- what was written
 
 module _ {K : Type 0} where
-  pub did_ran : (Is : List TraceLine → Type 0) (Q : Kind) (b c : TraceWriter K) (from : Seen)
-      (lines : List TraceLine) (mid new : Fabric) → Stands from lines mid
+  pub did_ran : {Is : List TraceLine → Type 0} (Q : Kind) {b c : TraceWriter K} {from : Seen}
+      {lines : List TraceLine} {mid new : Fabric} → Stands from lines mid
       → ((block : List TraceLine) → Is block → Q (seen from lines) block
       × Made (seen from lines) block)
       → Did Is b c (seen from lines) new → Ran Q b c from lines (Ok new)
-  did_ran Is Q b c from lines mid new stands gives did =
+  did_ran Q stands gives did =
       let own = gives did.block did.is in
       record {
         block = did.block;
         is = own.0;
-        ends = (did.adds, stands_with did.block stands own.1 did.sent did.shows);
+        ends = (did.adds, stands_with stands own.1 did.sent did.shows);
       }
 
-  pub serves_begin : (a : TraceWriter K) (from : Seen) (lines : List TraceLine) (fabric : Fabric)
+  pub serves_begin : (a : TraceWriter K) {from : Seen} {lines : List TraceLine} {fabric : Fabric}
       (node : ℕ) → Stands from lines fabric → Ran (ServesFirst node) a a from lines (Ok fabric)
-  serves_begin a from lines fabric node stands =
-      ran_as NoLines (ServesFirst node) a a from lines (Ok fabric)
-      (λ block none. first_begins node (seen from lines) block none)
-      (ran_nothing a from lines fabric stands)
+  serves_begin a {from = from} {lines = lines} node stands =
+      ran_as (λ block none. first_begins node (seen from lines) block none) (ran_nothing a stands)
 
-  pub serves_more : (a b c : TraceWriter K) (from : Seen) (lines : List TraceLine)
-      (mid new : Fabric) (node : ℕ) (result : Bool) → result ≡ true
+  pub serves_more : {a b c : TraceWriter K} {from : Seen} {lines : List TraceLine}
+      {mid new : Fabric} (node : ℕ) (result : Bool) → result ≡ true
       → (first : Ran (ServesFirst node) a b from lines (Ok mid))
       → Did (IsSwitchStep (seen from (lines ++ first.block)).network node result) b c
       (seen from (lines ++ first.block)) new
       → Ran (ServesFirst node) a c from lines (Ok new)
-  serves_more a b c from lines mid new node result told first did =
+  serves_more {from = from} {lines = lines} node result told first did =
       let s = seen from (lines ++ first.block) in
       let good = good_behind first.ends.1.ready first.ends.1.made in
-      ran_joined (ServesFirst node) (One node) (ServesFirst node) a b c from lines mid (Ok new)
-      (λ x y own still one. first_more node (seen from lines) x y own one) first
-      (did_ran (IsSwitchStep s.network node result) (One node) b c from (lines ++ first.block) mid
-      new first.ends.1
+      ran_joined (λ x y own still one. first_more node (seen from lines) x y own one) first
+      (did_ran (One node) first.ends.1
       (λ block is. (let own = subst (λ r. IsSwitchStep s.network node r block) told is in
       (own, move_made s node block good own.0))) did)
 
-  pub serves_end : (a b c : TraceWriter K) (from : Seen) (lines : List TraceLine) (mid new : Fabric)
+  pub serves_end : {a b c : TraceWriter K} {from : Seen} {lines : List TraceLine} {mid new : Fabric}
       (node : ℕ) (result : Bool) → result ≡ false
       → (first : Ran (ServesFirst node) a b from lines (Ok mid))
       → Did (IsSwitchStep (seen from (lines ++ first.block)).network node result) b c
       (seen from (lines ++ first.block)) new
       → Ran (Serves node) a c from lines (Ok new)
-  serves_end a b c from lines mid new node result told first did =
+  serves_end {from = from} {lines = lines} node result told first did =
       let s = seen from (lines ++ first.block) in
-      ran_joined (ServesFirst node) (Last node) (Serves node) a b c from lines mid (Ok new)
-      (λ x y own still last. all_served node (seen from lines) x y own last) first
-      (did_ran (IsSwitchStep s.network node result) (Last node) b c from (lines ++ first.block) mid
-      new first.ends.1
+      ran_joined (λ x y own still last. all_served node (seen from lines) x y own last) first
+      (did_ran (Last node) first.ends.1
       (λ block is. (let own = subst (λ r. IsSwitchStep s.network node r block) told is in
       (own, Done own.1))) did)

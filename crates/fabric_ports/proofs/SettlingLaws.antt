@@ -1,8 +1,9 @@
 -- What stays of a fabric, and links that settle one after another.
+use Rattle.fabric_trace.proofs.Shown.Wiring.{seen_links}
 use Rattle.fabric_trace.specs.Known.{Seen, link_at}
 use Rattle.link_law.specs.Resting.{has_no_work}
-use Rattle.std.proofs.Common.{◌≡◌, ℕ, zero, suc, ◌+◌, ◌<◌, true, List, [], ◌∷◌, ◌++◌, length, map, take, drop, get_or, slice_get, Option, Some, None, IsSome, option_map, refl, sym, ap, ◌∙◌, subst, arith, rules, vec_len, Ok, Err, Result}
-use Rattle.std.proofs.lemmas.List.{length-map, take-append-drop, take_more, drop_more}
+use Rattle.std.proofs.Common.{◌≡◌, ℕ, zero, suc, ◌+◌, ◌<◌, ◌≤◌, true, List, [], ◌∷◌, ◌++◌, length, map, take, drop, get_or, slice_get, Option, Some, None, IsSome, option_map, refl, sym, ap, ◌∙◌, subst, arith, vec_len, Ok, Err, Result}
+use Rattle.std.proofs.lemmas.List.{length-map, take_all, take-append-drop, take_more, drop_more}
 use Rattle.std.proofs.lemmas.Option.{slice_get-map, slice_get-get_or}
 use Rattle.trace_lines.specs.declared.writer.TraceWriter.{TraceWriter}
 use Rattle.maint_registers.specs.Devices.{Registers, is_switch}
@@ -30,11 +31,10 @@ use Rattle.fabric_ports.specs.Standing.{Stands}
 use Rattle.fabric_ports.specs.declared.answers.FabricEnd.{FabricEnd}
 use Rattle.fabric_ports.specs.declared.fabric.Cable.{Cable}
 use Rattle.fabric_ports.specs.declared.fabric.Fabric.{Fabric}
-use Rattle.fabric_ports.proofs.Cables.{seen_links}
 use Rattle.fabric_ports.proofs.EndLaws.{links_stand}
 use Rattle.fabric_ports.proofs.EventLaws.{switch_of}
 use Rattle.fabric_ports.proofs.IdleLinks.{idle_block}
-use Rattle.fabric_ports.proofs.RanLaws.{Both, Nothing, ran_nothing, both_as, both_nothing, nothing_both, both_assoc, GoesOn, IsMade, ran_both, ran_as, ends_first}
+use Rattle.fabric_ports.proofs.RanLaws.{Both, ran_nothing, both_as, both_nothing, nothing_both, both_assoc, GoesOn, IsMade, ran_both, ran_as, ends_first}
 
 -- ---- what stays of a fabric
 
@@ -64,17 +64,23 @@ pub devices_within : {from : Seen} {lines more : List TraceLine} {old new : Fabr
     → Stands from lines old → Stands from more new → k < vec_len old.devices
     → k < length new.devices.items
 devices_within {from} {lines} {more} {old} {new} k before after less =
-    let same = devices_stay before after in
-    let counted : vec_len old.devices ≡ length old.devices.items = search rules in
-    omega (arith, same, less, counted)
+    omega (arith, devices_stay before after, less, old.devices.ok.0)
 
 pub cables_within : {from : Seen} {lines more : List TraceLine} {old new : Fabric} (k : ℕ)
     → Stands from lines old → Stands from more new → k < vec_len old.cables
     → k < length new.cables.items
 cables_within {from} {lines} {more} {old} {new} k before after less =
-    let same = cables_stay before after in
-    let counted : vec_len old.cables ≡ length old.cables.items = search rules in
-    omega (arith, same, less, counted)
+    omega (arith, cables_stay before after, less, old.cables.ok.0)
+
+-- all links, by how many cables there are
+pub all_taken : {from : Seen} {lines : List TraceLine} {fabric : Fabric} (k : ℕ)
+    → Stands from lines fabric → vec_len fabric.cables ≤ k
+    → take k from.network.links ≡ from.network.links
+all_taken {from} {lines} {fabric} k stands most =
+    let many : length from.network.links ≡ length fabric.cables.items =
+    sym (ap (λ (l : List (PortRef × PortRef)). length l) (links_stand stands))
+    ∙ length-map fabric.cables.items ends_of in
+    take_all k from.network.links (omega (arith, most, many, fabric.cables.ok.0))
 
 -- the same nodes are switches
 pub kinds_stay : {from : Seen} {lines more : List TraceLine} {old new : Fabric}
@@ -90,7 +96,7 @@ pub switch_stays : {from : Seen} {lines more : List TraceLine} {old new : Fabric
     → Stands from lines old → Stands from more new → (n : ℕ) → IsSwitchAt old.devices.items n
     → IsSwitchAt new.devices.items n
 switch_stays {from} {lines} {more} {old} {new} before after n is =
-    switch_of new (seen from more) n after.shows
+    switch_of n after.shows
     (ap (λ (l : List Registers). option_map is_switch (slice_get l n)) after.shows.registers
     ∙ kinds_stay before after n ∙ ap (option_map is_switch) is.stands ∙ ap Some is.kind)
 
@@ -178,10 +184,10 @@ next_link {from} {lines} {fabric} k cable stands at within =
           ∙ take-append-drop k from.network.links;
     }
 
-pub is_linked : {from : Seen} {lines : List TraceLine} {fabric : Fabric} (k : ℕ)
-    (link : PortRef × PortRef) → Stands from lines fabric → IsNext from k link
+pub is_linked : {from : Seen} {lines : List TraceLine} {fabric : Fabric} {k : ℕ}
+    {link : PortRef × PortRef} → Stands from lines fabric → IsNext from k link
     → PortIsLinked fabric link.0
-is_linked {from} {lines} {fabric} k link stands next =
+is_linked {from} {lines} {fabric} {link = link} stands next =
     let peers = link_peers from.network.links link.0 link stands.ready.proper next.found in
     record {
       from = from;
@@ -209,9 +215,9 @@ settle_is from lines block link found own =
     (ap (λ (l : List (PortRef × PortRef)). link_in l link.0) (seen_links from lines)
     ∙ found) own
 
-pub settles_made : (from : Seen) (link : PortRef × PortRef) → IsReady from
+pub settles_made : {from : Seen} (link : PortRef × PortRef) → IsReady from
     → link_in from.network.links link.0 ≡ Some link → IsMade from (Settles link)
-settles_made from link ready found lines block made sent own =
+settles_made {from = from} link ready found lines block made sent own =
     let s = seen from lines in
     let good = good_behind ready made in
     let peers = link_peers s.network.links link.0 link good.proper
@@ -220,66 +226,58 @@ settles_made from link ready found lines block made sent own =
     made-append made (link_made s link.0 link.1 block good sent peers own)
 
 module _ {K : Type 0} where
-  pub settle_ran : (a b : TraceWriter K) (from : Seen) (lines : List TraceLine)
-      (link : PortRef × PortRef) (end : Result Fabric FabricEnd)
+  pub settle_ran : {a b : TraceWriter K} {from : Seen} {lines : List TraceLine}
+      (link : PortRef × PortRef) {end : Result Fabric FabricEnd}
       → link_in from.network.links link.0 ≡ Some link
       → Ran (Blocks (Settle link.0)) a b from lines end → Ran (Settles link) a b from lines end
-  settle_ran a b from lines link end found ran =
-      ran_as (Blocks (Settle link.0)) (Settles link) a b from lines end
-      (λ block own. settle_is from lines block link found own) ran
+  settle_ran {from = from} {lines = lines} link found ran =
+      ran_as (λ block own. settle_is from lines block link found own) ran
 
   -- one link more has settled
-  settled_next : (a b c : TraceWriter K) (from : Seen) (lines : List TraceLine)
-      (old mid new : Fabric) (k : ℕ) (link : PortRef × PortRef) → Stands from lines old
+  settled_next : {a b c : TraceWriter K} {from : Seen} {lines : List TraceLine}
+      {old mid new : Fabric} {k : ℕ} {link : PortRef × PortRef} → Stands from lines old
       → IsNext from k link
       → (first : Ran (SettleAll IsSettle (take k from.network.links)) a b from lines (Ok mid))
       → Ran (Settles link) b c from (lines ++ first.block) (Ok new)
       → Ran (SettleAll IsSettle (take (k + 1) from.network.links)) a c from lines (Ok new)
-  settled_next a b c from lines old mid new k link stands next first ran =
-      let one = ran_as (Settles link) (SettleAll IsSettle (link ∷ [])) b c from
-      (lines ++ first.block) (Ok new)
+  settled_next {from = from} {lines = lines} {k = k} {link = link} stands next first ran =
+      let one = ran_as {Q = SettleAll IsSettle (link ∷ [])}
       (λ block own. settle_one link (seen from (lines ++ first.block)) block own) ran in
-      ran_as
-      (Both (SettleAll IsSettle (take k from.network.links)) (SettleAll IsSettle (link ∷ [])))
-      (SettleAll IsSettle (take (k + 1) from.network.links)) a c from lines (Ok new)
-      (λ block both. subst (λ (l : List (PortRef × PortRef)). SettleAll IsSettle l
+      ran_as (λ block both. subst (λ (l : List (PortRef × PortRef)). SettleAll IsSettle l
       (seen from lines) block) (sym next.more)
       (settle_append (take k from.network.links) (link ∷ []) (seen from lines) block stands.sent
-      both))
-      (ran_both (SettleAll IsSettle (take k from.network.links))
-      (SettleAll IsSettle (link ∷ [])) a b c from lines mid (Ok new) first one)
+      both)) (ran_both first one)
 
-  pub settled_more : (a b c : TraceWriter K) (from : Seen) (lines : List TraceLine)
-      (old mid new : Fabric) (k : ℕ) (link : PortRef × PortRef) → Stands from lines old
+  pub settled_more : {a b c : TraceWriter K} {from : Seen} {lines : List TraceLine}
+      {old mid new : Fabric} {k : ℕ} {link : PortRef × PortRef} → Stands from lines old
       → IsNext from k link
       → (first : Ran (SettleAll IsSettle (take k from.network.links)) a b from lines (Ok mid))
       → Ran (Blocks (Settle link.0)) b c from (lines ++ first.block) (Ok new)
       → Ran (SettleAll IsSettle (take (k + 1) from.network.links)) a c from lines (Ok new)
-  settled_more a b c from lines old mid new k link stands next first blocks =
-      settled_next a b c from lines old mid new k link stands next first
-      (settle_ran b c from (lines ++ first.block) link (Ok new) next.found blocks)
+  settled_more {link = link} stands next first blocks =
+      settled_next stands next first (settle_ran link next.found blocks)
 
   -- one that has nothing to do settles by nothing
-  pub settled_idle : (a b : TraceWriter K) (from : Seen) (lines : List TraceLine) (old mid : Fabric)
-      (k : ℕ) (link : PortRef × PortRef) → Stands from lines old → IsNext from k link
+  pub settled_idle : {a b : TraceWriter K} {from : Seen} {lines : List TraceLine} {old mid : Fabric}
+      {k : ℕ} {link : PortRef × PortRef} → Stands from lines old → IsNext from k link
       → (first : Ran (SettleAll IsSettle (take k from.network.links)) a b from lines (Ok mid))
       → has_no_work (link_at (seen from (lines ++ first.block)) link.0 link.1) ≡ true
       → Ran (SettleAll IsSettle (take (k + 1) from.network.links)) a b from lines (Ok mid)
-  settled_idle a b from lines old mid k link stands next first idle =
+  settled_idle {b = b} {from = from} {lines = lines} {link = link} stands next first idle =
       let s = seen from (lines ++ first.block) in
-      settled_next a b b from lines old mid mid k link stands next first
-      (ran_as Nothing (Settles link) b b from (lines ++ first.block) (Ok mid)
+      settled_next stands next first (ran_as
       (λ block none. subst (Settles link s) (sym none) (idle_block s link.0 link.1 idle))
-      (ran_nothing b from (lines ++ first.block) mid first.ends.1))
+      (ran_nothing b first.ends.1))
 
   -- a link did not come to its end
-  pub settled_short : (a b c : TraceWriter K) (from : Seen) (lines : List TraceLine)
-      (old mid : Fabric) (k : ℕ) (link : PortRef × PortRef) (end : FabricEnd)
+  pub settled_short : {a b c : TraceWriter K} {from : Seen} {lines : List TraceLine}
+      {old mid : Fabric} {k : ℕ} {link : PortRef × PortRef} {end : FabricEnd}
       → Stands from lines old → IsNext from k link
       → (first : Ran (SettleAll IsSettle (take k from.network.links)) a b from lines (Ok mid))
       → Ran (Blocks (Settle link.0)) b c from (lines ++ first.block) (Err end)
       → Ran LinksSettle a c from lines (Err end)
-  settled_short a b c from lines old mid k link end stands next first ends =
+  settled_short {from = from} {lines = lines} {k = k} {link = link} {end = end} stands next first
+      ends =
       let rest = drop (k + 1) from.network.links in
       let on : GoesOn from (SettleAll IsSettle rest) =
       λ more made sent. (let own = settles_from rest from.network.links (seen from more)
@@ -287,26 +285,19 @@ module _ {K : Type 0} where
       (found_drop from.network.links from.network.links (k + 1)
       (all_found from.network.links stands.ready.proper)) in
       (own.lines, own.is)) in
-      let own = ends_first (Settles link) (SettleAll IsSettle rest) b c from
-      (lines ++ first.block) mid end (settles_made from link stands.ready next.found) on
-      first.ends.1
-      (settle_ran b c from (lines ++ first.block) link (Err end) next.found ends) in
-      ran_as
-      (Both (SettleAll IsSettle (take k from.network.links)) (SettleAll IsSettle (link ∷ rest)))
-      LinksSettle a c from lines (Err end)
-      (λ block both. subst (λ (l : List (PortRef × PortRef)). SettleAll IsSettle l
+      let own = ends_first (SettleAll IsSettle rest)
+      end (settles_made link stands.ready next.found) on first.ends.1
+      (settle_ran link next.found ends) in
+      ran_as (λ block both. subst (λ (l : List (PortRef × PortRef)). SettleAll IsSettle l
       (seen from lines) block) (next.whole ∙ sym (seen_links from lines))
       (settle_append (take k from.network.links) (link ∷ rest) (seen from lines) block stands.sent
-      both))
-      (ran_both (SettleAll IsSettle (take k from.network.links))
-      (SettleAll IsSettle (link ∷ rest)) a b c from lines mid (Err end) first own)
+      both)) (ran_both first own)
 
   -- all links have settled
-  pub settled_all : (a b : TraceWriter K) (from : Seen) (lines : List TraceLine) (new : Fabric)
+  pub settled_all : {a b : TraceWriter K} {from : Seen} {lines : List TraceLine} {new : Fabric}
       (links : List (PortRef × PortRef)) → links ≡ from.network.links
       → Ran (SettleAll IsSettle links) a b from lines (Ok new)
       → Ran LinksSettle a b from lines (Ok new)
-  settled_all a b from lines new links same ran =
-      ran_as (SettleAll IsSettle links) LinksSettle a b from lines (Ok new)
-      (λ block own. subst (λ (l : List (PortRef × PortRef)). SettleAll IsSettle l
+  settled_all {from = from} {lines = lines} links same ran =
+      ran_as (λ block own. subst (λ (l : List (PortRef × PortRef)). SettleAll IsSettle l
       (seen from lines) block) (same ∙ sym (seen_links from lines)) own) ran

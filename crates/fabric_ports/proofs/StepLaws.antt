@@ -210,11 +210,11 @@ faces_many net node from (suc n) = ap suc (faces_many net node (suc from) n)
 -- ---- afterwards
 
 -- as many ports were returned as were lent
-pub ports_are : (fabric : Fabric) (first : ℕ) (device next : Registers) (ports : List PortState)
-    (step : switch.Step) → first + device.ports ≤ length fabric.ports.items
+pub ports_are : (fabric : Fabric) {first : ℕ} {device next : Registers} {ports : List PortState}
+    {step : switch.Step} → first + device.ports ≤ length fabric.ports.items
     → MadeStep first device next fabric.ports.items ports step
     → (with_items fabric.ports ports).items ≡ ports
-ports_are fabric first device next ports step within made =
+ports_are fabric {first = first} {device = device} {ports = ports} within made =
     let many = like_many (own_ports fabric.ports.items first device.ports) made.own made.alike
     ∙ own-length fabric.ports.items first device.ports within in
     with_items_is fabric.ports ports (ap (λ (l : List PortState). length l) made.ports
@@ -247,8 +247,7 @@ module _ (s : Seen) (old new : Fabric) (node first : ℕ) (device next : Registe
 
   within : first + device.ports ≤ length old.ports.items
   within =
-      let row = row_within 0 old.devices.items old.firsts.items node device shows.firsts
-      has.stands in
+      let row = row_within 0 old.devices.items old.firsts.items node shows.firsts has.stands in
       let count = shows.count in
       let place = has.place in
       omega (arith, row, count, place)
@@ -336,13 +335,14 @@ is_step_by net node (Dropped from packet) move = (move _ refl, λ same. absurd c
 is_step_by net node (Answered at request response) move = (move _ refl, λ same. absurd cc)
 is_step_by net node Nothing move = (move _ refl, refl)
 
-pub did_step : {K : Type 0} (b b2 : TraceWriter K) (s : Seen) (old new : Fabric) (node first : ℕ)
-    (device next : Registers) (step : switch.Step) (result : Bool)
+pub did_step : {K : Type 0} {b b2 : TraceWriter K} {s : Seen} {old : Fabric} (new : Fabric)
+    (node first : ℕ)
+    (device next : Registers) (step : switch.Step) {result : Bool}
     → ShowsFabric old s → s.undetected ≡ None → ByPriority s.network → is_switch device ≡ true
     → HasStepped old new node first device next step → AreForms step → result ≡ is_step step
     → Adds b b2 (written_lines node step)
     → Did (IsSwitchStep s.network node result) b b2 s new
-did_step b b2 s old new node first device next step result shows sent by switches has forms told
+did_step {s = s} {old = old} new node first device next step shows sent by switches has forms told
     adds =
     let seen_is = seen_after s node step in
     record {
@@ -357,11 +357,11 @@ did_step b b2 s old new node first device next step result shows sent by switche
     }
 
 -- no step was made, and that is written
-pub did_none : {K : Type 0} (b b2 b3 : TraceWriter K) (s : Seen) (new : Fabric) (node : ℕ)
-    (result : Bool) → Did (IsSwitchStep s.network node result) b b2 s new → result ≡ false
+pub did_none : {K : Type 0} {b b2 b3 : TraceWriter K} {s : Seen} {new : Fabric} (node : ℕ)
+    {result : Bool} → Did (IsSwitchStep s.network node result) b b2 s new → result ≡ false
     → Adds b2 b3 (Lacked NoStep ∷ [])
     → Did (IsMove s.network node) b b3 s new
-did_none b b2 b3 s new node result did told adds =
+did_none {b = b} {b2 = b2} {s = s} {new = new} node did told adds =
     let is = subst (λ r. IsSwitchStep s.network node r did.block) told did.is in
     record {
       block = Lacked NoStep ∷ [];

@@ -1,5 +1,5 @@
 -- An edit of a wire whose line is written if it does something.
-use Rattle.std.proofs.Common.{◌≡◌, ◌&&◌, ◌<◌, ◌+◌, not, Bool, true, false, List, [], ◌∷◌, ◌++◌, length, take, drop, Some, None, refl, sym, ap, ◌∙◌, subst, if◌then◌else◌, slice_index_or, arith, Ok, Err}
+use Rattle.std.proofs.Common.{◌≡◌, ◌&&◌, ◌<◌, ◌+◌, not, Bool, true, false, List, [], ◌∷◌, ◌++◌, length, take, drop, Some, None, refl, sym, ap, ◌∙◌, subst, if◌then◌else◌, slice_index_or, arith, Result, Ok, Err}
 use Rattle.std.proofs.lemmas.Bool.{eqb-true}
 use Rattle.std.proofs.lemmas.List.{take-append-drop}
 use Rattle.trace_lines.specs.AddsLaws.{Adds-nil}
@@ -22,7 +22,7 @@ use Rattle.fabric_trace.specs.Parts.Part.{PartBegins}
 use Rattle.fabric_trace.proofs.Parts.Making.{one_part}
 use Rattle.fabric_ask.specs.Noise.{Gives, edit_line, is_idle, edit_lines, stirred}
 use Rattle.fabric_ask.proofs.Carrying.{edit_is}
-use Rattle.fabric_ports.specs.Carrying.{WithLeft, Edits as EditsWire, Stirs}
+use Rattle.fabric_ports.specs.Carrying.{Edits as EditsWire, Stirs}
 use Rattle.fabric_ports.specs.Ends.{IsPlaceOf}
 use Rattle.fabric_ports.specs.Ran.{Ran}
 use Rattle.fabric_ports.specs.Showing.{ShowsFabric}
@@ -33,7 +33,7 @@ use Rattle.fabric_ports.specs.declared.ends.LinkPlace.{LinkPlace}
 use Rattle.fabric_ports.specs.declared.fabric.Cable.{Cable}
 use Rattle.fabric_ports.specs.declared.fabric.Fabric.{Fabric}
 use Rattle.fabric_ports.proofs.EditLaws.{fabric_edited, edit_chars, edit_shows}
-use Rattle.fabric_ports.proofs.RanLaws.{Nothing, ran_nothing, ran_as}
+use Rattle.fabric_ports.proofs.RanLaws.{ran_nothing, ran_as}
 use Rattle.fabric_ports.proofs.StandLaws.{stands_with}
 
 -- ---- an edit that changes nothing
@@ -79,25 +79,24 @@ still_known s p edit same = λ i. record s { wires = λ q. wire q i }
 
 -- ---- an edit
 
-edit_stands : (p : PortRef) (edit : Edit) (from : Seen) (lines : List TraceLine)
-    (old new : Fabric) (does : Bool)
+edit_stands : (p : PortRef) (edit : Edit) {from : Seen} {lines : List TraceLine}
+    {old new : Fabric} (does : Bool)
     → (fits edit ((seen from lines).wires p).chars && not (is_idle edit)) ≡ does
     → Stands from lines old → ShowsFabric new (edited_by (seen from lines) (Some (p, edit)))
     → Stands from (lines ++ (if does then Begun (edit_line p edit) ∷ [] else [])) new
-edit_stands p edit from lines old new true is stands shows =
+edit_stands p edit {from = from} {lines = lines} {new = new} true is stands shows =
     let begun = ap (edited_by (seen from lines)) (edit_is p edit) in
-    stands_with (Begun (edit_line p edit) ∷ []) stands
-    (one_part (PartBegins (edit_line p edit) refl))
+    stands_with stands (one_part (PartBegins (edit_line p edit) refl))
     (ap (λ (t : Seen). t.undetected) begun ∙ stands.sent)
     (subst (ShowsFabric new) (sym begun) shows)
-edit_stands p edit from lines old new false is stands shows =
+edit_stands p edit {from = from} {lines = lines} {new = new} false is stands shows =
     let same = still_known (seen from lines) p edit
     (nothing_changes edit ((seen from lines).wires p).chars is) in
-    stands_with [] stands (Done refl) stands.sent (subst (ShowsFabric new) same shows)
+    stands_with stands (Done refl) stands.sent (subst (ShowsFabric new) same shows)
 
 -- the written lines are those of the edit, and the fabric stands for the lines with them
-pub edit_ran : {K : Type 0} (fabric : Fabric) (port : PortRef) (place : LinkPlace)
-    (p : IsPlaceOf fabric port place) (cable : Cable)
+pub edit_ran : {K : Type 0} {fabric : Fabric} {port : PortRef} {place : LinkPlace}
+    (p : IsPlaceOf fabric port place) {cable : Cable}
     → (met : cable ≡ slice_index_or fabric.cables.items place.cable cable) → (edit : Edit)
     → (wires : Wires)
     → ((x y : PortState) → link wires x y ≡ edited_from place.side edit (link cable.link x y))
@@ -106,17 +105,17 @@ pub edit_ran : {K : Type 0} (fabric : Fabric) (port : PortRef) (place : LinkPlac
     → (from : Seen) (lines : List TraceLine) → Stands from lines fabric
     → Ran (EditsWire port edit) old new from lines
     (Ok (fabric_edited fabric place.cable cable wires))
-edit_ran fabric port place p cable met edit wires becomes old new adds from lines stands =
+edit_ran {fabric = fabric} {port = port} {place = place} p {cable = cable} met edit wires becomes
+    old new adds
+    from lines stands =
     let s = seen from lines in
-    let chars = edit_chars fabric port place p cable met from lines stands in
+    let chars = edit_chars fabric port place p cable met stands in
     record {
       block = edit_lines port edit (s.wires port).chars;
       is = refl;
       ends = (
         subst (λ l. Adds old new (edit_lines port edit l)) chars adds,
-        edit_stands port edit from lines fabric
-            (fabric_edited fabric place.cable cable wires)
-            (fits edit (s.wires port).chars && not (is_idle edit)) refl stands
+        edit_stands port edit (fits edit (s.wires port).chars && not (is_idle edit)) refl stands
             (edit_shows fabric port place p cable met edit wires becomes from lines stands),
       );
     }
@@ -159,46 +158,30 @@ edit_stirred noise left edit p (c ∷ chars) lines some gives is =
 
 module _ {K : Type 0} (port : PortRef) (noise left : List Edit) where
   -- the wire has no characters
-  pub stir_empty : (out : TraceWriter K) (from : Seen) (lines : List TraceLine) (fabric : Fabric)
+  pub stir_empty : (out : TraceWriter K) {from : Seen} {lines : List TraceLine} {fabric : Fabric}
       → left ≡ noise → length ((seen from lines).wires port).chars ≡ 0 → Stands from lines fabric
       → Ran (Stirs port noise left) out out from lines (Ok fabric)
-  stir_empty out from lines fabric same none stands =
+  stir_empty out {from = from} {lines = lines} same none stands =
       let chars = ((seen from lines).wires port).chars in
-      ran_as Nothing (Stirs port noise left) out out from lines (Ok fabric)
-      (λ block nothing. (λ i. (nothing i, same i))
-      ∙ none_stirred noise port chars (empty chars none)) (ran_nothing out from lines fabric stands)
+      ran_as (λ block nothing. (λ i. (nothing i, same i))
+      ∙ none_stirred noise port chars (empty chars none)) (ran_nothing out stands)
 
   -- no edit is left
-  pub stir_none : (out : TraceWriter K) (from : Seen) (lines : List TraceLine) (fabric : Fabric)
+  pub stir_none : (out : TraceWriter K) {from : Seen} {lines : List TraceLine} {fabric : Fabric}
       → Gives noise None left → Stands from lines fabric
       → Ran (Stirs port noise left) out out from lines (Ok fabric)
-  stir_none out from lines fabric gives stands =
+  stir_none out {from = from} {lines = lines} gives stands =
       let chars = ((seen from lines).wires port).chars in
-      ran_as Nothing (Stirs port noise left) out out from lines (Ok fabric)
-      (λ block nothing. (λ i. (nothing i, gives.1 i))
-      ∙ ap (λ (n : List Edit). stirred n port chars) (sym gives.0))
-      (ran_nothing out from lines fabric stands)
+      ran_as (λ block nothing. (λ i. (nothing i, gives.1 i))
+      ∙ ap (λ (n : List Edit). stirred n port chars) (sym gives.0)) (ran_nothing out stands)
 
   -- the edit that was given is made
-  pub stir_some : (a b : TraceWriter K) (from : Seen) (lines : List TraceLine) (new : Fabric)
-      (edit : Edit) → Gives noise (Some edit) left
+  pub stir_some : {a b : TraceWriter K} {from : Seen} {lines : List TraceLine}
+      {end : Result Fabric FabricEnd} (edit : Edit) → Gives noise (Some edit) left
       → 0 < length ((seen from lines).wires port).chars
-      → Ran (EditsWire port edit) a b from lines (Ok new)
-      → Ran (Stirs port noise left) a b from lines (Ok new)
-  stir_some a b from lines new edit gives some ran =
-      ran_as (EditsWire port edit) (Stirs port noise left) a b from lines (Ok new)
+      → Ran (EditsWire port edit) a b from lines end
+      → Ran (Stirs port noise left) a b from lines end
+  stir_some {from = from} {lines = lines} edit gives some ran =
+      ran_as
       (λ block is. edit_stirred noise left edit port ((seen from lines).wires port).chars block some
       gives is) ran
-
-  pub stir_ends : (a b : TraceWriter K) (from : Seen) (lines : List TraceLine) (edit : Edit)
-      (end : FabricEnd) → Gives noise (Some edit) left
-      → 0 < length ((seen from lines).wires port).chars
-      → Ran (EditsWire port edit) a b from lines (Err end)
-      → Ran (WithLeft (Stirs port noise)) a b from lines (Err end)
-  stir_ends a b from lines edit end gives some ran =
-      ran_as (EditsWire port edit) (WithLeft (Stirs port noise)) a b from lines (Err end)
-      (λ block is. (
-        left,
-        edit_stirred noise left edit port ((seen from lines).wires port).chars
-            block some gives is,
-      )) ran

@@ -34,6 +34,10 @@ pub record CanAsk (host : ℕ) (from : Seen) (lines : List TraceLine) (fabric : 
     pub clear : IsClear (seen from lines).network
     pub laid : IsLaid (seen from lines).network.registers (seen from lines).network.links host
 
+-- for some lines
+abbrev pub MayAsk : ℕ → Fabric → Type 0
+MayAsk host fabric = (from : Seen) × (lines : List TraceLine) × CanAsk host from lines fabric
+
 -- ---- afterwards
 
 -- a request goes to a device and the response comes back, in this network
@@ -41,10 +45,8 @@ abbrev pub Returns : Network → ℕ → Request → PortRef → Type 0
 Returns net host request at = IsRoundTrip net.registers net.links host request at
 
 -- The lines of an ask were written. By the tables the request goes to the device of a port, and
--- this
--- is the response of that device as it comes back. The fabric stands for the lines with those of
--- the
--- ask, and the host may ask again. The host's own registers answered nothing.
+-- this is the response of that device as it comes back. The fabric stands for the lines with those
+-- of the ask, and the host may ask again. The host's own registers answered nothing.
 pub record Replied (names : List (List ℕ)) (written written_after : Option (List ℕ)) (host : ℕ)
     (request : Request) (noise : List Edit) (from : Seen) (lines : List TraceLine)
     (fabric : Fabric) (response : Response) : Type 0 where
@@ -85,8 +87,7 @@ pub record Lost (names : List (List ℕ)) (written written_after : Option (List 
 -- The lines of an ask were written, up to an event that was acted on and not sent, which is this
 -- one.
 pub record AskedUndetected (names : List (List ℕ)) (written written_after : Option (List ℕ))
-    (host : ℕ)
-    (request : Request) (noise : List Edit) (from : Seen) (lines : List TraceLine)
+    (host : ℕ) (request : Request) (noise : List Edit) (from : Seen) (lines : List TraceLine)
     (port : PortRef) (event : Event) : Type 0 where
   pub block : List TraceLine
   pub told : Appends written written_after (trace_text names block)
@@ -108,8 +109,8 @@ pub record AskedFront (names : List (List ℕ)) (written written_after : Option 
 
 -- A front of the text of an ask was written, which may end in a line.
 pub record AskedTextFront (names : List (List ℕ)) (written written_after : Option (List ℕ))
-    (host : ℕ)
-    (request : Request) (noise : List Edit) (from : Seen) (lines : List TraceLine) : Type 0 where
+    (host : ℕ) (request : Request) (noise : List Edit) (from : Seen) (lines : List TraceLine)
+    : Type 0 where
   pub block : List TraceLine
   pub told : AppendsFront written written_after (trace_text names block)
   pub is : IsAsk host request noise (seen from lines) block

@@ -1,5 +1,5 @@
 -- What the links of a fabric do in a round of an ask.
-use Rattle.std.specs.Prelude.{◌≡◌, List, Some, map}
+use Rattle.std.specs.Prelude.{◌≡◌, List, Some, Result, Ok, Err, map}
 use Rattle.link_wires.specs.declared.edits.Edit.{Edit}
 use Rattle.fabric_script.specs.declared.ports.PortRef.{PortRef}
 use Rattle.fabric_model.specs.Network.{link_in}
@@ -12,6 +12,7 @@ use Rattle.fabric_ask.specs.Asks.{CarryAll}
 use Rattle.fabric_ports.specs.Ran.{Kind}
 use Rattle.fabric_ports.specs.Showing.{ends_of}
 use Rattle.fabric_ports.specs.Standing.{Stands}
+use Rattle.fabric_ports.specs.declared.answers.FabricEnd.{FabricEnd}
 use Rattle.fabric_ports.specs.declared.fabric.Fabric.{Fabric}
 
 -- the fabric stands for some lines, and these are the ends of a link of it, the first end first
@@ -24,6 +25,11 @@ pub record AreLinked (fabric : Fabric) (ends : PortRef × PortRef) : Type 0 wher
 -- lines of a kind, whichever edits are left behind them
 abbrev pub WithLeft : (List Edit → Kind) → Kind
 WithLeft Is s lines = (left : List Edit) × Is left s lines
+
+-- these edits, or whichever if the call did not come to its end
+abbrev pub LeftBy : {T : Type 0} → Result T FabricEnd → (List Edit → Kind) → List Edit → Kind
+LeftBy (Ok answer) Is left = Is left
+LeftBy (Err end) Is left = WithLeft Is
 
 -- a port takes a turn, whose peer is the other
 abbrev pub Turns : PortRef → PortRef → Kind

@@ -134,3 +134,9 @@ IsAnsweredBlock line answer s block =
 abbrev pub Evented : Line → Kind → {K : Type 0} → TraceWriter K → TraceWriter K → Seen
     → List TraceLine → Result Fabric FabricEnd → Type 0
 Evented line Is old new from lines end = RanBehind (Begun line ∷ []) Is old new from lines end
+
+-- behind whatever lines a fabric stood for before
+abbrev pub FabricEvented : Line → Kind → Fabric → {K : Type 0} → TraceWriter K → TraceWriter K
+    → Result Fabric FabricEnd → Type 0
+FabricEvented line Is fabric old new end = (from : Seen) (lines : List TraceLine)
+    → Stands from lines fabric → Evented line Is old new from lines end

@@ -1,5 +1,5 @@
 -- What an ask tells, and what it answers of it.
-use Rattle.std.specs.Prelude.{◌≡◌, ◌≢◌, ℕ, List, [], ◌∷◌, ◌++◌, Option, Some, None, Result, Ok, Err, ⊤}
+use Rattle.std.specs.Prelude.{◌≡◌, ◌≢◌, ℕ, List, [], ◌∷◌, ◌++◌, Option, Some, None, Result, Ok, Err, IfOk, ⊤}
 use Rattle.maint_packets.specs.Responses.{response_of}
 use Rattle.maint_packets.specs.declared.request.Request.{Request}
 use Rattle.maint_packets.specs.declared.response.Response.{Response}
@@ -37,14 +37,15 @@ Leaves host None lines = NoneLeaves host lines
 Leaves host (Some packet) lines =
     (front : List TraceLine) × (lines ≡ front ++ Stepped (AtNode (Leave host packet)) ∷ [])
 
--- the lines of at most so many rounds, and of an ask, and what leaves in them
-abbrev pub RoundsLeave : ℕ → ℕ → List Edit → Option (List ℕ) → Kind
-RoundsLeave host rounds noise left s lines =
-    AskRounds host rounds noise s lines × Leaves host left lines
+-- The lines of at most so many rounds, and of an ask; and what leaves in them if the call came to
+-- its end.
+abbrev pub RoundsLeave : ℕ → ℕ → List Edit → Result (Option (List ℕ)) FabricEnd → Kind
+RoundsLeave host rounds noise told s lines =
+    AskRounds host rounds noise s lines × IfOk told (λ left. Leaves host left lines)
 
-abbrev pub AskLeaves : ℕ → Request → List Edit → Option (List ℕ) → Kind
-AskLeaves host request noise left s lines = IsAsk host request noise s lines
-    × Leaves host left lines
+abbrev pub AskLeaves : ℕ → Request → List Edit → Result (Option (List ℕ)) FabricEnd → Kind
+AskLeaves host request noise told s lines =
+    IsAsk host request noise s lines × IfOk told (λ left. Leaves host left lines)
 
 -- ---- what is answered
 

@@ -66,3 +66,14 @@ pub record RanBehind (first : List TraceLine) (Is : Kind) {K : Type 0} (old new 
 abbrev pub Ran : Kind → {K : Type 0} → TraceWriter K → TraceWriter K → Seen → List TraceLine
     → Result Fabric FabricEnd → Type 0
 Ran Is old new from lines end = RanBehind [] Is old new from lines end
+
+-- behind whatever lines a fabric stood for before
+abbrev pub FabricRan : Kind → Fabric → {K : Type 0} → TraceWriter K → TraceWriter K
+    → Result Fabric FabricEnd → Type 0
+FabricRan Is fabric old new end = (from : Seen) (lines : List TraceLine)
+    → Stands from lines fabric → Ran Is old new from lines end
+
+-- how a call ended that left this fabric
+abbrev pub end_with : {T : Type 0} → Fabric → Result T FabricEnd → Result Fabric FabricEnd
+end_with fabric (Ok answer) = Ok fabric
+end_with fabric (Err end) = Err end

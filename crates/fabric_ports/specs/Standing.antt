@@ -15,3 +15,7 @@ pub record Stands (from : Seen) (lines : List TraceLine) (fabric : Fabric) : Typ
   pub made : Made from lines
   pub sent : (seen from lines).undetected ≡ None
   pub shows : ShowsFabric fabric (seen from lines)
+
+-- it stands for some lines
+abbrev pub StandsForLines : Fabric → Type 0
+StandsForLines fabric = (from : Seen) × (lines : List TraceLine) × Stands from lines fabric

@@ -1,8 +1,5 @@
 //! What a script has a link do.
-ghost use Rattle.std.specs.Prelude.{◌≡◌, ◌≢◌, ◌≤◌, ◌<◌, ℕ, List, length, slice_get, Some, OnOk, IfOk, IfErr, Ok, Err};
-ghost use Rattle.fabric_model.specs.Network.{Network};
-ghost use Rattle.fabric_trace.specs.Known.{Seen};
-ghost use Rattle.trace_lines.specs.Lines.{TraceLine};
+ghost use Rattle.std.specs.Prelude.{◌≡◌, ◌≢◌, ◌≤◌, ◌<◌, length, slice_get, Some, IfOk, Ok, Err};
 ghost use Rattle.trace_lines.specs.Writing.{Adds};
 ghost use Rattle.link_machine.specs.Sound.{IsSoundLink};
 ghost use Rattle.link_machine.specs.States.{link};
@@ -10,8 +7,7 @@ ghost use Rattle.link_port.specs.Ports.{PortState};
 ghost use Rattle.fabric_script.specs.Operations.{line_for};
 ghost use Rattle.fabric_ports.specs.Acting.{AsksForSome, part_of, answer_of, lack_lines, event_end, Acts, AtTwo};
 ghost use Rattle.fabric_ports.specs.Ends.{PortIsLinked};
-ghost use Rattle.fabric_ports.specs.Ran.{Ran, Blocks};
-ghost use Rattle.fabric_ports.specs.Standing.{Stands};
+ghost use Rattle.fabric_ports.specs.Ran.{Blocks, FabricRan, end_with};
 
 use crate::answers::FabricEnd;
 use crate::ends::{LinkPlace, two};
@@ -47,12 +43,8 @@ impl Fabric {
         requires linked { PortIsLinked self.old port }
         requires named { length self.old.devices.items ≤ length writer.old.names.now }
         requires some { AsksForSome action }
-        ensures done { OnOk result ((from : Seen) (lines : List TraceLine)
-            → Stands from lines self.old → Ran (Blocks (line_for port action))
-            writer.old writer.new from lines (Ok self.new)) }
-        ensures ended { IfErr result (λ end. (from : Seen) (lines : List TraceLine)
-            → Stands from lines self.old → Ran (Blocks (line_for port action))
-            writer.old writer.new from lines (Err end)) }
+        ensures { FabricRan (Blocks (line_for port action))
+            self.old writer.old writer.new (end_with self.new result) }
     {
         let place = self.link_of(port);
         let cable = &mut self.cables[place.cable];

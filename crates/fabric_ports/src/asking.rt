@@ -3,14 +3,13 @@ ghost use Rattle.std.specs.Prelude.{◌≡◌, ◌≤◌, ◌<◌, ℕ, [], fals
 ghost use Rattle.rio_chars.specs.Faults.{Rose};
 ghost use Rattle.rio_packets.specs.LinkForm.{LinkForm};
 ghost use Rattle.maint_packets.specs.Requests.{IsGoodOp, request_body};
-ghost use Rattle.fabric_ask.specs.Asks.{AskRounds, IsAsk};
 ghost use Rattle.fabric_trace.specs.Known.{Seen};
 ghost use Rattle.trace_lines.specs.Lines.{TraceLine};
-ghost use Rattle.fabric_ports.specs.Asking.{CanAsk, Replied, AskEnds};
+ghost use Rattle.fabric_ports.specs.Asking.{CanAsk, MayAsk, Replied, AskEnds};
 ghost use Rattle.fabric_ports.specs.Fetching.{left_of, RoundsLeave, AskLeaves, response_in, ask_answer};
 ghost use Rattle.fabric_ports.specs.Places.{IsEndpointAt};
-ghost use Rattle.fabric_ports.specs.Ran.{Ran};
-ghost use Rattle.fabric_ports.specs.Standing.{Stands};
+ghost use Rattle.fabric_ports.specs.Ran.{Ran, FabricRan, end_with};
+ghost use Rattle.fabric_ports.specs.Standing.{StandsForLines};
 ghost use Rattle.fabric_ports.specs.declared.asking.AskEnd.TheVariants.{NoMemory};
 
 use crate::answers::{FabricEnd, Happened};
@@ -73,7 +72,7 @@ impl Fabric {
         noise: &mut N,
         sink: &mut K,
     ) -> Result<Response, AskEnd>
-        requires can { (from : Seen) × (lines : List TraceLine) × CanAsk host from lines self.old }
+        requires can { MayAsk host self.old }
         requires named { length self.old.devices.items ≤ length names.now }
         requires few { length names.now ≤ 256 }
         requires op { IsGoodOp request.now.op }
@@ -113,7 +112,7 @@ impl Fabric {
         noise: &mut N,
         outbox: &mut Outbox<K>,
     ) -> Result<Response, AskEnd>
-        requires can { (from : Seen) × (lines : List TraceLine) × CanAsk host from lines self.old }
+        requires can { MayAsk host self.old }
         requires named { length self.old.devices.items ≤ length names.now }
         requires few { length names.now ≤ 256 }
         requires op { IsGoodOp request.now.op }
@@ -156,7 +155,7 @@ impl Fabric {
         noise: &mut N,
         writer: &mut TraceWriter<K>,
     ) -> Result<Option<Packet>, FabricEnd>
-        requires can { (from : Seen) × (lines : List TraceLine) × CanAsk host from lines self.old }
+        requires can { MayAsk host self.old }
         requires named { length self.old.devices.items ≤ length writer.old.names.now }
         requires few { length writer.old.names.now ≤ 256 }
         requires op { IsGoodOp request.now.op }
@@ -164,14 +163,9 @@ impl Fabric {
         requires offset { request.now.offset < 0x1000000 }
         requires dest { request.now.large ≡ false → request.now.dest < 256 }
         requires source { request.now.large ≡ false → request.now.source < 256 }
-        ensures done { IfOk result (λ left. (from : Seen) (lines : List TraceLine)
-            → CanAsk host from lines self.old
-            → Ran (AskLeaves host request.now (N.edits noise.old) left)
-            writer.old writer.new from lines (Ok self.new)) }
-        ensures ended { IfErr result (λ end. (from : Seen) (lines : List TraceLine)
-            → CanAsk host from lines self.old
-            → Ran (IsAsk host request.now (N.edits noise.old))
-            writer.old writer.new from lines (Err end)) }
+        ensures { (from : Seen) (lines : List TraceLine) → CanAsk host from lines self.old
+            → Ran (AskLeaves host request.now (N.edits noise.old) result)
+            writer.old writer.new from lines (end_with self.new result) }
     {
         self.send(host, write_request(request), writer);
         self.fetch(alloc, MOST_ROUNDS, host, noise, writer)
@@ -187,18 +181,12 @@ impl Fabric {
         noise: &mut N,
         writer: &mut TraceWriter<K>,
     ) -> Result<Option<Packet>, FabricEnd>
-        requires stands { (from : Seen) × (lines : List TraceLine) × Stands from lines self.old }
+        requires stands { StandsForLines self.old }
         requires named { length self.old.devices.items ≤ length writer.old.names.now }
         requires few { length writer.old.names.now ≤ 256 }
         requires endpoint { IsEndpointAt self.old.devices.items host }
-        ensures done { IfOk result (λ left. (from : Seen) (lines : List TraceLine)
-            → Stands from lines self.old
-            → Ran (RoundsLeave host rounds (N.edits noise.old) left)
-            writer.old writer.new from lines (Ok self.new)) }
-        ensures ended { IfErr result (λ end. (from : Seen) (lines : List TraceLine)
-            → Stands from lines self.old
-            → Ran (AskRounds host rounds (N.edits noise.old))
-            writer.old writer.new from lines (Err end)) }
+        ensures { FabricRan (RoundsLeave host rounds (N.edits noise.old) result)
+            self.old writer.old writer.new (end_with self.new result) }
     {
         for _ in 0..rounds {
             self.ask_round(alloc, host, noise, writer)?;

@@ -1,5 +1,5 @@
 //! What the links do in a round of an ask.
-ghost use Rattle.std.specs.Prelude.{◌≡◌, ◌≤◌, ◌<◌, List, length, map, slice_get, Some, OnOk, IfErr, Ok, Err};
+ghost use Rattle.std.specs.Prelude.{◌≡◌, ◌≤◌, ◌<◌, List, length, map, slice_get, Some, Ok, Err};
 ghost use Rattle.rio_chars.specs.declared.chars.Char.{Char};
 ghost use Rattle.link_wires.specs.Wires.{fits, edit_answered};
 ghost use Rattle.fabric_trace.specs.Fold.{seen};
@@ -7,11 +7,11 @@ ghost use Rattle.fabric_trace.specs.Known.{Seen};
 ghost use Rattle.trace_lines.specs.Lines.{TraceLine};
 ghost use Rattle.trace_lines.specs.Writing.{Adds};
 ghost use Rattle.fabric_ask.specs.Noise.{edit_line, edit_lines, is_idle};
-ghost use Rattle.fabric_ports.specs.Carrying.{AreLinked, WithLeft, BothTurn, Stirs, Edits, BothStir, LinkCarries, LinksCarry};
+ghost use Rattle.fabric_ports.specs.Carrying.{AreLinked, LeftBy, BothTurn, Stirs, Edits, BothStir, LinkCarries, LinksCarry};
 ghost use Rattle.fabric_ports.specs.Ends.{PortIsLinked};
-ghost use Rattle.fabric_ports.specs.Ran.{Ran};
+ghost use Rattle.fabric_ports.specs.Ran.{FabricRan, end_with};
 ghost use Rattle.fabric_ports.specs.Showing.{ends_of};
-ghost use Rattle.fabric_ports.specs.Standing.{Stands};
+ghost use Rattle.fabric_ports.specs.Standing.{Stands, StandsForLines};
 
 use crate::answers::FabricEnd;
 use crate::fabric::Fabric;
@@ -30,16 +30,10 @@ impl Fabric {
         noise: &mut N,
         writer: &mut TraceWriter<K>,
     ) -> Result<(), FabricEnd>
-        requires stands { (from : Seen) × (lines : List TraceLine) × Stands from lines self.old }
+        requires stands { StandsForLines self.old }
         requires named { length self.old.devices.items ≤ length writer.old.names.now }
-        ensures done { OnOk result ((from : Seen) (lines : List TraceLine)
-            → Stands from lines self.old
-            → Ran (LinksCarry (N.edits noise.old) (N.edits noise.new))
-            writer.old writer.new from lines (Ok self.new)) }
-        ensures ended { IfErr result (λ end. (from : Seen) (lines : List TraceLine)
-            → Stands from lines self.old
-            → Ran (WithLeft (LinksCarry (N.edits noise.old)))
-            writer.old writer.new from lines (Err end)) }
+        ensures { FabricRan (LeftBy result (LinksCarry (N.edits noise.old)) (N.edits noise.new))
+            self.old writer.old writer.new (end_with self.new result) }
     {
         for place in 0..self.cables.len() {
             let cable = &self.cables[place];
@@ -61,14 +55,9 @@ impl Fabric {
         requires at { slice_get (map ends_of self.old.cables.items) place ≡ Some ends }
         requires linked { AreLinked self.old ends }
         requires named { length self.old.devices.items ≤ length writer.old.names.now }
-        ensures done { OnOk result ((from : Seen) (lines : List TraceLine)
-            → Stands from lines self.old
-            → Ran (LinkCarries ends (N.edits noise.old) (N.edits noise.new))
-            writer.old writer.new from lines (Ok self.new)) }
-        ensures ended { IfErr result (λ end. (from : Seen) (lines : List TraceLine)
-            → Stands from lines self.old
-            → Ran (WithLeft (LinkCarries ends (N.edits noise.old)))
-            writer.old writer.new from lines (Err end)) }
+        ensures { FabricRan
+            (LeftBy result (LinkCarries ends (N.edits noise.old)) (N.edits noise.new))
+            self.old writer.old writer.new (end_with self.new result) }
     {
         if self.is_idle(place) {
             return Ok(());
@@ -87,14 +76,9 @@ impl Fabric {
     ) -> Result<(), FabricEnd>
         requires linked { AreLinked self.old ends }
         requires named { length self.old.devices.items ≤ length writer.old.names.now }
-        ensures done { OnOk result ((from : Seen) (lines : List TraceLine)
-            → Stands from lines self.old
-            → Ran (LinkCarries ends (N.edits noise.old) (N.edits noise.new))
-            writer.old writer.new from lines (Ok self.new)) }
-        ensures ended { IfErr result (λ end. (from : Seen) (lines : List TraceLine)
-            → Stands from lines self.old
-            → Ran (WithLeft (LinkCarries ends (N.edits noise.old)))
-            writer.old writer.new from lines (Err end)) }
+        ensures { FabricRan
+            (LeftBy result (LinkCarries ends (N.edits noise.old)) (N.edits noise.new))
+            self.old writer.old writer.new (end_with self.new result) }
     {
         self.turn_both(alloc, ends, writer)?;
         self.stir_both(alloc, ends, noise, writer)?;
@@ -110,12 +94,8 @@ impl Fabric {
     ) -> Result<(), FabricEnd>
         requires linked { AreLinked self.old ends }
         requires named { length self.old.devices.items ≤ length writer.old.names.now }
-        ensures done { OnOk result ((from : Seen) (lines : List TraceLine)
-            → Stands from lines self.old → Ran (BothTurn ends)
-            writer.old writer.new from lines (Ok self.new)) }
-        ensures ended { IfErr result (λ end. (from : Seen) (lines : List TraceLine)
-            → Stands from lines self.old → Ran (BothTurn ends)
-            writer.old writer.new from lines (Err end)) }
+        ensures { FabricRan (BothTurn ends)
+            self.old writer.old writer.new (end_with self.new result) }
     {
         self.act(alloc, ends.0, Action::Pump(1), writer)?;
         self.act(alloc, ends.1, Action::Pump(1), writer)
@@ -131,14 +111,8 @@ impl Fabric {
     ) -> Result<(), FabricEnd>
         requires linked { AreLinked self.old ends }
         requires named { length self.old.devices.items ≤ length writer.old.names.now }
-        ensures done { OnOk result ((from : Seen) (lines : List TraceLine)
-            → Stands from lines self.old
-            → Ran (BothStir ends (N.edits noise.old) (N.edits noise.new))
-            writer.old writer.new from lines (Ok self.new)) }
-        ensures ended { IfErr result (λ end. (from : Seen) (lines : List TraceLine)
-            → Stands from lines self.old
-            → Ran (WithLeft (BothStir ends (N.edits noise.old)))
-            writer.old writer.new from lines (Err end)) }
+        ensures { FabricRan (LeftBy result (BothStir ends (N.edits noise.old)) (N.edits noise.new))
+            self.old writer.old writer.new (end_with self.new result) }
     {
         self.stir(alloc, ends.0, noise, writer)?;
         self.stir(alloc, ends.1, noise, writer)
@@ -154,14 +128,8 @@ impl Fabric {
     ) -> Result<(), FabricEnd>
         requires linked { PortIsLinked self.old port }
         requires named { length self.old.devices.items ≤ length writer.old.names.now }
-        ensures done { OnOk result ((from : Seen) (lines : List TraceLine)
-            → Stands from lines self.old
-            → Ran (Stirs port (N.edits noise.old) (N.edits noise.new))
-            writer.old writer.new from lines (Ok self.new)) }
-        ensures ended { IfErr result (λ end. (from : Seen) (lines : List TraceLine)
-            → Stands from lines self.old
-            → Ran (WithLeft (Stirs port (N.edits noise.old)))
-            writer.old writer.new from lines (Err end)) }
+        ensures { FabricRan (LeftBy result (Stirs port (N.edits noise.old)) (N.edits noise.new))
+            self.old writer.old writer.new (end_with self.new result) }
     {
         let length = self.length(port);
         if length == 0 {
@@ -194,12 +162,8 @@ impl Fabric {
     ) -> Result<(), FabricEnd>
         requires linked { PortIsLinked self.old port }
         requires named { length self.old.devices.items ≤ length writer.old.names.now }
-        ensures done { OnOk result ((from : Seen) (lines : List TraceLine)
-            → Stands from lines self.old → Ran (Edits port edit.now)
-            writer.old writer.new from lines (Ok self.new)) }
-        ensures ended { IfErr result (λ end. (from : Seen) (lines : List TraceLine)
-            → Stands from lines self.old → Ran (Edits port edit.now)
-            writer.old writer.new from lines (Err end)) }
+        ensures { FabricRan (Edits port edit.now)
+            self.old writer.old writer.new (end_with self.new result) }
     {
         let place = self.link_of(port);
         let cable = &mut self.cables[place.cable];

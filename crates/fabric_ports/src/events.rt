@@ -1,15 +1,12 @@
 //! Events: what a line of a script does to a fabric.
-ghost use Rattle.std.specs.Prelude.{◌≡◌, ◌<◌, false, List, length, IfOk, IfErr, Ok, Err};
+ghost use Rattle.std.specs.Prelude.{◌≡◌, ◌<◌, false, length, IfOk, IfErr, Ok, Err};
 ghost use Rattle.rio_packets.specs.LinkForm.{LinkForm};
 ghost use Rattle.rio_packets.specs.Fields.{body_of};
 ghost use Rattle.maint_packets.specs.Requests.{IsGoodOp, request_body};
 ghost use Rattle.fabric_script.specs.GivenPackets.{line_giving};
-ghost use Rattle.fabric_model.specs.Network.{Network, sender_id};
+ghost use Rattle.fabric_model.specs.Network.{sender_id};
 ghost use Rattle.fabric_trace.specs.Events.{IsInRange, IsDataLength};
-ghost use Rattle.fabric_trace.specs.Known.{Seen};
-ghost use Rattle.trace_lines.specs.Lines.{TraceLine};
-ghost use Rattle.fabric_ports.specs.Events.{MayFollow, Evented, IsAnsweredBlock, IsOwnBlock, request_by, body_in};
-ghost use Rattle.fabric_ports.specs.Standing.{Stands};
+ghost use Rattle.fabric_ports.specs.Events.{MayFollow, FabricEvented, IsAnsweredBlock, IsOwnBlock, request_by, body_in};
 
 use crate::answers::{FabricEnd, Happened};
 use crate::fabric::Fabric;
@@ -39,12 +36,10 @@ impl Fabric {
         writer: &mut TraceWriter<K>,
     ) -> Result<Happened, FabricEnd>
         requires may { MayFollow self.old writer.old.names.now line.now }
-        ensures done { IfOk result (λ answer. (from : Seen) (lines : List TraceLine)
-            → Stands from lines self.old → Evented line.now (IsAnsweredBlock line.now answer)
-            writer.old writer.new from lines (Ok self.new)) }
-        ensures ended { IfErr result (λ end. (from : Seen) (lines : List TraceLine)
-            → Stands from lines self.old → Evented line.now (IsOwnBlock line.now)
-            writer.old writer.new from lines (Err end)) }
+        ensures done { IfOk result (λ answer. FabricEvented line.now
+            (IsAnsweredBlock line.now answer) self.old writer.old writer.new (Ok self.new)) }
+        ensures ended { IfErr result (λ end. FabricEvented line.now (IsOwnBlock line.now)
+            self.old writer.old writer.new (Err end)) }
     {
         writer.write_begun(line);
         match line.operation() {

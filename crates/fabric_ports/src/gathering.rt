@@ -1,16 +1,15 @@
 //! What is collected at the endpoints in a round of an ask, and the round.
-ghost use Rattle.std.specs.Prelude.{◌≡◌, ◌≤◌, ◌<◌, List, length, slice_get, is_some, OnOk, IfErr, Ok, Err};
+ghost use Rattle.std.specs.Prelude.{◌≡◌, ◌≤◌, ◌<◌, length, slice_get, is_some, Ok};
 ghost use Rattle.link_buffers.specs.Queues.{list_at};
 ghost use Rattle.link_port.specs.Faces.{AreLists};
 ghost use Rattle.fabric_trace.specs.Known.{Seen};
-ghost use Rattle.trace_lines.specs.Lines.{TraceLine};
 ghost use Rattle.fabric_ask.specs.Asks.{AskRound, holds_some};
-ghost use Rattle.fabric_ports.specs.Carrying.{WithLeft};
+ghost use Rattle.fabric_ports.specs.Carrying.{LeftBy};
 ghost use Rattle.fabric_ports.specs.Gathering.{has_packets, Collects, OthersCollect};
 ghost use Rattle.fabric_ports.specs.Places.{IsEndpointAt};
-ghost use Rattle.fabric_ports.specs.Ran.{Ran};
+ghost use Rattle.fabric_ports.specs.Ran.{FabricRan, end_with};
 ghost use Rattle.fabric_ports.specs.Showing.{ShowsFabric};
-ghost use Rattle.fabric_ports.specs.Standing.{Stands};
+ghost use Rattle.fabric_ports.specs.Standing.{StandsForLines};
 
 use crate::answers::{FabricEnd, Happened};
 use crate::fabric::Fabric;
@@ -31,17 +30,11 @@ impl Fabric {
         noise: &mut N,
         writer: &mut TraceWriter<K>,
     ) -> Result<(), FabricEnd>
-        requires stands { (from : Seen) × (lines : List TraceLine) × Stands from lines self.old }
+        requires stands { StandsForLines self.old }
         requires named { length self.old.devices.items ≤ length writer.old.names.now }
         requires few { length writer.old.names.now ≤ 256 }
-        ensures done { OnOk result ((from : Seen) (lines : List TraceLine)
-            → Stands from lines self.old
-            → Ran (AskRound host (N.edits noise.old) (N.edits noise.new))
-            writer.old writer.new from lines (Ok self.new)) }
-        ensures ended { IfErr result (λ end. (from : Seen) (lines : List TraceLine)
-            → Stands from lines self.old
-            → Ran (WithLeft (AskRound host (N.edits noise.old)))
-            writer.old writer.new from lines (Err end)) }
+        ensures { FabricRan (LeftBy result (AskRound host (N.edits noise.old)) (N.edits noise.new))
+            self.old writer.old writer.new (end_with self.new result) }
     {
         self.carry_all(alloc, noise, writer)?;
         self.serve_all(writer);
@@ -51,12 +44,10 @@ impl Fabric {
 
     /// Every endpoint but the host collects, in the order of the devices.
     fn collect_nodes<K: Sink>(&mut self, host: u8, writer: &mut TraceWriter<K>)
-        requires stands { (from : Seen) × (lines : List TraceLine) × Stands from lines self.old }
+        requires stands { StandsForLines self.old }
         requires named { length self.old.devices.items ≤ length writer.old.names.now }
         requires few { length writer.old.names.now ≤ 256 }
-        ensures { (from : Seen) (lines : List TraceLine) → Stands from lines self.old
-            → Ran (OthersCollect host) writer.old writer.new from
-            lines (Ok self.new) }
+        ensures { FabricRan (OthersCollect host) self.old writer.old writer.new (Ok self.new) }
     {
         for node in 0..self.devices.len() {
             if !self.devices[node].is_switch() && node != usize::from(host) {
@@ -68,12 +59,10 @@ impl Fabric {
     /// An endpoint collects one packet after another, until it holds none or has no room for a
     /// response.
     fn collect_all<K: Sink>(&mut self, node: u8, writer: &mut TraceWriter<K>)
-        requires stands { (from : Seen) × (lines : List TraceLine) × Stands from lines self.old }
+        requires stands { StandsForLines self.old }
         requires named { node < length writer.old.names.now }
         requires endpoint { IsEndpointAt self.old.devices.items node }
-        ensures { (from : Seen) (lines : List TraceLine) → Stands from lines self.old
-            → Ran (Collects node) writer.old writer.new from lines
-            (Ok self.new) }
+        ensures { FabricRan (Collects node) self.old writer.old writer.new (Ok self.new) }
     {
         while self.holds(node) {
             if let Happened::Full = self.collect(node, writer) {

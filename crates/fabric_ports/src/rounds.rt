@@ -1,15 +1,12 @@
 //! Rounds: what `run` has a fabric do.
-ghost use Rattle.std.specs.Prelude.{◌≡◌, ◌≤◌, ◌<◌, List, length, OnOk, IfErr, Ok, Err};
+ghost use Rattle.std.specs.Prelude.{◌≤◌, ◌<◌, length, Ok, Err};
 ghost use Rattle.fabric_script.specs.declared.lines.Line.TheVariants.{Settle};
-ghost use Rattle.fabric_model.specs.Network.{Network};
 ghost use Rattle.fabric_trace.specs.Blocks.{IsSettle};
-ghost use Rattle.fabric_trace.specs.Known.{Seen};
-ghost use Rattle.trace_lines.specs.Lines.{TraceLine};
 ghost use Rattle.fabric_trace.specs.Rounds.{Rounds};
 ghost use Rattle.fabric_ports.specs.Ends.{PortIsLinked};
 ghost use Rattle.fabric_ports.specs.Places.{IsSwitchAt};
-ghost use Rattle.fabric_ports.specs.Ran.{Ran, Blocks, LinksSettle, SwitchesServe, Serves};
-ghost use Rattle.fabric_ports.specs.Standing.{Stands};
+ghost use Rattle.fabric_ports.specs.Ran.{Blocks, LinksSettle, SwitchesServe, Serves, FabricRan, end_with};
+ghost use Rattle.fabric_ports.specs.Standing.{StandsForLines};
 
 use crate::answers::FabricEnd;
 use crate::fabric::Fabric;
@@ -28,15 +25,11 @@ impl Fabric {
         rounds: u32,
         writer: &mut TraceWriter<K>,
     ) -> Result<(), FabricEnd>
-        requires stands { (from : Seen) × (lines : List TraceLine) × Stands from lines self.old }
+        requires stands { StandsForLines self.old }
         requires named { length self.old.devices.items ≤ length writer.old.names.now }
         requires few { length writer.old.names.now ≤ 256 }
-        ensures done { OnOk result ((from : Seen) (lines : List TraceLine)
-            → Stands from lines self.old → Ran (Rounds IsSettle rounds)
-            writer.old writer.new from lines (Ok self.new)) }
-        ensures ended { IfErr result (λ end. (from : Seen) (lines : List TraceLine)
-            → Stands from lines self.old → Ran (Rounds IsSettle rounds)
-            writer.old writer.new from lines (Err end)) }
+        ensures { FabricRan (Rounds IsSettle rounds)
+            self.old writer.old writer.new (end_with self.new result) }
     {
         for _ in 0..rounds {
             self.settle_all(alloc, writer)?;
@@ -51,14 +44,9 @@ impl Fabric {
         alloc: Global,
         writer: &mut TraceWriter<K>,
     ) -> Result<(), FabricEnd>
-        requires stands { (from : Seen) × (lines : List TraceLine) × Stands from lines self.old }
+        requires stands { StandsForLines self.old }
         requires named { length self.old.devices.items ≤ length writer.old.names.now }
-        ensures done { OnOk result ((from : Seen) (lines : List TraceLine)
-            → Stands from lines self.old → Ran LinksSettle
-            writer.old writer.new from lines (Ok self.new)) }
-        ensures ended { IfErr result (λ end. (from : Seen) (lines : List TraceLine)
-            → Stands from lines self.old → Ran LinksSettle
-            writer.old writer.new from lines (Err end)) }
+        ensures { FabricRan LinksSettle self.old writer.old writer.new (end_with self.new result) }
     {
         for place in 0..self.cables.len() {
             if self.is_idle(place) {
@@ -80,12 +68,8 @@ impl Fabric {
     ) -> Result<(), FabricEnd>
         requires linked { PortIsLinked self.old port }
         requires named { length self.old.devices.items ≤ length writer.old.names.now }
-        ensures done { OnOk result ((from : Seen) (lines : List TraceLine)
-            → Stands from lines self.old → Ran (Blocks (Settle port))
-            writer.old writer.new from lines (Ok self.new)) }
-        ensures ended { IfErr result (λ end. (from : Seen) (lines : List TraceLine)
-            → Stands from lines self.old → Ran (Blocks (Settle port))
-            writer.old writer.new from lines (Err end)) }
+        ensures { FabricRan (Blocks (Settle port))
+            self.old writer.old writer.new (end_with self.new result) }
     {
         self.act(alloc, port, Action::Settle, writer)?;
         if writer.failed() {
@@ -96,12 +80,10 @@ impl Fabric {
 
     /// Every switch makes steps until no packet of it can go, in the order of the devices.
     pub(crate) fn serve_all<K: Sink>(&mut self, writer: &mut TraceWriter<K>)
-        requires stands { (from : Seen) × (lines : List TraceLine) × Stands from lines self.old }
+        requires stands { StandsForLines self.old }
         requires named { length self.old.devices.items ≤ length writer.old.names.now }
         requires few { length writer.old.names.now ≤ 256 }
-        ensures { (from : Seen) (lines : List TraceLine) → Stands from lines self.old
-            → Ran SwitchesServe writer.old writer.new from lines
-            (Ok self.new) }
+        ensures { FabricRan SwitchesServe self.old writer.old writer.new (Ok self.new) }
     {
         for node in 0..self.devices.len() {
             if self.devices[node].is_switch() {
@@ -112,12 +94,10 @@ impl Fabric {
 
     /// A switch makes steps until no packet of it can go. Each step takes a received packet away.
     fn serve<K: Sink>(&mut self, node: u8, writer: &mut TraceWriter<K>)
-        requires stands { (from : Seen) × (lines : List TraceLine) × Stands from lines self.old }
+        requires stands { StandsForLines self.old }
         requires named { node < length writer.old.names.now }
         requires switch { IsSwitchAt self.old.devices.items node }
-        ensures { (from : Seen) (lines : List TraceLine) → Stands from lines self.old
-            → Ran (Serves node) writer.old writer.new from lines
-            (Ok self.new) }
+        ensures { FabricRan (Serves node) self.old writer.old writer.new (Ok self.new) }
     {
         while self.step(node, writer) {}
     }

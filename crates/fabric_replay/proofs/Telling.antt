@@ -183,7 +183,7 @@ module _ {K : Type 0} (begun : TraceWriter K) (script : List Numbered) where
       Going-broken i item out out2 fabric is has h (record {
         block = done.block;
         is = (done.is.0, done.is.1);
-        ends = (front_whole out out2 (Begun item.line ∷ done.block) done.ends.0, failed);
+        ends = (front_whole done.ends.0, failed);
       })
 
   -- and so a front of a trace was told

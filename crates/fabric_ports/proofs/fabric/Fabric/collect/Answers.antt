@@ -8,22 +8,15 @@ use Rattle.fabric_ports.proofs.fabric.Fabric.collect.Goals as goal
 
 pub endpoint_collect-requires : goal.endpoint_collect-requires
 endpoint_collect-requires g c =
-    kind_read c.args.self.now.devices.items c.args.node c.index_mut-registers.result.now
-    c.requires.endpoint
-    (device_read c.args.self.now.devices.items c.args.node c.from.result c.requires.endpoint.device
-    c.index_mut-registers.result.now c.requires.endpoint.stands c.from.ensures
-    c.index_mut-registers.ensures.value)
+    kind_read c.requires.endpoint (device_read c.args.self.now.devices.items
+    c.requires.endpoint.stands c.from.ensures c.index_mut-registers.ensures.value)
 
 pub returns-in-Left : goal.returns-in-Left
 returns-in-Left g c = λ s shows sent by.
     let packet = c.in-Left.packet in
-    did_collect _ _ s c.args.self.now _ c.args.node
-    c.index_mut-registers.result.now c.endpoint_collect.new.registers c.index_mut.result.now
-    c.endpoint_collect.new.port (Collects.Left packet) _ shows sent c.requires.endpoint
-    (device_read c.args.self.now.devices.items c.args.node c.from.result c.requires.endpoint.device
-    c.index_mut-registers.result.now c.requires.endpoint.stands c.from.ensures
-    c.index_mut-registers.ensures.value)
-    (port_read c.args.self.now s c.args.node c.place-place.result c.index_mut.result.now shows
+    did_collect (Collects.Left packet) shows sent c.requires.endpoint
+    (device_read c.args.self.now.devices.items c.requires.endpoint.stands c.from.ensures
+    c.index_mut-registers.ensures.value) (port_read shows
     c.requires.endpoint c.place-place.ensures.place c.index_mut.ensures.value)
     (record {
       by_lists = c.in-Left.ensures.collected;
@@ -32,8 +25,7 @@ returns-in-Left g c = λ s shows sent by.
       same = c.in-Left.ensures.device;
       alike = c.in-Left.ensures.alike;
       forms = c.show_form.ensures;
-    })
-    (has_both c.args.self.now (port_of c.args.node) c.from.result c.args.node c.place-place.result
+    }) (has_both c.args.self.now (port_of c.args.node)
     c.endpoint_collect.new.registers c.endpoint_collect.new.port c.place-place.ensures.place
     c.from.ensures)
     refl c.write_leave.ensures
@@ -42,14 +34,9 @@ pub returns-in-Answered : goal.returns-in-Answered
 returns-in-Answered g c = λ s shows sent by.
     let request = c.in-Answered.request in
     let response = c.in-Answered.response in
-    did_collect _ _ s c.args.self.now _ c.args.node
-    c.index_mut-registers.result.now c.endpoint_collect.new.registers c.index_mut.result.now
-    c.endpoint_collect.new.port (Collects.Answered request response) _ shows sent
-    c.requires.endpoint
-    (device_read c.args.self.now.devices.items c.args.node c.from.result c.requires.endpoint.device
-    c.index_mut-registers.result.now c.requires.endpoint.stands c.from.ensures
-    c.index_mut-registers.ensures.value)
-    (port_read c.args.self.now s c.args.node c.place-place.result c.index_mut.result.now shows
+    did_collect (Collects.Answered request response) shows sent c.requires.endpoint
+    (device_read c.args.self.now.devices.items c.requires.endpoint.stands c.from.ensures
+    c.index_mut-registers.ensures.value) (port_read shows
     c.requires.endpoint c.place-place.ensures.place c.index_mut.ensures.value)
     (record {
       by_lists = c.in-Answered.ensures.collected;
@@ -58,21 +45,15 @@ returns-in-Answered g c = λ s shows sent by.
       same = c.in-Answered.ensures.device;
       alike = c.in-Answered.ensures.alike;
       forms = (c.show_form-in-Answered.ensures, c.show_form-in-Answered-2.ensures);
-    })
-    (has_both c.args.self.now (port_of c.args.node) c.from.result c.args.node c.place-place.result
+    }) (has_both c.args.self.now (port_of c.args.node)
     c.endpoint_collect.new.registers c.endpoint_collect.new.port c.place-place.ensures.place
     c.from.ensures)
     refl c.write_answer.ensures
 
 pub returns-in-Empty : goal.returns-in-Empty
-returns-in-Empty g c = λ s shows sent by.
-    did_collect _ _ s c.args.self.now _ c.args.node
-    c.index_mut-registers.result.now c.endpoint_collect.new.registers c.index_mut.result.now
-    c.endpoint_collect.new.port Collects.Empty _ shows sent c.requires.endpoint
-    (device_read c.args.self.now.devices.items c.args.node c.from.result c.requires.endpoint.device
-    c.index_mut-registers.result.now c.requires.endpoint.stands c.from.ensures
-    c.index_mut-registers.ensures.value)
-    (port_read c.args.self.now s c.args.node c.place-place.result c.index_mut.result.now shows
+returns-in-Empty g c = λ s shows sent by. did_collect Collects.Empty shows sent c.requires.endpoint
+    (device_read c.args.self.now.devices.items c.requires.endpoint.stands c.from.ensures
+    c.index_mut-registers.ensures.value) (port_read shows
     c.requires.endpoint c.place-place.ensures.place c.index_mut.ensures.value)
     (record {
       by_lists = c.in-Empty.ensures.collected;
@@ -81,21 +62,15 @@ returns-in-Empty g c = λ s shows sent by.
       same = c.in-Empty.ensures.device;
       alike = c.in-Empty.ensures.alike;
       forms = tt;
-    })
-    (has_both c.args.self.now (port_of c.args.node) c.from.result c.args.node c.place-place.result
+    }) (has_both c.args.self.now (port_of c.args.node)
     c.endpoint_collect.new.registers c.endpoint_collect.new.port c.place-place.ensures.place
     c.from.ensures)
     refl c.write_lack.ensures
 
 pub returns-in-Full : goal.returns-in-Full
-returns-in-Full g c = λ s shows sent by.
-    did_collect _ _ s c.args.self.now _ c.args.node
-    c.index_mut-registers.result.now c.endpoint_collect.new.registers c.index_mut.result.now
-    c.endpoint_collect.new.port Collects.Full _ shows sent c.requires.endpoint
-    (device_read c.args.self.now.devices.items c.args.node c.from.result c.requires.endpoint.device
-    c.index_mut-registers.result.now c.requires.endpoint.stands c.from.ensures
-    c.index_mut-registers.ensures.value)
-    (port_read c.args.self.now s c.args.node c.place-place.result c.index_mut.result.now shows
+returns-in-Full g c = λ s shows sent by. did_collect Collects.Full shows sent c.requires.endpoint
+    (device_read c.args.self.now.devices.items c.requires.endpoint.stands c.from.ensures
+    c.index_mut-registers.ensures.value) (port_read shows
     c.requires.endpoint c.place-place.ensures.place c.index_mut.ensures.value)
     (record {
       by_lists = c.in-Full.ensures.collected;
@@ -104,8 +79,7 @@ returns-in-Full g c = λ s shows sent by.
       same = c.in-Full.ensures.device;
       alike = c.in-Full.ensures.alike;
       forms = tt;
-    })
-    (has_both c.args.self.now (port_of c.args.node) c.from.result c.args.node c.place-place.result
+    }) (has_both c.args.self.now (port_of c.args.node)
     c.endpoint_collect.new.registers c.endpoint_collect.new.port c.place-place.ensures.place
     c.from.ensures)
     refl c.write_lack-in-Full.ensures

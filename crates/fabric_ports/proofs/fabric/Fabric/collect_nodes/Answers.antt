@@ -1,9 +1,9 @@
-use Rattle.std.proofs.Common.{◌≡◌, ◌≢◌, ◌==◌, ◌||◌, ◌++◌, length, take, rules, arith, vec_len, true, false, sym, ap, ◌∙◌, Some, option_map, ne_eqb, eq-eqb}
+use Rattle.std.proofs.Common.{◌≡◌, ◌≢◌, ◌==◌, ◌||◌, ◌++◌, take, rules, arith, true, false, sym, ap, ◌∙◌, Some, option_map, ne_eqb, eq-eqb}
 use Rattle.std.proofs.lemmas.List.{take_all}
 use Rattle.std.proofs.lemmas.Option.{slice_get-get_or}
 use Rattle.maint_registers.specs.Devices.{is_switch}
 use Rattle.fabric_ask.specs.Asks.{CollectNodes}
-use Rattle.fabric_ports.specs.Gathering.{Collects}
+use Rattle.fabric_ports.proofs.AfterLaws.{device_after, names_after}
 use Rattle.fabric_ports.proofs.GatherAllLaws.{others_append, node_collects, node_rests}
 use Rattle.fabric_ports.proofs.GatherLaws.{endpoint_of}
 use Rattle.fabric_ports.proofs.RoundLaws.{next_node, nodes_on, nodes_none, nodes_all}
@@ -13,31 +13,26 @@ use Rattle.fabric_ports.proofs.fabric.Fabric.collect_nodes.Goals.{then-not-is_sw
 
 pub index-requires : goal.index-requires
 index-requires g c =
-    let known = c.requires.stands in
-    let end = c.len-node-end.ensures in
-    let test = c.loop-node-test.true in
-    let within = devices_within c.loop-node.node known.2
-    (c.loop-node.invariant known.0 known.1 known.2).ends.1 (omega (arith, end, test)) in
-    search rules
+    let within = device_after c.loop-node.invariant c.requires.stands c.loop-node.node
+    (omega (arith, c.len-node-end.ensures, c.loop-node-test.true)) in search rules
 
 pub collect_all-requires-clause-named : goal.collect_all-requires-clause-named
 collect_all-requires-clause-named g c =
-    let known = c.requires.stands in
-    let end = c.len-node-end.ensures in
-    let test = c.loop-node-test.true in
-    let named = c.requires.named in
-    let counted : vec_len c.args.self.now.devices ≡ length c.args.self.now.devices.items =
-    search rules in
-    rw (c.loop-node.invariant known.0 known.1 known.2).ends.0.names
-    (omega (arith, end, test, named, counted))
+    rw (names_after c.loop-node.invariant c.requires.stands)
+    (omega (
+      arith,
+      c.len-node-end.ensures,
+      c.loop-node-test.true,
+      c.requires.named,
+      c.args.self.now.devices.ok.0,
+    ))
 
 pub collect_all-requires-clause-endpoint : goal.collect_all-requires-clause-endpoint
 collect_all-requires-clause-endpoint g c =
     let known = c.requires.stands in
     let ran = c.loop-node.invariant known.0 known.1 known.2 in
-    let end = c.len-node-end.ensures in
-    let test = c.loop-node-test.true in
-    let within = devices_within c.loop-node.node known.2 ran.ends.1 (omega (arith, end, test)) in
+    let within = devices_within c.loop-node.node known.2 ran.ends.1
+    (omega (arith, c.len-node-end.ensures, c.loop-node-test.true)) in
     endpoint_of c.loop-node.node ran.ends.1
     (ap (option_map is_switch)
     (slice_get-get_or c.loop-node.self.devices.items c.loop-node.node c.index.result.now
@@ -47,9 +42,8 @@ collect_all-requires-clause-endpoint g c =
 pub loop-node-preserved : goal.loop-node-preserved
 loop-node-preserved g c = λ from lines stands.
     let ran = c.loop-node.invariant from lines stands in
-    let end = c.len-node-end.ensures in
-    let test = c.loop-node-test.true in
-    let within = devices_within c.loop-node.node stands ran.ends.1 (omega (arith, end, test)) in
+    let within = devices_within c.loop-node.node stands ran.ends.1
+    (omega (arith, c.len-node-end.ensures, c.loop-node-test.true)) in
     elim c.if-not-is_switch.branch [
       | then-not-is_switch+then-node-from w ↦
           let from_is = w.from.ensures in
@@ -58,8 +52,8 @@ loop-node-preserved g c = λ from lines stands.
           let node = next_node c.loop-node.node c.index.result.now false stands ran.ends.1
           c.index.ensures within (sym c.is_switch.ensures ∙ w.if-not-is_switch.true) in
           rw (w.self-is, w.writer-is) (nodes_on (CollectNodes c.args.host)
-          (others_append c.args.host) from lines _ _ c.args.self.now.devices.items stands
-          (Collects c.loop-node.node) _ _ _ _ c.loop-node.node false node
+          (others_append c.args.host)
+          c.args.self.now.devices.items stands node
           (λ s block own. node_collects c.args.host node.device c.loop-node.node s block
           (λ i. node.is i || ne_eqb c.loop-node.node c.args.host other i) own) ran
           (w.collect_all.ensures from (lines ++ ran.block) ran.ends.1))
@@ -71,15 +65,15 @@ loop-node-preserved g c = λ from lines stands.
                 let host : c.loop-node.node ≡ c.args.host = omega (arith, from_is, eq) in
                 let node = next_node c.loop-node.node c.index.result.now false stands ran.ends.1
                 c.index.ensures within (sym c.is_switch.ensures ∙ v.if-not-is_switch.true) in
-                nodes_none (CollectNodes c.args.host) (others_append c.args.host) from lines _ _
-                c.args.self.now.devices.items stands _ _ c.loop-node.node false node
+                nodes_none (CollectNodes c.args.host) (others_append c.args.host)
+                c.args.self.now.devices.items stands node
                 (λ s block own. node_rests c.args.host node.device c.loop-node.node s block
                 (λ i. node.is i || eq-eqb c.loop-node.node c.args.host host i) own) ran
             | else-not-is_switch-via-else-not-is_switch v ↦
                 let node = next_node c.loop-node.node c.index.result.now true stands ran.ends.1
                 c.index.ensures within (sym c.is_switch.ensures ∙ v.if-not-is_switch.false) in
-                nodes_none (CollectNodes c.args.host) (others_append c.args.host) from lines _ _
-                c.args.self.now.devices.items stands _ _ c.loop-node.node true node
+                nodes_none (CollectNodes c.args.host) (others_append c.args.host)
+                c.args.self.now.devices.items stands node
                 (λ s block own. node_rests c.args.host node.device c.loop-node.node s block
                 (λ i. node.is i || (c.loop-node.node == c.args.host)) own) ran
           ])
@@ -87,11 +81,12 @@ loop-node-preserved g c = λ from lines stands.
 
 pub returns : goal.returns
 returns g c = λ from lines stands.
-    let end = c.len-node-end.ensures in
-    let test = c.loop-node-test.false in
-    let counted : vec_len c.args.self.now.devices ≡ length c.args.self.now.devices.items =
-    search rules in
-    nodes_all (CollectNodes c.args.host) (others_append c.args.host) from lines _ _
-    (take c.loop-node.node c.args.self.now.devices.items) stands _ _
-    (take_all c.loop-node.node c.args.self.now.devices.items (omega (arith, end, test, counted)))
+    nodes_all (CollectNodes c.args.host) (others_append c.args.host)
+    (take c.loop-node.node c.args.self.now.devices.items) stands
+    (take_all c.loop-node.node c.args.self.now.devices.items (omega (
+      arith,
+      c.len-node-end.ensures,
+      c.loop-node-test.false,
+      c.args.self.now.devices.ok.0,
+    )))
     (c.loop-node.invariant from lines stands)

@@ -3,8 +3,7 @@ use Rattle.fabric_ports.proofs.fabric.Fabric.edit.Goals as goal
 
 pub returns-in-Ok-clause-done : goal.returns-in-Ok-clause-done
 returns-in-Ok-clause-done g c =
-    edit_did c.args.self.now c.args.port c.link_of-place.result
-    c.link_of-place.ensures c.index_mut-cable.result.now c.index_mut-cable.ensures.value c.args.edit
+    edit_did c.link_of-place.ensures c.index_mut-cable.ensures.value c.args.edit
     c.edit_asked.result c.edit_asked.ensures c.edit.new.self c.in-Ok.ensures.changed c.in-Ok.edited
     c.in-Ok.ensures.short c.args.writer.now _
     (rw c.as_acted.ensures at c.write_lack.ensures)

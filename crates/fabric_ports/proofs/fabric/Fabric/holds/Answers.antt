@@ -5,7 +5,5 @@ use Rattle.fabric_ports.proofs.fabric.Fabric.holds.Goals as goal
 
 pub returns : goal.returns
 returns c = λ s shows.
-    c.holds_packet.ensures
-    ∙ holds_is s c.args.node c.index.result.now
-    (port_read c.args.self.now s c.args.node c.place-place.result c.index.result.now shows
+    c.holds_packet.ensures ∙ holds_is s c.args.node (port_read shows
     c.requires.endpoint c.place-place.ensures.place c.index.ensures)

@@ -6,4 +6,4 @@ pub returns : goal.returns
 returns c = λ from lines stands.
     c.length.ensures ∙ ap (λ l. length l)
     (edit_chars c.args.self.now c.args.port c.link_of-place.result c.link_of-place.ensures
-    c.index.result.now c.index.ensures from lines stands)
+    c.index.result.now c.index.ensures stands)

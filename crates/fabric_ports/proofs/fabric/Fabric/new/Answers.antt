@@ -1,4 +1,4 @@
-use Rattle.std.proofs.Common.{◌≡◌, ◌<◌, length, get_or, take, map, ◌∙◌, ap, subst, refl, rules, arith}
+use Rattle.std.proofs.Common.{◌≡◌, take, map, ◌∙◌, ap, subst, refl, rules, arith}
 use Rattle.std.proofs.lemmas.List.{take_all}
 use Rattle.fabric_trace.specs.Events.{port_counts}
 use Rattle.fabric_trace.specs.Runs.{bare, set_up_all}
@@ -9,31 +9,23 @@ use Rattle.fabric_ports.proofs.fabric.Fabric.new.Goals as goal
 pub add-requires-clause-ports : goal.add-requires-clause-ports
 add-requires-clause-ports c =
     let script = c.args.script.now in
-    let within : c.loop-numbered.numbered-index < length script.lines.items = omega arith in
-    let here : c.numbered-item.result ≡ get_or script.lines.items c.loop-numbered.numbered-index
-    c.numbered-item.result = search rules in
     next_ports script.names.items script.lines.items c.loop-numbered.numbered-index
-    c.numbered-item.result c.loop-numbered.plan c.requires.passes within here
+    c.numbered-item.result c.loop-numbered.plan c.requires.passes (omega arith) (search rules)
     c.loop-numbered.invariant
 
 pub add-requires-clause-may : goal.add-requires-clause-may
 add-requires-clause-may c =
     let script = c.args.script.now in
-    let within : c.loop-numbered.numbered-index < length script.lines.items = omega arith in
-    let here : c.numbered-item.result ≡ get_or script.lines.items c.loop-numbered.numbered-index
-    c.numbered-item.result = search rules in
     next_may script.names.items script.lines.items c.loop-numbered.numbered-index
-    c.numbered-item.result c.loop-numbered.plan c.requires.passes within here
+    c.numbered-item.result c.loop-numbered.plan c.requires.passes (omega arith) (search rules)
     c.loop-numbered.invariant
 
 pub loop-numbered-preserved : goal.loop-numbered-preserved
 loop-numbered-preserved c =
     let script = c.args.script.now in
-    let within : c.loop-numbered.numbered-index < length script.lines.items = omega arith in
-    let here : c.numbered-item.result ≡ get_or script.lines.items c.loop-numbered.numbered-index
-    c.numbered-item.result = search rules in
     next_plan script.names.items script.lines.items c.loop-numbered.numbered-index
-    c.numbered-item.result c.loop-numbered.plan c.add.new.self c.requires.passes within here
+    c.numbered-item.result c.loop-numbered.plan c.add.new.self c.requires.passes (omega arith)
+    (search rules)
     c.loop-numbered.invariant
     c.in_ok-add.ensures.plans c.in_ok-add.ensures.counts
 

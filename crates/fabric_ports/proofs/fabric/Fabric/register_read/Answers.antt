@@ -7,6 +7,5 @@ use Rattle.fabric_ports.proofs.fabric.Fabric.register_read.Goals as goal
 pub returns : goal.returns
 returns c = λ from lines device stands known.
     c.read.ensures
-    ∙ ap (λ (d : Registers). value_at d c.args.offset 0)
-    (own_is c.args.node c.from.result device c.index.result.now stands known c.from.ensures
+    ∙ ap (λ (d : Registers). value_at d c.args.offset 0) (own_is stands known c.from.ensures
     c.index.ensures)

@@ -7,8 +7,7 @@ use Rattle.fabric_ports.proofs.fabric.Fabric.register_write.Goals as goal
 pub returns : goal.returns
 returns c = λ from lines device stands known.
     let read = c.index_mut.result.now in
-    let same = own_is c.args.node c.from.result device read stands known c.from.ensures
-    c.index_mut.ensures.value in
+    let same = own_is stands known c.from.ensures c.index_mut.ensures.value in
     subst (λ (d : Registers). OwnWritten c.args.node d c.args.offset c.args.value from lines
     c.args.self.now (with_registers c.args.self.now c.from.result c.write.new.self) c.write.result)
     same

@@ -5,7 +5,7 @@ use Rattle.link_buffers.specs.Queues.{list_at}
 use Rattle.link_port.specs.Ports.{PortState}
 use Rattle.fabric_model.specs.Network.{port_of, room_out}
 use Rattle.fabric_trace.proofs.Network.Faces.{room_is}
-use Rattle.fabric_ports.proofs.NodeLaws.{with_port, has_port, port_read}
+use Rattle.fabric_ports.proofs.NodeLaws.{has_port, port_read}
 use Rattle.fabric_ports.proofs.SendLaws.{did_full, did_take}
 use Rattle.fabric_ports.proofs.fabric.Fabric.send.Goals as goal
 
@@ -13,8 +13,7 @@ pub returns-then-not-out_room : goal.returns-then-not-out_room
 returns-then-not-out_room g c = λ s shows sent.
     let few : prio_of c.args.packet < 4 =
     subst (λ n. n < 4) c.prio.ensures.value c.prio.ensures.range in
-    let at = port_read c.args.self.now s c.args.node c.place-place.result c.index.result.now shows
-    c.requires.endpoint c.place-place.ensures.place c.index.ensures in
+    let at = port_read shows c.requires.endpoint c.place-place.ensures.place c.index.ensures in
     let not_now : ¬ (length (list_at c.index.result.now.queued (prio_of c.args.packet)) < 16) =
     λ h. false≢true (sym c.if-not-out_room.true
     ∙ c.out_room.ensures.exact.1
@@ -33,10 +32,9 @@ pub returns : goal.returns
 returns g c = λ s shows sent.
     let few : prio_of c.args.packet < 4 =
     subst (λ n. n < 4) c.prio.ensures.value c.prio.ensures.range in
-    let at = port_read c.args.self.now s c.args.node c.place-place.result c.index_mut.result.now
+    let at = port_read
     shows c.requires.endpoint c.place-place.ensures.place c.index_mut.ensures.value in
-    let before = port_read c.args.self.now s c.args.node c.place-place.result c.index.result.now
-    shows c.requires.endpoint c.place-place.ensures.place c.index.ensures in
+    let before = port_read shows c.requires.endpoint c.place-place.ensures.place c.index.ensures in
     let some : length (list_at c.index_mut.result.now.queued (prio_of c.args.packet)) < 16 =
     subst (λ (p : PortState). length (list_at p.queued (prio_of c.args.packet)) < 16)
     (sym before ∙ at)
@@ -47,9 +45,7 @@ returns g c = λ s shows sent.
     ∙ ap (λ (p : PortState). nat_lt (length (list_at p.queued (prio_of c.args.packet))) 16) at
     ∙ lt-ltb _ _ some in
     did_take _ _ s c.args.self.now c.args.node c.args.packet
-    (with_port c.args.self.now c.place-place.result c.out_put.new.self) c.index_mut.result.now
-    c.out_put.new.self shows sent room few c.requires.endpoint at
-    (has_port c.args.self.now (port_of c.args.node) c.args.node c.place-place.result
-    c.requires.endpoint.device c.out_put.new.self c.place-place.ensures.place
-    c.requires.endpoint.stands)
+    shows sent room few c.requires.endpoint at
+    (has_port c.args.self.now (port_of c.args.node) c.args.node
+    c.out_put.new.self c.place-place.ensures.place c.requires.endpoint.stands)
     c.out_put.ensures.alike c.out_put.ensures.queued c.out_put.ensures.received c.write_take.ensures

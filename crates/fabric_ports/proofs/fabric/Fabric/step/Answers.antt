@@ -36,12 +36,10 @@ step_from-requires-clause-within g c =
     c.requires.switch.stands in
     let many = as_many_firsts 0 c.args.self.now.devices.items c.args.self.now.firsts.items
     shows.firsts in
-    let first = first_read c.args.self.now.firsts.items c.args.node c.from.result
-    c.index-first.result.now (omega (arith, at, many)) c.from.ensures c.index-first.ensures in
+    let first = first_read c.args.self.now.firsts.items
+    (omega (arith, at, many)) c.from.ensures c.index-first.ensures in
     let row = row_within 0 c.args.self.now.devices.items c.args.self.now.firsts.items c.args.node
-    c.index_mut-registers.result.now shows.firsts
-    (device_read c.args.self.now.devices.items c.args.node c.from-2.result
-    c.requires.switch.device c.index_mut-registers.result.now c.requires.switch.stands
+    shows.firsts (device_read c.args.self.now.devices.items c.requires.switch.stands
     c.from-2.ensures c.index_mut-registers.ensures.value) in
     let count = shows.count in
     let same = ap (λ (l : List PortState). length l) c.deref_mut.ensures.value in
@@ -53,13 +51,12 @@ returns g c = λ s shows sent by.
     c.requires.switch.stands in
     let many = as_many_firsts 0 c.args.self.now.devices.items c.args.self.now.firsts.items
     shows.firsts in
-    let stands = device_read c.args.self.now.devices.items c.args.node c.from-2.result
-    c.requires.switch.device c.index_mut-registers.result.now c.requires.switch.stands
+    let stands = device_read c.args.self.now.devices.items c.requires.switch.stands
     c.from-2.ensures c.index_mut-registers.ensures.value in
-    let first = first_read c.args.self.now.firsts.items c.args.node c.from.result
-    c.index-first.result.now (omega (arith, at, many)) c.from.ensures c.index-first.ensures in
+    let first = first_read c.args.self.now.firsts.items
+    (omega (arith, at, many)) c.from.ensures c.index-first.ensures in
     let row = row_within 0 c.args.self.now.devices.items c.args.self.now.firsts.items c.args.node
-    c.index_mut-registers.result.now shows.firsts stands in
+    shows.firsts stands in
     let count = shows.count in
     let within : c.index-first.result.now + c.index_mut-registers.result.now.ports
     ≤ length c.args.self.now.ports.items = omega (arith, first, row, count) in
@@ -76,21 +73,16 @@ returns g c = λ s shows sent by.
     (step_of device (faces_at (own_ports l c.index-first.result.now device.ports)))
     c.args.writer.now c.step_from.new.writer c.step_from.result)
     c.deref_mut.ensures.value c.step_from.ensures.wrote in
-    did_step _ _ s c.args.self.now
-    (with_ports c.args.self.now c.from-2.result c.step_from.new.registers
+    did_step (with_ports c.args.self.now c.from-2.result c.step_from.new.registers
     c.step_from.new.ports)
-    c.args.node c.index-first.result.now device c.step_from.new.registers step
-    c.step_from.result shows sent by
-    (switch_read c.args.self.now.devices.items c.args.node device
-    c.requires.switch stands)
-    (record {
+    c.args.node c.index-first.result.now device c.step_from.new.registers step shows sent by
+    (switch_read c.requires.switch stands) (record {
       stands = stands;
       place = first;
       made = subst
           (λ (l : List PortState). MadeStep c.index-first.result.now device
           c.step_from.new.registers c.args.self.now.ports.items l step)
-          (sym (ports_are c.args.self.now c.index-first.result.now device
-          c.step_from.new.registers c.step_from.new.ports step within made)) made;
+          (sym (ports_are c.args.self.now within made)) made;
       devices = ap (λ n. slice_set c.args.self.now.devices.items n c.step_from.new.registers)
           c.from-2.ensures;
       firsts = refl;

@@ -1,7 +1,7 @@
 use Rattle.std.proofs.Common.{◌++◌}
-use Rattle.fabric_ports.proofs.RanLaws.{on_ok, if_err, handed_on}
-use Rattle.fabric_ports.proofs.CarriedLaws.{linked_on, first_linked, second_linked, both_stirred, first_unstirred, second_unstirred}
-use Rattle.fabric_ports.proofs.LeaveLaws.{named_on}
+use Rattle.fabric_ports.proofs.AfterLaws.{linked_after, linked_lines, named_after}
+use Rattle.fabric_ports.proofs.RanLaws.{err_is}
+use Rattle.fabric_ports.proofs.CarriedLaws.{first_linked, second_linked, both_stirred, first_unstirred, left_by}
 use Rattle.fabric_ports.proofs.fabric.Fabric.stir_both.Goals as goal
 
 pub stir-requires-clause-linked : goal.stir-requires-clause-linked
@@ -9,36 +9,21 @@ stir-requires-clause-linked g c = first_linked c.requires.linked
 
 pub stir-requires-2-clause-linked : goal.stir-requires-2-clause-linked
 stir-requires-2-clause-linked g c =
-    let is = c.requires.linked in
-    second_linked
-    (linked_on is is.stands (c.in_ok-stir.ensures.done is.from is.lines is.stands).ends.1)
+    second_linked (linked_after c.in_ok-stir.ensures c.requires.linked)
 
 pub stir-requires-2-clause-named : goal.stir-requires-2-clause-named
 stir-requires-2-clause-named g c =
-    let is = c.requires.linked in
-    named_on is.stands (c.in_ok-stir.ensures.done is.from is.lines is.stands) c.requires.named
+    named_after c.in_ok-stir.ensures (linked_lines c.requires.linked) c.requires.named
 
-pub returns-in_err-stir-clause-ended : goal.returns-in_err-stir-clause-ended
-returns-in_err-stir-clause-ended g c =
-    handed_on c.from_residual.result c.in_err-stir.field-0.0 _ c.from_residual.ensures.1
-    (λ from lines stands.
-    first_unstirred c.args.ends from lines _ c.requires.linked stands _ _ c.in_err-stir.field-0.0 _
-    (c.in_err-stir.ensures.ended from lines stands))
+pub returns-in_err-stir : goal.returns-in_err-stir
+returns-in_err-stir g c =
+    rw (err_is c.from_residual.result c.in_err-stir.field-0.0 c.from_residual.ensures.1)
+    (λ from lines stands. first_unstirred c.requires.linked stands
+    _ (c.in_err-stir.ensures from lines stands))
 
-pub returns-clause-done : goal.returns-clause-done
-returns-clause-done g c =
-    on_ok c.stir-2.result
-    (λ own from lines stands.
-    (let first = c.in_ok-stir.ensures.done from lines stands in
-    both_stirred c.args.ends from lines _ c.requires.linked stands _ _ _ _ _ _ _ _ first
-    (own from (lines ++ first.block) first.ends.1)))
-    c.stir-2.ensures.done
-
-pub returns-clause-ended : goal.returns-clause-ended
-returns-clause-ended g c =
-    if_err c.stir-2.result
-    (λ end own from lines stands.
-    (let first = c.in_ok-stir.ensures.done from lines stands in
-    second_unstirred c.args.ends from lines _ c.requires.linked stands _ _ _ _ end _ _ first
-    (own from (lines ++ first.block) first.ends.1)))
-    c.stir-2.ensures.ended
+pub returns : goal.returns
+returns g c = λ from lines stands.
+    let first = c.in_ok-stir.ensures from lines stands in
+    left_by c.stir-2.result _ _ _
+    (λ left own. both_stirred c.requires.linked stands _ _ left first own)
+    (c.stir-2.ensures from (lines ++ first.block) first.ends.1)

@@ -1,17 +1,14 @@
-use Rattle.std.proofs.Common.{◌++◌, length, Err, arith}
-use Rattle.fabric_ask.specs.Asks.{AskRounds, most_rounds}
-use Rattle.fabric_trace.specs.Blocks.{Asks}
+use Rattle.std.proofs.Common.{◌++◌, length, arith}
 use Rattle.fabric_trace.specs.Fold.{seen}
 use Rattle.fabric_ports.proofs.AskLaws.{host_at, asked, asked_whole}
 use Rattle.fabric_ports.proofs.GatherLaws.{endpoint_on}
 use Rattle.fabric_ports.proofs.LeaveLaws.{end_named}
-use Rattle.fabric_ports.proofs.RanLaws.{if_ok, if_err, ran_both}
 use Rattle.fabric_ports.proofs.SettlingLaws.{devices_stay}
 use Rattle.fabric_ports.proofs.fabric.Fabric.tell_ask.Goals as goal
 
 pub send-requires-clause-named : goal.send-requires-clause-named
 send-requires-clause-named g c =
-    end_named c.args.self.now (length c.args.writer.now.names.now) c.args.host c.requires.named
+    end_named c.args.self.now (length c.args.writer.now.names.now) c.requires.named
     (host_at c.requires.can.2)
 
 pub send-requires-clause-shown : goal.send-requires-clause-shown
@@ -24,8 +21,8 @@ send-requires-clause-endpoint g c = host_at c.requires.can.2
 pub fetch-requires-clause-stands : goal.fetch-requires-clause-stands
 fetch-requires-clause-stands g c =
     let can = c.requires.can in
-    let first = asked c.args.host c.args.request.now _ _ can.0
-    can.1 _ _ c.write_request.result c.send.result can.2 c.write_request.ensures.form
+    let first = asked c.args.host c.args.request.now
+    c.write_request.result c.send.result can.2 c.write_request.ensures.form
     (c.send.ensures (seen can.0 can.1) can.2.stands.shows can.2.stands.sent) in
     (can.0, can.1 ++ first.block, first.ends.1)
 
@@ -48,25 +45,12 @@ pub fetch-requires-clause-endpoint : goal.fetch-requires-clause-endpoint
 unfolding fetch-requires-clause-stands
 fetch-requires-clause-endpoint g c =
     let can = c.requires.can in
-    endpoint_on c.args.host can.2.stands (fetch-requires-clause-stands g c).2 (host_at can.2)
+    endpoint_on can.2.stands (fetch-requires-clause-stands g c).2 (host_at can.2)
 
-pub returns-clause-done : goal.returns-clause-done
-returns-clause-done g c =
-    if_ok c.fetch.result
-    (λ left done from lines can.
-    (let first = asked c.args.host c.args.request.now _ _ from
-    lines _ _ c.write_request.result c.send.result can c.write_request.ensures.form
+pub returns : goal.returns
+returns g c = λ from lines can.
+    let first = asked c.args.host c.args.request.now
+    c.write_request.result c.send.result can c.write_request.ensures.form
     (c.send.ensures (seen from lines) can.stands.shows can.stands.sent) in
-    asked_whole c.args.host c.args.request.now _ _ _ _ from lines _ _ left first
-    (done from (lines ++ first.block) first.ends.1))) c.fetch.ensures.done
-
-pub returns-clause-ended : goal.returns-clause-ended
-returns-clause-ended g c =
-    if_err c.fetch.result
-    (λ end ended from lines can.
-    (let first = asked c.args.host c.args.request.now _ _ from
-    lines _ _ c.write_request.result c.send.result can c.write_request.ensures.form
-    (c.send.ensures (seen from lines) can.stands.shows can.stands.sent) in
-    ran_both (λ s block. Asks s c.args.host c.args.request.now block)
-    (AskRounds c.args.host most_rounds _) _ _ _ from lines _ (Err end) first
-    (ended from (lines ++ first.block) first.ends.1))) c.fetch.ensures.ended
+    asked_whole c.args.host c.args.request.now _ _ c.fetch.result first
+    (c.fetch.ensures from (lines ++ first.block) first.ends.1)

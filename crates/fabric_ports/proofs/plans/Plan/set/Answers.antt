@@ -2,13 +2,16 @@ use Rattle.std.proofs.Common.{◌≡◌, ℕ, true, false, ◌<◌, List, length
 use Rattle.std.specs.Vec.{with_item}
 use Rattle.maint_registers.specs.Devices.{Registers}
 use Rattle.fabric_model.specs.Network.{Network}
+use Rattle.fabric_script.specs.declared.lines.Line.{Line}
+use Rattle.fabric_script.specs.declared.lines.Line.TheVariants.{Route, Default, Lock, Large}
 use Rattle.fabric_trace.specs.Events.{ArePorts}
 use Rattle.fabric_trace.specs.Runs.{set_up}
 use Rattle.fabric_trace.specs.SetUps.{MaySetUp}
 use Rattle.fabric_trace.specs.Settings.{with_change, routed, defaulted, held_by, large_set}
 use Rattle.fabric_ports.specs.Plans.{PlansFor, counts_of}
 use Rattle.fabric_ports.specs.declared.plans.Plan.{Plan}
-use Rattle.fabric_ports.proofs.Changes.{KeepsPorts, counts-change, changed_at, kind_of}
+use Rattle.maint_registers.proofs.ChangeLaws.{changed_at}
+use Rattle.fabric_ports.proofs.Changes.{KeepsPorts, counts-change, kind_of}
 use Rattle.fabric_ports.proofs.PlanLaws.{plan-change, port_by_count}
 use Rattle.fabric_ports.proofs.PortPlans.{plan-buffers, plan-telling}
 use Rattle.fabric_ports.proofs.plans.Plan.set.Goals as goal
@@ -17,22 +20,26 @@ use Rattle.fabric_ports.proofs.plans.Plan.set.Goals as goal
 abbrev with_written : Plan → ℕ → Registers → Plan
 with_written plan i device = record plan { devices = with_item plan.devices i device }
 
-written_plans : (old : Plan) (net : Network) (node i : ℕ) (read written : Registers)
-    (change : Registers → Registers) → KeepsPorts change → i ≡ node → i < length old.devices.items
-    → read ≡ get_or old.devices.items i read → written ≡ change read → PlansFor old net
-    → PlansFor (with_written old i written) (with_change net node change)
-written_plans old net node i read written change same at within value is plans =
-    plan-change old (with_written old i written) net node change same
-    (changed_at old.devices.items node i read written change at within value is) refl refl refl
-    plans
+-- what a line does that has a device changed
+record IsSet (old new : Plan) (line : Line) : Type 0 where
+  plans : (net : Network) → PlansFor old net → MaySetUp net line → PlansFor new (set_up net line)
+  counts : counts_of new.devices.items ≡ counts_of old.devices.items
 
-written_counts : (old : Plan) (node i : ℕ) (read written : Registers)
-    (change : Registers → Registers) → KeepsPorts change → i ≡ node → i < length old.devices.items
-    → read ≡ get_or old.devices.items i read → written ≡ change read
-    → counts_of (with_written old i written).devices.items ≡ counts_of old.devices.items
-written_counts old node i read written change same at within value is =
-    ap counts_of (changed_at old.devices.items node i read written change at within value is)
-    ∙ counts-change old.devices.items node change same
+-- the device was read, changed and written back
+written : (old : Plan) (line other : Line) (node i : ℕ) (read next : Registers)
+    (change : Registers → Registers) → KeepsPorts change
+    → ((net : Network) → set_up net other ≡ with_change net node change) → line ≡ other → i ≡ node
+    → node < length old.devices.items → read ≡ get_or old.devices.items i read
+    → next ≡ change read → IsSet old (with_written old i next) line
+written old line other node i read next change same sets is at within value becomes =
+    let new = with_written old i next in
+    let changes = changed_at old.devices.items node i read next change at
+    (omega (arith, at, within)) value becomes in
+    record {
+      plans = λ net plans may. subst (PlansFor new) (sym (sets net) ∙ ap (set_up net) (sym is))
+          (plan-change old new net node change same changes refl refl refl plans);
+      counts = ap counts_of changes ∙ counts-change old.devices.items node change same;
+    }
 
 pub set_buffers-requires-clause-port : goal.set_buffers-requires-clause-port
 set_buffers-requires-clause-port c =
@@ -107,85 +114,6 @@ set_default-requires c =
     (c.index_mut-in-Default.ensures.value
     ∙ ap (λ n. get_or devices n read) c.from-in-Default.ensures)
 
-pub returns-in-Route-clause-plans : goal.returns-in-Route-clause-plans
-returns-in-Route-clause-plans c = λ net plans line_may.
-    let old = c.args.self.now in
-    let may = c.requires.may in
-    let there = (kind_of true may.net old.devices.items c.in-Route.node may.plans.registers
-    (subst (MaySetUp may.net) c.in-Route.is may.may).0).within in
-    let at = c.from.ensures in
-    let within : c.from.result < length old.devices.items = grind (arith, there, at) in
-    subst (λ line. PlansFor (with_written old c.from.result c.set_route.new.self)
-    (set_up net line)) (sym c.in-Route.is)
-    (written_plans old net c.in-Route.node c.from.result c.index_mut.result.now
-    c.set_route.new.self (routed c.in-Route.id c.in-Route.p) (λ device. refl) at within
-    c.index_mut.ensures.value c.set_route.ensures plans)
-
-pub returns-in-Route-clause-counts : goal.returns-in-Route-clause-counts
-returns-in-Route-clause-counts c =
-    let old = c.args.self.now in
-    let may = c.requires.may in
-    let there = (kind_of true may.net old.devices.items c.in-Route.node may.plans.registers
-    (subst (MaySetUp may.net) c.in-Route.is may.may).0).within in
-    let at = c.from.ensures in
-    let within : c.from.result < length old.devices.items = grind (arith, there, at) in
-    written_counts old c.in-Route.node c.from.result c.index_mut.result.now
-    c.set_route.new.self (routed c.in-Route.id c.in-Route.p) (λ device. refl) at within
-    c.index_mut.ensures.value c.set_route.ensures
-
-pub returns-in-Default-clause-plans : goal.returns-in-Default-clause-plans
-returns-in-Default-clause-plans c = λ net plans line_may.
-    let old = c.args.self.now in
-    let may = c.requires.may in
-    let there = (kind_of true may.net old.devices.items c.in-Default.node may.plans.registers
-    (subst (MaySetUp may.net) c.in-Default.is may.may).0).within in
-    let at = c.from-in-Default.ensures in
-    let within : c.from-in-Default.result < length old.devices.items = grind (arith, there, at) in
-    subst (λ line. PlansFor (with_written old c.from-in-Default.result c.set_default.new.self)
-    (set_up net line)) (sym c.in-Default.is)
-    (written_plans old net c.in-Default.node c.from-in-Default.result
-    c.index_mut-in-Default.result.now c.set_default.new.self (defaulted c.in-Default.p)
-    (λ device. refl) at within
-    c.index_mut-in-Default.ensures.value c.set_default.ensures plans)
-
-pub returns-in-Default-clause-counts : goal.returns-in-Default-clause-counts
-returns-in-Default-clause-counts c =
-    let old = c.args.self.now in
-    let may = c.requires.may in
-    let there = (kind_of true may.net old.devices.items c.in-Default.node may.plans.registers
-    (subst (MaySetUp may.net) c.in-Default.is may.may).0).within in
-    let at = c.from-in-Default.ensures in
-    let within : c.from-in-Default.result < length old.devices.items = grind (arith, there, at) in
-    written_counts old c.in-Default.node c.from-in-Default.result c.index_mut-in-Default.result.now
-    c.set_default.new.self (defaulted c.in-Default.p) (λ device. refl) at within
-    c.index_mut-in-Default.ensures.value c.set_default.ensures
-
-pub returns-in-Lock-clause-plans : goal.returns-in-Lock-clause-plans
-returns-in-Lock-clause-plans c = λ net plans line_may.
-    let old = c.args.self.now in
-    let may = c.requires.may in
-    let there = subst (λ (x : List Registers). c.in-Lock.node < length x) may.plans.registers
-    (subst (MaySetUp may.net) c.in-Lock.is may.may).0 in
-    let at = c.from-in-Lock.ensures in
-    let within : c.from-in-Lock.result < length old.devices.items = grind (arith, there, at) in
-    subst (λ line. PlansFor (with_written old c.from-in-Lock.result c.set_lock.new.self)
-    (set_up net line)) (sym c.in-Lock.is)
-    (written_plans old net c.in-Lock.node c.from-in-Lock.result c.index_mut-in-Lock.result.now
-    c.set_lock.new.self (held_by c.in-Lock.id) (λ device. refl) at within
-    c.index_mut-in-Lock.ensures.value c.set_lock.ensures plans)
-
-pub returns-in-Lock-clause-counts : goal.returns-in-Lock-clause-counts
-returns-in-Lock-clause-counts c =
-    let old = c.args.self.now in
-    let may = c.requires.may in
-    let there = subst (λ (x : List Registers). c.in-Lock.node < length x) may.plans.registers
-    (subst (MaySetUp may.net) c.in-Lock.is may.may).0 in
-    let at = c.from-in-Lock.ensures in
-    let within : c.from-in-Lock.result < length old.devices.items = grind (arith, there, at) in
-    written_counts old c.in-Lock.node c.from-in-Lock.result c.index_mut-in-Lock.result.now
-    c.set_lock.new.self (held_by c.in-Lock.id) (λ device. refl) at within
-    c.index_mut-in-Lock.ensures.value c.set_lock.ensures
-
 pub index_mut-requires-in-Large : goal.index_mut-requires-in-Large
 index_mut-requires-in-Large c =
     let may = c.requires.may in
@@ -202,28 +130,54 @@ set_large-requires c =
     (subst (MaySetUp may.net) c.in-Large.is may.may).0).kind read
     (c.index_mut-in-Large.ensures.value ∙ ap (λ n. get_or devices n read) c.from-in-Large.ensures)
 
-pub returns-in-Large-clause-plans : goal.returns-in-Large-clause-plans
-returns-in-Large-clause-plans c = λ net plans line_may.
+pub returns-in-Route : goal.returns-in-Route
+returns-in-Route c =
     let old = c.args.self.now in
     let may = c.requires.may in
-    let there = (kind_of false may.net old.devices.items c.in-Large.node may.plans.registers
-    (subst (MaySetUp may.net) c.in-Large.is may.may).0).within in
-    let at = c.from-in-Large.ensures in
-    let within : c.from-in-Large.result < length old.devices.items = grind (arith, there, at) in
-    subst (λ line. PlansFor (with_written old c.from-in-Large.result c.set_large.new.self)
-    (set_up net line)) (sym c.in-Large.is)
-    (written_plans old net c.in-Large.node c.from-in-Large.result c.index_mut-in-Large.result.now
-    c.set_large.new.self (large_set c.in-Large.id) (λ device. refl) at within
-    c.index_mut-in-Large.ensures.value c.set_large.ensures plans)
+    let set = written old c.args.line.now (Route c.in-Route.node c.in-Route.id c.in-Route.p)
+    c.in-Route.node
+    c.from.result c.index_mut.result.now c.set_route.new.self (routed c.in-Route.id c.in-Route.p)
+    (λ device. refl) (λ net. refl) c.in-Route.is c.from.ensures
+    ((kind_of true may.net old.devices.items c.in-Route.node may.plans.registers
+    (subst (MaySetUp may.net) c.in-Route.is may.may).0).within)
+    c.index_mut.ensures.value c.set_route.ensures in
+    record { plans = set.plans; counts = set.counts }
 
-pub returns-in-Large-clause-counts : goal.returns-in-Large-clause-counts
-returns-in-Large-clause-counts c =
+pub returns-in-Default : goal.returns-in-Default
+returns-in-Default c =
     let old = c.args.self.now in
     let may = c.requires.may in
-    let there = (kind_of false may.net old.devices.items c.in-Large.node may.plans.registers
-    (subst (MaySetUp may.net) c.in-Large.is may.may).0).within in
-    let at = c.from-in-Large.ensures in
-    let within : c.from-in-Large.result < length old.devices.items = grind (arith, there, at) in
-    written_counts old c.in-Large.node c.from-in-Large.result c.index_mut-in-Large.result.now
-    c.set_large.new.self (large_set c.in-Large.id) (λ device. refl) at within
-    c.index_mut-in-Large.ensures.value c.set_large.ensures
+    let set = written old c.args.line.now (Default c.in-Default.node c.in-Default.p)
+    c.in-Default.node
+    c.from-in-Default.result c.index_mut-in-Default.result.now c.set_default.new.self
+    (defaulted c.in-Default.p)
+    (λ device. refl) (λ net. refl) c.in-Default.is c.from-in-Default.ensures
+    ((kind_of true may.net old.devices.items c.in-Default.node may.plans.registers
+    (subst (MaySetUp may.net) c.in-Default.is may.may).0).within)
+    c.index_mut-in-Default.ensures.value c.set_default.ensures in
+    record { plans = set.plans; counts = set.counts }
+
+pub returns-in-Lock : goal.returns-in-Lock
+returns-in-Lock c =
+    let old = c.args.self.now in
+    let may = c.requires.may in
+    let set = written old c.args.line.now (Lock c.in-Lock.node c.in-Lock.id) c.in-Lock.node
+    c.from-in-Lock.result c.index_mut-in-Lock.result.now c.set_lock.new.self (held_by c.in-Lock.id)
+    (λ device. refl) (λ net. refl) c.in-Lock.is c.from-in-Lock.ensures
+    (subst (λ (x : List Registers). c.in-Lock.node < length x) may.plans.registers
+    (subst (MaySetUp may.net) c.in-Lock.is may.may).0)
+    c.index_mut-in-Lock.ensures.value c.set_lock.ensures in
+    record { plans = set.plans; counts = set.counts }
+
+pub returns-in-Large : goal.returns-in-Large
+returns-in-Large c =
+    let old = c.args.self.now in
+    let may = c.requires.may in
+    let set = written old c.args.line.now (Large c.in-Large.node c.in-Large.id) c.in-Large.node
+    c.from-in-Large.result c.index_mut-in-Large.result.now c.set_large.new.self
+    (large_set c.in-Large.id)
+    (λ device. refl) (λ net. refl) c.in-Large.is c.from-in-Large.ensures
+    ((kind_of false may.net old.devices.items c.in-Large.node may.plans.registers
+    (subst (MaySetUp may.net) c.in-Large.is may.may).0).within)
+    c.index_mut-in-Large.ensures.value c.set_large.ensures in
+    record { plans = set.plans; counts = set.counts }

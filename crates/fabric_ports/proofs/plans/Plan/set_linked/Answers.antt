@@ -1,5 +1,5 @@
 use Rattle.std.proofs.Common.{◌<◌, length, arith}
-use Rattle.fabric_ports.proofs.Changes.{changed_at}
+use Rattle.maint_registers.proofs.ChangeLaws.{changed_at}
 use Rattle.fabric_ports.proofs.PlanLaws.{linked_at}
 use Rattle.fabric_ports.proofs.Rows.{has_node}
 use Rattle.fabric_ports.proofs.plans.Plan.set_linked.Goals as goal
