@@ -10,8 +10,9 @@ use trace_lines::*;
 const SET_UPS: &[u8] = b"> endpoint A 255\n> switch B 16\n> link A.0 B.15\n> buffers A.0 4\n\
 > route B 1023 0\n> default B 254\n> lock B 65535\n> large A 4097\n> credits B.15\n";
 
-const PACKETS: &[u8] = b"> send A 0 15 2 cafe0001\n> send B 3 9 255 -\n\
-> read A 1 2 255 7 00006c\n> write B 2 254 0 255 fffff8 0123abcd\n";
+const SENDS: &[u8] = b"> send A 0 15 2 cafe0001\n> send B 3 9 255 -\n";
+
+const ACCESSES: &[u8] = b"> read A 1 2 255 7 00006c\n> write B 2 254 0 255 fffff8 0123abcd\n";
 
 const LARGE_PACKETS: &[u8] = b"> send16 A 0 15 8194 cafe\n> read16 A 1 4098 255 7 00006c\n\
 > write16 B 2 65535 0 255 fffff8 0123abcd\n";
@@ -55,42 +56,9 @@ fn lines_of_set_up_are_their_words(rt: HostRuntime) -> Result<(), Fail> {
 }
 
 #[test]
-fn lines_of_packets_are_their_words(rt: HostRuntime) -> Result<(), Fail> {
+fn lines_of_sends_are_their_words(rt: HostRuntime) -> Result<(), Fail> {
     let alloc = rt.alloc();
     let names = two_names(&rt, alloc)?;
-    let lines = (
-        Line::Send {
-            node: 0,
-            prio: 0,
-            ftype: 15,
-            dest: 2,
-            hex: Hex::new(vec![in alloc; 0xca, 0xfe, 0, 1]?),
-        },
-        Line::Send {
-            node: 1,
-            prio: 3,
-            ftype: 9,
-            dest: 255,
-            hex: Hex::new(Vec::new(alloc)),
-        },
-        Line::Read {
-            node: 0,
-            prio: 1,
-            dest: 2,
-            hop: 255,
-            tid: 7,
-            offset: 0x6c,
-        },
-        Line::Write {
-            node: 1,
-            prio: 2,
-            dest: 254,
-            hop: 0,
-            tid: 255,
-            offset: 0xfffff8,
-            value: 0x0123abcd,
-        },
-    );
     let mut sink = MemSink::new(alloc, 512, 64, Vec::new(alloc))?;
     let mut buffer = TextBuffer::new(alloc)?;
     let mut outbox = Outbox::new(&mut buffer, &mut sink);
@@ -98,12 +66,55 @@ fn lines_of_packets_are_their_words(rt: HostRuntime) -> Result<(), Fail> {
         outbox: &mut outbox,
         names: &names,
     };
-    writer.write_begun(&lines.0);
-    writer.write_begun(&lines.1);
-    writer.write_begun(&lines.2);
-    writer.write_begun(&lines.3);
+    writer.write_begun(&Line::Send {
+        node: 0,
+        prio: 0,
+        ftype: 15,
+        dest: 2,
+        hex: Hex::new(vec![in alloc; 0xca, 0xfe, 0, 1]?),
+    });
+    writer.write_begun(&Line::Send {
+        node: 1,
+        prio: 3,
+        ftype: 9,
+        dest: 255,
+        hex: Hex::new(Vec::new(alloc)),
+    });
     outbox.flush();
-    assert_eq!(rt; sink.written(), PACKETS);
+    assert_eq!(rt; sink.written(), SENDS);
+    Ok(())
+}
+
+#[test]
+fn lines_of_accesses_are_their_words(rt: HostRuntime) -> Result<(), Fail> {
+    let alloc = rt.alloc();
+    let names = two_names(&rt, alloc)?;
+    let mut sink = MemSink::new(alloc, 512, 64, Vec::new(alloc))?;
+    let mut buffer = TextBuffer::new(alloc)?;
+    let mut outbox = Outbox::new(&mut buffer, &mut sink);
+    let mut writer = TraceWriter {
+        outbox: &mut outbox,
+        names: &names,
+    };
+    writer.write_begun(&Line::Read {
+        node: 0,
+        prio: 1,
+        dest: 2,
+        hop: 255,
+        tid: 7,
+        offset: 0x6c,
+    });
+    writer.write_begun(&Line::Write {
+        node: 1,
+        prio: 2,
+        dest: 254,
+        hop: 0,
+        tid: 255,
+        offset: 0xfffff8,
+        value: 0x0123abcd,
+    });
+    outbox.flush();
+    assert_eq!(rt; sink.written(), ACCESSES);
     Ok(())
 }
 
@@ -111,30 +122,6 @@ fn lines_of_packets_are_their_words(rt: HostRuntime) -> Result<(), Fail> {
 fn lines_of_large_packets_are_their_words(rt: HostRuntime) -> Result<(), Fail> {
     let alloc = rt.alloc();
     let names = two_names(&rt, alloc)?;
-    let send = Line::Send16 {
-        node: 0,
-        prio: 0,
-        ftype: 15,
-        dest: 8194,
-        hex: Hex::new(vec![in alloc; 0xca, 0xfe]?),
-    };
-    let read = Line::Read16 {
-        node: 0,
-        prio: 1,
-        dest: 4098,
-        hop: 255,
-        tid: 7,
-        offset: 0x6c,
-    };
-    let write = Line::Write16 {
-        node: 1,
-        prio: 2,
-        dest: 65535,
-        hop: 0,
-        tid: 255,
-        offset: 0xfffff8,
-        value: 0x0123abcd,
-    };
     let mut sink = MemSink::new(alloc, 512, 64, Vec::new(alloc))?;
     let mut buffer = TextBuffer::new(alloc)?;
     let mut outbox = Outbox::new(&mut buffer, &mut sink);
@@ -142,9 +129,30 @@ fn lines_of_large_packets_are_their_words(rt: HostRuntime) -> Result<(), Fail> {
         outbox: &mut outbox,
         names: &names,
     };
-    writer.write_begun(&send);
-    writer.write_begun(&read);
-    writer.write_begun(&write);
+    writer.write_begun(&Line::Send16 {
+        node: 0,
+        prio: 0,
+        ftype: 15,
+        dest: 8194,
+        hex: Hex::new(vec![in alloc; 0xca, 0xfe]?),
+    });
+    writer.write_begun(&Line::Read16 {
+        node: 0,
+        prio: 1,
+        dest: 4098,
+        hop: 255,
+        tid: 7,
+        offset: 0x6c,
+    });
+    writer.write_begun(&Line::Write16 {
+        node: 1,
+        prio: 2,
+        dest: 65535,
+        hop: 0,
+        tid: 255,
+        offset: 0xfffff8,
+        value: 0x0123abcd,
+    });
     outbox.flush();
     assert_eq!(rt; sink.written(), LARGE_PACKETS);
     Ok(())

@@ -25,11 +25,11 @@ wires_on links (x ∷ before) wires line behind =
     wires_after links (told_wires links wires x (are_short l)) (before ++ line ∷ []) behind)
     (sym (append_assoc before (line ∷ []) behind))
 
-pub passes_alike : (net : Network) (before : List TraceLine) (line : TraceLine)
-    (one other : List TraceLine) → are_short one ≡ are_short other → LinePasses net before line one
+pub passes_alike : {net : Network} {before : List TraceLine} {line : TraceLine}
+    {one other : List TraceLine} → are_short one ≡ are_short other → LinePasses net before line one
     → LinePasses net before line other
-passes_alike net before line one other same passes = record {
-  wires = stands net before line one other OffWire same passes;
+passes_alike {other = other} same passes = record {
+  wires = stands other OffWire same passes;
   step = passes.step;
   came = passes.came;
   allowed = passes.allowed;
@@ -37,9 +37,8 @@ passes_alike net before line one other same passes = record {
 }
 
 -- a text that spells a line says the same as the line
-pub text_short : (known : Known) (text : List ℕ) (texts : List (List ℕ)) (line : TraceLine)
+pub text_short : {known : Known} {text : List ℕ} {line : TraceLine} (texts : List (List ℕ))
     (behind : List TraceLine) → IsOrderly known → SpellsLine known text line
     → are_short (as_behind (text ∷ texts)) ≡ are_short (line ∷ behind)
-text_short known text texts line behind orderly spelled =
-    sym (short_text known text line behind (pointwise nat_eq text (codes "short")) orderly refl
-    spelled)
+text_short {text = text} texts behind orderly spelled =
+    sym (short_text behind (pointwise nat_eq text (codes "short")) orderly refl spelled)

@@ -15,23 +15,17 @@ module _ (Stands : Fault → Type 0) where
 
   pub below_step : Stands OffWire → (other : Fault) → fault_number other < 23 → Stands other
   below_step wire OffWire less = wire
-  below_step wire NoSuchStep less = absurd (omega (arith, less))
-  below_step wire NotCome less = absurd (omega (arith, less))
-  below_step wire NotAllowed less = absurd (omega (arith, less))
-  below_step wire NotThere less = absurd (omega (arith, less))
+  below_step wire _ less = absurd (omega (arith, less))
 
   pub below_come : Stands OffWire → Stands NoSuchStep → (other : Fault) → fault_number other < 24
       → Stands other
   below_come wire step OffWire less = wire
   below_come wire step NoSuchStep less = step
-  below_come wire step NotCome less = absurd (omega (arith, less))
-  below_come wire step NotAllowed less = absurd (omega (arith, less))
-  below_come wire step NotThere less = absurd (omega (arith, less))
+  below_come wire step _ less = absurd (omega (arith, less))
 
   pub below_allowed : Stands OffWire → Stands NoSuchStep → Stands NotCome → (other : Fault)
       → fault_number other < 25 → Stands other
   below_allowed wire step come OffWire less = wire
   below_allowed wire step come NoSuchStep less = step
   below_allowed wire step come NotCome less = come
-  below_allowed wire step come NotAllowed less = absurd (omega (arith, less))
-  below_allowed wire step come NotThere less = absurd (omega (arith, less))
+  below_allowed wire step come _ less = absurd (omega (arith, less))

@@ -51,20 +51,21 @@ among (x ∷ lines) (y ∷ before) line behind last is =
     further (inr b) = inr (record { is = λ i. same i ∷ b.is i; line_is = b.line_is; none = b.none })
 
 -- what stands behind a line of those before
-short_on : (known : Known) (text : List ℕ) (last : TraceLine) (texts : List (List ℕ))
+short_on : {known : Known} {text : List ℕ} {last : TraceLine} (texts : List (List ℕ))
     (rest : List TraceLine) → IsOrderly known → SpellsLine known text last
     → are_short (rest ++ as_behind (text ∷ texts))
     ≡ are_short ((rest ++ last ∷ []) ++ as_behind texts)
-short_on known text last texts rest orderly spelled =
+short_on {text = text} {last} texts rest orderly spelled =
     short_alike rest (as_behind (text ∷ texts)) (last ∷ as_behind texts)
-    (text_short known text texts last (as_behind texts) orderly spelled)
+    (text_short texts (as_behind texts) orderly spelled)
     ∙ ap are_short (sym (append_assoc rest (last ∷ []) (as_behind texts)))
 
-pub pass_more : (known : Known) (net : Network) (lines : List TraceLine) (text : List ℕ)
-    (last : TraceLine) (texts : List (List ℕ)) → IsOrderly known → SpellsLine known text last
+pub pass_more : {known : Known} {net : Network} {lines : List TraceLine} {text : List ℕ}
+    {last : TraceLine} (texts : List (List ℕ)) → IsOrderly known → SpellsLine known text last
     → PassFront net lines (text ∷ texts) → LinePasses net lines last (as_behind texts)
     → PassFront net (lines ++ last ∷ []) texts
-pass_more known net lines text last texts orderly spelled pass passes before line behind is =
+pass_more {net = net} {lines} {last = last} texts orderly spelled pass passes before line behind
+    is =
     by_place (among lines before line behind last is)
   where
     by_place : IsPlaced lines before line behind last
@@ -72,9 +73,7 @@ pass_more known net lines text last texts orderly spelled pass passes before lin
     by_place (inl a) =
         subst (λ (l : List TraceLine). LinePasses net before line (l ++ as_behind texts))
         (sym a.behind_is)
-        (passes_alike net before line (a.rest ++ as_behind (text ∷ texts))
-        ((a.rest ++ last ∷ []) ++ as_behind texts)
-        (short_on known text last texts a.rest orderly spelled) (pass before line a.rest a.is))
+        (passes_alike (short_on texts a.rest orderly spelled) (pass before line a.rest a.is))
     by_place (inr b) =
         subst (λ (l : List TraceLine). LinePasses net before line (l ++ as_behind texts))
         (sym b.none)

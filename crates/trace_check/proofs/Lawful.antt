@@ -11,10 +11,10 @@ use Rattle.link_wires.proofs.KeptLaws.{all_then, finds_all}
 use Rattle.fabric_script.specs.declared.ports.PortRef.{PortRef}
 use Rattle.fabric_script.specs.declared.lines.Numbered.{Numbered}
 use Rattle.fabric_model.specs.Network.{Network, peer_in}
-use Rattle.fabric_model.specs.Steps.{Hold, Free, Step, Linked, AtNode, ByDevice, LegalFrom}
+use Rattle.fabric_model.specs.Steps.{Hold, Free, Step, Linked, LegalFrom}
 use Rattle.fabric_model.proofs.Joining.{legal_parts}
 use Rattle.fabric_model.proofs.Peers.{same_port-refl}
-use Rattle.trace_lines.specs.Lines.{Sent, Got, Fired, TraceLine, Begun, Stepped, Signed, Lacked, Ended, Undetected, steps_of}
+use Rattle.trace_lines.specs.Lines.{Sent, Got, Fired, TraceLine, Begun, Stepped, Signed, steps_of}
 use Rattle.fabric_trace.specs.Known.{Seen}
 use Rattle.fabric_trace.specs.Fold.{edit_of, says, seen}
 use Rattle.fabric_trace.specs.Holds.{got, holds, numbered_packets, HoldsCame}
@@ -54,8 +54,6 @@ on_wires : (s : Seen) (links : List (PortRef × PortRef)) (line : TraceLine)
     → OnWires links (chars_of s) line (are_short behind)
 on_wires s links (Begun line) behind same told stood each = edit_fits s (edit_of line)
     (are_short behind) told
-on_wires s links (Stepped step) behind same told stood each = tt
-on_wires s links (Signed (Sent p chars)) behind same told stood each = tt
 on_wires s links (Signed (Got q chars)) behind same told stood each = stood
 on_wires s links (Signed (Fired p)) behind same told stood each =
     record {
@@ -65,9 +63,7 @@ on_wires s links (Signed (Fired p)) behind same told stood each =
           each.near;
       far = each.far;
     }
-on_wires s links (Lacked lack) behind same told stood each = tt
-on_wires s links Ended behind same told stood each = tt
-on_wires s links (Undetected number q e) behind same told stood each = tt
+on_wires s links _ behind same told stood each = tt
 
 -- ---- steps
 
@@ -80,12 +76,8 @@ is_step net end before behind line legal = by_line line
   where
     by_line : (line : TraceLine) → LegalFrom (net_after net before) (steps_of (line ∷ behind)) end
         → LineIsStep (net_after net before) line
-    by_line (Begun line) legal = tt
     by_line (Stepped step) legal = legal.0
-    by_line (Signed sign) legal = tt
-    by_line (Lacked lack) legal = tt
-    by_line Ended legal = tt
-    by_line (Undetected number q e) legal = tt
+    by_line _ legal = tt
 
 -- ---- holds
 
@@ -115,15 +107,8 @@ hold_came before q packet came =
 
 has_come : (before behind : List TraceLine) (line : TraceLine) →
     ((q : PortRef) → HoldsCame q (before ++ line ∷ [])) → HoldHasCome before line
-has_come before behind (Begun line) came = tt
 has_come before behind (Stepped (Linked (Hold q packet))) came = hold_came before q packet (came q)
-has_come before behind (Stepped (Linked (Free p packet))) came = tt
-has_come before behind (Stepped (AtNode step)) came = tt
-has_come before behind (Stepped (ByDevice step)) came = tt
-has_come before behind (Signed sign) came = tt
-has_come before behind (Lacked lack) came = tt
-has_come before behind Ended came = tt
-has_come before behind (Undetected number q e) came = tt
+has_come before behind _ came = tt
 
 -- ---- frees
 
@@ -143,30 +128,17 @@ free_allowed before behind p packet all =
 
 is_allowed : (before behind : List TraceLine) (line : TraceLine) →
     ((p : PortRef) → FreesAllowed p [] 0 (before ++ line ∷ behind)) → IsAllowed before line
-is_allowed before behind (Begun line) all = tt
-is_allowed before behind (Stepped (Linked (Hold q packet))) all = tt
 is_allowed before behind (Stepped (Linked (Free p packet))) all =
     free_allowed before behind p packet (all p)
-is_allowed before behind (Stepped (AtNode step)) all = tt
-is_allowed before behind (Stepped (ByDevice step)) all = tt
-is_allowed before behind (Signed sign) all = tt
-is_allowed before behind (Lacked lack) all = tt
-is_allowed before behind Ended all = tt
-is_allowed before behind (Undetected number q e) all = tt
+is_allowed before behind _ all = tt
 
 -- ---- packets that are sent
 
 may_send : (s : Seen) (net : Network) (line : TraceLine) → s.network ≡ net → IsOwned s line
     → SendMayBe net line
-may_send s net (Begun line) same each = tt
-may_send s net (Stepped step) same each = tt
 may_send s net (Signed (Sent p chars)) same each = subst
     (λ (n : Network). AllByRecursion (HasEvent n p) (says chars)) same each
-may_send s net (Signed (Got q chars)) same each = tt
-may_send s net (Signed (Fired p)) same each = tt
-may_send s net (Lacked lack) same each = tt
-may_send s net Ended same each = tt
-may_send s net (Undetected number q e) same each = tt
+may_send s net _ same each = tt
 
 -- ---- all of them
 

@@ -7,7 +7,7 @@ use Rattle.fabric_script.specs.Known.{Known}
 use Rattle.fabric_script.specs.Reading.{MayBe}
 use Rattle.fabric_model.specs.Steps.{Answer, AtNode, ByDevice, Drop, Free, Hold, Leave, Linked, Move, Step, Take}
 use Rattle.fabric_trace.specs.Fold.{edit_of}
-use Rattle.trace_lines.specs.Lines.{Begun, Ended, Fired, Got, Lacked, Sent, Signed, Stepped, TraceLine, Undetected}
+use Rattle.trace_lines.specs.Lines.{Begun, Fired, Got, Sent, Signed, Stepped, TraceLine}
 use Rattle.trace_check.specs.Networks.{IsStepOf}
 use Rattle.trace_check.specs.States.{IsEditIn, IsLineIn}
 use Rattle.trace_check.specs.Tables.{IsIn}
@@ -39,6 +39,4 @@ line_in known (Stepped step) fits = step_in known step fits
 line_in known (Signed (Sent p chars)) fits = port_in known p fits.0.0
 line_in known (Signed (Got q chars)) fits = port_in known q fits.0.0
 line_in known (Signed (Fired p)) fits = port_in known p fits.0
-line_in known (Lacked lack) fits = tt
-line_in known Ended fits = tt
-line_in known (Undetected number q e) fits = tt
+line_in known _ fits = tt

@@ -18,15 +18,15 @@ lines_once : (known : Known) (texts : List (List ℕ)) (a b : List TraceLine) �
 lines_once known [] a b orderly one other = absurd one
 lines_once known (text ∷ []) a b orderly one other =
     one.1 ∙ ap (λ (l : TraceLine). l ∷ [])
-    (same_line known text one.0 other.0 orderly one.2 other.2) ∙ sym other.1
+    (same_line orderly one.2 other.2) ∙ sym other.1
 lines_once known (text ∷ next ∷ texts) a b orderly one other =
-    let same = same_line known text one.0 other.0 orderly one.3 other.3 in
+    let same = same_line orderly one.3 other.3 in
     let more = lines_once known (next ∷ texts) one.1 other.1 orderly one.5 other.5 in
     one.2 ∙ (λ i. same i ∷ more i) ∙ sym other.2
 
-pub lawful_once : (known : Known) (net : Network) (texts : List (List ℕ)) (m n : ℕ)
+pub lawful_once : {known : Known} {net : Network} {texts : List (List ℕ)} {m n : ℕ}
     → IsOrderly known → IsLawful known net texts m → IsLawful known net texts n → m ≡ n
-lawful_once known net texts m n orderly one other =
+lawful_once {known} {texts = texts} orderly one other =
     one.count
     ∙ ap (λ (l : List TraceLine). length (steps_of l))
     (lines_once known texts one.lines other.lines orderly one.spelled other.spelled)
@@ -52,40 +52,29 @@ fault_once Stand a b fails_a fails_b below_a below_b =
 
 -- ---- of one text
 
-module _ (known : Known) (net : Network) (before : List TraceLine) (orderly : IsOrderly known) where
+module _ {known : Known} (net : Network) (before : List TraceLine) (orderly : IsOrderly known) where
   -- a line that passes is hit by no fault, with the same behind it
-  not_failed : (text : List ℕ) (line other : TraceLine) (one : List TraceLine)
+  not_failed : {text : List ℕ} {line other : TraceLine} {one : List TraceLine}
       (texts : List (List ℕ)) (fault : Fault) → SpellsLine known text line
       → SpellsLine known text other → are_short one ≡ are_short (as_behind texts)
       → LinePasses net before line one → (Spares net before other (as_behind texts) fault → ⊥) → ⊥
-  not_failed text line other one texts fault spelled spells short passes fails =
+  not_failed texts fault spelled spells short passes fails =
       fails (subst (λ l. Spares net before l (as_behind texts) fault)
-      (same_line known text line other orderly spelled spells)
-      (stands net before line one (as_behind texts) fault short passes))
+      (same_line orderly spelled spells) (stands (as_behind texts) fault short passes))
 
   -- one that passes and does not end the trace is not hit
-  pub not_over : (text : List ℕ) (texts : List (List ℕ)) (line : TraceLine)
-      (behind : List TraceLine) (place reason : ℕ) → SpellsLine known text line
-      → is_last line ≡ false → are_short behind ≡ are_short (as_behind texts)
-      → LinePasses net before line behind → HitsNext known net before (text ∷ texts) place reason
-      → ⊥
-  not_over text [] line behind place reason spelled goes short passes (SpellsNone none) =
-      none line spelled
-  not_over text [] line behind place reason spelled goes short passes
-      (HitsLine other fault spells fails less) =
-      not_failed text line other behind [] fault spelled spells short passes fails
-  not_over text (next ∷ texts) line behind place reason spelled goes short passes (SpellsNone none)
-      =
-      none line spelled
-  not_over text (next ∷ texts) line behind place reason spelled goes short passes
-      (BehindLast other spells last passes_too) =
-      absurd (cc (ap is_last (same_line known text line other orderly spelled spells), goes, last))
-  not_over text (next ∷ texts) line behind place reason spelled goes short passes
-      (HitsLine other fault spells fails less) =
-      not_failed text line other behind (next ∷ texts) fault spelled spells short passes fails
+  pub not_over : {text : List ℕ} {line : TraceLine} {behind : List TraceLine} {place reason : ℕ}
+      (texts : List (List ℕ)) → SpellsLine known text line → is_last line ≡ false
+      → are_short behind ≡ are_short (as_behind texts) → LinePasses net before line behind
+      → HitsNext known net before (text ∷ texts) place reason → ⊥
+  not_over {line = line} texts spelled goes short passes (SpellsNone none) = none line spelled
+  not_over (next ∷ texts) spelled goes short passes (BehindLast other spells last passes_too) =
+      absurd (cc (ap is_last (same_line orderly spelled spells), goes, last))
+  not_over texts spelled goes short passes (HitsLine other fault spells fails less) =
+      not_failed texts fault spelled spells short passes fails
 
   -- two faults of one text
-  faults_once : (text : List ℕ) (texts : List (List ℕ)) (line other : TraceLine) (a b : Fault)
+  faults_once : {text : List ℕ} {line other : TraceLine} (texts : List (List ℕ)) (a b : Fault)
       → SpellsLine known text line → SpellsLine known text other
       → (Spares net before line (as_behind texts) a → ⊥)
       → (Spares net before other (as_behind texts) b → ⊥)
@@ -94,50 +83,32 @@ module _ (known : Known) (net : Network) (before : List TraceLine) (orderly : Is
       → ((f : Fault) → fault_number f < fault_number b
       → Spares net before other (as_behind texts) f)
       → fault_number a ≡ fault_number b
-  faults_once text texts line other a b spelled spells fails_a fails_b below_a below_b =
-      let same = same_line known text other line orderly spells spelled in
+  faults_once {line = line} texts a b spelled spells fails_a fails_b below_a below_b =
+      let same = same_line orderly spells spelled in
       fault_once (Spares net before line (as_behind texts)) a b fails_a
       (subst (λ l. Spares net before l (as_behind texts) b → ⊥) same fails_b) below_a
       (subst (λ l. (f : Fault) → fault_number f < fault_number b
       → Spares net before l (as_behind texts) f) same below_b)
 
-  hits_once : (texts : List (List ℕ)) (place reason place' reason' : ℕ)
+  hits_once : {texts : List (List ℕ)} {place reason place' reason' : ℕ}
       → HitsNext known net before texts place reason
       → HitsNext known net before texts place' reason' → (place ≡ place') × (reason ≡ reason')
-  hits_once [] p r p' r' (SpellsNone none) (SpellsNone none') = (refl, refl)
-  hits_once (text ∷ []) p r p' r' (SpellsNone none) (SpellsNone none') = (refl, refl)
-  hits_once (text ∷ []) p r p' r' (SpellsNone none) (HitsLine line b spells fails less) =
-      absurd (none line spells)
-  hits_once (text ∷ []) p r p' r' (HitsLine line a spelled fails less) (SpellsNone none) =
-      absurd (none line spelled)
-  hits_once (text ∷ []) p r p' r' (HitsLine line a spelled fails less)
-      (HitsLine other b spells fails_too less_too) =
-      (refl, faults_once text [] line other a b spelled spells fails fails_too less less_too)
-  hits_once (text ∷ next ∷ texts) p r p' r' (SpellsNone none) (SpellsNone none') = (refl, refl)
-  hits_once (text ∷ next ∷ texts) p r p' r' (SpellsNone none) (BehindLast line spells last passes) =
-      absurd (none line spells)
-  hits_once (text ∷ next ∷ texts) p r p' r' (SpellsNone none) (HitsLine line b spells fails less) =
-      absurd (none line spells)
-  hits_once (text ∷ next ∷ texts) p r p' r' (BehindLast line spelled last passes) (SpellsNone none)
-      =
-      absurd (none line spelled)
-  hits_once (text ∷ next ∷ texts) p r p' r' (BehindLast line spelled last passes)
-      (BehindLast other spells last_too passes_too) = (refl, refl)
-  hits_once (text ∷ next ∷ texts) p r p' r' (BehindLast line spelled last passes)
+  hits_once (SpellsNone none) (SpellsNone none') = (refl, refl)
+  hits_once (SpellsNone none) (BehindLast line spells last passes) = absurd (none line spells)
+  hits_once (SpellsNone none) (HitsLine line b spells fails less) = absurd (none line spells)
+  hits_once (BehindLast line spelled last passes) (SpellsNone none) = absurd (none line spelled)
+  hits_once (BehindLast line spelled last passes) (BehindLast other spells last' passes') =
+      (refl, refl)
+  hits_once (BehindLast {next = next} {texts = texts} line spelled last passes)
       (HitsLine other b spells fails less) =
-      absurd (not_failed text line other (as_behind (next ∷ texts)) (next ∷ texts) b spelled spells
-      refl passes fails)
-  hits_once (text ∷ next ∷ texts) p r p' r' (HitsLine line a spelled fails less) (SpellsNone none) =
-      absurd (none line spelled)
-  hits_once (text ∷ next ∷ texts) p r p' r' (HitsLine line a spelled fails less)
-      (BehindLast other spells last passes) =
-      absurd (not_failed text other line (as_behind (next ∷ texts)) (next ∷ texts) a spells spelled
-      refl passes fails)
-  hits_once (text ∷ next ∷ texts) p r p' r' (HitsLine line a spelled fails less)
-      (HitsLine other b spells fails_too less_too) = (
-        refl,
-        faults_once text (next ∷ texts) line other a b spelled spells fails fails_too less less_too,
-      )
+      absurd (not_failed (next ∷ texts) b spelled spells refl passes fails)
+  hits_once (HitsLine line a spelled fails less) (SpellsNone none) = absurd (none line spelled)
+  hits_once (HitsLine line a spelled fails less)
+      (BehindLast {next = next} {texts = texts} other spells last passes) =
+      absurd (not_failed (next ∷ texts) a spells spelled refl passes fails)
+  hits_once (HitsLine {texts = texts} line a spelled fails less)
+      (HitsLine other b spells fails' less') =
+      (refl, faults_once texts a b spelled spells fails fails' less less')
 
 -- ---- of all texts
 
@@ -149,52 +120,51 @@ front_short known [] rest lines orderly none =
     ap (λ (l : List TraceLine). are_short (l ++ as_behind rest)) none
 front_short known (text ∷ front) rest lines orderly first =
     ap (λ (l : List TraceLine). are_short (l ++ as_behind rest)) first.2
-    ∙ sym (text_short known text (front ++ rest) first.0 (first.1 ++ as_behind rest) orderly
+    ∙ sym (text_short (front ++ rest) (first.1 ++ as_behind rest) orderly
     first.3)
 
-module _ (known : Known) (net : Network) (orderly : IsOrderly known) where
+module _ {known : Known} {net : Network} (orderly : IsOrderly known) where
   -- a reason hits none of the texts that spell lines which pass
-  over : (text : List ℕ) (front rest texts : List (List ℕ)) (done lines none : List TraceLine)
-      (place reason : ℕ) → SpellFront known (text ∷ front) lines
+  over : {place reason : ℕ} (text : List ℕ) (front rest texts : List (List ℕ))
+      (done lines none : List TraceLine) → SpellFront known (text ∷ front) lines
       → PassFront net (done ++ lines) rest → none ≡ [] → texts ≡ text ∷ (front ++ rest)
       → HitsNext known net (done ++ none) texts place reason → ⊥
-  over text front rest texts done lines none place reason spelled pass is split hits =
+  over {place} {reason} text front rest texts done lines none spelled pass is split hits =
       let before : done ++ none ≡ done
       = ap (λ (l : List TraceLine). done ++ l) is ∙ append-nil done in
-      not_over known net done orderly text (front ++ rest) spelled.0 (spelled.1 ++ as_behind rest)
-      place reason spelled.3 spelled.4 (front_short known front rest spelled.1 orderly spelled.5)
+      not_over net done orderly (front ++ rest) spelled.3 spelled.4
+      (front_short known front rest spelled.1 orderly spelled.5)
       (pass done spelled.0 spelled.1 (ap (λ (l : List TraceLine). done ++ l) spelled.2))
       (subst (λ (l : List TraceLine).
       HitsNext known net l (text ∷ (front ++ rest)) place reason) before
       (subst (λ (t : List (List ℕ)). HitsNext known net (done ++ none) t place reason) split hits))
 
-  once : (front front' rest rest' : List (List ℕ)) (done lines lines' : List TraceLine)
-      (place reason place' reason' : ℕ) → front ++ rest ≡ front' ++ rest'
+  once : {place reason place' reason' : ℕ} (front front' rest rest' : List (List ℕ))
+      (done lines lines' : List TraceLine) → front ++ rest ≡ front' ++ rest'
       → SpellFront known front lines → SpellFront known front' lines'
       → PassFront net (done ++ lines) rest → PassFront net (done ++ lines') rest'
       → HitsNext known net (done ++ lines) rest place reason
       → HitsNext known net (done ++ lines') rest' place' reason'
       → (length front + place ≡ length front' + place') × (reason ≡ reason')
-  once [] [] rest rest' done lines lines' p r p' r' split none none' pass pass' hits hits' =
+  once {place' = p'} {reason' = r'} [] [] rest rest' done lines lines' split none none' pass pass'
+      hits hits' =
       let before : done ++ lines' ≡ done ++ lines
       = ap (λ (l : List TraceLine). done ++ l) (none' ∙ sym none) in
-      let same = hits_once known net (done ++ lines) orderly rest p r p' r' hits
+      let same = hits_once net (done ++ lines) orderly hits
       (subst (λ (t : List (List ℕ)). HitsNext known net (done ++ lines) t p' r') (sym split)
       (subst (λ (l : List TraceLine). HitsNext known net l rest' p' r') before hits')) in
       let place = same.0 in
       (omega (arith, place), same.1)
-  once [] (y ∷ front') rest rest' done lines lines' p r p' r' split none first' pass pass' hits
-      hits' =
-      absurd (over y front' rest' rest done lines' lines p r first' pass' none split hits)
-  once (x ∷ front) [] rest rest' done lines lines' p r p' r' split first none' pass pass' hits
-      hits' =
-      absurd (over x front rest rest' done lines lines' p' r' first pass none' (sym split) hits')
-  once (x ∷ front) (y ∷ front') rest rest' done lines lines' p r p' r' split first first' pass pass'
-      hits hits' =
+  once [] (y ∷ front') rest rest' done lines lines' split none first' pass pass' hits hits' =
+      absurd (over y front' rest' rest done lines' lines first' pass' none split hits)
+  once (x ∷ front) [] rest rest' done lines lines' split first none' pass pass' hits hits' =
+      absurd (over x front rest rest' done lines lines' first pass none' (sym split) hits')
+  once {place = p} {reason = r} {place' = p'} {reason' = r'} (x ∷ front) (y ∷ front') rest rest'
+      done lines lines' split first first' pass pass' hits hits' =
       let text : y ≡ x = cc in
       let texts : front ++ rest ≡ front' ++ rest' = cc in
       let line = first.0 in
-      let same : first'.0 ≡ line = same_line known x first'.0 line orderly
+      let same : first'.0 ≡ line = same_line orderly
       (subst (λ t. SpellsLine known t first'.0) text first'.3) first.3 in
       let one : done ++ lines ≡ (done ++ line ∷ []) ++ first.1
       = ap (λ (l : List TraceLine). done ++ l) first.2
@@ -203,7 +173,7 @@ module _ (known : Known) (net : Network) (orderly : IsOrderly known) where
       = ap (λ (l : List TraceLine). done ++ l) first'.2
       ∙ (λ i. done ++ same i ∷ first'.1)
       ∙ sym (append_assoc done (line ∷ []) first'.1) in
-      let more = once front front' rest rest' (done ++ line ∷ []) first.1 first'.1 p r p' r' texts
+      let more = once front front' rest rest' (done ++ line ∷ []) first.1 first'.1 texts
       first.5 first'.5 (subst (λ (l : List TraceLine). PassFront net l rest) one pass)
       (subst (λ (l : List TraceLine). PassFront net l rest') other pass')
       (subst (λ (l : List TraceLine). HitsNext known net l rest p r) one hits)
@@ -211,11 +181,11 @@ module _ (known : Known) (net : Network) (orderly : IsOrderly known) where
       let place = more.0 in
       (omega (arith, place), more.1)
 
-  pub unlawful_once : (texts : List (List ℕ)) (line reason line' reason' : ℕ)
+  pub unlawful_once : {texts : List (List ℕ)} {line reason line' reason' : ℕ}
       → IsUnlawful known net texts line reason → IsUnlawful known net texts line' reason'
       → (line ≡ line') × (reason ≡ reason')
-  unlawful_once texts line reason line' reason' one other =
-      let same = once one.front other.front one.rest other.rest [] one.lines other.lines one.place
-      reason other.place reason' (sym one.split ∙ other.split) one.spelled other.spelled one.pass
+  unlawful_once one other =
+      let same = once one.front other.front one.rest other.rest [] one.lines other.lines
+      (sym one.split ∙ other.split) one.spelled other.spelled one.pass
       other.pass one.hits other.hits in
       (one.at ∙ same.0 ∙ sym other.at, same.1)

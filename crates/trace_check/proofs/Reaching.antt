@@ -2,12 +2,12 @@
 use Rattle.std.proofs.Common.{◌≡◌, ℕ, ◌<◌, ◌++◌, List, [], ◌∷◌, refl, sym, ap, ◌∙◌, subst, arith}
 use Rattle.fabric_script.specs.declared.ports.PortRef.{PortRef}
 use Rattle.fabric_model.specs.Network.{Network}
-use Rattle.fabric_model.specs.Steps.{after, after_all, AtNode, ByDevice, Free, Hold, Linked, Step}
+use Rattle.fabric_model.specs.Steps.{after, after_all, Free, Hold, Linked, Step}
 use Rattle.fabric_model.proofs.Peers.{port_is}
 use Rattle.fabric_model.proofs.Flows.{links_along}
 use Rattle.fabric_trace.specs.Allowance.{allowance}
 use Rattle.fabric_trace.specs.Holds.{got}
-use Rattle.trace_lines.specs.Lines.{Begun, Ended, Lacked, Signed, Stepped, steps_of, TraceLine, Undetected}
+use Rattle.trace_lines.specs.Lines.{Stepped, steps_of, TraceLine}
 use Rattle.fabric_trace.specs.Wires.{WireChars}
 use Rattle.fabric_trace.proofs.Parts.Keeping.{steps_of-append}
 use Rattle.trace_check.specs.Checks.{freed, HoldHasCome, IsAllowed, LineIsStep, SendMayBe, net_after, OnWires, LinePasses}
@@ -20,9 +20,9 @@ use Rattle.trace_check.proofs.Behind.{wires_on}
 use Rattle.trace_check.proofs.Exclusive.{wires_alike}
 use Rattle.trace_check.proofs.Running.{HoldsFit, may_hold, new_is, run_on}
 
-pub start_behind : (nodes : ℕ) (net : Network) (behind : List TraceLine)
+pub start_behind : {nodes : ℕ} {net : Network} {behind : List TraceLine}
     → Reaches nodes net [] behind (unreached nodes net)
-start_behind nodes net behind = record {
+start_behind = record {
   nodes_are = refl;
   net_is = refl;
   links_are = refl;
@@ -31,11 +31,10 @@ start_behind nodes net behind = record {
 }
 
 -- what stands behind the lines counts by the first of it alone
-pub other_behind : (nodes : ℕ) (net : Network) (before one other : List TraceLine)
-    (r : ReachedState)
-    → are_short one ≡ are_short other → Reaches nodes net before one r
+pub other_behind : {nodes : ℕ} {net : Network} {before one other : List TraceLine}
+    {r : ReachedState} → are_short one ≡ are_short other → Reaches nodes net before one r
     → Reaches nodes net before other r
-other_behind nodes net before one other r same is = record {
+other_behind {net = net} {before} {one} {other} same is = record {
   nodes_are = is.nodes_are;
   net_is = is.net_is;
   links_are = is.links_are;
@@ -52,21 +51,14 @@ after-append net (step ∷ xs) ys = after-append (after net step) xs ys
 
 holds_fit : (p : PortRef) (runs : PortRef → PortRun) (line : TraceLine) → HoldMayBe runs line
     → HoldsFit p (runs p) line
-holds_fit p runs (Begun line) may = tt
 holds_fit p runs (Stepped (Linked (Hold q packet))) may =
     λ same. subst (λ x. MayHold (runs x) packet) (sym (port_is p q same)) may
-holds_fit p runs (Stepped (Linked (Free q packet))) may = tt
-holds_fit p runs (Stepped (AtNode step)) may = tt
-holds_fit p runs (Stepped (ByDevice step)) may = tt
-holds_fit p runs (Signed sign) may = tt
-holds_fit p runs (Lacked lack) may = tt
-holds_fit p runs Ended may = tt
-holds_fit p runs (Undetected number q e) may = tt
+holds_fit p runs _ may = tt
 
-pub on_behind : (nodes : ℕ) (net : Network) (before behind : List TraceLine) (line : TraceLine)
-    (r : ReachedState) → HoldMayBe r.runs line → Reaches nodes net before (line ∷ behind) r
+pub on_behind : {nodes : ℕ} {net : Network} {before behind : List TraceLine} {line : TraceLine}
+    {r : ReachedState} → HoldMayBe r.runs line → Reaches nodes net before (line ∷ behind) r
     → Reaches nodes net (before ++ line ∷ []) behind (reached_after r line (are_short behind))
-on_behind nodes net before behind line r may is = record {
+on_behind {net = net} {before} {behind} {line} {r} may is = record {
   nodes_are = is.nodes_are;
   net_is = ap (λ (n : Network). net_after n (line ∷ [])) is.net_is
       ∙ after-append net (steps_of before) (steps_of (line ∷ []))
@@ -74,7 +66,7 @@ on_behind nodes net before behind line r may is = record {
   links_are = links_along r.net (steps_of (line ∷ [])) ∙ is.links_are;
   wires_are = (λ i. told_wires (is.links_are i) (is.wires_are i) line (are_short behind))
       ∙ wires_on net.links before (λ p. []) line behind;
-  runs_are = λ p. run_on p before line (r.runs p) (holds_fit p r.runs line may) (is.runs_are p);
+  runs_are = λ p. run_on line (holds_fit p r.runs line may) (is.runs_are p);
 }
 
 -- ---- what is asked of what is reached is what is asked of the lines before
@@ -83,16 +75,9 @@ has_come : (before : List TraceLine) (runs : PortRef → PortRun) (line : TraceL
     → ((p : PortRef) → IsPortRun p before (runs p))
     → (HoldMayBe runs line → HoldHasCome before line)
     × (HoldHasCome before line → HoldMayBe runs line)
-has_come before runs (Begun line) are = (λ x. tt, λ x. tt)
 has_come before runs (Stepped (Linked (Hold q packet))) are =
-    may_hold q before (runs q) packet (are q)
-has_come before runs (Stepped (Linked (Free q packet))) are = (λ x. tt, λ x. tt)
-has_come before runs (Stepped (AtNode step)) are = (λ x. tt, λ x. tt)
-has_come before runs (Stepped (ByDevice step)) are = (λ x. tt, λ x. tt)
-has_come before runs (Signed sign) are = (λ x. tt, λ x. tt)
-has_come before runs (Lacked lack) are = (λ x. tt, λ x. tt)
-has_come before runs Ended are = (λ x. tt, λ x. tt)
-has_come before runs (Undetected number q e) are = (λ x. tt, λ x. tt)
+    may_hold packet (are q)
+has_come before runs _ are = (λ x. tt, λ x. tt)
 
 may_free : (p : PortRef) (before : List TraceLine) (run : PortRun) → IsPortRun p before run
     → (MayFree run → freed p before < allowance (got p before))
@@ -107,19 +92,12 @@ may_free p before run is =
 is_allowed : (before : List TraceLine) (runs : PortRef → PortRun) (line : TraceLine)
     → ((p : PortRef) → IsPortRun p before (runs p))
     → (FreeMayBe runs line → IsAllowed before line) × (IsAllowed before line → FreeMayBe runs line)
-is_allowed before runs (Begun line) are = (λ x. tt, λ x. tt)
-is_allowed before runs (Stepped (Linked (Hold q packet))) are = (λ x. tt, λ x. tt)
 is_allowed before runs (Stepped (Linked (Free p packet))) are =
     may_free p before (runs p) (are p)
-is_allowed before runs (Stepped (AtNode step)) are = (λ x. tt, λ x. tt)
-is_allowed before runs (Stepped (ByDevice step)) are = (λ x. tt, λ x. tt)
-is_allowed before runs (Signed sign) are = (λ x. tt, λ x. tt)
-is_allowed before runs (Lacked lack) are = (λ x. tt, λ x. tt)
-is_allowed before runs Ended are = (λ x. tt, λ x. tt)
-is_allowed before runs (Undetected number q e) are = (λ x. tt, λ x. tt)
+is_allowed before runs _ are = (λ x. tt, λ x. tt)
 
-module _ (nodes : ℕ) (net : Network) (before behind : List TraceLine) (line : TraceLine)
-    (r : ReachedState) (is : Reaches nodes net before (line ∷ behind) r) where
+module _ {nodes : ℕ} {net : Network} {before behind : List TraceLine} {line : TraceLine}
+    {r : ReachedState} (is : Reaches nodes net before (line ∷ behind) r) where
   pub stands_so : (fault : Fault) → SparesAt r line (are_short behind) fault
       → Spares net before line behind fault
   stands_so OffWire on =

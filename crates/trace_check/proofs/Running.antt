@@ -13,8 +13,8 @@ use Rattle.link_wires.specs.Kept.{behind, behind_some, behind_all}
 use Rattle.link_wires.proofs.KeptLaws.{all_then, all-more}
 use Rattle.fabric_script.specs.declared.ports.PortRef.{PortRef}
 use Rattle.fabric_model.specs.Network.{same_port}
-use Rattle.fabric_model.specs.Steps.{Hold, Free, Linked, AtNode, ByDevice}
-use Rattle.trace_lines.specs.Lines.{Sent, Got, Fired, TraceLine, Begun, Stepped, Signed, Lacked, Ended, Undetected}
+use Rattle.fabric_model.specs.Steps.{Hold, Free, Linked}
+use Rattle.trace_lines.specs.Lines.{Got, TraceLine, Stepped, Signed}
 use Rattle.fabric_trace.specs.Fold.{says}
 use Rattle.fabric_trace.specs.Holds.{got, holds, numbered_packets}
 use Rattle.fabric_trace.specs.Frees.{frees_by}
@@ -69,11 +69,11 @@ new_is p = record {
     none = says_none
 
 -- what a hold asks of what is kept is what the lines before say
-pub hold_decides : (p : PortRef) (before : List TraceLine) (run : PortRun) (packet : List ℕ)
+pub hold_decides : {p : PortRef} {before : List TraceLine} {run : PortRun} (packet : List ℕ)
     → IsPortRun p before run
     → option_map packets_come (behind_some (behind (Pkt (length (holds p before) % 32) packet))
     (unheld p before)) ≡ behind_packet run.next packet run.unheld
-hold_decides p before run packet is =
+hold_decides {p} {before} packet is =
     ap (λ o. option_map packets_come (behind_some (behind (Pkt (length
     (holds p before) % 32) packet)) o)) is.found
     ∙ behind_is (length (holds p before) % 32) packet is.left
@@ -87,12 +87,12 @@ map_some : (o : Option (List Event)) → IsSome o → IsSome (option_map packets
 map_some None h = absurd cc
 map_some (Some x) h = refl
 
-pub may_hold : (p : PortRef) (before : List TraceLine) (run : PortRun) (packet : List ℕ)
+pub may_hold : {p : PortRef} {before : List TraceLine} {run : PortRun} (packet : List ℕ)
     → IsPortRun p before run
     → (MayHold run packet → HoldHasCome before (Stepped (Linked (Hold p packet)))) ×
     (HoldHasCome before (Stepped (Linked (Hold p packet))) → MayHold run packet)
-may_hold p before run packet is =
-    let same = hold_decides p before run packet is in
+may_hold {p} {before} packet is =
+    let same = hold_decides packet is in
     let looked = behind_some (behind (Pkt (length (holds p before) % 32) packet))
     (unheld p before) in (
       λ may. some_map looked (subst IsSome (sym same) may),
@@ -113,9 +113,9 @@ record SaysSame (p : PortRef) (before : List TraceLine) (line : TraceLine) : Typ
   has : holds p (before ++ line ∷ []) ≡ holds p before
   frees : freed p (before ++ line ∷ []) ≡ freed p before
 
-same_run : (p : PortRef) (before : List TraceLine) (line : TraceLine) (run : PortRun)
+same_run : {p : PortRef} {before : List TraceLine} {line : TraceLine} {run : PortRun}
     → SaysSame p before line → IsPortRun p before run → IsPortRun p (before ++ line ∷ []) run
-same_run p before line run same is = record {
+same_run same is = record {
   place = is.place ∙ ap (place_after place_start) (sym same.gets);
   next = is.next ∙ ap (λ (l : List (List ℕ)). length l % 32) (sym same.has);
   freed_is = is.freed_is ∙ sym same.frees;
@@ -125,12 +125,12 @@ same_run p before line run same is = record {
   packets = is.packets;
 }
 
-hears_run : (p : PortRef) (before : List TraceLine) (line : TraceLine) (run : PortRun)
+hears_run : {p : PortRef} {before : List TraceLine} {run : PortRun} (line : TraceLine)
     (chars : List Char) → got p (before ++ line ∷ []) ≡ got p before ++ chars → holds p
     (before ++ line ∷ []) ≡ holds p before
     → freed p (before ++ line ∷ []) ≡ freed p before → IsPortRun p before run → IsPortRun p
     (before ++ line ∷ []) (run_hears run chars)
-hears_run p before line run chars gets has frees is =
+hears_run {p} {before} {run} line chars gets has frees is =
     let said_is : says (got p (before ++ line ∷ [])) ≡ says (got p before) ++ said run.place chars =
     ap says gets ∙ said-append place_start (got p before) chars ∙ ap
     (λ (x : Place). says (got p before) ++ said x chars) (sym is.place) in
@@ -156,15 +156,15 @@ holds_by : (o : Option (List Event)) → IsSome o → (left : List Event) × (o 
 holds_by None h = absurd cc
 holds_by (Some left) h = (left, refl, refl)
 
-holds_run : (p : PortRef) (before : List TraceLine) (line : TraceLine) (run : PortRun)
+holds_run : {p : PortRef} {before : List TraceLine} {run : PortRun} (line : TraceLine)
     (packet : List ℕ) → got p (before ++ line ∷ []) ≡ got p before → holds p (before ++ line ∷ [])
     ≡ holds p before ++ packet ∷ []
     → freed p (before ++ line ∷ []) ≡ freed p before → MayHold run packet → IsPortRun p before run
     → IsPortRun p (before ++ line ∷ []) (holds_one run packet)
-holds_run p before line run packet gets has frees may is =
+holds_run {p} {before} line packet gets has frees may is =
     let looked = behind_some (behind (Pkt (length (holds p before) % 32) packet))
     (unheld p before) in
-    let rest = holds_by looked ((may_hold p before run packet is).0 may) in
+    let rest = holds_by looked ((may_hold packet is).0 may) in
     let all : numbered_packets 0 (holds p (before ++ line ∷ []))
     ≡ numbered_packets 0 (holds p before) ++ Pkt
     (length (holds p before) % 32) packet ∷ [] =
@@ -181,12 +181,12 @@ holds_run p before line run packet gets has frees may is =
       found = (λ i. behind_all (all i) (says (gets i)))
           ∙ all_then (numbered_packets 0 (holds p before))
           (says (got p before)) (Pkt (length (holds p before) % 32) packet) ∙ rest.1;
-      packets = ap (λ o. unwrap_or o []) (sym (hold_decides p before run packet is)) ∙ rest.2;
+      packets = ap (λ o. unwrap_or o []) (sym (hold_decides packet is)) ∙ rest.2;
     }
 
-nothing_said : (p : PortRef) (before : List TraceLine) (line : TraceLine) → got p (line ∷ []) ≡ []
+nothing_said : {p : PortRef} {before : List TraceLine} (line : TraceLine) → got p (line ∷ []) ≡ []
     → holds p (line ∷ []) ≡ [] → frees_by p line ≡ 0 → SaysSame p before line
-nothing_said p before line gets has frees = record {
+nothing_said {p} {before} line gets has frees = record {
   gets = got-append p before (line ∷ []) ∙ ap (λ (l : List Char). got p before ++ l) gets
       ∙ append-nil (got p before);
   has = holds-append p before (line ∷ []) ∙ ap (λ (l : List (List ℕ)). holds p before ++ l) has
@@ -199,12 +199,10 @@ abbrev pub HoldsFit : PortRef → PortRun → TraceLine → Type 0
 HoldsFit p run (Stepped (Linked (Hold q packet))) = same_port p q ≡ true → MayHold run packet
 HoldsFit p run _ = Unit {0}
 
-pub run_on : (p : PortRef) (before : List TraceLine) (line : TraceLine) (run : PortRun)
+pub run_on : {p : PortRef} {before : List TraceLine} {run : PortRun} (line : TraceLine)
     → HoldsFit p run line → IsPortRun p before run → IsPortRun p (before ++ line ∷ [])
     (run_after p run line)
-run_on p before (Begun line) run fit is = same_run p before (Begun line) run
-    (nothing_said p before (Begun line) refl refl refl) is
-run_on p before (Stepped (Linked (Hold q packet))) run fit is = by_port (same_port p q) refl
+run_on {p} {before} {run} (Stepped (Linked (Hold q packet))) fit is = by_port (same_port p q) refl
   where
     line : TraceLine
     line = Stepped (Linked (Hold q packet))
@@ -215,12 +213,12 @@ run_on p before (Stepped (Linked (Hold q packet))) run fit is = by_port (same_po
         let one : holds p (line ∷ []) ≡ packet ∷ [] = ap
         (λ x. (if x then packet ∷ [] else []) ++ []) own in
         let none = freed-append p before line in
-        holds_run p before line run packet (got-append p before (line ∷ []) ∙ append-nil
+        holds_run line packet (got-append p before (line ∷ []) ∙ append-nil
         (got p before)) (holds-append p before (line ∷ []) ∙ ap
         (λ (l : List (List ℕ)). holds p before ++ l) one) (omega (arith, none)) (fit own) is
-    by_port false other = same_run p before line run (nothing_said p before line refl
+    by_port false other = same_run (nothing_said line refl
         (ap (λ x. (if x then packet ∷ [] else []) ++ []) other) refl) is
-run_on p before (Stepped (Linked (Free q packet))) run fit is = by_port (same_port p q) refl
+run_on {p} {before} {run} (Stepped (Linked (Free q packet))) fit is = by_port (same_port p q) refl
   where
     line : TraceLine
     line = Stepped (Linked (Free q packet))
@@ -244,16 +242,9 @@ run_on p before (Stepped (Linked (Free q packet))) run fit is = by_port (same_po
           found = (λ i. behind_all (numbered_packets 0 (has i)) (says (gets i))) ∙ is.found;
           packets = is.packets;
         }
-    by_port false other = same_run p before line run (nothing_said p before line refl refl
+    by_port false other = same_run (nothing_said line refl refl
         (ap (λ x. if x then 1 else 0) other)) is
-run_on p before (Stepped (AtNode step)) run fit is = same_run p before (Stepped (AtNode step)) run
-    (nothing_said p before (Stepped (AtNode step)) refl refl refl) is
-run_on p before (Stepped (ByDevice step)) run fit is = same_run p before
-    (Stepped (ByDevice step)) run (nothing_said p before
-    (Stepped (ByDevice step)) refl refl refl) is
-run_on p before (Signed (Sent q chars)) run fit is = same_run p before (Signed (Sent q chars)) run
-    (nothing_said p before (Signed (Sent q chars)) refl refl refl) is
-run_on p before (Signed (Got q chars)) run fit is = by_port (same_port p q) refl
+run_on {p} {before} {run} (Signed (Got q chars)) fit is = by_port (same_port p q) refl
   where
     line : TraceLine
     line = Signed (Got q chars)
@@ -264,17 +255,10 @@ run_on p before (Signed (Got q chars)) run fit is = by_port (same_port p q) refl
         let one : got p (line ∷ []) ≡ chars = ap (λ x. (if x then chars else []) ++ []) own
         ∙ append-nil chars in
         let none = freed-append p before line in
-        hears_run p before line run chars (got-append p before (line ∷ []) ∙ ap
+        hears_run line chars (got-append p before (line ∷ []) ∙ ap
         (λ (l : List Char). got p before ++ l) one)
         (holds-append p before (line ∷ []) ∙ append-nil (holds p before))
         (omega (arith, none)) is
-    by_port false other = same_run p before line run (nothing_said p before line
+    by_port false other = same_run (nothing_said line
         (ap (λ x. (if x then chars else []) ++ []) other) refl refl) is
-run_on p before (Signed (Fired q)) run fit is = same_run p before (Signed (Fired q)) run
-    (nothing_said p before (Signed (Fired q)) refl refl refl) is
-run_on p before (Lacked lack) run fit is = same_run p before (Lacked lack) run
-    (nothing_said p before (Lacked lack) refl refl refl) is
-run_on p before Ended run fit is = same_run p before Ended run
-    (nothing_said p before Ended refl refl refl) is
-run_on p before (Undetected number q e) run fit is = same_run p before (Undetected number q e) run
-    (nothing_said p before (Undetected number q e) refl refl refl) is
+run_on line fit is = same_run (nothing_said line refl refl refl) is

@@ -26,13 +26,13 @@ use Rattle.trace_check.proofs.TableLaws.{place_within, table_set}
 
 -- ---- one node more
 
-module _ {A : Type 0} (nodes : ℕ) where
+module _ {A : Type 0} {nodes : ℕ} where
   -- the places of one node more, which all have the same
-  pub table_more : (Has More : PortRef → A → Type 0) (list : List A) (x : A)
+  pub table_more : {Has More : PortRef → A → Type 0} {list : List A} (x : A)
       → IsTable nodes Has list → ((p : PortRef) (y : A) → IsIn nodes p → Has p y → More p y)
       → ((p : PortRef) → p.node ≡ nodes → More p x)
       → IsTable (nodes + 1) More (list ++ replicate 16 x)
-  table_more Has More list x table kept new = record {
+  table_more {More = More} {list} x table kept new = record {
     size = omega (arith, table.size, length-append list (replicate 16 x), length-replicate 16 x);
     at = λ p y is_in there. at_port p y is_in there (is_old p is_in);
   }
@@ -45,7 +45,7 @@ module _ {A : Type 0} (nodes : ℕ) where
           → (p.node < nodes) ⊎ (p.node ≡ nodes) → More p y
       at_port p y is_in there (inl low) =
           let old : IsIn nodes p = record { node = low; port = is_in.port } in
-          let within = place_within nodes p old in
+          let within = place_within old in
           let size = table.size in
           let less : table_place p < length list = omega (arith, within, size) in
           let read : get_or list (table_place p) y ≡ y
@@ -183,9 +183,8 @@ module _ (nodes : ℕ) (links : List (PortRef × PortRef)) (a b : PortRef) where
       → IsTable nodes (λ p peer. peer ≡ peer_in joined p)
       (slice_set (slice_set list i (Some b)) j (Some a))
   peers_joined list i j table in_a in_b apart none_a none_b at_a at_b =
-      table_set nodes Half (λ p peer. peer ≡ peer_in joined p) (slice_set list i (Some b)) b j
-      (Some a)
-      (table_set nodes (λ p peer. peer ≡ peer_in links p) Half list a i (Some b) table in_a at_a
+      table_set (Some a)
+      (table_set {More = Half} (Some b) table in_a at_a
       (λ not_b. sym (peer_first none_a))
       (λ p peer not_a has not_b. has ∙ sym (peer_other p not_a not_b)))
       in_b at_b (sym (peer_second apart none_b)) (λ p peer not_b half. half not_b)

@@ -3,35 +3,46 @@ use Rattle.std.proofs.Common.{◌≡◌, ℕ, suc, ◌+◌, ◌++◌, ◌<◌, �
 use Rattle.std.proofs.lemmas.List.{append-nil}
 use Rattle.fabric_script.specs.Known.{Known, IsOrderly}
 use Rattle.fabric_model.specs.Network.{Network}
-use Rattle.trace_lines.specs.Lines.{TraceLine, Begun, Stepped, Signed, Lacked, Ended, Undetected, steps_of}
+use Rattle.trace_lines.specs.Lines.{TraceLine, Stepped, steps_of}
 use Rattle.fabric_trace.proofs.Parts.Keeping.{steps_of-append}
 use Rattle.trace_check.specs.declared.state.State.{State}
 use Rattle.trace_check.specs.Checks.{LinePasses, PassAll}
 use Rattle.script_input.specs.Inputs.{texts_ahead, texts_of}
 use Rattle.trace_check.specs.Lawful.{as_behind, BehindLast, Fault, fault_number, HitsLine, HitsNext, is_last, IsLawful, IsUnlawful, SpellsNone, NotCome, PassFront, SpellAll, SpellFront}
-use Rattle.trace_check.specs.Outcomes.{ReadsNextText}
+use Rattle.trace_check.specs.Outcomes.{HitsNextText, ReadsNextText}
 use Rattle.trace_check.specs.Reaches.{Reaches}
 use Rattle.trace_check.specs.States.{fault_of, IsReachedState, reached_after, ReachedState, SparesAt, unreached}
+use Rattle.trace_check.specs.Verdicts.{StopsAt}
 use Rattle.trace_check.specs.Wires.{are_short}
 use Rattle.trace_lines.specs.Words.{SpellsLine}
 use Rattle.trace_check.proofs.Behind.{text_short}
 use Rattle.trace_check.proofs.Fronts.{pass_more}
 use Rattle.trace_check.proofs.Reaching.{on_behind, other_behind, passes_so, stands_by, stands_so, start_behind}
 
+-- the next line and what stands behind it, if there is one
+abbrev pub Ahead : Type 0
+Ahead = Option (Bor (List ℕ) × Bor (List ℕ))
+
 -- how many bytes are left, and one more if a line is there
-abbrev pub left_ahead : Option (Bor (List ℕ) × Bor (List ℕ)) → ℕ
+abbrev pub left_ahead : Ahead → ℕ
 left_ahead None = 0
 left_ahead (Some found) = suc (length found.1.now)
 
 -- what the first line of bytes says of them
-pub ahead_is : (bytes : List ℕ) (ahead : Option (Bor (List ℕ) × Bor (List ℕ)))
-    → MatchOption ahead (bytes ≡ []) (λ found. texts_of bytes ≡ found.0.now ∷ texts_of found.1.now)
+abbrev pub IsFirst : List ℕ → Ahead → Type 0
+IsFirst bytes ahead =
+    MatchOption ahead (bytes ≡ []) (λ found. texts_of bytes ≡ found.0.now ∷ texts_of found.1.now)
+
+abbrev pub LeavesLess : List ℕ → Ahead → Type 0
+LeavesLess bytes ahead = IfSome ahead (λ found. length found.1.now < length bytes)
+
+ahead_is : (bytes : List ℕ) (ahead : Ahead) → IsFirst bytes ahead
     → texts_of bytes ≡ texts_ahead ahead
 ahead_is bytes None none = ap texts_of none
 ahead_is bytes (Some found) texts = texts
 
-pub ahead_less : (bytes : List ℕ) (ahead : Option (Bor (List ℕ) × Bor (List ℕ)))
-    → IfSome ahead (λ found. length found.1.now < length bytes) → left_ahead ahead ≤ length bytes
+ahead_less : (bytes : List ℕ) (ahead : Ahead) → LeavesLess bytes ahead
+    → left_ahead ahead ≤ length bytes
 ahead_less bytes None less = omega arith
 ahead_less bytes (Some found) less = omega (arith, less)
 
@@ -59,8 +70,7 @@ HasRead known net false texts lines rest = SpellFront known texts lines × PassF
 
 -- lines were read, and this is the next one
 pub record IsAhead (known : Known) (net : Network) (bytes : List ℕ) (first number : ℕ)
-    (ahead : Option (Bor (List ℕ) × Bor (List ℕ))) (ended : Bool) (steps : ℕ) (state : State) :
-    Type 0 where
+    (ahead : Ahead) (ended : Bool) (steps : ℕ) (state : State) : Type 0 where
   pub front : List (List ℕ)
   pub lines : List TraceLine
   pub split : texts_of bytes ≡ front ++ texts_ahead ahead
@@ -77,34 +87,34 @@ none_front : (net : Network) (rest : List (List ℕ)) → PassFront net [] rest
 none_front net rest [] line behind is = absurd cc
 none_front net rest (x ∷ before) line behind is = absurd cc
 
-pub begin_ahead : (known : Known) (net : Network) (bytes : List ℕ) (first : ℕ)
-    (ahead : Option (Bor (List ℕ) × Bor (List ℕ))) (state : State)
-    → texts_of bytes ≡ texts_ahead ahead → left_ahead ahead ≤ length bytes
+pub begin_ahead : {known : Known} {net : Network} {bytes : List ℕ} {first : ℕ} {ahead : Ahead}
+    {state : State} → IsFirst bytes ahead → LeavesLess bytes ahead
     → IsReachedState (unreached (length known.names) net) state
     → IsAhead known net bytes first first ahead false 0 state
-begin_ahead known net bytes first ahead state texts less reached = record {
-  front = [];
-  lines = [];
-  split = texts;
-  number_is = omega arith;
-  few = omega (arith, less);
-  read = (refl, none_front net (texts_ahead ahead));
-  count = refl;
-  steps_few = omega arith;
-  r = unreached (length known.names) net;
-  reached = reached;
-  behind = start_behind (length known.names) net (as_behind (texts_ahead ahead));
-}
+begin_ahead {known} {net} {bytes} {first} {ahead} texts less reached =
+    let few = ahead_less bytes ahead less in record {
+      front = [];
+      lines = [];
+      split = ahead_is bytes ahead texts;
+      number_is = omega arith;
+      few = omega (arith, few);
+      read = (refl, none_front net (texts_ahead ahead));
+      count = refl;
+      steps_few = omega arith;
+      r = unreached (length known.names) net;
+      reached = reached;
+      behind = start_behind;
+    }
 
 -- ---- one more line
 
-front_more : (known : Known) (texts : List (List ℕ)) (lines : List TraceLine) (text : List ℕ)
-    (line : TraceLine) → SpellFront known texts lines → SpellsLine known text line
+front_more : {known : Known} {text : List ℕ} {line : TraceLine} (texts : List (List ℕ))
+    (lines : List TraceLine) → SpellFront known texts lines → SpellsLine known text line
     → is_last line ≡ false → SpellFront known (texts ++ text ∷ []) (lines ++ line ∷ [])
-front_more known [] lines text line none spells goes =
+front_more {line = line} [] lines none spells goes =
     (line, [], ap (λ (l : List TraceLine). l ++ line ∷ []) none, spells, goes, refl)
-front_more known (x ∷ texts) lines text line front spells goes =
-    let more = front_more known texts front.1 text line front.5 spells goes in (
+front_more {line = line} (x ∷ texts) lines front spells goes =
+    let more = front_more texts front.1 front.5 spells goes in (
       front.0,
       front.1 ++ line ∷ [],
       ap (λ (l : List TraceLine). l ++ line ∷ []) front.2,
@@ -113,16 +123,17 @@ front_more known (x ∷ texts) lines text line front spells goes =
       more,
     )
 
-read_more : (known : Known) (net : Network) (texts : List (List ℕ)) (lines : List TraceLine)
-    (text : List ℕ) (line : TraceLine) (ends : Bool) (rest : List (List ℕ)) → IsOrderly known
+read_more : {known : Known} {net : Network} {lines : List TraceLine} {text : List ℕ}
+    {line : TraceLine} (texts : List (List ℕ)) (ends : Bool) (rest : List (List ℕ))
+    → IsOrderly known
     → SpellFront known texts lines → PassFront net lines (text ∷ rest) → SpellsLine known text line
     → ends ≡ is_last line → LinePasses net lines line (as_behind rest)
     → HasRead known net ends (texts ++ text ∷ []) (lines ++ line ∷ []) rest
-read_more known net texts lines text line false rest orderly front pass spells goes passes = (
-  front_more known texts lines text line front spells (sym goes),
-  pass_more known net lines text line rest orderly spells pass passes,
+read_more {lines = lines} texts false rest orderly front pass spells goes passes = (
+  front_more texts lines front spells (sym goes),
+  pass_more rest orderly spells pass passes,
 )
-read_more known net texts lines text line true rest orderly front pass spells ends passes =
+read_more {lines = lines} {text} {line} texts true rest orderly front pass spells ends passes =
     record {
       before = texts;
       text = text;
@@ -138,43 +149,41 @@ read_more known net texts lines text line true rest orderly front pass spells en
     }
 
 one_step : (line : TraceLine) → length (steps_of (line ∷ [])) ≤ 1
-one_step (Begun line) = omega arith
 one_step (Stepped step) = omega arith
-one_step (Signed sign) = omega arith
-one_step (Lacked lack) = omega arith
-one_step Ended = omega arith
-one_step (Undetected number q e) = omega arith
+one_step _ = omega arith
 
-pub on_ahead : (known : Known) (net : Network) (bytes : List ℕ) (first number : ℕ)
-    (text left : Bor (List ℕ)) (ended : Bool) (steps : ℕ) (state : State)
-    (next : Option (Bor (List ℕ) × Bor (List ℕ))) (short ends : Bool) (more : ℕ) (new : State)
+-- what is answered of the next text, by whatever is reached behind the lines before it
+abbrev pub Answered : Known → State → (ReachedState → Type 0) → Type 0
+Answered known state Answers =
+    (r : ReachedState) → IsReachedState r state → r.nodes ≡ length known.names → Answers r
+
+pub on_ahead : {known : Known} {net : Network} {bytes : List ℕ} {first number steps more : ℕ}
+    {text left : Bor (List ℕ)} {ended ends short : Bool} {state new : State} {next : Ahead}
     → IsOrderly known → IsAhead known net bytes first number (Some (text, left)) ended steps state
-    → texts_of left.now ≡ texts_ahead next → left_ahead next ≤ length left.now
+    → IsFirst left.now next → LeavesLess left.now next
     → short ≡ are_short (as_behind (texts_ahead next))
-    → ((r : ReachedState) → IsReachedState r state → r.nodes ≡ length known.names
-    → ReadsNextText known r text.now short ended steps ends more new None)
+    → Answered known state
+    (λ r. ReadsNextText known r text.now short ended steps ends more new None)
     → IsAhead known net bytes first (number + 1) next ends more new
-on_ahead known net bytes first number text left true steps state next short ends more new orderly is
-    texts less short_is reads =
-    absurd (reads is.r is.reached is.behind.nodes_are)
-on_ahead known net bytes first number text left false steps state next short ends more new orderly
-    is texts less short_is reads =
-    let goes = reads is.r is.reached is.behind.nodes_are in
+on_ahead {ended = true} orderly is first less short_is reads =
+    absurd (cc (reads is.r is.reached is.behind.nodes_are).0)
+on_ahead {known} {net} {text = text} {left} {ended = false} {ends = ends} {new = new} {next = next}
+    orderly is first less short_is reads =
+    let goes = (reads is.r is.reached is.behind.nodes_are).1 in
     let line = goes.line in
     let rest = texts_ahead next in
-    let behind = other_behind (length known.names) net is.lines
-    (as_behind (text.now ∷ texts_of left.now)) (line ∷ as_behind rest) is.r
-    (text_short known text.now (texts_of left.now) line (as_behind rest) orderly goes.spelled)
-    is.behind in
+    let texts = ahead_is left.now next first in
+    let behind = other_behind
+    (text_short (texts_of left.now) (as_behind rest) orderly goes.spelled) is.behind in
     let stand : (fault : Fault) → SparesAt is.r line (are_short (as_behind rest)) fault
     = subst (λ b. (fault : Fault) → SparesAt is.r line b fault) short_is goes.checked.answer in
     let pass = subst (λ (l : List (List ℕ)). PassFront net is.lines (text.now ∷ l)) texts
     is.read.1 in
-    let passes = passes_so (length known.names) net is.lines (as_behind rest) line is.r behind
-    stand in
+    let passes = passes_so behind stand in
     let longer = length-append is.front (text.now ∷ []) in
     let number_is = is.number_is in
     let few = is.few in
+    let few_left = ahead_less left.now next less in
     let count = is.count in
     let steps_few = is.steps_few in
     let adds = goes.more_is in
@@ -187,37 +196,49 @@ on_ahead known net bytes first number text left false steps state next short end
       split = is.split ∙ ap (λ (l : List (List ℕ)). is.front ++ text.now ∷ l) texts
           ∙ sym (append_assoc is.front (text.now ∷ []) (texts_ahead next));
       number_is = omega (arith, longer, number_is);
-      few = omega (arith, longer, few, less);
-      read = read_more known net is.front is.lines text.now line ends rest orderly is.read.0 pass
-          goes.spelled goes.ends_is passes;
+      few = omega (arith, longer, few, few_left);
+      read = read_more is.front ends rest orderly is.read.0 pass goes.spelled goes.ends_is passes;
       count = omega (arith, all, count, adds);
       steps_few = omega (arith, longer, steps_few, adds, low);
       r = reached_after is.r line (are_short (as_behind rest));
       reached = subst (λ b. IsReachedState (reached_after is.r line b) new) short_is
           (goes.checked.reached refl);
-      behind = on_behind (length known.names) net is.lines (as_behind rest) line is.r
-          (stand NotCome) behind;
+      behind = on_behind (stand NotCome) behind;
     }
 
 -- ---- what ends the reading
 
--- a reason hits the line with this number
-abbrev pub StopsAt : Known → Network → List (List ℕ) → ℕ → ℕ → ℕ → Type 0
-StopsAt known net texts first number reason =
-    (place : ℕ) × (number ≡ first + place) × IsUnlawful known net texts place reason
-
-pub hit_ahead : (known : Known) (net : Network) (bytes : List ℕ) (first number : ℕ)
-    (text left : Bor (List ℕ)) (ended : Bool) (steps : ℕ) (state : State)
-    (next : Option (Bor (List ℕ) × Bor (List ℕ))) (short ends : Bool) (more reason : ℕ)
-    (new : State) → IsOrderly known
-    → IsAhead known net bytes first number (Some (text, left)) ended steps state
-    → texts_of left.now ≡ texts_ahead next → short ≡ are_short (as_behind (texts_ahead next))
-    → ((r : ReachedState) → IsReachedState r state → r.nodes ≡ length known.names
-    → ReadsNextText known r text.now short ended steps ends more new (Some reason))
+-- a reason hits what is ahead, and the trace has not ended
+stops_here : {known : Known} {net : Network} {bytes : List ℕ} {first number steps reason : ℕ}
+    {ahead : Ahead} {state : State}
+    (is : IsAhead known net bytes first number ahead false steps state)
+    → HitsNext known net is.lines (texts_ahead ahead) 0 reason
     → StopsAt known net (texts_of bytes) first number reason
-hit_ahead known net bytes first number text left true steps state next short ends more reason new
-    orderly is texts short_is reads =
-    let form = reads is.r is.reached is.behind.nodes_are in
+stops_here {ahead = ahead} is hits = (
+  length is.front,
+  is.number_is,
+  record {
+    front = is.front;
+    rest = texts_ahead ahead;
+    lines = is.lines;
+    place = 0;
+    split = is.split;
+    spelled = is.read.0;
+    pass = is.read.1;
+    hits = hits;
+    at = omega arith;
+  },
+)
+
+pub hit_ahead : {known : Known} {net : Network} {bytes : List ℕ} {first number steps reason : ℕ}
+    {text left : Bor (List ℕ)} {ended short : Bool} {state : State} (next : Ahead)
+    → IsOrderly known → IsAhead known net bytes first number (Some (text, left)) ended steps state
+    → IsFirst left.now next → short ≡ are_short (as_behind (texts_ahead next))
+    → Answered known state (λ r. HitsNextText known r text.now short ended reason)
+    → StopsAt known net (texts_of bytes) first number reason
+hit_ahead {known} {net} {bytes} {text = text} {left} {ended = true} next orderly is first short_is
+    hits =
+    let form = hits is.r is.reached is.behind.nodes_are in
     let ended = is.read in
     let counted = ap length ended.texts_are ∙ length-append ended.before (ended.text ∷ []) in
     let number_is = is.number_is in (
@@ -237,100 +258,68 @@ hit_ahead known net bytes first number text left true steps state next short end
         at = refl;
       }),
     )
-hit_ahead known net bytes first number text left false steps state next short ends more reason new
-    orderly is texts short_is reads = (
-      length is.front,
-      is.number_is,
-      record {
-        front = is.front;
-        rest = text.now ∷ texts_of left.now;
-        lines = is.lines;
-        place = 0;
-        split = is.split;
-        spelled = is.read.0;
-        pass = is.read.1;
-        hits = by_reading (reads is.r is.reached is.behind.nodes_are);
-        at = omega arith;
-      },
-    )
+hit_ahead {known} {net} {reason = reason} {text = text} {left} {ended = false} {short = short} next
+    orderly is first short_is hits =
+    stops_here is (by_reading (hits is.r is.reached is.behind.nodes_are))
   where
-    by_reading : ReadsNextText known is.r text.now short false steps ends more new (Some reason)
+    by_reading : HitsNextText known is.r text.now short false reason
         → HitsNext known net is.lines (text.now ∷ texts_of left.now) 0 reason
     by_reading (inl (form, none)) =
         subst (λ n. HitsNext known net is.lines (text.now ∷ texts_of left.now) 0 n) (sym form)
         (SpellsNone none)
     by_reading (inr hit) =
-        let behind = other_behind (length known.names) net is.lines
-        (as_behind (text.now ∷ texts_of left.now)) (hit.line ∷ as_behind (texts_of left.now)) is.r
-        (text_short known text.now (texts_of left.now) hit.line (as_behind (texts_of left.now))
-        orderly hit.spelled) is.behind in
         let rest = as_behind (texts_of left.now) in
+        let behind = other_behind (text_short (texts_of left.now) rest orderly hit.spelled)
+        is.behind in
         let same : short ≡ are_short rest
-        = short_is ∙ ap (λ (l : List (List ℕ)). are_short (as_behind l)) (sym texts) in
+        = short_is ∙ ap (λ (l : List (List ℕ)). are_short (as_behind l))
+        (sym (ahead_is left.now next first)) in
         let fails = subst (λ b. SparesAt is.r hit.line b (fault_of hit.fault) → ⊥) same
         hit.least.0 in
         let below = subst (λ b. (other : Fault) → fault_number other
         < fault_number (fault_of hit.fault) → SparesAt is.r hit.line b other) same hit.least.1 in
-        let so = stands_so (length known.names) net is.lines rest hit.line is.r behind in
-        let by_them = stands_by (length known.names) net is.lines rest hit.line is.r behind in
         subst (λ n. HitsNext known net is.lines (text.now ∷ texts_of left.now) 0 n) (sym hit.number)
         (HitsLine hit.line (fault_of hit.fault) hit.spelled
-        (λ stands. fails (by_them (fault_of hit.fault) stands))
-        (λ other less. so other (below other less)))
+        (λ stands. fails (stands_by behind (fault_of hit.fault) stands))
+        (λ other less. stands_so behind other (below other less)))
 
-pub none_ahead : (known : Known) (net : Network) (bytes : List ℕ) (first number steps : ℕ)
-    (state : State) → IsAhead known net bytes first number None false steps state
+pub none_ahead : {known : Known} {net : Network} {bytes : List ℕ} {first number steps : ℕ}
+    {state : State} → IsAhead known net bytes first number None false steps state
     → StopsAt known net (texts_of bytes) first number 21
-none_ahead known net bytes first number steps state is = (
-  length is.front,
-  is.number_is,
-  record {
-    front = is.front;
-    rest = [];
-    lines = is.lines;
-    place = 0;
-    split = is.split;
-    spelled = is.read.0;
-    pass = is.read.1;
-    hits = SpellsNone tt;
-    at = omega arith;
-  },
-)
+none_ahead is = stops_here is (SpellsNone tt)
 
 -- ---- the whole trace
 
-spell_all : (known : Known) (before : List (List ℕ)) (text : List ℕ) (earlier : List TraceLine)
-    (line : TraceLine) → SpellFront known before earlier → SpellsLine known text line
+spell_all : {known : Known} {text : List ℕ} {line : TraceLine} (before : List (List ℕ))
+    (earlier : List TraceLine) → SpellFront known before earlier → SpellsLine known text line
     → is_last line ≡ true → SpellAll known (before ++ text ∷ []) (earlier ++ line ∷ [])
-spell_all known [] text earlier line none spells last =
+spell_all {line = line} [] earlier none spells last =
     (line, ap (λ (l : List TraceLine). l ++ line ∷ []) none, spells, last)
-spell_all known (x ∷ []) text earlier line front spells last = (
+spell_all {line = line} (x ∷ []) earlier front spells last = (
   front.0,
   front.1 ++ line ∷ [],
   ap (λ (l : List TraceLine). l ++ line ∷ []) front.2,
   front.3,
   front.4,
-  spell_all known [] text front.1 line front.5 spells last,
+  spell_all [] front.1 front.5 spells last,
 )
-spell_all known (x ∷ y ∷ before) text earlier line front spells last = (
+spell_all {line = line} (x ∷ y ∷ before) earlier front spells last = (
   front.0,
   front.1 ++ line ∷ [],
   ap (λ (l : List TraceLine). l ++ line ∷ []) front.2,
   front.3,
   front.4,
-  spell_all known (y ∷ before) text front.1 line front.5 spells last,
+  spell_all (y ∷ before) front.1 front.5 spells last,
 )
 
-pub all_ahead : (known : Known) (net : Network) (bytes : List ℕ) (first number steps : ℕ)
-    (state : State) → IsOrderly known
+pub all_ahead : {known : Known} {net : Network} {bytes : List ℕ} {first number steps : ℕ}
+    {state : State} → IsOrderly known
     → IsAhead known net bytes first number None true steps state
     → IsLawful known net (texts_of bytes) steps
-all_ahead known net bytes first number steps state orderly is =
+all_ahead {known} {net} orderly is =
     let ended = is.read in
-    let all = spell_all known ended.before ended.text ended.earlier ended.line ended.front
-    ended.spelled ended.last in
-    let front = pass_more known net ended.earlier ended.text ended.line [] orderly ended.spelled
-    ended.pass ended.passes in
+    let all = spell_all ended.before ended.earlier ended.front ended.spelled ended.last in
+    let front = pass_more [] orderly ended.spelled ended.pass ended.passes in
     record {
       lines = is.lines;
       spelled = subst (λ (l : List (List ℕ)). SpellAll known l is.lines)

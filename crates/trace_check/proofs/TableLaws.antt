@@ -18,26 +18,26 @@ apart nodes p q in_p in_q same =
     let one : q ≡ p = λ i. record { node = node i; port = port i } in
     subst (λ x. same_port x p ≡ true) (sym one) (same_port-refl p)
 
-pub place_within : (nodes : ℕ) (p : PortRef) → IsIn nodes p → table_place p < 16 * nodes
-place_within nodes p is_in =
+pub place_within : {nodes : ℕ} {p : PortRef} → IsIn nodes p → table_place p < 16 * nodes
+place_within is_in =
     let node = is_in.node in
     let port = is_in.port in
     omega (arith, node, port)
 
-module _ {A : Type 0} (nodes : ℕ) where
-  pub table_read : (Has : PortRef → A → Type 0) (list : List A) (p : PortRef) (i : ℕ) (x : A)
+module _ {A : Type 0} {nodes : ℕ} where
+  pub table_read : {Has : PortRef → A → Type 0} {list : List A} {p : PortRef} {i : ℕ} {x : A}
       → IsTable nodes Has list → IsIn nodes p → i ≡ table_place p → x ≡ get_or list i x → Has p x
-  table_read Has list p i x table is_in here read =
-      let within = place_within nodes p is_in in
+  table_read {list = list} {p} {i} {x} table is_in here read =
+      let within = place_within is_in in
       let size = table.size in
       table.at p x is_in (ap (slice_get list) (sym here)
       ∙ slice_get_read list (length list) i x refl (omega (arith, within, size, here)) read)
 
-  pub table_set : (Has More : PortRef → A → Type 0) (list : List A) (p : PortRef) (i : ℕ) (x : A)
+  pub table_set : {Has More : PortRef → A → Type 0} {list : List A} {p : PortRef} {i : ℕ} (x : A)
       → IsTable nodes Has list → IsIn nodes p → i ≡ table_place p → More p x
       → ((q : PortRef) (y : A) → same_port q p ≡ false → Has q y → More q y)
       → IsTable nodes More (slice_set list i x)
-  table_set Has More list p i x table is_in here own others = record {
+  table_set {More = More} {list} {p} {i} x table is_in here own others = record {
     size = length-set list i x ∙ table.size;
     at = λ q y in_q there. by_port q y in_q there (same_port q p) refl;
   }
@@ -47,7 +47,7 @@ module _ {A : Type 0} (nodes : ℕ) where
           → (b : Bool) → same_port q p ≡ b → More q y
       by_port q y in_q there true same =
           let one : q ≡ p = port_is q p same in
-          let within = place_within nodes p is_in in
+          let within = place_within is_in in
           let size = table.size in
           let read : get_or (slice_set list i x) (table_place q) x ≡ y
           = get_or_from_slice_get (slice_set list i x) (table_place q) y x there in
@@ -63,7 +63,7 @@ module _ {A : Type 0} (nodes : ℕ) where
           = get_or_from_slice_get (slice_set list i x) (table_place q) y y there in
           let before : get_or list (table_place q) y ≡ y
           = sym (get_or-set_other list i (table_place q) x y differ) ∙ read in
-          let within = place_within nodes q in_q in
+          let within = place_within in_q in
           let size = table.size in
           others q y other (table.at q y in_q
           (slice_get_read list (length list) (table_place q) y refl (omega (arith, within, size))

@@ -9,7 +9,7 @@ use Rattle.trace_check.specs.declared.checking.CheckEnd.TheVariants.{NoMemory, R
 use Rattle.trace_check.specs.declared.checking.CheckEnd.TheVariants as C
 use Rattle.trace_check.specs.declared.checking.Unlawful.{Unlawful}
 use Rattle.fabric_script.specs.declared.lines.Numbered.{Numbered}
-use Rattle.fabric_script.specs.Known.{Known, nothing_in, of_set_up}
+use Rattle.fabric_script.specs.Known.{IsOrderly, Known, nothing_in, of_set_up}
 use Rattle.fabric_script.specs.Scripts.{pieces_of, SpellsFrom}
 use Rattle.fabric_script.specs.SetUps.{for_event}
 use Rattle.script_input.specs.Inputs.{IsInput, IsRefusedInput, set_up_bytes, set_up_texts, texts_behind, texts_of}
@@ -34,47 +34,51 @@ never_unlawful S.NoMemory hit is = absurd cc
 -- ---- what is read of bytes
 
 -- set-up lines that were read, and what stands behind the line between
-pub is_input : (bytes script : List ℕ) (lines : List Numbered) (known : Known)
-    (behind : Option (Bor (List ℕ))) (trace : Bor (List ℕ)) → script ≡ set_up_bytes bytes
+pub is_input : {bytes script : List ℕ} {lines : List Numbered} {known : Known}
+    {behind : Option (Bor (List ℕ))} {trace : Bor (List ℕ)} → script ≡ set_up_bytes bytes
     → (end : Known) × SpellsFrom 1 (nothing_in of_set_up) (pieces_of script) lines end
     × (known ≡ for_event end)
     → option_map (λ b. texts_of b.now) behind ≡ texts_behind (texts_of bytes)
     → behind ≡ Some trace → IsInput bytes lines known (texts_of trace.now)
-is_input bytes script lines known behind trace set_up spelled split there = record {
+is_input {bytes} {script} {lines} {known} set_up spelled split there = record {
   accepted = accepted_by bytes script lines known set_up spelled;
   behind = sym split ∙ ap (λ o. option_map (λ b. texts_of b.now) o) there;
 }
 
+orderly_in : {bytes : List ℕ} {lines : List Numbered} {known : Known} {texts : List (List ℕ)}
+    → IsInput bytes lines known texts → IsOrderly known
+orderly_in {bytes} {lines} {known} input = accepted_orderly bytes lines known input.accepted
+
+-- a line that a reason hits is hit by whatever way the input is read
+pub unlawful_for : {bytes : List ℕ} {lines : List Numbered} {known : Known}
+    {texts : List (List ℕ)} {line reason : ℕ} → IsInput bytes lines known texts
+    → (has : HasUnlawful bytes line reason)
+    → IsUnlawful known (set_up_all bare lines) texts has.place reason
+unlawful_for {bytes} {lines} {known} {texts} {reason = reason} input has =
+    for_other bytes (λ l k t. IsUnlawful k (set_up_all bare l) t has.place reason) lines has.set_up
+    known has.known texts has.texts input has.input has.unlawful
+
 module _ (bytes : List ℕ) where
   -- ---- one thing is so
 
-  lawful_alone : (m n : ℕ) → HasLawful bytes m → HasLawful bytes n → m ≡ n
-  lawful_alone m n one other =
-      lawful_once one.known (set_up_all bare one.set_up) one.texts m n
-      (accepted_orderly bytes one.set_up one.known one.input.accepted) one.lawful
+  lawful_alone : {m n : ℕ} → HasLawful bytes m → HasLawful bytes n → m ≡ n
+  lawful_alone {n = n} one other =
+      lawful_once (orderly_in one.input) one.lawful
       (for_other bytes (λ l k t. IsLawful k (set_up_all bare l) t n) one.set_up other.set_up
       one.known other.known one.texts other.texts one.input other.input other.lawful)
 
-  unlawful_alone : (line reason line' reason' : ℕ) → HasUnlawful bytes line reason
+  unlawful_alone : {line reason line' reason' : ℕ} → HasUnlawful bytes line reason
       → HasUnlawful bytes line' reason' → (line ≡ line') × (reason ≡ reason')
-  unlawful_alone line reason line' reason' one other =
-      let same = unlawful_once one.known (set_up_all bare one.set_up)
-      (accepted_orderly bytes one.set_up one.known one.input.accepted) one.texts one.place reason
-      other.place reason' one.unlawful
-      (for_other bytes (λ l k t. IsUnlawful k (set_up_all bare l) t other.place reason') one.set_up
-      other.set_up one.known other.known one.texts other.texts one.input other.input
-      other.unlawful) in (
+  unlawful_alone one other =
+      let same = unlawful_once (orderly_in one.input) one.unlawful (unlawful_for one.input other)
+      in (
         one.at ∙ ap (λ n. length (set_up_texts (texts_of bytes)) + 2 + n) same.0 ∙ sym other.at,
         same.1,
       )
 
-  not_both : (steps line reason : ℕ) → HasLawful bytes steps → HasUnlawful bytes line reason → ⊥
-  not_both steps line reason one other =
-      exclusive one.known (set_up_all bare one.set_up) one.texts steps other.place reason
-      (accepted_orderly bytes one.set_up one.known one.input.accepted) one.lawful
-      (for_other bytes (λ l k t. IsUnlawful k (set_up_all bare l) t other.place reason) one.set_up
-      other.set_up one.known other.known one.texts other.texts one.input other.input
-      other.unlawful)
+  not_both : {steps line reason : ℕ} → HasLawful bytes steps → HasUnlawful bytes line reason → ⊥
+  not_both one other =
+      exclusive (orderly_in one.input) one.lawful (unlawful_for one.input other)
 
   -- ---- what an answer means the other way round
 
@@ -93,9 +97,9 @@ module _ (bytes : List ℕ) where
       → RefusedSo result → (steps : ℕ) → HasLawful bytes steps
       → IfOk result (λ told. told ≡ steps) × (IsErrOf result NoMemory ⊎ IsOk result)
   only_lawful (Ok told) lawful unlawful refused steps so =
-      (lawful_alone told steps lawful so, inr refl)
+      (lawful_alone lawful so, inr refl)
   only_lawful (Err (UnlawfulAt u)) lawful unlawful refused steps so =
-      absurd (not_both steps u.line u.reason so (unlawful u refl))
+      absurd (not_both so (unlawful u refl))
   only_lawful (Err (Refused r)) lawful unlawful refused steps so =
       absurd (not_input bytes r.line r.reason so.set_up so.known so.texts (refused r refl) so.input)
   only_lawful (Err NoMemory) lawful unlawful refused steps so = (tt, inl refl)
@@ -105,9 +109,9 @@ module _ (bytes : List ℕ) where
       → IsErrOf result (UnlawfulAt record { line = line; reason = reason })
       ⊎ IsErrOf result NoMemory
   only_unlawful (Ok told) lawful unlawful refused line reason so =
-      absurd (not_both told line reason lawful so)
+      absurd (not_both lawful so)
   only_unlawful (Err (UnlawfulAt u)) lawful unlawful refused line reason so =
-      let same = unlawful_alone u.line u.reason line reason (unlawful u refl) so in
+      let same = unlawful_alone (unlawful u refl) so in
       let one : u ≡ record { line = line; reason = reason }
       = λ i. record { line = same.0 i; reason = same.1 i } in
       inl (ap {A = Unlawful} {B = Result ℕ CheckEnd} (λ x. Err (UnlawfulAt x)) one)

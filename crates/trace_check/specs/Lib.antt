@@ -10,3 +10,4 @@ pub mod Networks
 pub mod Sending
 pub mod Starting
 pub mod Outcomes
+pub mod Verdicts

@@ -63,13 +63,17 @@ pub record IsHit (known : Known) (r : ReachedState) (text : List ℕ) (short : B
   pub number : reason ≡ fault_number (fault_of fault)
   pub least : IsLeast (SparesAt r line short) (Some fault)
 
+-- this is the least reason that hits the text, behind others that may have ended the trace
+abbrev pub HitsNextText : Known → ReachedState → List ℕ → Bool → Bool → ℕ → Type 0
+HitsNextText known r text short true reason = reason ≡ 21
+HitsNextText known r text short false reason =
+    ((reason ≡ 21) × NoLine known (text ∷ [])) ⊎ IsHit known r text short reason
+
 -- One text is read, behind others that may have ended the trace.
 abbrev pub ReadsNextText : Known → ReachedState → List ℕ → Bool → Bool → ℕ → Bool → ℕ → State
     → Option ℕ
     → Type 0
-ReadsNextText known r text short true steps ends more state None = ⊥
-ReadsNextText known r text short true steps ends more state (Some reason) = reason ≡ 21
-ReadsNextText known r text short false steps ends more state None =
-    ReadsOn known r text short steps ends more state
-ReadsNextText known r text short false steps ends more state (Some reason) =
-    ((reason ≡ 21) × NoLine known (text ∷ [])) ⊎ IsHit known r text short reason
+ReadsNextText known r text short ended steps ends more state None =
+    (ended ≡ false) × ReadsOn known r text short steps ends more state
+ReadsNextText known r text short ended steps ends more state (Some reason) =
+    HitsNextText known r text short ended reason

@@ -7,25 +7,26 @@ ghost use Rattle.trace_lines.specs.Lines.{Begun, Fired as AFired, Got as AGot, S
 ghost use Rattle.fabric_model.specs.Steps.{Free, Hold, Linked};
 ghost use Rattle.rio_chars.specs.declared.chars.Char.{Char as AChar};
 ghost use Rattle.trace_check.specs.Checks.{SendMayBe};
-ghost use Rattle.trace_check.specs.Expecting.{HasExpected, IsExpected, IsExplained, IsSo, IsToBeTold, TellsLine};
+ghost use Rattle.trace_check.specs.Expecting.{HasExpected, IsExplained, IsSo, IsToBeTold, TellsLine};
 ghost use Rattle.script_input.specs.Inputs.{texts_of};
-ghost use Rattle.trace_check.specs.Lawful.{Fault, fault_number, IsUnlawful};
+ghost use Rattle.trace_check.specs.Lawful.{Fault, fault_number};
 ghost use Rattle.trace_check.specs.Outcomes.{HasUnlawful};
 ghost use Rattle.trace_lines.specs.Reads.{line_read, step_read};
 ghost use Rattle.trace_check.specs.Starting.{IsBegun, net_of, nodes_of};
 ghost use Rattle.trace_check.specs.States.{IsEditIn, IsLineIn, IsReachedState, ReachedState, SparesAt};
 ghost use Rattle.trace_check.specs.Networks.{IsStepOf};
 ghost use Rattle.trace_check.specs.Tables.{IsIn};
+ghost use Rattle.trace_check.specs.Verdicts.{ExpectedAt, StopsAt};
 ghost use Rattle.trace_lines.specs.Words.{SpellsLine};
 
 use crate::checker::Checker;
-use crate::checking::is_short;
+use crate::reading::{Verdict, read_lines};
 use crate::state::{State, edit_of};
 use arrayvec::ArrayVec;
 use fabric_script::{Line, PortRef, ScriptEnd, SetUp, read_set_up};
 use rio_chars::Char;
 use rio_packets::Packet;
-use script_input::{next_line, split_input};
+use script_input::split_input;
 use std::alloc::{AllocError, Global};
 use trace_lines::{NetworkStep, TraceLine, TraceLineEnd, read_trace_line};
 
@@ -84,31 +85,21 @@ fn expect_in(
     requires ready { KnownIsReady set_up.now.known }
     requires begun { IsBegun set_up.now }
     requires few { first + length bytes.now ≤ 16777218 }
-    ensures told { IfOk result (λ expected. IfSome expected (λ e. (place : ℕ)
-        × (wanted ≡ first + place)
-        × IsExpected set_up.now.known (net_of set_up.now) (texts_of bytes.now) place e)) }
-    ensures some { IfOk result (λ expected. (place reason : ℕ) → wanted ≡ first + place
-        → IsUnlawful set_up.now.known (net_of set_up.now) (texts_of bytes.now) place reason
+    ensures told { IfOk result (λ expected. IfSome expected
+        (ExpectedAt set_up.now.known (net_of set_up.now) (texts_of bytes.now) first wanted)) }
+    ensures some { IfOk result (λ expected. (reason : ℕ)
+        → StopsAt set_up.now.known (net_of set_up.now) (texts_of bytes.now) first wanted reason
         → IsExplained reason → IsSome expected) }
 {
-    let mut checker = Checker::new(alloc, set_up)?;
-    let mut number = first;
-    let mut ahead = next_line(bytes);
-    while let Some((text, left)) = ahead {
-        ahead = next_line(left);
-        let expected = checker.expected(alloc, set_up, text, number == wanted)?;
-        let hit = checker.read(alloc, set_up, text, is_short(ahead))?;
-        if let Some(_) = hit {
-            return Ok(expected);
-        }
-        number += 1;
+    match read_lines(alloc, set_up, bytes, first, Some(wanted))? {
+        Verdict::Lawful(_) => Ok(None),
+        Verdict::Unlawful(_, expected) => Ok(expected),
     }
-    Ok(None)
 }
 
 impl Checker {
     /// What would have been lawful in place of a text, if that is asked.
-    fn expected(
+    pub(crate) fn expected(
         &self,
         alloc: Global,
         set_up: &SetUp,

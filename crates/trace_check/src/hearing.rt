@@ -139,9 +139,9 @@ fn keep_packet(unheld: &mut VecDeque<(u8, Packet)>, framer: &Framer) -> Result<(
     Ok(())
 }
 
-/// How many packets may be freed after a symbol. An acceptance of the packet whose turn it is allows
-/// one more. A link-response allows all up to the next number that has its ackID modulo 32. A count
-/// of 2^64 would take more characters than memory holds.
+/// How many packets may be freed after a symbol. An acceptance of the packet whose turn it is
+/// allows one more. A link-response allows all up to the next number that has its ackID modulo 32.
+/// A count of 2^64 would take more characters than memory holds.
 fn raised_by(allowed: u64, symbol: &Symbol) -> Result<u64, AllocError>
     ensures { IfOk result (λ count. count ≡ raised allowed (ACtl symbol.now)) }
 {

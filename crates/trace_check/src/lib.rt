@@ -11,7 +11,8 @@
 //! - `Lawful`: which texts are a lawful trace, and which line of others a reason first hits;
 //! - `Running`, `States`: what is enough to be known of a port, and of all behind the lines before;
 //! - `Outcomes`: what is told of an input;
-//! - `Reaches`, `Expecting`: what the lines before a line reach, and what they let it be.
+//! - `Reaches`, `Expecting`: what the lines before a line reach, and what they let it be;
+//! - `Verdicts`: what is told of the lines of a trace.
 //!
 //! [`check_trace`] checks a script of set-up lines and a trace. It takes memory for the lines of
 //! set-up, the ports, the packets and characters that are on their way, and the packets that came
@@ -29,6 +30,7 @@ mod links;
 mod network;
 mod places;
 mod queue;
+mod reading;
 mod sending;
 mod state;
 

@@ -9,8 +9,7 @@ returns-in-NRead g c =
 
 pub returns-in-NWrite : goal.returns-in-NWrite
 returns-in-NWrite g c =
-    let loaded = rw c.as_slice.ensures.value at c.put_bytes.ensures in
-    let written = Writes-then _ _ c.write_place-in-NWrite.ensures loaded in
+    let written = c.write_write.ensures in
     elim c.in-NWrite.is [
       | inl is ↦ rw is written
       | inr other ↦ elim other [ inl is ↦ rw is written | inr is ↦ rw is written ]

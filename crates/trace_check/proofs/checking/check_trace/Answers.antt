@@ -14,34 +14,22 @@ use Rattle.trace_check.proofs.checking.check_trace.Goals as goal
 pub returns-in-Some-clause-lawful : goal.returns-in-Some-clause-lawful
 returns-in-Some-clause-lawful c =
     let split = c.split_input-lines.ensures in
-    let set_up = c.in_ok-set_up.set_up in
-    let texts = texts_of c.in-Some.trace.now in
-    let input =
-    is_input c.args.bytes.now c.split_input-lines.result.0.now set_up.lines set_up.known
-    c.split_input-lines.result.1 c.in-Some.trace split.set_up c.in_ok-set_up.ensures.spelled
-    split.behind c.in-Some.is in
     if_ok_map c.check_lines.result c.check_lines.ensures.lawful (λ steps lawful. record {
-      set_up = set_up.lines;
-      known = set_up.known;
-      texts = texts;
-      input = input;
+      set_up = c.in_ok-set_up.set_up.lines;
+      known = c.in_ok-set_up.set_up.known;
+      texts = texts_of c.in-Some.trace.now;
+      input = is_input split.set_up c.in_ok-set_up.ensures.spelled split.behind c.in-Some.is;
       lawful = lawful;
     })
 
 pub returns-in-Some-clause-unlawful : goal.returns-in-Some-clause-unlawful
 returns-in-Some-clause-unlawful c = λ unlawful is.
     let split = c.split_input-lines.ensures in
-    let set_up = c.in_ok-set_up.set_up in
-    let texts = texts_of c.in-Some.trace.now in
-    let input =
-    is_input c.args.bytes.now c.split_input-lines.result.0.now set_up.lines set_up.known
-    c.split_input-lines.result.1 c.in-Some.trace split.set_up c.in_ok-set_up.ensures.spelled
-    split.behind c.in-Some.is in
     let stops = c.check_lines.ensures.unlawful unlawful is in record {
-      set_up = set_up.lines;
-      known = set_up.known;
-      texts = texts;
-      input = input;
+      set_up = c.in_ok-set_up.set_up.lines;
+      known = c.in_ok-set_up.set_up.known;
+      texts = texts_of c.in-Some.trace.now;
+      input = is_input split.set_up c.in_ok-set_up.ensures.spelled split.behind c.in-Some.is;
       place = stops.0;
       at = stops.1 ∙ ap (λ n. n + 2 + stops.0) split.lines;
       unlawful = stops.2;

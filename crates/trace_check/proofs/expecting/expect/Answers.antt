@@ -1,30 +1,22 @@
 use Rattle.std.proofs.Common.{◌+◌, ℕ, Err, List, sym, ap, ◌∙◌, subst}
 use Rattle.fabric_script.specs.Known.{of_set_up}
 use Rattle.fabric_script.specs.Scripts.{RefusedIn}
-use Rattle.fabric_trace.specs.Runs.{bare, set_up_all}
 use Rattle.script_input.specs.Inputs.{Hit, texts_of}
-use Rattle.trace_check.specs.Lawful.{IsUnlawful}
 use Rattle.trace_check.proofs.ExpectLaws.{if_some_map}
-use Rattle.trace_check.proofs.Telling.{is_input}
+use Rattle.trace_check.proofs.Telling.{is_input, unlawful_for}
 use Rattle.trace_check.proofs.NetworkLaws.{if_ok_map}
-use Rattle.script_input.proofs.InputOnce.{for_other, not_input}
+use Rattle.script_input.proofs.InputOnce.{not_input}
 use Rattle.trace_check.proofs.expecting.expect.Goals as goal
 
 pub returns-in-Ok-clause-told : goal.returns-in-Ok-clause-told
 returns-in-Ok-clause-told c =
     let split = c.split_input-lines.ensures in
-    let set_up = c.in-Ok.set_up in
-    let texts = texts_of c.in-Some.trace.now in
-    let input =
-    is_input c.args.bytes.now c.split_input-lines.result.0.now set_up.lines set_up.known
-    c.split_input-lines.result.1 c.in-Some.trace split.set_up c.in-Ok.ensures.spelled
-    split.behind c.in-Some.is in
     if_ok_map c.expect_in.result c.expect_in.ensures.told (λ expected told.
     if_some_map expected told (λ e so. record {
-      set_up = set_up.lines;
-      known = set_up.known;
-      texts = texts;
-      input = input;
+      set_up = c.in-Ok.set_up.lines;
+      known = c.in-Ok.set_up.known;
+      texts = texts_of c.in-Some.trace.now;
+      input = is_input split.set_up c.in-Ok.ensures.spelled split.behind c.in-Some.is;
       place = so.0;
       at = so.1 ∙ ap (λ n. n + 2 + so.0) split.lines;
       so = so.2;
@@ -34,16 +26,12 @@ pub returns-in-Ok-clause-some : goal.returns-in-Ok-clause-some
 returns-in-Ok-clause-some c =
     let split = c.split_input-lines.ensures in
     let set_up = c.in-Ok.set_up in
-    let texts = texts_of c.in-Some.trace.now in
-    let input =
-    is_input c.args.bytes.now c.split_input-lines.result.0.now set_up.lines set_up.known
-    c.split_input-lines.result.1 c.in-Some.trace split.set_up c.in-Ok.ensures.spelled
-    split.behind c.in-Some.is in
     if_ok_map c.expect_in.result c.expect_in.ensures.some (λ expected some reason hit explained.
-    some hit.place reason (hit.at ∙ ap (λ n. n + 2 + hit.place) (sym split.lines))
-    (for_other c.args.bytes.now (λ l k t. IsUnlawful k (set_up_all bare l) t hit.place reason)
-    set_up.lines hit.set_up set_up.known hit.known texts hit.texts input hit.input hit.unlawful)
-    explained)
+    some reason (
+      hit.place,
+      hit.at ∙ ap (λ n. n + 2 + hit.place) (sym split.lines),
+      unlawful_for (is_input split.set_up c.in-Ok.ensures.spelled split.behind c.in-Some.is) hit,
+    ) explained)
 
 pub returns-in-Err-Refused-clause-some : goal.returns-in-Err-Refused-clause-some
 returns-in-Err-Refused-clause-some c = λ reason hit explained.

@@ -27,7 +27,7 @@ returns-in-Ok-clause-some c = λ asked goes r is nodes told.
     let known = c.args.set_up.now.known in
     let line = line_read c.in-Ok.line in
     let spelled = c.in-Ok.ensures.line in
-    let same : told.line ≡ line = same_line known c.args.text.now told.line line
+    let same : told.line ≡ line = same_line
     c.requires.orderly told.spelled spelled in
     c.expected.ensures.some r told.short told.fault
     (subst (IsReachedState r) (sym c.state.ensures) is)

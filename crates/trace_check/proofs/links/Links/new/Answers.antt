@@ -2,7 +2,7 @@ use Rattle.std.proofs.Common.{◌≡◌, take, List, subst, rules, arith}
 use Rattle.std.proofs.lemmas.List.{take_all}
 use Rattle.fabric_script.specs.declared.lines.Numbered.{Numbered}
 use Rattle.fabric_trace.specs.Runs.{bare, set_up_all}
-use Rattle.trace_check.specs.Starting.{AreJoined, net_of, nodes_of}
+use Rattle.trace_check.specs.Starting.{AreJoined, net_of}
 use Rattle.trace_check.proofs.BuildLaws.{joined_bare, links_of}
 use Rattle.trace_check.proofs.StartLaws.{next_may, on_next, nodes_named}
 use Rattle.trace_check.proofs.links.Links.new.Goals as goal
@@ -35,5 +35,4 @@ returns c =
     let joined : AreJoined (net_of set_up) kept = subst
     (λ (lines : List Numbered). AreJoined (set_up_all bare lines) kept) all
     c.loop-numbered.invariant in
-    links_of (nodes_of set_up) (net_of set_up) kept
-    (nodes_named set_up.known.names set_up.lines c.requires) joined
+    links_of (nodes_named set_up.known.names set_up.lines c.requires) joined

@@ -11,7 +11,7 @@ returns c = λ net built.
     let kept = c.loop.invariant in
     let all : c.loop.counter ≡ 16 = search (rules, arith) in
     let new : Kept = record c.loop.self { registers = c.push.new.self } in
-    built_node net old new c.args.registers built
+    built_node new c.args.registers built
     (c.in_ok-push.ensures.items ∙ ap (λ r. r.items ++ c.args.registers ∷ []) kept.registers)
     (kept.buffers ∙ ap (λ k. old.buffers.items ++ replicate k 8) all)
     (kept.received ∙ ap (λ k. old.received.items ++ replicate k no_packets) all)

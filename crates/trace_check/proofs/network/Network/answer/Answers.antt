@@ -8,25 +8,21 @@ use Rattle.fabric_model.specs.Network.{room_out}
 use Rattle.fabric_model.specs.Serving.{response_at}
 use Rattle.fabric_model.specs.Steps.{Answer, ByDevice, item_of, with_waiting, without_first}
 use Rattle.trace_check.specs.Networks.{IsNetwork, with_answered}
-use Rattle.trace_check.proofs.NetworkLaws.{if_ok_map, not_made}
+use Rattle.trace_check.proofs.NetworkLaws.{if_ok_map, not_made, same_tables}
 use Rattle.trace_check.proofs.network.Network.answer.Goals as goal
 
 -- it is not for the registers
 pub returns-then-not-is_for_registers : goal.returns-then-not-is_for_registers
 returns-then-not-is_for_registers c = λ nodes net is is_in.
-    let served = c.is_for_registers.ensures nodes net is in
-    not_made nodes net (ByDevice (Answer c.args.port c.args.packet.now c.args.response.now))
-    c.args.self.now (λ needs.
-    let yes = served.1 needs.1 in
+    not_made net (ByDevice (Answer c.args.port c.args.packet.now c.args.response.now)) (λ needs.
+    let yes = (c.is_for_registers.ensures nodes net is).1 needs.1 in
     cc (c.if-not-is_for_registers.true, yes))
 
 -- it is not the first of its priority
 pub returns-then-not-take_first : goal.returns-then-not-take_first
 returns-then-not-take_first c = λ nodes net is is_in.
-    let first = (c.take_first.ensures nodes net is is_in).0 in
-    not_made nodes net (ByDevice (Answer c.args.port c.args.packet.now c.args.response.now))
-    c.take_first.new.self (λ needs.
-    let yes = first.1 needs.0 in
+    not_made net (ByDevice (Answer c.args.port c.args.packet.now c.args.response.now)) (λ needs.
+    let yes = (c.take_first.ensures nodes net is is_in).0.1 needs.0 in
     cc (c.if-not-take_first.true, yes))
 
 pub returns-in-Some : goal.returns-in-Some
@@ -54,27 +50,18 @@ returns-in-Some c = if_ok_map c.put_out.result c.put_out.ensures (λ made put no
     items) c.put_out.new.self) in
     let all : Puts response = subst Puts same done in (
       (λ ok. (taken.0.0 yes, mine, there, passes, sym all.0 ∙ ok), λ needs. all.0 ∙ needs.4),
-      λ ok. let kept = all.1 ok in record {
-        count = kept.count;
-        registers = kept.registers;
-        buffers = kept.buffers;
-        received = kept.received;
-        waiting = kept.waiting;
-        lent = kept.lent;
-      },
+      λ ok. same_tables (all.1 ok),
     ))
 
 -- another packet is answered
 pub returns-in_default : goal.returns-in_default
 returns-in_default c = λ nodes net is is_in.
-    let p = c.args.port in
     let packet = c.args.packet.now in
     let response = c.args.response.now in
     let yes : c.take_first.result ≡ true = search (rules, tests) in
-    let before = without_first net p (prio_of packet) in
-    let kept = (c.take_first.ensures nodes net is is_in).1 yes in
-    let value = c.respond.ensures.value nodes before kept in
-    not_made nodes net (ByDevice (Answer p packet response)) c.respond.new.self (λ needs.
+    let value = c.respond.ensures.value nodes (without_first net c.args.port (prio_of packet))
+    ((c.take_first.ensures nodes net is is_in).1 yes) in
+    not_made net (ByDevice (Answer c.args.port packet response)) (λ needs.
     let same = same_Some c.in-Some.answered response (sym c.in-Some.is ∙ value ∙ needs.2) in
     let equal = c.eq.ensures ∙ (bytes_eq-Decides c.in-Some.answered response).1 same in
     cc (c.if-eq.false, equal))
@@ -82,12 +69,9 @@ returns-in_default c = λ nodes net is is_in.
 -- none is
 pub returns-in_default-2 : goal.returns-in_default-2
 returns-in_default-2 c = λ nodes net is is_in.
-    let p = c.args.port in
     let packet = c.args.packet.now in
-    let response = c.args.response.now in
     let yes : c.take_first.result ≡ true = search (rules, tests) in
-    let before = without_first net p (prio_of packet) in
-    let kept = (c.take_first.ensures nodes net is is_in).1 yes in
-    let value = c.respond.ensures.value nodes before kept in
-    not_made nodes net (ByDevice (Answer p packet response)) c.respond.new.self
+    let value = c.respond.ensures.value nodes (without_first net c.args.port (prio_of packet))
+    ((c.take_first.ensures nodes net is is_in).1 yes) in
+    not_made net (ByDevice (Answer c.args.port packet c.args.response.now))
     (λ needs. cc (c.in_default.is, value ∙ needs.2))

@@ -1,5 +1,4 @@
-use Rattle.std.proofs.Common.{◌≡◌, ◌∙◌}
-use Rattle.fabric_trace.specs.Views.{lists_in, packets_in}
+use Rattle.std.proofs.Common.{◌∙◌}
 use Rattle.trace_check.specs.Sending.{AreToSend}
 use Rattle.trace_check.proofs.LackLaws.{first_of}
 use Rattle.trace_check.proofs.TableLaws.{table_read}
@@ -8,15 +7,10 @@ use Rattle.trace_check.proofs.network.Network.lacking.Goals as goal
 pub returns : goal.returns
 returns c = λ nodes net is is_in.
     let p = c.args.port in
-    let place = c.place_of-place.result in
     let here = c.place_of-place.ensures in
-    let list = c.args.self.now.waiting.items in
-    let waits = table_read nodes (λ p lists. lists ≡ lists_in (net.waiting p)) list p place
-    c.index.result.now is.waiting is_in here c.index.ensures in
-    let lends = table_read nodes (λ p queue. queue.items ≡ packets_in (net.lent p))
-    c.args.self.now.lent.items p place c.index-2.result.now is.lent is_in here c.index-2.ensures in
-    let first = table_read nodes (λ p lists. lists ≡ lists_in (net.waiting p)) list p place
-    c.index-3.result.now is.waiting is_in here c.index-3.ensures in
+    let waits = table_read is.waiting is_in here c.index.ensures in
+    let lends = table_read is.lent is_in here c.index-2.ensures in
+    let first = table_read is.waiting is_in here c.index-3.ensures in
     let sends : AreToSend net p c.index.result.now c.index-2.result.now.items
     = record { waits = waits; lends = lends } in (
       c.in_ok-prio.ensures.lacked net p sends,

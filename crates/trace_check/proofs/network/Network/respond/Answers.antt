@@ -1,30 +1,24 @@
 use Rattle.std.proofs.Common.{◌≡◌, ◌≤◌, ◌<◌, ◌∙◌, None, Option, Some, ap, length, refl, slice_get, sym, rules}
 use Rattle.std.proofs.lemmas.Option.{slice_get_past, slice_get_read}
-use Rattle.maint_registers.specs.Changes.{with_device}
-use Rattle.maint_registers.proofs.ChangeLaws.{length-with_device, changed_at, unchanged}
+use Rattle.maint_registers.proofs.ChangeLaws.{changed_at, unchanged}
 use Rattle.maint_packets.specs.declared.request.Request.{Request}
 use Rattle.maint_packets.specs.Requests.{request_of}
 use Rattle.maint_packets.specs.Responses.{response_bytes}
 use Rattle.fabric_model.specs.Serving.{device_after}
 use Rattle.fabric_trace.proofs.Network.Faces.{response_is}
+use Rattle.trace_check.proofs.NetworkLaws.{registers_set}
 use Rattle.trace_check.proofs.network.Network.respond.Goals as goal
 
 -- what is no request changes no registers
 pub returns-in_err-request-clause-registers : goal.returns-in_err-request-clause-registers
 returns-in_err-request-clause-registers c = λ nodes net is.
     let p = c.args.port in
+    let answers = device_after p.port (request_of c.args.packet.now) in
     let none : request_of c.args.packet.now ≡ None
     = sym c.read_request.ensures.value ∙ c.in_err-request.was in
-    let stay = unchanged net.registers p.node (device_after p.port (request_of c.args.packet.now))
-    (λ device there. ap (λ (o : Option Request). device_after p.port o device) none) in
-    record {
-      count = ap length stay ∙ is.count;
-      registers = is.registers ∙ sym stay;
-      buffers = is.buffers;
-      received = is.received;
-      waiting = is.waiting;
-      lent = is.lent;
-    }
+    registers_set p.node answers is
+    (sym (unchanged c.args.self.now.registers.items p.node answers
+    (λ device there. ap (λ (o : Option Request). device_after p.port o device) none))) refl
 
 -- nor is there one at a node that there is not
 pub returns-then-node-len-clause-value : goal.returns-then-node-len-clause-value
@@ -40,19 +34,10 @@ pub returns-then-node-len-clause-registers : goal.returns-then-node-len-clause-r
 returns-then-node-len-clause-registers c = λ nodes net is.
     let p = c.args.port in
     let list = c.args.self.now.registers.items in
+    let answers = device_after p.port (request_of c.args.packet.now) in
     let past : length list ≤ p.node = search rules in
-    let gone : slice_get net.registers p.node ≡ None
-    = ap (λ l. slice_get l p.node) (sym is.registers) ∙ slice_get_past list p.node past in
-    let stay = unchanged net.registers p.node (device_after p.port (request_of c.args.packet.now))
-    (λ device there. absurd (cc (gone, there))) in
-    record {
-      count = ap length stay ∙ is.count;
-      registers = is.registers ∙ sym stay;
-      buffers = is.buffers;
-      received = is.received;
-      waiting = is.waiting;
-      lent = is.lent;
-    }
+    registers_set p.node answers is (sym (unchanged list p.node answers
+    (λ device there. absurd (cc (slice_get_past list p.node past, there))))) refl
 
 pub returns-clause-value : goal.returns-clause-value
 returns-clause-value c = λ nodes net is.
@@ -84,13 +69,6 @@ returns-clause-registers c = λ nodes net is.
     let written : c.answer-answered.new.registers ≡ answers device
     = c.answer-answered.ensures.registers
     ∙ ap (λ (o : Option Request). device_after p.port o device) (sym asked) in
-    let changed = changed_at list p.node c.from-node.result device c.answer-answered.new.registers
-    answers c.from-node.ensures within c.index_mut.ensures.value written in
-    record {
-      count = length-with_device net.registers p.node answers ∙ is.count;
-      registers = changed ∙ ap (λ l. with_device l p.node answers) is.registers;
-      buffers = is.buffers;
-      received = is.received;
-      waiting = is.waiting;
-      lent = is.lent;
-    }
+    registers_set p.node answers is (changed_at list p.node c.from-node.result device
+    c.answer-answered.new.registers answers c.from-node.ensures within c.index_mut.ensures.value
+    written) refl

@@ -5,7 +5,7 @@ use Rattle.fabric_model.specs.Network.{port_of, room_out}
 use Rattle.fabric_model.specs.Steps.{item_of, with_waiting}
 use Rattle.fabric_trace.specs.Views.{packets_in}
 use Rattle.trace_check.specs.Networks.{IsNetwork}
-use Rattle.trace_check.proofs.NetworkLaws.{if_ok_map}
+use Rattle.trace_check.proofs.NetworkLaws.{if_ok_map, same_tables}
 use Rattle.trace_check.proofs.network.Network.take.Goals as goal
 
 pub returns : goal.returns
@@ -21,12 +21,5 @@ returns c = if_ok_map c.put_out.result c.put_out.ensures (λ made put nodes net 
     let done = subst Puts c.copy.ensures.same
     (put nodes net items is (record { node = less; port = omega arith })) refl in (
       (λ yes. (end, passes, sym done.0 ∙ yes), λ needs. done.0 ∙ needs.2),
-      λ yes. let kept = done.1 yes in record {
-        count = kept.count;
-        registers = kept.registers;
-        buffers = kept.buffers;
-        received = kept.received;
-        waiting = kept.waiting;
-        lent = kept.lent;
-      },
+      λ yes. same_tables (done.1 yes),
     ))

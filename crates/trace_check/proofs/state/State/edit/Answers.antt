@@ -18,15 +18,14 @@ returns c = λ r is within.
     let here = c.place_of-place.ensures in
     let wires = c.args.self.now.wires.items in
     let wire = c.index_mut.result.now in
-    let before = table_read r.nodes (λ p chars. chars ≡ r.wires p) wires port place wire is.wires
+    let before = table_read is.wires
     in_port here c.index_mut.ensures.value in
     let yes : c.in_ok-edit.field-0 ≡ true = search (rules, tests) in
     let fit = subst (λ w. fits edit w ≡ true) before (sym c.in_ok-edit.ensures.fits ∙ yes) in
-    edit_made r c.args.line.now _ port edit some fit (record {
+    edit_made port edit some fit (record {
       links = is.links;
       network = is.network;
-      wires = wires_set r.nodes r.wires wires port place c.edit.new.self
-          (changed edit (r.wires port)) is.wires in_port here
+      wires = wires_set is.wires in_port here
           (c.in_ok-edit.ensures.changed ∙ ap (changed edit) before);
       runs = is.runs;
     })

@@ -1,5 +1,5 @@
-use Rattle.std.proofs.Common.{Some, ◌≡◌, sym, ap, ◌∙◌, rules}
-use Rattle.trace_check.specs.Running.{run_hears, run_of}
+use Rattle.std.proofs.Common.{Some, sym, ap, ◌∙◌, rules}
+use Rattle.trace_check.specs.Running.{run_hears}
 use Rattle.trace_check.proofs.AnswerLaws.{got_stands}
 use Rattle.trace_check.proofs.StateLaws.{runs_set, wires_taken}
 use Rattle.trace_check.proofs.TableLaws.{table_read}
@@ -16,19 +16,17 @@ returns c = λ r short is is_in.
     let in_peer = is.links.within peer c.args.port (sym peer_is) in
     let from = c.place_of-from.result in
     let to = c.place_of-to.result in
-    let wire = table_read r.nodes (λ p cs. cs ≡ r.wires p) wires peer from
-    c.index_mut.result.now is.wires in_peer c.place_of-from.ensures c.index_mut.ensures.value in
-    let run = table_read r.nodes (λ p h. run_of h ≡ r.runs p) hearings c.args.port to
-    c.index_mut-2.result.now is.runs is_in c.place_of-to.ensures c.index_mut-2.ensures.value in
+    let wire = table_read is.wires in_peer c.place_of-from.ensures c.index_mut.ensures.value in
+    let run = table_read is.runs is_in c.place_of-to.ensures c.index_mut-2.ensures.value in
     let stands = sym wire ∙ c.take_front.ensures.taken (search rules) in
-    got_stands r short _ c.args.port chars
+    got_stands
     (record { peer = peer; behind = c.take_front.new.self; peer_is = sym peer_is; stands = stands })
     (record {
       links = is.links;
       network = is.network;
-      wires = wires_taken r.nodes r.wires wires peer _ from c.take_front.new.self chars is.wires
+      wires = wires_taken c.take_front.new.self chars is.wires
           in_peer c.place_of-from.ensures peer_is stands;
-      runs = runs_set r.nodes r.runs hearings c.args.port to c.hear.new.self
+      runs = runs_set c.hear.new.self
           (λ run. run_hears run chars) is.runs is_in c.place_of-to.ensures
           (c.in_ok-hear.ensures ∙ ap (λ run. run_hears run chars) run);
     })

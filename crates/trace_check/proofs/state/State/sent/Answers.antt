@@ -13,17 +13,14 @@ returns c = λ r short is is_in.
     let wire = c.index_mut.result.now in
     let here = c.place_of-place.ensures in
     let chars = c.args.chars.items in
-    let before = table_read r.nodes (λ p chars. chars ≡ r.wires p) c.args.self.now.wires.items
-    c.args.port place wire is.wires is_in here c.index_mut.ensures.value in
+    let before = table_read is.wires is_in here c.index_mut.ensures.value in
     let yes : c.may_send.result ≡ true = search (rules, tests) in
     let may = subst (λ (l : List Char). SendMayBe r.net (Signed (Sent c.args.port l)))
     c.as_slice.ensures.value ((c.may_send.ensures r.nodes r.net is.network is_in).0 yes) in
-    sent_stands r short _ c.args.port chars may
-    (record {
+    sent_stands may (record {
       links = is.links;
       network = is.network;
-      wires = wires_set r.nodes r.wires c.args.self.now.wires.items c.args.port place
-          c.put.new.self (r.wires c.args.port ++ chars) is.wires is_in here
+      wires = wires_set is.wires is_in here
           (c.in_ok-put.ensures ∙ ap (λ (l : List Char). l ++ chars) before);
       runs = is.runs;
     })

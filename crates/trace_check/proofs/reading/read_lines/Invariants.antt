@@ -1,6 +1,6 @@
 use Rattle.trace_check.specs.Starting.{net_of}
 use Rattle.trace_check.proofs.StopLaws.{IsAhead, left_ahead}
-use Rattle.trace_check.proofs.checking.check_lines.Given as goal
+use Rattle.trace_check.proofs.reading.read_lines.Given as goal
 
 abbrev pub invariant-loop-ahead : goal.invariant-loop-ahead
 invariant-loop-ahead l =
