@@ -1,5 +1,5 @@
 -- Which ways are open to a walker, and what writes leave of them.
-use Rattle.std.proofs.Common.{◌≡◌, ◌≢◌, ℕ, List, [], ◌∷◌, ◌++◌, Option, Some, None, Contains, ◌⊎◌, inl, inr, subst, sym, refl, ap, ◌∙◌, append_assoc}
+use Rattle.std.proofs.Common.{◌≡◌, ◌≢◌, ℕ, List, [], ◌∷◌, ◌++◌, Option, Some, None, Contains, ◌⊎◌, inl, inr, subst, sym, refl, ap, ◌∙◌, append_assoc, unwrap_or}
 use Rattle.std.proofs.lemmas.Bool.{cases_eq}
 use Rattle.fabric_script.specs.declared.ports.PortRef.{PortRef}
 use Rattle.maint_registers.specs.Devices.{Registers}
@@ -13,7 +13,7 @@ use Rattle.fabric_map.specs.Numbered.{paths_of}
 use Rattle.fabric_map.specs.Ways.{IsOpened}
 use Rattle.fabric_map.proofs.Growing.{node_at-entered}
 use Rattle.host_enumerate.specs.declared.maint.Access.TheVariants.{Write}
-use Rattle.host_enumerate.specs.Accesses.{after_write, after_access, answered, registers_with}
+use Rattle.host_enumerate.specs.Accesses.{after_access, answered, registers_with}
 use Rattle.host_enumerate.proofs.Askable.{opened-empty, opened-first, never_empty, never_single}
 use Rattle.host_enumerate.proofs.Frames.{with_device-at, with_device-other}
 use Rattle.host_enumerate.proofs.Routing.{opened-front}
@@ -193,7 +193,7 @@ module _ (view : Topology) (id : ℕ) where
   pub lock_sends : (now : AllRegisters) (at : PortRef) (value : ℕ)
       → SendAs id now (after_access now at (Write 0x68 value))
   lock_sends now at value =
-      let written = ap (λ o. (after_write (now at.node) o).device)
+      let written = ap (λ o. unwrap_or o (now at.node))
       (lock-written (now at.node) value) in
       one_sends now at.node (answered (now at.node) at.port (Write 0x68 value)).device
       (ap (λ d. next_port d 255) written) (ap (λ d. next_port d id) written)
@@ -201,7 +201,7 @@ module _ (view : Topology) (id : ℕ) where
   pub tag_sends : (now : AllRegisters) (at : PortRef) (value : ℕ)
       → SendAs id now (after_access now at (Write 0x6c value))
   tag_sends now at value =
-      let written = ap (λ o. (after_write (now at.node) o).device)
+      let written = ap (λ o. unwrap_or o (now at.node))
       (tag-written (now at.node) value) in
       one_sends now at.node (answered (now at.node) at.port (Write 0x6c value)).device
       (ap (λ d. next_port d 255) written) (ap (λ d. next_port d id) written)

@@ -1,5 +1,5 @@
 -- Each access of a walker leaves open what it asks next.
-use Rattle.std.proofs.Common.{◌≡◌, ◌≢◌, ℕ, ◌+◌, ◌*◌, ◌/◌, ◌%◌, ◌≤◌, ◌<◌, nat_lt, Bool, true, false, eqb, List, [], ◌∷◌, ◌++◌, Option, Some, None, ◌⊎◌, inl, inr, subst, sym, refl, ap, ◌∙◌, if◌then◌else◌}
+use Rattle.std.proofs.Common.{◌≡◌, ◌≢◌, ℕ, ◌+◌, ◌*◌, ◌/◌, ◌%◌, ◌≤◌, ◌<◌, nat_lt, Bool, true, false, eqb, List, [], ◌∷◌, ◌++◌, Option, Some, None, ◌⊎◌, inl, inr, subst, sym, refl, ap, ◌∙◌, if◌then◌else◌, unwrap_or}
 use Rattle.std.proofs.lemmas.Bool.{cases_eq, eqb-true, eqb-false}
 use Rattle.std.proofs.lemmas.Option.{same_Some}
 use Rattle.fabric_script.specs.declared.ports.PortRef.{PortRef}
@@ -14,7 +14,7 @@ use Rattle.fabric_map.specs.Fitting.{Fits}
 use Rattle.fabric_map.proofs.Few.{entered-inside}
 use Rattle.fabric_map.proofs.Growing.{listed-switch, node_at-entered}
 use Rattle.host_enumerate.specs.declared.maint.Access.TheVariants.{Read, Write}
-use Rattle.host_enumerate.specs.Accesses.{after_write, answered, after_access}
+use Rattle.host_enumerate.specs.Accesses.{answered, after_access}
 use Rattle.host_enumerate.specs.Underway.{IsUnmet, IsUnderway}
 use Rattle.host_enumerate.proofs.Frames.{with_device-at, with_device-other}
 use Rattle.host_enumerate.proofs.Keeping.{underway-same, next-home}
@@ -52,7 +52,7 @@ lock_base now at value node = go (cases_eq node at.node)
     go (inl same) =
         ap (λ n. (after_access now at (Write 0x68 value) n).base_id) same
         ∙ (ap (λ (d : Registers). d.base_id) (with_device-at now at.node _)
-        ∙ (ap (λ o. (after_write (now at.node) o).device.base_id)
+        ∙ (ap (λ o. (unwrap_or o (now at.node)).base_id)
         (lock-written (now at.node) value) ∙ ap (λ n. (now n).base_id) (sym same)))
     go (inr apart) =
         ap (λ (d : Registers). d.base_id) (with_device-other now at.node node _ apart)

@@ -1,5 +1,5 @@
 -- A walker that takes in an endpoint or a switch, or goes behind a port, leaves its way open.
-use Rattle.std.proofs.Common.{◌≡◌, ◌≢◌, ℕ, ◌+◌, ◌*◌, ◌%◌, ◌≤◌, ◌<◌, Bool, true, false, eqb, List, [], ◌∷◌, ◌++◌, Option, Some, None, Contains, length, arith, ◌⊎◌, inl, inr, subst, sym, refl, ap, ◌∙◌, if◌then◌else◌}
+use Rattle.std.proofs.Common.{◌≡◌, ◌≢◌, ℕ, ◌+◌, ◌*◌, ◌%◌, ◌≤◌, ◌<◌, Bool, true, false, eqb, List, [], ◌∷◌, ◌++◌, Option, Some, None, Contains, length, arith, ◌⊎◌, inl, inr, subst, sym, refl, ap, ◌∙◌, if◌then◌else◌, unwrap_or}
 use Rattle.std.proofs.lemmas.Bool.{eqb-true, eqb-false}
 use Rattle.std.proofs.lemmas.List.Elements.{Contains-append_left}
 use Rattle.fabric_script.specs.declared.ports.PortRef.{PortRef}
@@ -15,7 +15,7 @@ use Rattle.fabric_map.specs.Numbered.{paths_of, toward}
 use Rattle.fabric_map.proofs.Branches.{further_from_toward}
 use Rattle.fabric_map.proofs.Growing.{paths_of-push}
 use Rattle.host_enumerate.specs.declared.maint.Access.TheVariants.{Write}
-use Rattle.host_enumerate.specs.Accesses.{after_write, after_access, answered, registers_with}
+use Rattle.host_enumerate.specs.Accesses.{after_access, answered, registers_with}
 use Rattle.host_enumerate.specs.Setting.{with_entry}
 use Rattle.host_enumerate.specs.Underway.{id_after, met_as}
 use Rattle.host_enumerate.proofs.Askable.{split-onward, opened-onward}
@@ -91,7 +91,7 @@ module _ (view : Topology) (devices : List Device) (id given : ℕ) (path : List
       selected : IsWay view devices id (after_access now there.0 (Write 0x70 given))
           (first ∷ front)
       selected =
-          let written = ap (λ o. (after_write (now there.0.node) o).device)
+          let written = ap (λ o. unwrap_or o (now there.0.node))
           (select-written (now there.0.node) given is_one) in
           way-sends view id devices now (after_access now there.0 (Write 0x70 given))
           (first ∷ front)

@@ -4,15 +4,14 @@ use Rattle.std.proofs.Common.{◌≡◌, ℕ, ◌+◌, ◌*◌, ◌/◌, ◌%◌
 use Rattle.std.proofs.lemmas.Bool.{eqb-true}
 use Rattle.fabric_script.specs.declared.ports.PortRef.{PortRef}
 use Rattle.maint_registers.specs.Devices.{Registers, IsSameDevice}
-use Rattle.maint_registers.specs.Access.{value_at, written_at}
-use Rattle.maint_registers.proofs.SameLaws.{same_device, written_same}
+use Rattle.maint_registers.proofs.SameLaws.{same_device, write_same}
 use Rattle.fabric_map.specs.declared.map.Kind.TheVariants.{Endpoint}
 use Rattle.fabric_map.specs.declared.map.Device.{Device}
 use Rattle.fabric_map.specs.Topology.{entered}
 use Rattle.fabric_map.specs.Routes.{AllRegisters}
 use Rattle.host_enumerate.specs.declared.maint.Access.{Access}
 use Rattle.host_enumerate.specs.declared.maint.Access.TheVariants.{Read, Write}
-use Rattle.host_enumerate.specs.Accesses.{after_read, after_write, answered, after_access}
+use Rattle.host_enumerate.specs.Accesses.{answered, after_access}
 use Rattle.host_enumerate.specs.Underway.{id_after, met_as}
 use Rattle.contest_machine.specs.declared.stages.Asked.{Asked}
 use Rattle.contest_machine.specs.declared.stages.PendingWrite.{PendingWrite}
@@ -172,23 +171,10 @@ told_keeps w value = go w.todo w.stage w.path
 abbrev pub AreSameDevices : AllRegisters → AllRegisters → Type 0
 AreSameDevices before now = (node : ℕ) → IsSameDevice (before node) (now node)
 
-written_is : (device : Registers) (o : Option Registers)
-    → ((next : Registers) → o ≡ Some next → IsSameDevice device next)
-    → IsSameDevice device (after_write device o).device
-written_is device None some = same_device device
-written_is device (Some next) some = some next refl
-
-read_is : (device : Registers) (o : Option ℕ)
-    → IsSameDevice device (after_read device o).device
-read_is device None = same_device device
-read_is device (Some value) = same_device device
-
 pub access_is : (device : Registers) (port : ℕ) (access : Access)
     → IsSameDevice device (answered device port access).device
-access_is device port (Read offset) = read_is device (value_at device offset port)
-access_is device port (Write offset value) =
-    written_is device (written_at device offset value)
-    (λ next is. written_same device next offset value is)
+access_is device port (Read offset) = same_device device
+access_is device port (Write offset value) = write_same device offset value
 
 access_same : (before now : AllRegisters) (at : PortRef) (access : Access)
     → AreSameDevices before now → AreSameDevices before (after_access now at access)

@@ -1,5 +1,5 @@
 -- Every access that goes on leaves its walker fewer turns.
-use Rattle.std.proofs.Common.{◌≡◌, ◌≢◌, ℕ, ◌+◌, ◌*◌, ◌/◌, ◌%◌, ◌≤◌, ◌<◌, true, List, [], ◌∷◌, ◌++◌, length, Option, Some, None, IsSome, option_map, Contains, arith, subst, sym, refl, ap, ◌∙◌, append-nil}
+use Rattle.std.proofs.Common.{◌≡◌, ◌≢◌, ℕ, ◌+◌, ◌*◌, ◌/◌, ◌%◌, ◌≤◌, ◌<◌, true, List, [], ◌∷◌, ◌++◌, length, Option, Some, None, IsSome, option_map, Contains, arith, subst, sym, refl, ap, ◌∙◌, append-nil, unwrap_or}
 use Rattle.std.proofs.lemmas.List.Elements.{Contains-append_left, Contains-append_right}
 use Rattle.fabric_script.specs.declared.ports.PortRef.{PortRef}
 use Rattle.maint_registers.specs.Devices.{is_switch}
@@ -16,7 +16,7 @@ use Rattle.fabric_map.proofs.Growing.{node_at-entered}
 use Rattle.fabric_map.proofs.Leading.{some_from_same}
 use Rattle.fabric_map.proofs.Lists.{Contains-first}
 use Rattle.host_enumerate.specs.declared.maint.Access.TheVariants.{Read, Write}
-use Rattle.host_enumerate.specs.Accesses.{after_read, answered, after_access}
+use Rattle.host_enumerate.specs.Accesses.{answered, after_access}
 use Rattle.host_enumerate.specs.Underway.{met_as}
 use Rattle.contest_machine.specs.declared.stages.Asked.{Asked}
 use Rattle.contest_machine.specs.declared.stages.PendingWrite.{PendingWrite}
@@ -69,7 +69,7 @@ ports_few view before now proper shown same path at enters (there, ports, leads,
 
     value : (answered (now at.node) at.port (Read 0x14)).answer.value
         ≡ (now at.node).ports * 0x100 + at.port
-    value = ap (λ o. (after_read (now at.node) o).answer.value)
+    value = ap (λ o. unwrap_or o 0)
         (port_information-read (now at.node) at.port is)
 
     few : (now at.node).ports ≡ device_ports view at.node

@@ -17,7 +17,7 @@ use Rattle.fabric_map.specs.Fitting.{Fits}
 use Rattle.fabric_map.proofs.Few.{entered-inside}
 use Rattle.fabric_map.proofs.Leading.{followed-host, along-onward}
 use Rattle.host_enumerate.specs.declared.maint.Access.TheVariants.{Read}
-use Rattle.host_enumerate.specs.Accesses.{after_read, answered}
+use Rattle.host_enumerate.specs.Accesses.{answered}
 use Rattle.contest_law.proofs.Lasting.{AreSameDevices}
 
 -- the path leads to a switch
@@ -50,7 +50,7 @@ pub features_told : (device : Registers) (port : ℕ)
     → (answered device port (Read 0x10)).answer.value
     ≡ (if is_switch device then 0x10000118 else 0x18)
 features_told device port =
-    ap (λ o. (after_read device o).answer.value) (features-read device port)
+    ap (λ o. unwrap_or o 0) (features-read device port)
 
 switch_told : (device : Registers) (port : ℕ)
     → (answered device port (Read 0x10)).answer.value / 0x10000000 % 2 ≡ 1
@@ -100,7 +100,7 @@ module _ (view : Topology) (before now : AllRegisters) (proper : IsTopology view
       past : (now at.node).ports ≤ n → ⊥
       past most =
           let none : (answered (now at.node) at.port (Read (0x158 + 0x20 * n))).answer.value ≡ 0 =
-          ap (λ o. (after_read (now at.node) o).answer.value)
+          ap (λ o. unwrap_or o 0)
           (status-none (now at.node) n at.port most) in
           omega (arith, none, two)
 
@@ -112,7 +112,7 @@ module _ (view : Topology) (before now : AllRegisters) (proper : IsTopology view
           (subst (λ k. n < k) ((same at.node).ports ∙ fits.ports at.node inside) below)
           ∙ ap (λ o. if is_some o then 1 else 0) none) in
           let one : (answered (now at.node) at.port (Read (0x158 + 0x20 * n))).answer.value ≡ 1 =
-          ap (λ o. (after_read (now at.node) o).answer.value)
+          ap (λ o. unwrap_or o 0)
           (status-read (now at.node) n at.port below)
           ∙ ap (λ k. if k == 1 then 2 else 1) bit in
           omega (arith, one, two)

@@ -1,69 +1,51 @@
 -- What a read leaves and tells, and what a write leaves.
-use Rattle.std.proofs.Common.{◌≡◌, ◌≢◌, ℕ, ◌%◌, ◌<◌, ◌==◌, Bool, true, false, eqb, List, [], ◌∷◌, Option, Some, None, arith, ◌⊎◌, inl, inr, subst, sym, refl, ap, ◌∙◌, if◌then◌else◌, eq-eqb, ne_eqb}
+use Rattle.std.proofs.Common.{◌≡◌, ◌≢◌, ℕ, ◌%◌, ◌<◌, unwrap_or, arith, ◌⊎◌, inl, inr, sym, refl, ap, ◌∙◌, eq-eqb, ne_eqb}
 use Rattle.std.proofs.lemmas.Bool.{cases_eq}
 use Rattle.fabric_script.specs.declared.ports.PortRef.{PortRef}
 use Rattle.maint_registers.specs.Devices.{Registers}
-use Rattle.maint_registers.specs.Access.{value_at, written_at, locked}
+use Rattle.maint_registers.specs.Access.{locked}
 use Rattle.maint_registers.proofs.AccessLaws.{lock-read, tag-read, lock-written, tag-written}
 use Rattle.maint_registers.proofs.BesideLaws.{lock-stays, tag-stays}
 use Rattle.fabric_map.specs.Routes.{AllRegisters}
 use Rattle.host_enumerate.specs.declared.maint.Access.TheVariants.{Read, Write}
-use Rattle.host_enumerate.specs.Accesses.{after_read, after_write, answered, registers_with, after_access}
+use Rattle.host_enumerate.specs.Accesses.{answered, after_access}
 use Rattle.host_enumerate.proofs.Frames.{with_device-itself}
-
-read_leaves : (device : Registers) (o : Option ℕ) → (after_read device o).device ≡ device
-read_leaves device (Some value) = refl
-read_leaves device None = refl
 
 pub read-same : (old : AllRegisters) (at : PortRef) (offset : ℕ)
     → after_access old at (Read offset) ≡ old
-read-same old at offset =
-    ap (λ d. registers_with old at.node d)
-    (read_leaves (old at.node) (value_at (old at.node) offset at.port))
-    ∙ with_device-itself old at.node
+read-same old at offset = with_device-itself old at.node
 
 pub lock_told : (device : Registers) (port : ℕ)
     → (answered device port (Read 0x68)).answer.value ≡ device.lock
-lock_told device port = ap (λ o. (after_read device o).answer.value) (lock-read device port)
+lock_told device port = ap (λ o. unwrap_or o 0) (lock-read device port)
 
 pub tag_told : (device : Registers) (port : ℕ)
     → (answered device port (Read 0x6c)).answer.value ≡ device.tag
-tag_told device port = ap (λ o. (after_read device o).answer.value) (tag-read device port)
+tag_told device port = ap (λ o. unwrap_or o 0) (tag-read device port)
 
 pub write_keeps_lock : (device : Registers) (port offset value : ℕ) → offset ≢ 0x68
     → (answered device port (Write offset value)).device.lock ≡ device.lock
-write_keeps_lock device port offset value other = go (written_at device offset value) refl
-  where
-    go : (o : Option Registers) → written_at device offset value ≡ o
-        → (after_write device o).device.lock ≡ device.lock
-    go None is = refl
-    go (Some next) is = lock-stays device next offset value is other
+write_keeps_lock device port offset value other = lock-stays device offset value other
 
 pub tag_given : (device : Registers) (port offset value : ℕ) → offset ≡ 0x6c
     → (answered device port (Write offset value)).device.tag ≡ value
 tag_given device port offset value is =
     ap (λ n. (answered device port (Write n value)).device.tag) is
-    ∙ ap (λ o. (after_write device o).device.tag) (tag-written device value)
+    ∙ ap (λ o. (unwrap_or o device).tag) (tag-written device value)
 
 pub write_keeps_tag : (device : Registers) (port offset value : ℕ) → (offset ≡ 0x6c → value ≢ 0)
     → device.tag ≢ 0 → (answered device port (Write offset value)).device.tag ≢ 0
 write_keeps_tag device port offset value some tagged none = at (cases_eq offset 0x6c)
   where
-    beside : (o : Option Registers) → written_at device offset value ≡ o → offset ≢ 0x6c
-        → (after_write device o).device.tag ≡ device.tag
-    beside None is other = refl
-    beside (Some next) is other = tag-stays device next offset value is other
-
     at : (offset ≡ 0x6c) ⊎ (offset ≢ 0x6c) → ⊥
     at (inl is) = some is (sym (tag_given device port offset value is) ∙ none)
-    at (inr other) =
-        tagged (sym (beside (written_at device offset value) refl other) ∙ none)
+    at (inr other) = tagged (sym (tag-stays device offset value other) ∙ none)
 
 -- a lock after an ID was written to it
 pub lock_left : (device : Registers) (port id : ℕ)
     → (answered device port (Write 0x68 id)).device
     ≡ record device { lock = locked device.lock (id % 0x10000) }
-lock_left device port id = ap (λ o. (after_write device o).device) (lock-written device id)
+lock_left device port id = ap (λ o. unwrap_or o device) (lock-written device id)
 
 pub locked-free : (lock id : ℕ) → lock ≡ 0xffff → id < 0xff → locked lock (id % 0x10000) ≡ id
 locked-free lock id free fits =

@@ -1,5 +1,5 @@
 -- A walker that takes in its own host first.
-use Rattle.std.proofs.Common.{◌≡◌, ◌≢◌, ℕ, ◌*◌, ◌<◌, Bool, List, [], ◌∷◌, ◌++◌, Some, arith, ◌⊎◌, inl, inr, subst, sym, refl, ap, ◌∙◌}
+use Rattle.std.proofs.Common.{◌≡◌, ◌≢◌, ℕ, ◌*◌, ◌<◌, Bool, List, [], ◌∷◌, ◌++◌, Some, arith, ◌⊎◌, inl, inr, subst, sym, refl, ap, ◌∙◌, unwrap_or}
 use Rattle.std.proofs.lemmas.Bool.{cases_eq}
 use Rattle.std.proofs.lemmas.Option.{same_Some}
 use Rattle.fabric_script.specs.Ports.{port_at}
@@ -24,7 +24,6 @@ use Rattle.contest_numbering.proofs.Along.{IsAlong}
 use Rattle.maint_registers.proofs.AccessLaws.{base_id-written, tag-written}
 use Rattle.fabric_map.proofs.Steps.{begins}
 use Rattle.fabric_map.proofs.Lists.{not_in_empty}
-use Rattle.host_enumerate.specs.Accesses.{after_write}
 use Rattle.host_enumerate.specs.Underway.{AreOwnUntagged}
 use Rattle.host_enumerate.proofs.Counting.{counted-none}
 use Rattle.host_enumerate.proofs.Frames.{with_device-at, with_device-other}
@@ -89,13 +88,13 @@ module _ (view : Topology) (id : ℕ) (begun : Bool) (now : AllRegisters) (prope
   marked : device_after (now view.host) 0 marks ≡ record (now view.host) { base_id = id; tag = 1 }
   marked =
       ap (λ d. (answered d 0 (Write 0x6c 1)).device) numbered_so
-      ∙ ap (λ o. (after_write (record (now view.host) { base_id = id }) o).device)
+      ∙ ap (λ o. unwrap_or o (record (now view.host) { base_id = id }))
       (tag-written (record (now view.host) { base_id = id }) 1)
     where
       numbered_so : (answered (now view.host) 0 (Write 0x60 (id * 0x10000))).device
           ≡ record (now view.host) { base_id = id }
       numbered_so =
-          ap (λ o. (after_write (now view.host) o).device)
+          ap (λ o. unwrap_or o (now view.host))
           (base_id-written (now view.host) (id * 0x10000)
           (shown.endpoints view.host proper.host proper.host_is_endpoint))
           ∙ ap (λ n. record (now view.host) { base_id = n }) (omega (arith, fits))

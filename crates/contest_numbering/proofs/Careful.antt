@@ -1,5 +1,5 @@
 -- No access of a walker changes an entry that is neither below 63, nor its own, nor that of 255.
-use Rattle.std.proofs.Common.{◌≡◌, ◌≢◌, ℕ, ◌+◌, ◌*◌, ◌/◌, ◌%◌, ◌<◌, nat_lt, Bool, true, false, eqb, List, [], ◌∷◌, ◌++◌, Option, Some, None, arith, ◌⊎◌, inl, inr, subst, sym, refl, ap, ◌∙◌, if◌then◌else◌}
+use Rattle.std.proofs.Common.{◌≡◌, ◌≢◌, ℕ, ◌+◌, ◌*◌, ◌/◌, ◌%◌, ◌<◌, nat_lt, Bool, true, false, eqb, List, [], ◌∷◌, ◌++◌, Option, Some, None, arith, ◌⊎◌, inl, inr, subst, sym, refl, ap, ◌∙◌, if◌then◌else◌, unwrap_or}
 use Rattle.std.proofs.lemmas.Bool.{cases_eq}
 use Rattle.std.proofs.lemmas.Option.{same_Some}
 use Rattle.fabric_script.specs.declared.ports.PortRef.{PortRef}
@@ -19,14 +19,13 @@ use Rattle.contest_machine.specs.Machine.{Walker, write, routes_to, gone_on, tak
 use Rattle.maint_registers.specs.Routes.{entry_of}
 use Rattle.maint_registers.proofs.AccessLaws.{select-written}
 use Rattle.maint_registers.proofs.SameLaws.{same_kind}
+use Rattle.maint_registers.proofs.BesideLaws.{entry-stays}
 use Rattle.host_enumerate.proofs.Frames.{with_device-at, with_device-other}
-use Rattle.host_enumerate.specs.Accesses.{after_write}
 use Rattle.contest_machine.specs.declared.stages.Asked.{Asked}
 use Rattle.contest_machine.specs.Machine.{asked, last_path, but_last, freeing, judged, walker_told, reached, stepped}
 use Rattle.contest_machine.proofs.Reading.{read-same}
 use Rattle.contest_law.proofs.Steps.{gone_by}
 use Rattle.contest_law.proofs.Lasting.{access_is}
-use Rattle.contest_numbering.proofs.Entries.{entry_left}
 use Rattle.contest_numbering.proofs.Pairing.{AreLinked, HeadOk, IsOrderly, starts_head, entry_orderly, one_orderly, orderly_append, routes_orderly, home_orderly, taken_orderly}
 
 module _ (dest : ℕ) (far : 62 < dest) (not_all : dest ≢ 255) where
@@ -73,7 +72,7 @@ module _ (dest : ℕ) (far : 62 < dest) (not_all : dest ≢ 255) where
       go (inl same) =
           ap (λ n. entry_of (after_access old at (Write offset value) n) dest) same
           ∙ (ap (λ d. entry_of d dest) (with_device-at old at.node _)
-          ∙ (entry_left dest (old at.node) offset value apart
+          ∙ (entry-stays (old at.node) offset value dest apart
           ∙ ap (λ n. entry_of (old n) dest) (sym same)))
       go (inr other) = ap (λ d. entry_of d dest) (with_device-other old at.node node _ other)
 
@@ -253,6 +252,6 @@ module _ (dest : ℕ) (far : 62 < dest) (not_all : dest ≢ 255) where
           let now : (answered (old at.node) at.port (Write p.offset p.value)).device.select
           ≡ p.value % 0x400 =
           ap (λ n. (answered (old at.node) at.port (Write n p.value)).device.select) at_select
-          ∙ ap (λ o. (after_write (old at.node) o).device.select)
+          ∙ ap (λ o. (unwrap_or o (old at.node)).select)
           (select-written (old at.node) p.value was) in
           λ e. linked.0 at_select (e ∙ now)

@@ -1,5 +1,5 @@
 -- A walker claims a device, and keeps it where the claim was won.
-use Rattle.std.proofs.Common.{◌≡◌, ◌≢◌, ℕ, ◌+◌, ◌%◌, ◌<◌, List, [], ◌∷◌, ◌++◌, length, Some, ◌⊎◌, inl, inr, subst, sym, refl, ap, ◌∙◌}
+use Rattle.std.proofs.Common.{◌≡◌, ◌≢◌, ℕ, ◌+◌, ◌%◌, ◌<◌, List, [], ◌∷◌, ◌++◌, length, Some, ◌⊎◌, inl, inr, subst, sym, refl, ap, ◌∙◌, unwrap_or}
 use Rattle.std.proofs.lemmas.Bool.{cases_eq}
 use Rattle.std.proofs.lemmas.List.Elements.{Contains-append_left}
 use Rattle.fabric_script.specs.declared.ports.PortRef.{PortRef}
@@ -11,7 +11,7 @@ use Rattle.fabric_map.specs.Routes.{AllRegisters}
 use Rattle.fabric_map.specs.Numbered.{paths_of}
 use Rattle.fabric_map.proofs.Growing.{path_listed, node_at-entered}
 use Rattle.host_enumerate.specs.declared.maint.Access.TheVariants.{Write}
-use Rattle.host_enumerate.specs.Accesses.{after_write, registers_with, after_access}
+use Rattle.host_enumerate.specs.Accesses.{registers_with, after_access}
 use Rattle.host_enumerate.specs.Holding.{IsTakable}
 use Rattle.host_enumerate.specs.Underway.{IsUnmet, IsUnderway}
 use Rattle.host_enumerate.proofs.Frames.{with_device-at, with_device-other}
@@ -154,7 +154,7 @@ module _ (w : Walker) (old : AllRegisters) (fits : w.id < 0xff) (at : PortRef)
       tagged : device_after (old at.node) at.port one
           ≡ with_tag (length w.devices + 1) (old at.node)
       tagged =
-          ap (λ o. (after_write (old at.node) o).device)
+          ap (λ o. unwrap_or o (old at.node))
           (tag-written (old at.node) (length w.devices + 1))
 
       marked : with_tag (length w.devices + 1) (with_lock w.id (before at.node))

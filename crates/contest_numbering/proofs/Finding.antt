@@ -18,7 +18,7 @@ use Rattle.fabric_map.proofs.Few.{entered-inside, entered-port}
 use Rattle.fabric_map.proofs.Growing.{device_on, paths_of-push, node_at-entered}
 use Rattle.fabric_map.proofs.Lists.{Contains-first}
 use Rattle.host_enumerate.specs.declared.maint.Access.TheVariants.{Read}
-use Rattle.host_enumerate.specs.Accesses.{after_read, answered, registers_with}
+use Rattle.host_enumerate.specs.Accesses.{answered, registers_with}
 use Rattle.host_enumerate.proofs.Frames.{with_device-at, with_device-other}
 use Rattle.host_enumerate.specs.Asking.{Becomes}
 use Rattle.host_enumerate.specs.Setting.{with_entry}
@@ -63,7 +63,7 @@ module _ (w : Walker) (now : AllRegisters) (at : PortRef) (ports : ℕ)
       omega (arith, port, most)
 
   told : value ≡ ports * 0x100 + at.port
-  told = ap (λ o. (after_read (now at.node) o).answer.value)
+  told = ap (λ o. unwrap_or o 0)
       (port_information-read (now at.node) at.port (fits.switches at.node ports inside switch))
       ∙ ap (λ n. n * 0x100 + at.port) ports_are
 
@@ -175,7 +175,7 @@ module _ (w : Walker) (now : AllRegisters) (top : Tried) (rest : List Tried) (at
       let port = (view_proper.ports (port_at at.node top.port) next link).port in
       let below : top.port < (now at.node).ports =
       subst (λ n. top.port < n) (sym (fits.ports at.node there)) port in
-      ap (λ o. (after_read (now at.node) o).answer.value)
+      ap (λ o. unwrap_or o 0)
       (status-read (now at.node) top.port at.port below)
       ∙ ap (λ n. if n == 1 then 2 else 1)
       (fits.linked at.node top.port there port ∙ ap (λ o. if is_some o then 1 else 0) link)

@@ -1,5 +1,5 @@
 -- An endpoint that a walker keeps has its ID, and the walker is on its way past it.
-use Rattle.std.proofs.Common.{◌≡◌, ◌≢◌, ℕ, ◌+◌, ◌*◌, ◌<◌, true, false, List, [], ◌∷◌, ◌++◌, length, Some, None, Contains, arith, subst, sym, refl, ap, ◌∙◌}
+use Rattle.std.proofs.Common.{◌≡◌, ◌≢◌, ℕ, ◌+◌, ◌*◌, ◌<◌, true, false, List, [], ◌∷◌, ◌++◌, length, Some, None, Contains, arith, subst, sym, refl, ap, ◌∙◌, unwrap_or}
 use Rattle.std.proofs.lemmas.Option.{same_Some}
 use Rattle.fabric_script.specs.declared.ports.PortRef.{PortRef}
 use Rattle.maint_registers.specs.Devices.{Registers, is_switch}
@@ -14,7 +14,7 @@ use Rattle.fabric_map.specs.Locked.{IsNext}
 use Rattle.fabric_map.specs.Numbered.{paths_of}
 use Rattle.fabric_map.proofs.Growing.{node_at-entered}
 use Rattle.host_enumerate.specs.declared.maint.Access.TheVariants.{Write}
-use Rattle.host_enumerate.specs.Accesses.{after_write, after_access}
+use Rattle.host_enumerate.specs.Accesses.{after_access}
 use Rattle.host_enumerate.specs.Holding.{IsTakable}
 use Rattle.host_enumerate.specs.Underway.{id_after, met_as, IsUnderway}
 use Rattle.host_enumerate.proofs.Frames.{with_device-at, with_device-other}
@@ -62,7 +62,7 @@ module _ (w : Walker) (now : AllRegisters) (at : PortRef) (first : ℕ) (rest : 
   numbered : mid at.node ≡ record (now at.node) { base_id = id }
   numbered =
       with_device-at now at.node _
-      ∙ (ap (λ o. (after_write (now at.node) o).device)
+      ∙ (ap (λ o. unwrap_or o (now at.node))
       (base_id-written (now at.node) (id * 0x10000) is_endpoint)
       ∙ ap (λ n. record (now at.node) { base_id = n }) (omega (arith, few)))
 

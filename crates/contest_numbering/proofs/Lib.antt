@@ -20,7 +20,6 @@ pub mod Coming
 pub mod Firsts
 pub mod Whole
 pub mod Leaving
-pub mod Entries
 pub mod Pairing
 pub mod Careful
 pub mod Contested

@@ -1,5 +1,5 @@
 -- The writes that are left for a switch, made one after another, set it up.
-use Rattle.std.proofs.Common.{◌≡◌, ◌≢◌, ℕ, zero, suc, ◌+◌, ◌%◌, ◌<◌, ◌≤◌, ◌==◌, Bool, true, false, eqb, List, [], ◌∷◌, ◌++◌, length, Some, arith, ◌⊎◌, inl, inr, subst, sym, refl, ap, ◌∙◌, if◌then◌else◌}
+use Rattle.std.proofs.Common.{◌≡◌, ◌≢◌, ℕ, zero, suc, ◌+◌, ◌%◌, ◌<◌, ◌≤◌, ◌==◌, Bool, true, false, eqb, List, [], ◌∷◌, ◌++◌, length, Some, arith, ◌⊎◌, inl, inr, subst, sym, refl, ap, ◌∙◌, if◌then◌else◌, unwrap_or}
 use Rattle.std.proofs.lemmas.Bool.{cases_eq, eqb-true}
 use Rattle.fabric_script.specs.declared.ports.PortRef.{PortRef}
 use Rattle.maint_registers.specs.Devices.{Registers, is_switch}
@@ -8,7 +8,7 @@ use Rattle.maint_registers.proofs.RouteLaws.{entry-set_same, entry-set_other}
 use Rattle.fabric_map.specs.Topology.{Topology, entered}
 use Rattle.fabric_map.specs.Routes.{AllRegisters}
 use Rattle.host_enumerate.specs.declared.maint.Access.TheVariants.{Write}
-use Rattle.host_enumerate.specs.Accesses.{after_write, answered, registers_with, after_access}
+use Rattle.host_enumerate.specs.Accesses.{answered, registers_with, after_access}
 use Rattle.host_enumerate.specs.Setting.{with_entry, IsCleared, SwitchIsSetUp}
 use Rattle.host_enumerate.proofs.Frames.{with_device-at, with_device-other, with_device-itself}
 use Rattle.host_enumerate.proofs.Clearing.{same_but-entry, cleared-none, cleared-next, cleared-past, is_switch-kind}
@@ -72,12 +72,12 @@ pub entry_after : (device : Registers) (port : ℕ) (path : List ℕ) (id value 
     → device_after device port (entry_set path id value) ≡ with_entry device id (value % 0x100)
 entry_after device port path id value is few =
     ap (λ d. (answered d port (Write 0x74 value)).device) selected
-    ∙ ap (λ o. (after_write (record device { select = id }) o).device)
+    ∙ ap (λ o. unwrap_or o (record device { select = id }))
     (entry-written (record device { select = id }) value is)
   where
     selected : (answered device port (Write 0x70 id)).device ≡ record device { select = id }
     selected =
-        ap (λ o. (after_write device o).device) (select-written device id is)
+        ap (λ o. unwrap_or o device) (select-written device id is)
         ∙ ap (λ n. record device { select = n }) (omega (arith, few))
 
 -- of a port that fits
@@ -147,7 +147,7 @@ after-home device port path host_id entry is destinations fits small =
 
     defaulted : (answered device port (Write 0x78 entry)).device ≡ first
     defaulted =
-        ap (λ o. (after_write device o).device) (default_port-written device entry is)
+        ap (λ o. unwrap_or o device) (default_port-written device entry is)
         ∙ ap (λ n. record device { default_port = n }) (omega (arith, small))
 
     whole : device_after device port (home_set path host_id entry)

@@ -1,5 +1,5 @@
 -- Requests and responses as packets on their way.
-use Rattle.std.proofs.Common.{◌≡◌, ℕ, ◌+◌, ◌%◌, ◌<◌, ◌≤◌, min, Bool, true, false, List, ◌++◌, length, Option, Some, None, option_map, refl, sym, ap, ◌∙◌, subst, arith, inl, inr, All, length-append}
+use Rattle.std.proofs.Common.{◌≡◌, ℕ, ◌+◌, ◌%◌, ◌<◌, ◌≤◌, min, Bool, true, false, List, ◌++◌, length, Option, Some, None, option_map, refl, ap, ◌∙◌, subst, arith, inl, inr, All, length-append}
 use Rattle.std.proofs.lemmas.List.{get_or_append_left}
 use Rattle.rio_packets.specs.Fields.{hop_of}
 use Rattle.rio_packets.specs.Hops.{closed, message_ended}
@@ -7,48 +7,28 @@ use Rattle.rio_packets.specs.LinkForm.{IsBody, LinkForm, Passes}
 use Rattle.rio_packets.specs.Making.{made}
 use Rattle.rio_packets.proofs.FormLaws.{LinkForm-made}
 use Rattle.maint_registers.specs.Devices.{Registers}
-use Rattle.maint_registers.specs.Access.{value_at, written_at}
+use Rattle.maint_registers.specs.Access.{value_at, written_at, access_status}
 use Rattle.maint_packets.specs.declared.request.Op.{Op}
 use Rattle.maint_packets.specs.declared.request.Op.TheVariants.{Read, Write, BadRead, BadWrite}
 use Rattle.maint_packets.specs.declared.request.Request.{Request}
 use Rattle.maint_packets.specs.declared.response.Response.{Response}
 use Rattle.maint_packets.specs.Responses.{response_of, IsResponseForm, response_body, response_bytes}
 use Rattle.maint_packets.proofs.ResponseLaws.{read_back, is_bytes}
-use Rattle.maint_packets.specs.Answers.{request_answered, answered_to, request_read, request_written}
+use Rattle.maint_packets.proofs.AnswerLaws.{status_fits}
+use Rattle.maint_packets.specs.Requests.{in_half}
+use Rattle.maint_packets.specs.Answers.{is_writing, accessed_by, words_read, request_answered}
 use Rattle.fabric_model.specs.Laws.Leaving.{IsAfterMoves}
 use Rattle.fabric_ask.proofs.OnWay.{hop_read}
 use Rattle.fabric_ask.proofs.Lowering.{unhopped, anyhow, responses_same}
 
 -- ---- what answers it
 
-answered_anyhow : (device : Registers) (request : Request) (port : ℕ)
-    → request_answered device request port ≡ request_answered device (anyhow request) port
-answered_anyhow device request port = by_op request.op
-  where
-    read : (o : Option ℕ) → request_read device request o ≡ request_read device (anyhow request) o
-    read None = refl
-    read (Some value) = refl
-
-    write : (o : Option Registers)
-        → request_written device request o ≡ request_written device (anyhow request)
-        o
-    write None = refl
-    write (Some next) = refl
-
-    by_op : (op : Op) → answered_to device request port op ≡ answered_to device (anyhow request)
-        port op
-    by_op Read = read (value_at device request.offset port)
-    by_op (Write value) = write (written_at device request.offset value)
-    by_op BadRead = refl
-    by_op BadWrite = refl
-
 -- requests that differ in their hop counts alone are answered alike
 pub answered_alike : (device : Registers) (first second : Request) (port : ℕ)
     → anyhow first ≡ anyhow second
     → request_answered device first port ≡ request_answered device second port
 answered_alike device first second port same =
-    answered_anyhow device first port ∙ ap (λ r. request_answered device r port) same
-    ∙ sym (answered_anyhow device second port)
+    ap (λ r. request_answered device r port) same
 
 -- ---- a response
 
@@ -61,27 +41,31 @@ pub record IsBack (request : Request) (response : Response) : Type 0 where
 
 pub is_back : (device : Registers) (request : Request) (port : ℕ)
     → IsBack request (request_answered device request port).response
-is_back device request port = by_op request.op
+is_back device request port = record {
+  dest = refl;
+  hop = refl;
+  prio = refl;
+  status = status_fits (accessed_by device request.offset port request.op).value;
+  formed = by_op request.op;
+}
   where
-    read : (o : Option ℕ) → IsBack request (request_read device request o).response
-    read None =
-        record { dest = refl; hop = refl; prio = refl; status = omega arith; formed = refl }
-    read (Some value) =
-        record { dest = refl; hop = refl; prio = refl; status = omega arith; formed = refl }
+    read : (o : Option ℕ)
+        → IsResponseForm false (access_status o) (option_map (in_half request.offset) o)
+    read None = refl
+    read (Some value) = refl
 
-    write : (o : Option Registers) → IsBack request (request_written device request o).response
-    write None =
-        record { dest = refl; hop = refl; prio = refl; status = omega arith; formed = inr refl }
-    write (Some next) =
-        record { dest = refl; hop = refl; prio = refl; status = omega arith; formed = inl refl }
+    write : (o : Option Registers)
+        → IsResponseForm true (access_status (option_map (λ next. 0) o)) None
+    write None = inr refl
+    write (Some next) = inl refl
 
-    by_op : (op : Op) → IsBack request (answered_to device request port op).response
+    by_op : (op : Op) → IsResponseForm (is_writing op)
+        (access_status (accessed_by device request.offset port op).value)
+        (words_read request.offset op (accessed_by device request.offset port op).value)
     by_op Read = read (value_at device request.offset port)
     by_op (Write value) = write (written_at device request.offset value)
-    by_op BadRead =
-        record { dest = refl; hop = refl; prio = refl; status = omega arith; formed = refl }
-    by_op BadWrite =
-        record { dest = refl; hop = refl; prio = refl; status = omega arith; formed = inr refl }
+    by_op BadRead = refl
+    by_op BadWrite = inr refl
 
 -- ---- a response is read back
 

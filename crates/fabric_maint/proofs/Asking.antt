@@ -1,20 +1,16 @@
 -- A host makes an ask that is answered.
-use Rattle.std.proofs.Common.{◌≡◌, ℕ, ◌+◌, ◌%◌, ◌^◌, ◌<◌, ◌≤◌, arith, false, List, [], ◌++◌, length, Option, Some, option_map, slice_get, refl, sym, ap, ◌∙◌, subst}
-use Rattle.std.proofs.lemmas.Option.{same_Some, slice_get-get_or}
-use Rattle.maint_registers.specs.Devices.{Registers, new_endpoint}
-use Rattle.maint_registers.specs.Within.{IsWithin}
-use Rattle.maint_registers.proofs.ChangeLaws.{device-changed}
+use Rattle.std.proofs.Common.{◌≡◌, ℕ, ◌+◌, ◌%◌, ◌^◌, ◌<◌, ◌≤◌, arith, List, [], ◌++◌, length, Option, refl, sym, ap, ◌∙◌, subst}
+use Rattle.std.proofs.lemmas.Option.{same_Some}
+use Rattle.maint_registers.specs.Devices.{Registers}
 use Rattle.maint_packets.specs.declared.request.Request.{Request}
 use Rattle.maint_packets.specs.declared.response.Response.{Response}
 use Rattle.maint_packets.specs.Requests.{IsGoodOp}
-use Rattle.maint_packets.specs.Answers as packets
 use Rattle.link_wires.specs.declared.edits.Edit.{Edit}
 use Rattle.fabric_script.specs.declared.ports.PortRef.{PortRef}
 use Rattle.fabric_script.specs.Ports.{port_at}
 use Rattle.fabric_map.specs.Topology.{Topology, IsTopology}
 use Rattle.fabric_map.specs.Fitting.{Fits}
 use Rattle.fabric_map.specs.Plain.{topology_of, registers_of}
-use Rattle.fabric_model.proofs.Forms.{device_at}
 use Rattle.fabric_trace.specs.Fold.{seen}
 use Rattle.fabric_trace.specs.Known.{Seen}
 use Rattle.trace_lines.specs.Lines.{TraceLine}
@@ -25,6 +21,7 @@ use Rattle.fabric_ports.specs.declared.fabric.Fabric.{Fabric}
 use Rattle.host_enumerate.specs.declared.maint.Access.{Access}
 use Rattle.host_enumerate.specs.declared.maint.Access.TheVariants.{Read, Write}
 use Rattle.host_enumerate.specs.Accesses.{answered, access_offset, after_access, IsAnswered}
+use Rattle.host_enumerate.proofs.AccessKeeps.{access_keeps}
 use Rattle.host_enumerate.proofs.Accessed.{fits-with}
 use Rattle.host_enumerate.proofs.PlainWalks.{walk-inside}
 use Rattle.fabric_maint.specs.Asked.{IsAskOf, AskedMore}
@@ -32,10 +29,9 @@ use Rattle.fabric_maint.specs.Going.{names_of, topology_in, registers_in, MaintR
 use Rattle.fabric_maint.specs.GoingLaws.{has_topology}
 use Rattle.fabric_maint.specs.Requests.{request_for, answer_in}
 use Rattle.fabric_maint.specs.declared.maint.FabricMaint.{FabricMaint}
-use Rattle.fabric_maint.proofs.Carried.{device_same, after_same, topology_same, goes, brought}
+use Rattle.fabric_maint.proofs.Carried.{after_same, topology_same, goes, brought}
 use Rattle.fabric_maint.proofs.Leading.{can_from, leads_more}
 use Rattle.fabric_maint.proofs.Told.{told_more}
-use Rattle.fabric_maint.proofs.Written.{keeps}
 
 pub good_request : (source tid dest hops : ℕ) (access : Access)
     → IsGoodOp (request_for source tid dest hops access).op
@@ -152,23 +148,6 @@ module _ {N K : Type 0} (old : FabricMaint N K) (whole : StandsWhole old) (dest 
       device : Registers
       device = registers_of t.network.registers at.node
 
-      device_after : slice_get (seen t replied.block).network.registers at.node
-          ≡ Some (packets.request_answered device request at.port).device
-      unfolding device
-      device_after =
-          ap (λ (devices : List Registers). slice_get devices at.node) end_registers
-          ∙ device-changed t.network.registers at.node
-          (λ d. (packets.request_answered d request at.port).device)
-          ∙ ap (option_map (λ (d : Registers). (packets.request_answered d request at.port).device))
-          (slice_get-get_or t.network.registers at.node (new_endpoint 0 false) (inside_at t can))
-
-      within_after : IsWithin (answered device at.port access).device
-      unfolding device
-      within_after = subst IsWithin (device_same device source old.tid dest hops at.port access)
-          (device_at (seen t replied.block).network.registers at.node
-          (packets.request_answered device request at.port).device device_after
-          reply_rests.can.stands.ready.formed.registers)
-
       pub reply_fits : (topology : Topology) → Fits topology (registers_of t.network.registers)
           → Fits topology (registers_of (seen t replied.block).network.registers)
       unfolding device
@@ -176,7 +155,7 @@ module _ {N K : Type 0} (old : FabricMaint N K) (whole : StandsWhole old) (dest 
           (sym (ap registers_of end_registers ∙ after_same t.network.registers t.network.links
           old.host source old.tid dest hops access at (inside_at t can)))
           (fits-with topology (registers_of t.network.registers) at.node
-          (answered device at.port access).device fits (keeps device at.port access within_after))
+          (answered device at.port access).device fits (access_keeps device at.port access))
 
       pub reply_topology : topology_of (seen t replied.block).network.registers
           (seen t replied.block).network.links old.host

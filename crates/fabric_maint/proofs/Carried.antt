@@ -1,5 +1,5 @@
 -- An access as a request: what is answered, and where it goes, are the same.
-use Rattle.std.proofs.Common.{◌≡◌, ℕ, ◌<◌, Bool, true, false, List, length, Option, Some, None, if◌then◌else◌, refl, sym, ap, ◌∙◌}
+use Rattle.std.proofs.Common.{◌≡◌, ℕ, ◌<◌, Bool, true, false, List, length, Option, Some, None, option_map, unwrap_or, if◌then◌else◌, refl, sym, ap, ◌∙◌}
 use Rattle.maint_registers.specs.Devices.{Registers}
 use Rattle.maint_registers.specs.Access.{value_at, written_at}
 use Rattle.maint_packets.specs.declared.request.Request.{Request}
@@ -12,16 +12,18 @@ use Rattle.fabric_map.specs.Routes.{AllRegisters, walk}
 use Rattle.fabric_map.specs.Plain.{topology_of, registers_of}
 use Rattle.host_enumerate.specs.declared.maint.Access.{Access}
 use Rattle.host_enumerate.specs.declared.maint.Access.TheVariants.{Read, Write}
-use Rattle.host_enumerate.specs.Accesses.{answered, after_read, after_write, access_offset, registers_with, after_access, IsAnswered}
+use Rattle.host_enumerate.specs.Accesses.{access_answer, answered, access_offset, registers_with, after_access, IsAnswered}
 use Rattle.fabric_ask.specs.Answered.{after_request, IsRoundTrip, response_home}
 use Rattle.fabric_maint.specs.Requests.{request_for, word_named, answer_in}
 use Rattle.fabric_maint.proofs.Tables.{registers_of-changed, topology_of-changed}
 
 -- ---- one device
 
--- the word that an offset names is the one that was put there
-word_put : (offset value : ℕ) → word_named offset (Some (in_half offset value)) ≡ value
-word_put offset value = go (names_second offset)
+-- the word that an offset names is the one that was read and put there
+word_put : (offset : ℕ) (read : Option ℕ)
+    → word_named offset (option_map (in_half offset) read) ≡ unwrap_or read 0
+word_put offset None = refl
+word_put offset (Some value) = go (names_second offset)
   where
     go : (b : Bool) → (if b
         then (let pair : ℕ × ℕ = (if b then (0, value) else (value, 0)) in pair.1)
@@ -29,44 +31,28 @@ word_put offset value = go (names_second offset)
     go true = refl
     go false = refl
 
+-- a write gives no other value than 0
+none_put : (next : Option Registers)
+    → ◌≡◌ {A = ℕ} 0 (unwrap_or (option_map (λ device. 0) next) 0)
+none_put None = refl
+none_put (Some device) = refl
+
 module _ (device : Registers) (source tid dest hops port : ℕ) where
   abbrev carried : Access → packets.RequestAnswered
   carried access = packets.request_answered device (request_for source tid dest hops access) port
 
-  pub device_same : (access : Access)
-      → (carried access).device ≡ (answered device port access).device
-  device_same (Read offset) = go (value_at device offset port)
-    where
-      go : (o : Option ℕ)
-          → (packets.request_read device (request_for source tid dest hops (Read offset)) o).device
-          ≡ (after_read device o).device
-      go None = refl
-      go (Some value) = refl
-  device_same (Write offset value) = go (written_at device offset value)
-    where
-      go : (o : Option Registers) → (packets.request_written device
-          (request_for source tid dest hops (Write offset value)) o).device
-          ≡ (after_write device o).device
-      go None = refl
-      go (Some next) = refl
+  device_same : (access : Access) → (carried access).device ≡ (answered device port access).device
+  device_same (Read offset) = refl
+  device_same (Write offset value) = refl
 
-  pub answer_same : (access : Access)
-      → answer_in (carried access).response (access_offset access)
+  answer_same : (access : Access) → answer_in (carried access).response (access_offset access)
       ≡ (answered device port access).answer
-  answer_same (Read offset) = go (value_at device offset port)
-    where
-      go : (o : Option ℕ) → answer_in (packets.request_read device
-          (request_for source tid dest hops (Read offset)) o).response offset
-          ≡ (after_read device o).answer
-      go None = refl
-      go (Some value) = ap (λ (n : ℕ). record { status = 0; value = n }) (word_put offset value)
-  answer_same (Write offset value) = go (written_at device offset value)
-    where
-      go : (o : Option Registers) → answer_in (packets.request_written device
-          (request_for source tid dest hops (Write offset value)) o).response offset
-          ≡ (after_write device o).answer
-      go None = refl
-      go (Some next) = refl
+  answer_same (Read offset) =
+      ap (λ (n : ℕ). record (access_answer (value_at device offset port)) { value = n })
+      (word_put offset (value_at device offset port))
+  answer_same (Write offset value) =
+      ap (λ (n : ℕ). record (answered device port (Write offset value)).answer { value = n })
+      (none_put (written_at device offset value))
 
 -- ---- the registers of a fabric
 

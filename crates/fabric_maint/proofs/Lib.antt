@@ -1,5 +1,4 @@
 mod Tables
-mod Written
 mod Carried
 mod Leading
 mod Agreeing

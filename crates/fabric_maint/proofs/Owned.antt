@@ -1,5 +1,5 @@
 -- A host reads and writes its own registers.
-use Rattle.std.proofs.Common.{◌≡◌, ℕ, ◌<◌, Bool, true, false, List, [], length, is_some, Option, Some, None, option_map, slice_get, unwrap_or, refl, sym, ap, ◌∙◌, subst}
+use Rattle.std.proofs.Common.{◌≡◌, ℕ, ◌<◌, Bool, true, false, List, [], length, is_some, Option, Some, None, option_map, slice_get, refl, sym, ap, ◌∙◌, subst}
 use Rattle.std.proofs.lemmas.Option.{same_Some, slice_get_within, get_or_from_slice_get}
 use Rattle.maint_registers.specs.Devices.{Registers, IsSameDevice, is_switch, new_endpoint}
 use Rattle.maint_registers.specs.Access.{value_at, written_at}
@@ -21,14 +21,14 @@ use Rattle.fabric_ports.specs.OwnRegisters.{device_with, seen_with, OwnWritten}
 use Rattle.fabric_ports.specs.declared.fabric.Fabric.{Fabric}
 use Rattle.host_enumerate.specs.declared.maint.Access.{Access}
 use Rattle.host_enumerate.specs.declared.maint.Access.TheVariants.{Read, Write}
-use Rattle.host_enumerate.specs.Accesses.{access_done, access_failed, answered, after_read, after_write, registers_with, after_access}
+use Rattle.host_enumerate.specs.Accesses.{access_answer, answered, registers_with, after_access}
+use Rattle.host_enumerate.proofs.AccessKeeps.{access_keeps}
 use Rattle.host_enumerate.proofs.Accessed.{Keeps, fits-with}
 use Rattle.host_enumerate.proofs.Frames.{with_device-itself}
 use Rattle.fabric_maint.specs.Asked.{Owns}
 use Rattle.fabric_maint.specs.Going.{topology_in, registers_in, MaintRestsAt, StandsWhole, Went, Followed}
 use Rattle.fabric_maint.specs.declared.maint.FabricMaint.{FabricMaint}
 use Rattle.fabric_maint.proofs.Tables.{registers_of-changed, topology_of-changed}
-use Rattle.fabric_maint.proofs.Written.{keeps}
 use Rattle.fabric_maint.proofs.Leading.{IsHostDevice, host_device, leads_own}
 
 -- ---- the device of the host
@@ -58,47 +58,38 @@ module _ {N K : Type 0} (old : FabricMaint N K) (whole : StandsWhole old) where
 
   pub read_answer : (access : Access) (offset : ℕ) (o : Option ℕ) → access ≡ Read offset
       → o ≡ value_at own_device.device offset 0
-      → (after_read own_device.device o).answer
-      ≡ (answered (registers_in old old.host) 0 access).answer
+      → access_answer o ≡ (answered (registers_in old old.host) 0 access).answer
   read_answer access offset o is same =
-      ap (λ (x : Option ℕ). (after_read own_device.device x).answer) same
-      ∙ of_access access (Read offset) is
+      ap access_answer same ∙ of_access access (Read offset) is
 
   pub read_registers : (access : Access) (offset : ℕ) → access ≡ Read offset
       → registers_in old ≡ after_access (registers_in old) (port_at old.host 0) access
   read_registers access offset is =
       sym (with_device-itself (registers_in old) old.host)
-      ∙ ap (λ (d : Registers). registers_with (registers_in old) old.host d)
-      (sym (same (value_at (registers_in old old.host) offset 0)))
       ∙ ap (λ (a : Access). after_access (registers_in old) (port_at old.host 0) a) (sym is)
-    where
-      same : (o : Option ℕ)
-          → (after_read (registers_in old old.host) o).device ≡ registers_in old old.host
-      same None = refl
-      same (Some value) = refl
 
   -- a write that was done, or not
   pub done_answer : (access : Access) (offset value : ℕ) → access ≡ Write offset value
       → is_some (written_at own_device.device offset value) ≡ true
-      → access_done 0 ≡ (answered (registers_in old old.host) 0 access).answer
+      → access_answer (Some 0) ≡ (answered (registers_in old old.host) 0 access).answer
   done_answer access offset value is some =
       sym (go (written_at own_device.device offset value) some)
       ∙ of_access access (Write offset value) is
     where
       go : (o : Option Registers) → is_some o ≡ true
-          → (after_write own_device.device o).answer ≡ access_done 0
+          → access_answer (option_map (λ next. 0) o) ≡ access_answer (Some 0)
       go None is = absurd cc
       go (Some next) is = refl
 
   pub failed_answer : (access : Access) (offset value : ℕ) → access ≡ Write offset value
       → (is_some (written_at own_device.device offset value) ≡ true → ⊥)
-      → access_failed ≡ (answered (registers_in old old.host) 0 access).answer
+      → access_answer None ≡ (answered (registers_in old old.host) 0 access).answer
   failed_answer access offset value is none =
       sym (go (written_at own_device.device offset value) none)
       ∙ of_access access (Write offset value) is
     where
       go : (o : Option Registers) → (is_some o ≡ true → ⊥)
-          → (after_write own_device.device o).answer ≡ access_failed
+          → access_answer (option_map (λ next. 0) o) ≡ access_answer None
       go None is = refl
       go (Some next) is = absurd (is refl)
 
@@ -110,11 +101,6 @@ device_set : (devices : List Registers) (node : ℕ) (device next : Registers)
 device_set devices node device next stands =
     device-changed devices node (λ other. next) ∙ ap (option_map (λ other. next)) stands
 
-written_is : (device : Registers) (offset value : ℕ) (o : Option Registers)
-    → (after_write device o).device ≡ unwrap_or o device
-written_is device offset value None = refl
-written_is device offset value (Some next) = refl
-
 module _ (host : ℕ) (t : Seen) (old new : Fabric) (rests : MaintRestsAt host t old)
     (own : IsHostDevice host t) (offset value : ℕ) (answer : Bool)
     (written : OwnWritten host own.device offset value t [] old new answer) where
@@ -124,9 +110,6 @@ module _ (host : ℕ) (t : Seen) (old new : Fabric) (rests : MaintRestsAt host t
   abbrev end : Seen
   end = seen_with host own.device offset value t
 
-  next_is : (answered own.device 0 (Write offset value)).device ≡ next
-  next_is = written_is own.device offset value (written_at own.device offset value)
-
   changed_at : slice_get end.network.registers host ≡ Some next
   changed_at = device_set t.network.registers host own.device next own.stands
 
@@ -135,9 +118,7 @@ module _ (host : ℕ) (t : Seen) (old new : Fabric) (rests : MaintRestsAt host t
       written.stands.ready.formed.registers
 
   next_keeps : Keeps own.device next
-  next_keeps = subst (λ (d : Registers). Keeps own.device d) next_is
-      (keeps own.device 0 (Write offset value)
-      (subst IsWithin (sym next_is) next_within))
+  next_keeps = access_keeps own.device 0 (Write offset value)
 
   pub next_kind : is_switch next ≡ false
   next_kind = same_kind own.device next next_keeps.same ∙ own.kind
@@ -189,8 +170,6 @@ module _ {N K : Type 0} (old : FabricMaint N K) (whole : StandsWhole old) (fabri
       answer written
       ∙ ap (λ (r : AllRegisters). registers_with r host (device_with device offset value))
       (ap registers_of whole.rests.can.stands.shows.registers)
-      ∙ ap (λ (d : Registers). registers_with (registers_in old) host d)
-      (sym (written_is device offset value (written_at device offset value)))
       ∙ ap (λ (d : Registers). registers_with (registers_in old) host
       (answered d 0 (Write offset value)).device) (sym (own_is old whole))
       ∙ ap (λ (a : Access). after_access (registers_in old) (port_at old.host 0) a) (sym is)

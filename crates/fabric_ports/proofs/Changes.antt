@@ -1,7 +1,6 @@
 -- Where ports stand when a device changes that has as many ports as before: where they stood.
-use Rattle.std.proofs.Common.{◌≡◌, ℕ, Bool, zero, suc, ◌+◌, ◌<◌, List, [], ◌∷◌, All, Some, option_map, set, refl, sym, ap, subst}
+use Rattle.std.proofs.Common.{◌≡◌, ℕ, Bool, zero, suc, ◌+◌, ◌<◌, List, [], ◌∷◌, All, Some, option_map, refl, sym, ap, subst}
 use Rattle.std.proofs.lemmas.List.Elements.{All-cons, All-head, All-tail}
-use Rattle.std.proofs.lemmas.Option.{same_Some}
 use Rattle.std.specs.List.{slice_get}
 use Rattle.maint_registers.specs.Devices.{Registers, is_switch}
 use Rattle.fabric_model.specs.Network.{Network, switch_at, with_device}
@@ -73,17 +72,6 @@ port-unchange (d ∷ devices) zero change same (suc m) port has = has
 port-unchange (d ∷ devices) (suc n) change same zero port has = has
 port-unchange (d ∷ devices) (suc n) change same (suc m) port has =
     port-unchange devices n change same m port has
-
--- ---- a device that was read, changed and written back
-
-pub set-change : (devices : List Registers) (n : ℕ) (read : Registers)
-    (change : Registers → Registers)
-    → slice_get devices n ≡ Some read → set devices n (change read) ≡ with_device devices n change
-set-change [] n read change there = refl
-set-change (d ∷ devices) zero read change there =
-    ap (λ x. change x ∷ devices) (sym (same_Some d read there))
-set-change (d ∷ devices) (suc n) read change there =
-    ap (λ more. d ∷ more) (set-change devices n read change there)
 
 -- an endpoint or a switch of the network is one of its devices
 pub kind_of : (switch : Bool) (net : Network) (devices : List Registers) (node : ℕ)

@@ -7,6 +7,7 @@ use Rattle.rio_packets.specs.LinkForm.{Passes}
 use Rattle.link_port.specs.Ports.{PortState, AreAlike}
 use Rattle.maint_packets.specs.declared.request.Request.{Request}
 use Rattle.maint_packets.specs.Requests.{request_of}
+use Rattle.maint_registers.proofs.ChangeLaws.{set-change}
 use Rattle.maint_registers.specs.Devices.{Registers, IsSameDevice, is_switch}
 use Rattle.switch_core.specs.declared.endpoint.Collected.{Collected}
 use Rattle.switch_core.specs.declared.endpoint.Collected.TheVariants as Collects
@@ -25,7 +26,6 @@ use Rattle.fabric_ports.specs.declared.fabric.Fabric.{Fabric}
 use Rattle.fabric_ports.specs.Events.{Did, answer_collected}
 use Rattle.fabric_ports.specs.Places.{IsEndpointAt}
 use Rattle.fabric_ports.specs.Showing.{ShowsFabric}
-use Rattle.fabric_ports.proofs.Changes.{set-change}
 use Rattle.fabric_ports.proofs.FaceLaws.{without_own, without_other, more_own, more_other, face_of_port, SamePlans, port_faced, port_stays}
 use Rattle.fabric_ports.proofs.NodeLaws.{set_same, HasBoth, port_shows}
 

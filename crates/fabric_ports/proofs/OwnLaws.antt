@@ -1,11 +1,11 @@
 -- An endpoint reads and writes its own registers.
-use Rattle.std.proofs.Common.{◌≡◌, ◌↔◌, ℕ, ◌<◌, Bool, List, [], Option, Some, None, IsTrue, IsSome, unwrap_or, slice_get, slice_set, get_or, refl, sym, ap, ◌∙◌, subst}
+use Rattle.std.proofs.Common.{◌≡◌, ◌↔◌, ℕ, ◌<◌, Bool, List, [], Option, Some, None, IsTrue, IsSome, slice_get, slice_set, get_or, refl, sym, ap, ◌∙◌, subst}
 use Rattle.std.specs.Vec.{with_item}
 use Rattle.std.proofs.lemmas.Option.{same_Some}
+use Rattle.maint_registers.proofs.ChangeLaws.{set-change}
 use Rattle.maint_registers.specs.Access.{written_at}
 use Rattle.maint_registers.specs.Devices.{Registers, IsSameDevice}
-use Rattle.maint_registers.specs.Within.{IsWithin}
-use Rattle.maint_registers.proofs.WithinLaws.{written_within}
+use Rattle.maint_registers.proofs.WithinLaws.{write_within}
 use Rattle.fabric_script.specs.declared.ports.PortRef.{PortRef}
 use Rattle.fabric_model.proofs.Forms.{device_at}
 use Rattle.fabric_trace.specs.Fold.{seen}
@@ -19,7 +19,6 @@ use Rattle.fabric_ports.specs.OwnRegisters.{HasEndpoint, device_with, seen_with,
 use Rattle.fabric_ports.specs.Places.{HasPort, IsEndpointAt}
 use Rattle.fabric_ports.specs.Standing.{Stands}
 use Rattle.fabric_ports.specs.declared.fabric.Fabric.{Fabric}
-use Rattle.fabric_ports.proofs.Changes.{set-change}
 use Rattle.fabric_ports.proofs.DeviceLaws.{AreSameDevices, one_written, kinds_stay, has_port_still}
 use Rattle.fabric_ports.proofs.NodeLaws.{device_read, served_shows}
 
@@ -78,15 +77,6 @@ with_registers fabric place device = record {
   cable_at = fabric.cable_at;
 }
 
-stays_within : (device : Registers) (offset value : ℕ) → IsWithin device → value < 0x100000000
-    → IsWithin (device_with device offset value)
-stays_within device offset value within range = by_write (written_at device offset value) refl
-  where
-    by_write : (o : Option Registers) → written_at device offset value ≡ o
-        → IsWithin (unwrap_or o device)
-    by_write None is = within
-    by_write (Some next) is = written_within device next offset value within range is
-
 module _ (from : Seen) (lines : List TraceLine) (fabric : Fabric) (node place : ℕ)
     (device next : Registers) (offset value : ℕ) (stands : Stands from lines fabric)
     (known : slice_get (seen from lines).network.registers node ≡ Some device)
@@ -120,7 +110,7 @@ module _ (from : Seen) (lines : List TraceLine) (fabric : Fabric) (node place : 
       let ready = ready_on stands.ready stands.made in
       record {
         ready = own_ready node (device_with device offset value) s
-            (stays_within device offset value
+            (write_within device offset value
             (device_at s.network.registers node device known ready.formed.registers) range) ready;
         made = Done refl;
         sent = stands.sent;

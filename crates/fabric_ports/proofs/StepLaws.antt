@@ -12,6 +12,7 @@ use Rattle.maint_packets.specs.declared.next_hop.Next.TheVariants.{Port}
 use Rattle.maint_packets.specs.declared.request.Request.{Request}
 use Rattle.maint_packets.specs.NextHops.{moved}
 use Rattle.maint_packets.specs.Requests.{request_of}
+use Rattle.maint_registers.proofs.ChangeLaws.{set-change}
 use Rattle.maint_registers.specs.Devices.{Registers, is_switch}
 use Rattle.switch_core.specs.Faces as faces
 use Rattle.switch_core.specs.Faces.{Face, face_at, put_at, taken_at}
@@ -35,7 +36,6 @@ use Rattle.fabric_ports.specs.declared.fabric.Fabric.{Fabric}
 use Rattle.fabric_ports.specs.Events.{Did, IsSwitchStep}
 use Rattle.fabric_ports.specs.Showing.{ShowsFabric}
 use Rattle.fabric_ports.specs.Switching.{faces_at, own_ports, AreForms, MadeStep, is_step, written_lines}
-use Rattle.fabric_ports.proofs.Changes.{set-change}
 use Rattle.fabric_ports.proofs.DeviceLaws.{one_written}
 use Rattle.fabric_ports.proofs.FaceLaws.{without_other, more_other, nodes_differ, port, AreFacesOf, taken_faces, put_faces, face_of_port, SamePlans, port_faced, port_stays}
 use Rattle.fabric_ports.proofs.NodeLaws.{set_same, served_shows}

@@ -17,11 +17,12 @@ use Rattle.fabric_script.specs.declared.lines.Numbered.{Numbered}
 use Rattle.fabric_script.specs.declared.reasons.Reason.TheVariants.{PortTaken, WrongKind, TooMuchWork}
 use Rattle.fabric_script.specs.Lines.{new_name}
 use Rattle.fabric_script.specs.Refusals.{makes_node, counts_work}
-use Rattle.fabric_script.specs.Known.{Known, of_script, nothing, known_after, names_after, nodes_after, cost_of, node_ports, ports_of, node_is_switch, same_port, is_linked}
+use Rattle.fabric_script.specs.Known.{Known, of_script, nothing, known_after, nodes_after, cost_of, node_ports, ports_of, node_is_switch, same_port, is_linked}
 use Rattle.fabric_script.specs.Peers.{peer_in}
 use Rattle.fabric_script.specs.Reading.{MayBe, IsFree}
 use Rattle.fabric_script.specs.Scripts.{PassesFrom}
 use Rattle.fabric_script.specs.Ports.{port_at}
+use Rattle.fabric_script.proofs.KnownLaws.{count-after}
 use Rattle.fabric_script.proofs.PeerLaws.{port_is, same_port-refl, peer-linked, peer-before, peer-behind}
 use Rattle.host_enumerate.specs.Devised.{with_linked_end, devices_after, devices_after_all, links_after_all}
 use Rattle.host_enumerate.proofs.NewDevices.{IsNew, AreNew, new_endpoint_is, new_switch_is, routed_is, defaulted_is, held_by_is, large_set_is, kind_known, also, are_changed, are_linked, are_longer, are_as}
@@ -112,17 +113,6 @@ ports-made known (Switch name ports) =
     sym (map-append (λ node. node_ports (Some node)) known.nodes _)
 ports-made known _ = append-nil _
 
-one_more : {A B : Type 0} (xs : List A) (ys : List B) (x : A) (y : B) → length xs ≡ length ys
-    → length (xs ++ x ∷ []) ≡ length (ys ++ y ∷ [])
-one_more xs ys x y same = omega (arith, length-append xs (x ∷ []), length-append ys (y ∷ []), same)
-
-count-made : (known : Known) (new : List ℕ) (line : Line)
-    → length known.nodes ≡ length known.names
-    → length (nodes_after known.nodes line) ≡ length (names_after known.names new line)
-count-made known new (Endpoint name id) same = one_more known.nodes known.names _ new same
-count-made known new (Switch name ports) same = one_more known.nodes known.names _ new same
-count-made known new _ same = same
-
 -- nodes of earlier lines keep their ports
 ports-longer : (nodes : List _) (node : _) (n : ℕ) → n < length nodes
     → ports_of (nodes ++ node ∷ []) n ≡ ports_of nodes n
@@ -177,7 +167,7 @@ module _ (known : Known) (new : List ℕ) (devices : List Registers)
       → Stage (next line) (devices_after devices line)
   with_line line few are ends = record {
     mode = stage.mode;
-    count = count-made known new line stage.count;
+    count = count-after known new line stage.count;
     few = few;
     kinds = viewed is_switch (λ device linked large routes port lock. refl) devices line
         ∙ (ap (λ kinds. kinds ++ map is_switch (made_by line)) stage.kinds

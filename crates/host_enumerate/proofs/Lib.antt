@@ -1,4 +1,5 @@
 pub mod Accessed
+pub mod AccessKeeps
 pub mod Frames
 pub mod PlainWalks
 mod Pairs

@@ -1,19 +1,18 @@
 -- An access along a path that is open is answered, and leaves open what it does not touch.
-use Rattle.std.proofs.Common.{◌⊎◌, inl, inr, ◌≡◌, ◌≢◌, ℕ, ◌-◌, ◌==◌, Bool, true, false, List, [], ◌∷◌, ◌++◌, length, Option, Some, None, arith, refl, sym, ap, subst, ◌∙◌, if◌then◌else◌, eqb-true}
+use Rattle.std.proofs.Common.{◌⊎◌, inl, inr, ◌≡◌, ◌≢◌, ℕ, ◌-◌, ◌==◌, Bool, true, false, List, [], ◌∷◌, ◌++◌, length, Some, arith, refl, sym, ap, subst, ◌∙◌, if◌then◌else◌, eqb-true}
 use Rattle.std.proofs.lemmas.Bool.{cases_eq}
 use Rattle.std.proofs.lemmas.Option.{same_Some}
 use Rattle.fabric_script.specs.declared.ports.PortRef.{PortRef}
 use Rattle.fabric_script.specs.Ports.{port_at}
 use Rattle.maint_registers.specs.Devices.{Registers}
 use Rattle.maint_registers.specs.Routes.{next_port}
-use Rattle.maint_registers.specs.Access.{value_at}
 use Rattle.fabric_map.specs.Topology.{Topology, IsTopology, entered}
 use Rattle.fabric_map.specs.Routes.{AllRegisters, walk}
 use Rattle.fabric_map.specs.Ways.{IsOpened}
 use Rattle.fabric_map.proofs.Ways.{request_ends, answer_returns}
 use Rattle.host_enumerate.specs.declared.maint.Access.{Access}
 use Rattle.host_enumerate.specs.declared.maint.Access.TheVariants.{Read, Write}
-use Rattle.host_enumerate.specs.Accesses.{after_read, after_access, answered, IsAnswered}
+use Rattle.host_enumerate.specs.Accesses.{after_access, answered, IsAnswered}
 use Rattle.host_enumerate.specs.Asking.{IsAskable, IsOpenAfter, IsApart, IsWritable, AreSame, Becomes}
 use Rattle.host_enumerate.proofs.Frames.{with_device-at, with_device-other}
 
@@ -123,11 +122,6 @@ pub same_end : (topology : Topology) (path : List ℕ) (p q : PortRef)
     → entered topology path ≡ Some p → entered topology path ≡ Some q → p ≡ q
 same_end topology path p q one other = same_Some p q (sym one ∙ other)
 
-after_read_stays : (device : Registers) (value : Option ℕ)
-    → (after_read device value).device ≡ device
-after_read_stays device (Some value) = refl
-after_read_stays device None = refl
-
 -- a read leaves all registers
 pub same_after_read : (old new : AllRegisters) (at : PortRef) (offset : ℕ)
     → Becomes old new at.node (answered (old at.node) at.port (Read offset)).device
@@ -137,9 +131,7 @@ same_after_read old new at offset becomes node = becomes node ∙ go (node == at
     go : (is : Bool) → (node == at.node) ≡ is
         → (if is then (answered (old at.node) at.port (Read offset)).device else old node)
         ≡ old node
-    go true is =
-        after_read_stays (old at.node) (value_at (old at.node) offset at.port)
-        ∙ ap old (sym (eqb-true node at.node is))
+    go true is = ap old (sym (eqb-true node at.node is))
     go false is = refl
 
 pub open_after_read : (topology : Topology) (registers : AllRegisters) (host_id : ℕ) (path : List ℕ)

@@ -1,9 +1,9 @@
 -- What an access to a register of a device answers, and what it leaves.
-use Rattle.std.specs.Prelude.{◌≡◌, ◌≢◌, ℕ, ◌==◌, Option, Some, None, if◌then◌else◌}
+use Rattle.std.specs.Prelude.{◌≡◌, ◌≢◌, ℕ, ◌==◌, Option, Some, unwrap_or, if◌then◌else◌}
 use Rattle.fabric_script.specs.declared.ports.PortRef.{PortRef}
 use Rattle.fabric_script.specs.Ports.{port_at}
 use Rattle.maint_registers.specs.Devices.{Registers}
-use Rattle.maint_registers.specs.Access.{value_at, written_at}
+use Rattle.maint_registers.specs.Access.{Accessed, read_from, write_into, access_status}
 use Rattle.fabric_map.specs.Topology.{Topology}
 use Rattle.fabric_map.specs.Routes.{AllRegisters, walk}
 use Rattle.host_enumerate.specs.declared.maint.Access.{Access}
@@ -15,24 +15,18 @@ pub record AccessAnswered : Type 0 where
   pub answer : Answer
   pub device : Registers
 
-abbrev pub access_done : ℕ → Answer
-access_done value = record { status = 0; value = value }
+-- the answer to an access that gives this value, if it is carried out
+abbrev pub access_answer : Option ℕ → Answer
+access_answer value = record { status = access_status value; value = unwrap_or value 0 }
 
-abbrev pub access_failed : Answer
-access_failed = record { status = 7; value = 0 }
-
-abbrev pub after_read : Registers → Option ℕ → AccessAnswered
-after_read device (Some value) = record { answer = access_done value; device = device }
-after_read device None = record { answer = access_failed; device = device }
-
-abbrev pub after_write : Registers → Option Registers → AccessAnswered
-after_write device (Some next) = record { answer = access_done 0; device = next }
-after_write device None = record { answer = access_failed; device = device }
+abbrev pub access_answered : Accessed → AccessAnswered
+access_answered accessed =
+    record { answer = access_answer accessed.value; device = accessed.device }
 
 -- a device answers an access that came to a port
 abbrev pub answered : Registers → ℕ → Access → AccessAnswered
-answered device port (Read offset) = after_read device (value_at device offset port)
-answered device port (Write offset value) = after_write device (written_at device offset value)
+answered device port (Read offset) = access_answered (read_from device offset port)
+answered device port (Write offset value) = access_answered (write_into device offset value)
 
 abbrev pub access_offset : Access → ℕ
 access_offset (Read offset) = offset

@@ -1,26 +1,27 @@
 -- What registers answer is in its link form, and their numbers go on to fit.
-use Rattle.std.proofs.Common.{◌≡◌, ℕ, ◌+◌, ◌*◌, ◌/◌, ◌%◌, ◌<◌, ◌≤◌, ◌==◌, Bool, true, false, min, List, [], ◌∷◌, ◌++◌, length, get_or, Option, Some, None, unwrap_or, ap, arith, refl, subst, inl, inr, if◌then◌else◌}
+use Rattle.std.proofs.Common.{◌≡◌, ℕ, suc, ◌+◌, ◌*◌, ◌/◌, ◌%◌, ◌<◌, ◌≤◌, ◌==◌, Bool, true, false, min, List, [], ◌∷◌, ◌++◌, length, get_or, Option, Some, None, unwrap_or, option_map, ap, ◌∙◌, arith, refl, subst, length-append, inl, inr, if◌then◌else◌}
 use Rattle.std.specs.List.{AllByRecursion}
 use Rattle.std.proofs.lemmas.Bool.{cases_lt}
+use Rattle.std.proofs.lemmas.Option.{same_Some}
 use Rattle.std.proofs.lemmas.List.{get_or_past}
 use Rattle.std.proofs.lemmas.List.Elements.{All-append, All-from_recursion}
 use Rattle.rio_packets.specs.LinkForm.{AreBytes, Passes}
-use Rattle.rio_packets.specs.Fields.{prio_of, tt_of, dest_of, source_of, ids_end, hop_place, half_word_at, ttype_of, is_request, body_of}
+use Rattle.rio_packets.specs.Fields.{tt_of, dest_of, source_of, ids_end, half_word_at, ttype_of, is_request, body_of}
 use Rattle.rio_packets.specs.Hops.{message_ended, is_large}
 use Rattle.rio_packets.specs.Words.{word_at}
 use Rattle.maint_registers.specs.Devices.{Registers, IsSameDevice}
 use Rattle.maint_registers.specs.Within.{IsWithin}
-use Rattle.maint_registers.specs.Access.{value_at, written_at}
-use Rattle.maint_registers.proofs.SameLaws.{same_device, written_same}
-use Rattle.maint_registers.proofs.WithinLaws.{written_within, read_fits}
+use Rattle.maint_registers.specs.Access.{value_at, access_status}
+use Rattle.maint_registers.proofs.SameLaws.{same_device, write_same}
+use Rattle.maint_registers.proofs.WithinLaws.{write_within, read_fits}
 use Rattle.maint_packets.specs.declared.request.Op.{Op}
 use Rattle.maint_packets.specs.declared.request.Op.TheVariants.{Read, Write, BadRead, BadWrite}
 use Rattle.maint_packets.specs.declared.request.Request.{Request}
-use Rattle.maint_packets.specs.Layout.{offset_of, tid_of, short_length, long_length, data_bytes, behind_ids}
-use Rattle.maint_packets.specs.Requests.{names_second, in_half, value_in, has_form, op_of, request_of}
+use Rattle.maint_packets.specs.Layout.{offset_of, short_length, long_length, data_bytes, behind_ids}
+use Rattle.maint_packets.specs.Requests.{names_second, in_half, value_in, has_form, op_of, request_in, request_of}
 use Rattle.maint_packets.specs.Responses.{response_bytes}
-use Rattle.maint_packets.specs.Answers.{back, request_read, request_written, answered_to, request_answered}
-use Rattle.maint_packets.proofs.FormLaws.{Passes-ended}
+use Rattle.maint_packets.specs.Answers.{back, is_writing, accessed_by, words_read, request_answered}
+use Rattle.maint_packets.proofs.FormLaws.{above_fours, Passes-ended}
 
 -- ---- bytes
 
@@ -110,28 +111,14 @@ request_fits : (packet : List ℕ) (request : Request) → AreBytes packet
     → request_of packet ≡ Some request → Fits request
 request_fits packet request range is = go (is_request packet) is
   where
-    read : Request
-    read = record {
-      prio = prio_of packet;
-      dest = unwrap_or (dest_of packet) 0;
-      source = unwrap_or (source_of packet) 0;
-      large = is_large packet;
-      op = op_of packet;
-      tid = tid_of packet;
-      hop = get_or packet (hop_place packet) 0;
-      offset = offset_of packet;
-    }
-
-    go : (b : Bool) → (if b then Some read else None) ≡ Some request → Fits request
+    go : (b : Bool) → (if b then Some (request_in packet) else None) ≡ Some request → Fits request
     go false none = absurd (cc)
-    go true some =
-        let same : read ≡ request = cc in
-        subst Fits same record {
-          dest = dest_fits packet range;
-          source = source_fits packet range;
-          tid = byte_at packet (ids_end packet + 1) range;
-          value = λ value is. op_fits packet value range is;
-        }
+    go true some = subst Fits (same_Some (request_in packet) request some) record {
+      dest = dest_fits packet range;
+      source = source_fits packet range;
+      tid = byte_at packet (ids_end packet + 1) range;
+      value = λ value is. op_fits packet value range is;
+    }
 
 -- ---- responses
 
@@ -165,59 +152,35 @@ data_fits (Some words) fit =
     )
 
 -- A body of a good length whose bytes fit is ended as a packet.
+begun_passes : (large : Bool) (fields rest : List ℕ) → AllByRecursion (λ b. b < 256) fields
+    → AreBytes rest → 3 ≤ length fields → length fields + length rest < 80
+    → (length fields + length rest) % 2 ≡ 1
+    → suc (length fields + length rest) % 4 ≡ above_fours large
+    → Passes (message_ended large (0 ∷ fields ++ rest))
+begun_passes large fields rest fit range least most even fills =
+    let size = length-append fields rest in
+    Passes-ended large (0 ∷ fields ++ rest) record {
+      even = omega (arith, even, size);
+      least = omega (arith, least, size);
+      most = omega (arith, most, size);
+      range = All-append (λ b. b < 256) (0 ∷ fields) rest
+          (All-from_recursion (λ b. b < 256) (0 ∷ fields) (omega arith, fit)) range;
+      origin = omega arith;
+    } (omega (arith, most, size)) (ap (λ n. suc n % 4) size ∙ fills)
+
 body_passes : (large : Bool) (prio dest source : ℕ) (rest : List ℕ) → prio < 4
     → dest < ids_below large
     → source < ids_below large → AreBytes rest → length rest % 4 ≡ 2 → length rest ≤ 74
     → Passes (message_ended large (body_of prio 8 large dest source rest))
 body_passes false prio dest source rest p d s range fills most =
-    let front : List ℕ = 0 ∷ (64 * prio + 8) ∷ dest ∷ source ∷ [] in
-    Passes-ended false (front ++ rest)
-    record {
-      even = omega (arith, fills);
-      least = omega arith;
-      most = omega (arith, most);
-      range = All-append (λ b. b < 256) front rest
-          (All-from_recursion (λ b. b < 256) front (
-            omega arith,
-            (
-              omega (arith, p),
-              (
-                d,
-                (s, tt),
-              ),
-            ),
-          )) range;
-      origin = omega arith;
-    }
-    (omega (arith, most)) (omega (arith, fills))
+    begun_passes false ((64 * prio + 8) ∷ dest ∷ source ∷ []) rest
+    (omega (arith, p), (d, (s, tt))) range (omega arith) (omega (arith, most))
+    (omega (arith, fills)) (omega (arith, fills))
 body_passes true prio dest source rest p d s range fills most =
-    let front : List ℕ = 0 ∷ (64 * prio + 16 + 8) ∷ dest / 0x100 ∷ dest % 0x100 ∷ source / 0x100
-    ∷ source % 0x100 ∷ [] in
-    Passes-ended true (front ++ rest)
-    record {
-      even = omega (arith, fills);
-      least = omega arith;
-      most = omega (arith, most);
-      range = All-append (λ b. b < 256) front rest
-          (All-from_recursion (λ b. b < 256) front (
-            omega arith,
-            (
-              omega (arith, p),
-              (
-                omega (arith, d),
-                (
-                  omega arith,
-                  (
-                    omega (arith, s),
-                    (omega arith, tt),
-                  ),
-                ),
-              ),
-            ),
-          )) range;
-      origin = omega arith;
-    }
-    (omega (arith, most)) (omega (arith, fills))
+    begun_passes true ((64 * prio + 16 + 8) ∷ dest / 0x100 ∷ dest % 0x100 ∷ source / 0x100
+    ∷ source % 0x100 ∷ []) rest
+    (omega (arith, p), (omega (arith, d), (omega arith, (omega (arith, s), (omega arith, tt)))))
+    range (omega arith) (omega (arith, most)) (omega (arith, fills)) (omega (arith, fills))
 
 -- what stands behind the IDs of a response
 module _ (ttype status tid : ℕ) (t : ttype < 16) (l : status < 16) (n : tid < 256) where
@@ -271,93 +234,64 @@ half_fits offset value fits = go (names_second offset)
     go true = (omega arith, fits)
     go false = (fits, omega arith)
 
-read_passes : (device : Registers) (request : Request) (o : Option ℕ) → Fits request
-    → ((value : ℕ) → o ≡ Some value → value < 0x100000000)
-    → Passes (response_bytes (request_read device request o).response)
-read_passes device request None fits words = back_passes request false 7 None fits (omega arith) tt
-read_passes device request (Some value) fits words =
-    back_passes request false 0 (Some (in_half request.offset value)) fits (omega arith)
-    (half_fits request.offset value (words value refl))
+-- the status and the words that an access comes to
+pub status_fits : (value : Option ℕ) → access_status value < 16
+status_fits None = omega arith
+status_fits (Some value) = omega arith
 
-write_passes : (device : Registers) (request : Request) (o : Option Registers) → Fits request
-    → Passes (response_bytes (request_written device request o).response)
-write_passes device request None fits = back_passes request true 7 None fits (omega arith) tt
-write_passes device request (Some next) fits = back_passes request true 0 None fits (omega arith) tt
-
-op_passes : (device : Registers) (request : Request) (port : ℕ) (op : Op) → IsWithin device
-    → port < 0x100
-    → Fits request → Passes (response_bytes (answered_to device request port op).response)
-op_passes device request port Read within low fits =
-    read_passes device request (value_at device request.offset port) fits
-    (λ value is. read_fits device request.offset port value within low is)
-op_passes device request port (Write value) within low fits =
-    write_passes device request (written_at device request.offset value) fits
-op_passes device request port BadRead within low fits = read_passes device request None fits
-    (λ value is. absurd (cc))
-op_passes device request port BadWrite within low fits = write_passes device request None fits
+words_fit : (device : Registers) (offset port : ℕ) (op : Op) → IsWithin device → port < 0x100
+    → AreWords (words_read offset op (accessed_by device offset port op).value)
+words_fit device offset port Read within low =
+    go (value_at device offset port) (λ value. read_fits device offset port value within low)
+  where
+    go : (o : Option ℕ) → ((value : ℕ) → o ≡ Some value → value < 0x100000000)
+        → AreWords (option_map (in_half offset) o)
+    go None fits = tt
+    go (Some value) fits = half_fits offset value (fits value refl)
+words_fit device offset port (Write value) within low = tt
+words_fit device offset port BadRead within low = tt
+words_fit device offset port BadWrite within low = tt
 
 -- what the registers answer is in its link form
 pub responses_pass : (device : Registers) (packet : List ℕ) (request : Request) (port : ℕ)
     → IsWithin device → port < 0x100 → Passes packet → request_of packet ≡ Some request
     → Passes (response_bytes (request_answered device request port).response)
 responses_pass device packet request port within low form is =
-    op_passes device request port request.op within low (request_fits packet request form.range is)
+    let accessed = accessed_by device request.offset port request.op in
+    back_passes request (is_writing request.op) (access_status accessed.value)
+    (words_read request.offset request.op accessed.value)
+    (request_fits packet request form.range is) (status_fits accessed.value)
+    (words_fit device request.offset port request.op within low)
 
 -- ---- devices
 
-written_stays : (device : Registers) (request : Request) (o : Option Registers) → IsWithin device
-    → ((next : Registers) → o ≡ Some next → IsWithin next) → IsWithin
-    (request_written device request o).device
-written_stays device request None within nexts = within
-written_stays device request (Some next) within nexts = nexts next refl
-
-read_stays : (device : Registers) (request : Request) (o : Option ℕ) → IsWithin device
-    → IsWithin (request_read device request o).device
-read_stays device request None within = within
-read_stays device request (Some value) within = within
-
-op_stays : (device : Registers) (request : Request) (port : ℕ) (op : Op) → IsWithin device
+accessed_within : (device : Registers) (offset port : ℕ) (op : Op) → IsWithin device
     → ((value : ℕ) → op ≡ Write value → value < 0x100000000)
-    → IsWithin (answered_to device request port op).device
-op_stays device request port Read within fits = read_stays device request
-    (value_at device request.offset port) within
-op_stays device request port (Write value) within fits =
-    written_stays device request (written_at device request.offset value) within
-    (λ next is. written_within device next request.offset value within (fits value refl) is)
-op_stays device request port BadRead within fits = within
-op_stays device request port BadWrite within fits = within
+    → IsWithin (accessed_by device offset port op).device
+accessed_within device offset port Read within fits = within
+accessed_within device offset port (Write value) within fits =
+    write_within device offset value within (fits value refl)
+accessed_within device offset port BadRead within fits = within
+accessed_within device offset port BadWrite within fits = within
 
 -- and leaves the device within its bounds
 pub answered_within : (device : Registers) (packet : List ℕ) (request : Request) (port : ℕ)
     → IsWithin device → Passes packet → request_of packet ≡ Some request
     → IsWithin (request_answered device request port).device
 answered_within device packet request port within form is =
-    let fits = request_fits packet request form.range is in
-    op_stays device request port request.op within fits.value
+    accessed_within device request.offset port request.op within
+    (request_fits packet request form.range is).value
 
 -- ---- kind, ports and links
 
-read_same : (device : Registers) (request : Request) (o : Option ℕ)
-    → IsSameDevice device (request_read device request o).device
-read_same device request None = same_device device
-read_same device request (Some value) = same_device device
-
-write_same : (device : Registers) (request : Request) (offset value : ℕ) (o : Option Registers)
-    → written_at device offset value ≡ o
-    → IsSameDevice device (request_written device request o).device
-write_same device request offset value None is = same_device device
-write_same device request offset value (Some next) is =
-    written_same device next offset value is
+accessed_same : (device : Registers) (offset port : ℕ) (op : Op)
+    → IsSameDevice device (accessed_by device offset port op).device
+accessed_same device offset port Read = same_device device
+accessed_same device offset port (Write value) = write_same device offset value
+accessed_same device offset port BadRead = same_device device
+accessed_same device offset port BadWrite = same_device device
 
 -- a device that answers is the same
 pub answered_same : (device : Registers) (request : Request) (port : ℕ)
     → IsSameDevice device (request_answered device request port).device
-answered_same device request port = by_op request.op
-  where
-    by_op : (op : Op) → IsSameDevice device (answered_to device request port op).device
-    by_op Read = read_same device request (value_at device request.offset port)
-    by_op (Write value) =
-        write_same device request request.offset value
-        (written_at device request.offset value) refl
-    by_op BadRead = same_device device
-    by_op BadWrite = same_device device
+answered_same device request port = accessed_same device request.offset port request.op

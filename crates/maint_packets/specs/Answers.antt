@@ -1,7 +1,7 @@
 -- What a device answers to a request, and what becomes of its registers.
-use Rattle.std.specs.Prelude.{ℕ, ◌+◌, Bool, true, false, min, Option, Some, None}
+use Rattle.std.specs.Prelude.{ℕ, ◌+◌, Bool, true, false, min, Option, None, option_map}
 use Rattle.maint_registers.specs.Devices.{Registers}
-use Rattle.maint_registers.specs.Access.{value_at, written_at}
+use Rattle.maint_registers.specs.Access.{Accessed, read_from, write_into, access_status}
 use Rattle.maint_packets.specs.declared.request.Op.{Op}
 use Rattle.maint_packets.specs.declared.request.Op.TheVariants.{Read, Write, BadRead, BadWrite}
 use Rattle.maint_packets.specs.declared.request.Request.{Request}
@@ -28,31 +28,32 @@ back request write status words = record {
   words = words;
 }
 
--- what was read, in the half that the request names
-abbrev pub request_read : Registers → Request → Option ℕ → RequestAnswered
-request_read device request (Some value) = record {
-  response = back request false 0 (Some (in_half request.offset value));
-  device = device;
-}
-request_read device request None = record { response = back request false 7 None; device = device }
+-- a request to write
+abbrev pub is_writing : Op → Bool
+is_writing Read = false
+is_writing (Write value) = true
+is_writing BadRead = false
+is_writing BadWrite = true
 
--- what the write left
-abbrev pub request_written : Registers → Request → Option Registers → RequestAnswered
-request_written device request (Some next) = record {
-  response = back request true 0 None;
-  device = next;
-}
-request_written device request None =
-    record { response = back request true 7 None; device = device }
+-- what it comes to at a device, if it came to a port; one that is not of the right form is refused
+abbrev pub accessed_by : Registers → ℕ → ℕ → Op → Accessed
+accessed_by device offset port Read = read_from device offset port
+accessed_by device offset port (Write value) = write_into device offset value
+accessed_by device offset port _ = record { value = None; device = device }
 
--- the answer to a request that came to a port
-abbrev pub answered_to : Registers → Request → ℕ → Op → RequestAnswered
-answered_to device request port Read =
-    request_read device request (value_at device request.offset port)
-answered_to device request port (Write value) =
-    request_written device request (written_at device request.offset value)
-answered_to device request port BadRead = request_read device request None
-answered_to device request port BadWrite = request_written device request None
+-- what was read, in the half that the offset names
+abbrev pub words_read : ℕ → Op → Option ℕ → Option (ℕ × ℕ)
+words_read offset Read value = option_map (in_half offset) value
+words_read offset _ value = None
+
+-- the answer to a request, by what it came to
+abbrev pub answered_with : Request → Accessed → RequestAnswered
+answered_with request accessed = record {
+  response = back request (is_writing request.op) (access_status accessed.value)
+      (words_read request.offset request.op accessed.value);
+  device = accessed.device;
+}
 
 abbrev pub request_answered : Registers → Request → ℕ → RequestAnswered
-request_answered device request port = answered_to device request port request.op
+request_answered device request port =
+    answered_with request (accessed_by device request.offset port request.op)

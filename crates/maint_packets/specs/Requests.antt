@@ -34,21 +34,22 @@ op_of bytes =
     else (if has_form bytes (long_length (is_large bytes)) then Write (value_in bytes)
     else BadWrite)
 
+-- a request with the fields of a packet
+abbrev pub request_in : List ℕ → Request
+request_in bytes = record {
+  prio = prio_of bytes;
+  dest = unwrap_or (dest_of bytes) 0;
+  source = unwrap_or (source_of bytes) 0;
+  large = is_large bytes;
+  op = op_of bytes;
+  tid = tid_of bytes;
+  hop = slice_index bytes (hop_place bytes);
+  offset = offset_of bytes;
+}
+
 -- the request that a packet carries, if it is a maintenance packet of transaction type 0 or 1
 abbrev pub request_of : List ℕ → Option Request
-request_of bytes =
-    if is_request bytes
-    then Some record {
-      prio = prio_of bytes;
-      dest = unwrap_or (dest_of bytes) 0;
-      source = unwrap_or (source_of bytes) 0;
-      large = is_large bytes;
-      op = op_of bytes;
-      tid = tid_of bytes;
-      hop = slice_index bytes (hop_place bytes);
-      offset = offset_of bytes;
-    }
-    else None
+request_of bytes = if is_request bytes then Some (request_in bytes) else None
 
 -- it asks to read or to write
 abbrev pub IsGoodOp : Op → Type 0

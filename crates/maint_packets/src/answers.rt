@@ -2,7 +2,7 @@
 ghost use Rattle.std.specs.Prelude.{◌≡◌, ◌<◌, ◌+◌, min};
 ghost use Rattle.maint_registers.specs.Devices.{IsSameDevice};
 ghost use Rattle.maint_packets.specs.Responses.{IsResponseForm};
-ghost use Rattle.maint_packets.specs.Answers.{request_answered, answered_to, back};
+ghost use Rattle.maint_packets.specs.Answers.{request_answered, back};
 
 use crate::request::{Op, Request, in_half};
 use crate::response::{DONE, ERROR, Response};

@@ -1,5 +1,5 @@
 -- What a device answers at the offsets that a host asks for, and what a write makes of it.
-use Rattle.std.proofs.Common.{◌≡◌, ℕ, ◌+◌, ◌*◌, ◌/◌, ◌%◌, ◌<◌, ◌≤◌, ◌&&◌, nat_lt, Bool, true, false, List, [], ◌∷◌, Some, None, option_map, slice_set, arith, refl, ap, ◌∙◌, if◌then◌else◌, ne_eqb, ltb-true}
+use Rattle.std.proofs.Common.{◌≡◌, ℕ, ◌+◌, ◌*◌, ◌/◌, ◌%◌, ◌<◌, ◌≤◌, ◌&&◌, nat_lt, Bool, true, false, List, [], ◌∷◌, Option, Some, None, option_map, unwrap_or, slice_set, arith, refl, ap, ◌∙◌, if◌then◌else◌, ne_eqb, ltb-true}
 use Rattle.std.specs.Option.{option_and_then, option_or}
 use Rattle.maint_registers.specs.declared.registers.Kind.{Kind}
 use Rattle.maint_registers.specs.declared.registers.Kind.TheVariants.{Endpoint, Switch}
@@ -7,7 +7,7 @@ use Rattle.maint_registers.specs.declared.table.Register.{Register}
 use Rattle.maint_registers.specs.declared.table.Register.TheVariants.{Fixed, PortInformation, BaseId, HostLock, ComponentTag, RouteSelect, RouteEntry, DefaultPort}
 use Rattle.maint_registers.specs.Devices.{Registers, is_switch}
 use Rattle.maint_registers.specs.Table.{Row, table, in_rows, status_offset, status_port, status_of, register_at}
-use Rattle.maint_registers.specs.Access.{value_of, value_at, written_to, written_at, locked}
+use Rattle.maint_registers.specs.Access.{value_of, value_at, locked, written_to, written_at, write_into}
 use Rattle.maint_registers.proofs.StatusLaws.{status_port-found}
 
 -- what stands in the rows of a device's kind stands at the offset
@@ -59,6 +59,19 @@ writes : (device : Registers) (offset value : ℕ) (register : Register)
     → register_at device offset ≡ Some register
     → written_at device offset value ≡ written_to device value register
 writes device offset value register at = ap (λ o. option_and_then (written_to device value) o) at
+
+-- What holds of a device holds after a write to it, if it does after one to the register that
+-- stands at the offset.
+pub by_register : (P : Registers → Type 0) (device : Registers) (offset value : ℕ) → P device
+    → ((register : Register) → register_at device offset ≡ Some register
+    → P (unwrap_or (written_to device value register) device))
+    → P (write_into device offset value).device
+by_register P device offset value is each = go (register_at device offset) refl
+  where
+    go : (o : Option Register) → register_at device offset ≡ o
+        → P (unwrap_or (option_and_then (written_to device value) o) device)
+    go None at = is
+    go (Some register) at = each register at
 
 pub lock-read : (device : Registers) (port : ℕ) → value_at device 0x68 port ≡ Some device.lock
 lock-read device port = reads device 0x68 port HostLock (at-lock device)

@@ -1,15 +1,18 @@
--- What a write to another register leaves of lock and tag.
-use Rattle.std.proofs.Common.{◌≡◌, ◌≢◌, ℕ, ◌==◌, ◌&&◌, ◌||◌, Bool, true, false, not, eqb, List, [], ◌∷◌, Option, Some, None, option_map, refl, sym, ap, ◌∙◌, if◌then◌else◌}
-use Rattle.std.specs.Option.{option_and_then, option_or}
+-- What a write to another register leaves of lock, tag and entries, and any write of a switch's ID.
+use Rattle.std.proofs.Common.{◌≡◌, ◌≢◌, ℕ, ◌%◌, ◌==◌, ◌&&◌, ◌||◌, Bool, true, false, not, eqb, List, [], ◌∷◌, Option, Some, None, option_map, unwrap_or, refl, sym, ap, ◌∙◌, if◌then◌else◌}
+use Rattle.std.specs.Option.{option_or}
 use Rattle.std.proofs.lemmas.Bool.{eqb-true, and_parts}
 use Rattle.std.proofs.lemmas.Option.{same_Some}
 use Rattle.maint_registers.specs.declared.registers.Kind.{Kind}
 use Rattle.maint_registers.specs.declared.registers.Kind.TheVariants.{Endpoint, Switch}
 use Rattle.maint_registers.specs.declared.table.Register.{Register}
 use Rattle.maint_registers.specs.declared.table.Register.TheVariants.{Fixed, PortInformation, BaseId, HostLock, ComponentTag, RouteSelect, RouteEntry, DefaultPort}
-use Rattle.maint_registers.specs.Devices.{Registers}
+use Rattle.maint_registers.specs.Devices.{Registers, is_switch}
 use Rattle.maint_registers.specs.Table.{Row, table, column, in_rows, status_port, status_of, register_at}
-use Rattle.maint_registers.specs.Access.{written_to, written_at}
+use Rattle.maint_registers.specs.Access.{written_to, write_into}
+use Rattle.maint_registers.specs.Routes.{entry_of}
+use Rattle.maint_registers.proofs.AccessLaws.{kind-switch, kind-endpoint, by_register}
+use Rattle.maint_registers.proofs.RouteLaws.{entry-set_other}
 
 abbrev is_lock : Register → Bool
 is_lock HostLock = true
@@ -18,6 +21,14 @@ is_lock _ = false
 abbrev is_tag : Register → Bool
 is_tag ComponentTag = true
 is_tag _ = false
+
+abbrev is_id : Register → Bool
+is_id BaseId = true
+is_id _ = false
+
+abbrev is_entry : Register → Bool
+is_entry RouteEntry = true
+is_entry _ = false
 
 -- a row with such a register has this offset
 abbrev has_offset : (Register → Bool) → ℕ → Option Register → ℕ → Bool
@@ -83,53 +94,103 @@ tag_offset : (kind : Kind) → have_offset is_tag 0x6c kind table ≡ true
 tag_offset Endpoint = refl
 tag_offset Switch = refl
 
-module _ (device next : Registers) (offset value : ℕ)
-    (is : written_at device offset value ≡ Some next) where
-  -- what each write leaves, but that to one register, is left
+-- No register of a kind stands in the rows if each of them stands at any offset.
+in_none : (test : Register → Bool) (register : Register) → test register ≡ true
+    → ((value : ℕ) → test (Fixed value) ≡ false) → (device : Registers) (offset : ℕ)
+    → ((n : ℕ) → have_offset test n device.kind table ≡ true)
+    → register_at device offset ≡ Some register → ⊥
+in_none test register such free device offset all at =
+    absurd (let zero_is_one = sym (there 0) ∙ there 1 in cc)
+  where
+    there : (n : ℕ) → offset ≡ n
+    there n = in_device test n register such device offset free (all n) at
+
+entry_offset : (kind : Kind) → have_offset is_entry 0x74 kind table ≡ true
+entry_offset Endpoint = refl
+entry_offset Switch = refl
+
+module _ (device : Registers) (offset value : ℕ) where
+  -- what each write leaves to the register that stands there is left
   leaves : {A : Type 0} (part : Registers → A)
-      → ((register : Register) (held : Registers) → register_at device offset ≡ Some register
-      → written_to device value register ≡ Some held → part held ≡ part device)
-      → part next ≡ part device
-  leaves part each = go (register_at device offset) refl is
-    where
-      go : (o : Option Register) → register_at device offset ≡ o
-          → option_and_then (written_to device value) o ≡ Some next → part next ≡ part device
-      go None stands wrote = absurd (cc)
-      go (Some register) stands wrote = each register next stands wrote
+      → ((register : Register) → register_at device offset ≡ Some register
+      → part (unwrap_or (written_to device value register) device) ≡ part device)
+      → part (write_into device offset value).device ≡ part device
+  leaves part each = by_register (λ d. part d ≡ part device) device offset value refl each
 
-  module _ {A : Type 0} (part : Registers → A) (held : Registers) where
-    one : (written : Registers) → Some written ≡ Some held → part written ≡ part device
-        → part held ≡ part device
-    one written wrote stays = ap part (sym (same_Some written held wrote)) ∙ stays
-
-  pub lock-stays : offset ≢ 0x68 → next.lock ≡ device.lock
+  pub lock-stays : offset ≢ 0x68 → (write_into device offset value).device.lock ≡ device.lock
   lock-stays other = leaves (λ d. d.lock) each
     where
-      each : (register : Register) (held : Registers) → register_at device offset ≡ Some register
-          → written_to device value register ≡ Some held → held.lock ≡ device.lock
-      each (Fixed shown) held stands wrote = absurd (cc)
-      each PortInformation held stands wrote = absurd (cc)
-      each BaseId held stands wrote = one (λ d. d.lock) held _ wrote refl
-      each HostLock held stands wrote =
+      each : (register : Register) → register_at device offset ≡ Some register
+          → (unwrap_or (written_to device value register) device).lock ≡ device.lock
+      each (Fixed shown) at = refl
+      each PortInformation at = refl
+      each BaseId at = refl
+      each HostLock at =
           absurd (other (in_device is_lock 0x68 HostLock refl device offset (λ value. refl)
-          (lock_offset device.kind) stands))
-      each ComponentTag held stands wrote = one (λ d. d.lock) held _ wrote refl
-      each RouteSelect held stands wrote = one (λ d. d.lock) held _ wrote refl
-      each RouteEntry held stands wrote = one (λ d. d.lock) held _ wrote refl
-      each DefaultPort held stands wrote = one (λ d. d.lock) held _ wrote refl
+          (lock_offset device.kind) at))
+      each ComponentTag at = refl
+      each RouteSelect at = refl
+      each RouteEntry at = refl
+      each DefaultPort at = refl
 
-  pub tag-stays : offset ≢ 0x6c → next.tag ≡ device.tag
+  pub tag-stays : offset ≢ 0x6c → (write_into device offset value).device.tag ≡ device.tag
   tag-stays other = leaves (λ d. d.tag) each
     where
-      each : (register : Register) (held : Registers) → register_at device offset ≡ Some register
-          → written_to device value register ≡ Some held → held.tag ≡ device.tag
-      each (Fixed shown) held stands wrote = absurd (cc)
-      each PortInformation held stands wrote = absurd (cc)
-      each BaseId held stands wrote = one (λ d. d.tag) held _ wrote refl
-      each HostLock held stands wrote = one (λ d. d.tag) held _ wrote refl
-      each ComponentTag held stands wrote =
+      each : (register : Register) → register_at device offset ≡ Some register
+          → (unwrap_or (written_to device value register) device).tag ≡ device.tag
+      each (Fixed shown) at = refl
+      each PortInformation at = refl
+      each BaseId at = refl
+      each HostLock at = refl
+      each ComponentTag at =
           absurd (other (in_device is_tag 0x6c ComponentTag refl device offset (λ value. refl)
-          (tag_offset device.kind) stands))
-      each RouteSelect held stands wrote = one (λ d. d.tag) held _ wrote refl
-      each RouteEntry held stands wrote = one (λ d. d.tag) held _ wrote refl
-      each DefaultPort held stands wrote = one (λ d. d.tag) held _ wrote refl
+          (tag_offset device.kind) at))
+      each RouteSelect at = refl
+      each RouteEntry at = refl
+      each DefaultPort at = refl
+
+  -- a switch has no ID to write
+  pub id-stays : is_switch device ≡ true
+      → (write_into device offset value).device.base_id ≡ device.base_id
+  id-stays is = leaves (λ d. d.base_id) each
+    where
+      each : (register : Register) → register_at device offset ≡ Some register
+          → (unwrap_or (written_to device value register) device).base_id ≡ device.base_id
+      each (Fixed shown) at = refl
+      each PortInformation at = refl
+      each BaseId at =
+          absurd (in_none is_id BaseId refl (λ value. refl) device offset
+          (λ n. rw (kind-switch device is) refl) at)
+      each HostLock at = refl
+      each ComponentTag at = refl
+      each RouteSelect at = refl
+      each RouteEntry at = refl
+      each DefaultPort at = refl
+
+  -- only that of the destination selected is written among the entries of a switch
+  pub entry-stays : (dest : ℕ)
+      → (offset ≡ 0x74 → is_switch device ≡ true → dest ≢ device.select)
+      → entry_of (write_into device offset value).device dest ≡ entry_of device dest
+  entry-stays dest apart = leaves (λ d. entry_of d dest) each
+    where
+      switch : (b : Bool) → is_switch device ≡ b → register_at device offset ≡ Some RouteEntry
+          → is_switch device ≡ true
+      switch true is at = is
+      switch false is at =
+          absurd (in_none is_entry RouteEntry refl (λ value. refl) device offset
+          (λ n. rw (kind-endpoint device is) refl) at)
+
+      each : (register : Register) → register_at device offset ≡ Some register
+          → entry_of (unwrap_or (written_to device value register) device) dest
+          ≡ entry_of device dest
+      each (Fixed shown) at = refl
+      each PortInformation at = refl
+      each BaseId at = refl
+      each HostLock at = refl
+      each ComponentTag at = refl
+      each RouteSelect at = refl
+      each RouteEntry at =
+          entry-set_other device.routes device.select dest (value % 0x100)
+          (apart (in_device is_entry 0x74 RouteEntry refl device offset (λ value. refl)
+          (entry_offset device.kind) at) (switch (is_switch device) refl at))
+      each DefaultPort at = refl

@@ -47,7 +47,8 @@ kinds_stay devices p n change same =
 
 -- ---- a device that was read, changed and written back
 
-set-change : (devices : List Registers) (n : ℕ) (read : Registers) (change : Registers → Registers)
+pub set-change : (devices : List Registers) (n : ℕ) (read : Registers)
+    (change : Registers → Registers)
     → slice_get devices n ≡ Some read → set devices n (change read) ≡ with_device devices n change
 set-change [] n read change there = refl
 set-change (d ∷ devices) zero read change there =

@@ -6,4 +6,5 @@ pub mod SameLaws
 pub mod LinkLaws
 pub mod WithinLaws
 pub mod BesideLaws
+pub mod KeepLaws
 pub mod ChangeLaws

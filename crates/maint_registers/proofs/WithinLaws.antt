@@ -1,6 +1,6 @@
 -- The numbers of a device fit their registers.
-use Rattle.std.proofs.Common.{◌≡◌, ℕ, ◌/◌, ◌%◌, ◌^◌, ◌<◌, ◌≤◌, ◌==◌, ◌&&◌, nat_lt, Bool, true, false, List, [], ◌∷◌, length, All, Option, Some, None, option_map, slice_set, arith, refl, subst, if◌then◌else◌, ltb-true, length-set}
-use Rattle.std.specs.Option.{option_and_then, option_or}
+use Rattle.std.proofs.Common.{◌≡◌, ℕ, ◌/◌, ◌%◌, ◌^◌, ◌<◌, ◌≤◌, ◌==◌, ◌&&◌, nat_lt, Bool, true, false, List, [], ◌∷◌, length, All, Option, Some, None, option_map, unwrap_or, slice_set, arith, refl, subst, if◌then◌else◌, ltb-true, length-set}
+use Rattle.std.specs.Option.{option_or}
 use Rattle.std.proofs.lemmas.Bool.{and_parts}
 use Rattle.std.proofs.lemmas.List.Elements.{All-set, All-replicate, All-get_or}
 use Rattle.maint_registers.specs.declared.registers.Kind.{Kind}
@@ -9,8 +9,9 @@ use Rattle.maint_registers.specs.declared.table.Register.{Register}
 use Rattle.maint_registers.specs.declared.table.Register.TheVariants.{Fixed, PortInformation, BaseId, HostLock, ComponentTag, RouteSelect, RouteEntry, DefaultPort}
 use Rattle.maint_registers.specs.Devices.{Registers, no_routes, new_endpoint, new_switch}
 use Rattle.maint_registers.specs.Table.{Row, table, column, in_rows, status_port, status_of, register_at}
-use Rattle.maint_registers.specs.Access.{value_of, value_at, written_to, written_at, locked}
+use Rattle.maint_registers.specs.Access.{value_of, value_at, locked, written_to, write_into}
 use Rattle.maint_registers.specs.Within.{IsWithin}
+use Rattle.maint_registers.proofs.AccessLaws.{by_register}
 
 no_routes_fit : All (λ entry. entry < 0x100) no_routes
 unfolding no_routes
@@ -46,123 +47,77 @@ new_switch_within ports linked most = record {
   default_port = omega arith;
 }
 
+-- each of its numbers fits
+each_within : {device : Registers} → device.ports ≤ 16 → device.base_id < 0x100
+    → device.large_id < 0x10000 → device.lock < 0x10000 → device.tag < 0x100000000
+    → device.select < 0x400 → length device.routes ≡ 1024
+    → All (λ entry. entry < 0x100) device.routes → device.default_port < 0x100 → IsWithin device
+each_within ports base_id large_id lock tag select destinations routes default_port = record {
+  ports = ports;
+  base_id = base_id;
+  large_id = large_id;
+  lock = lock;
+  tag = tag;
+  select = select;
+  destinations = destinations;
+  routes = routes;
+  default_port = default_port;
+}
+
 pub base_id_within : (device : Registers) (id : ℕ) → IsWithin device → id < 0x100
     → IsWithin (record device { base_id = id })
-base_id_within device id within range = record {
-  ports = within.ports;
-  base_id = range;
-  large_id = within.large_id;
-  lock = within.lock;
-  tag = within.tag;
-  select = within.select;
-  destinations = within.destinations;
-  routes = within.routes;
-  default_port = within.default_port;
-}
+base_id_within device id within range =
+    each_within within.ports range within.large_id within.lock within.tag within.select
+    within.destinations within.routes within.default_port
 
 pub large_within : (device : Registers) (id : ℕ) → IsWithin device → id < 0x10000
     → IsWithin (record device { large_id = id })
-large_within device id within range = record {
-  ports = within.ports;
-  base_id = within.base_id;
-  large_id = range;
-  lock = within.lock;
-  tag = within.tag;
-  select = within.select;
-  destinations = within.destinations;
-  routes = within.routes;
-  default_port = within.default_port;
-}
+large_within device id within range =
+    each_within within.ports within.base_id range within.lock within.tag within.select
+    within.destinations within.routes within.default_port
 
 pub lock_within : (device : Registers) (id : ℕ) → IsWithin device → id < 0x10000
     → IsWithin (record device { lock = id })
-lock_within device id within range = record {
-  ports = within.ports;
-  base_id = within.base_id;
-  large_id = within.large_id;
-  lock = range;
-  tag = within.tag;
-  select = within.select;
-  destinations = within.destinations;
-  routes = within.routes;
-  default_port = within.default_port;
-}
+lock_within device id within range =
+    each_within within.ports within.base_id within.large_id range within.tag within.select
+    within.destinations within.routes within.default_port
 
 pub tag_within : (device : Registers) (tag : ℕ) → IsWithin device → tag < 0x100000000
     → IsWithin (record device { tag = tag })
-tag_within device tag within range = record {
-  ports = within.ports;
-  base_id = within.base_id;
-  large_id = within.large_id;
-  lock = within.lock;
-  tag = range;
-  select = within.select;
-  destinations = within.destinations;
-  routes = within.routes;
-  default_port = within.default_port;
-}
+tag_within device tag within range =
+    each_within within.ports within.base_id within.large_id within.lock range within.select
+    within.destinations within.routes within.default_port
 
 pub select_within : (device : Registers) (dest : ℕ) → IsWithin device → dest < 0x400
     → IsWithin (record device { select = dest })
-select_within device dest within range = record {
-  ports = within.ports;
-  base_id = within.base_id;
-  large_id = within.large_id;
-  lock = within.lock;
-  tag = within.tag;
-  select = range;
-  destinations = within.destinations;
-  routes = within.routes;
-  default_port = within.default_port;
-}
+select_within device dest within range =
+    each_within within.ports within.base_id within.large_id within.lock within.tag range
+    within.destinations within.routes within.default_port
 
 pub route_within : (device : Registers) (dest port : ℕ) → IsWithin device → port < 0x100
     → IsWithin (record device { routes = slice_set device.routes dest port })
 route_within device dest port within range =
     let long = length-set device.routes dest port in
     let before = within.destinations in
-    record {
-      ports = within.ports;
-      base_id = within.base_id;
-      large_id = within.large_id;
-      lock = within.lock;
-      tag = within.tag;
-      select = within.select;
-      destinations = omega (arith, long, before);
-      routes = All-set (λ entry. entry < 0x100) device.routes dest port range within.routes;
-      default_port = within.default_port;
-    }
+    each_within within.ports within.base_id within.large_id within.lock within.tag within.select
+    (omega (arith, long, before))
+    (All-set (λ entry. entry < 0x100) device.routes dest port range within.routes)
+    within.default_port
 
 pub default_within : (device : Registers) (port : ℕ) → IsWithin device → port < 0x100
     → IsWithin (record device { default_port = port })
-default_within device port within range = record {
-  ports = within.ports;
-  base_id = within.base_id;
-  large_id = within.large_id;
-  lock = within.lock;
-  tag = within.tag;
-  select = within.select;
-  destinations = within.destinations;
-  routes = within.routes;
-  default_port = range;
-}
+default_within device port within range =
+    each_within within.ports within.base_id within.large_id within.lock within.tag within.select
+    within.destinations within.routes range
 
 pub links_within : (device : Registers) (linked : ℕ) → IsWithin device
     → IsWithin (record device { linked = linked })
-links_within device linked within = record {
-  ports = within.ports;
-  base_id = within.base_id;
-  large_id = within.large_id;
-  lock = within.lock;
-  tag = within.tag;
-  select = within.select;
-  destinations = within.destinations;
-  routes = within.routes;
-  default_port = within.default_port;
-}
+links_within device linked within =
+    each_within within.ports within.base_id within.large_id within.lock within.tag within.select
+    within.destinations within.routes within.default_port
 
 -- a lock that a host writes to
-locked_within : (lock id : ℕ) → lock < 0x10000 → id < 0x10000 → locked lock id < 0x10000
+pub locked_within : (lock id : ℕ) → lock < 0x10000 → id < 0x10000 → locked lock id < 0x10000
 locked_within lock id below range = go (lock == 0xffff) (lock == id)
   where
     go : (free own : Bool) → (if free then id else (if own then 0xffff else lock)) < 0x10000
@@ -170,37 +125,27 @@ locked_within lock id below range = go (lock == 0xffff) (lock == id)
     go false true = omega arith
     go false false = below
 
-module _ (device next : Registers) (value : ℕ) (within : IsWithin device)
-    (range : value < 0x100000000)
-  where
-    -- a device that is within is the next one
-    this : (written : Registers) → IsWithin written → Some written ≡ Some next → IsWithin next
-    this written fits is = let same : written ≡ next = cc in subst IsWithin same fits
-
-    register_within : (register : Register) → written_to device value register ≡ Some next
-        → IsWithin next
-    register_within (Fixed shown) is = absurd (cc)
-    register_within PortInformation is = absurd (cc)
-    register_within BaseId is = this _ (base_id_within device _ within (omega arith)) is
-    register_within HostLock is =
-        this _ (lock_within device _ within
-        (locked_within device.lock (value % 0x10000) within.lock (omega arith))) is
-    register_within ComponentTag is = this _ (tag_within device value within range) is
-    register_within RouteSelect is = this _ (select_within device _ within (omega arith)) is
-    register_within RouteEntry is =
-        this _ (route_within device device.select _ within (omega arith))
-        is
-    register_within DefaultPort is = this _ (default_within device _ within (omega arith)) is
+register_within : (device : Registers) (value : ℕ) (register : Register) → IsWithin device
+    → value < 0x100000000 → IsWithin (unwrap_or (written_to device value register) device)
+register_within device value (Fixed shown) within range = within
+register_within device value PortInformation within range = within
+register_within device value BaseId within range = base_id_within device _ within (omega arith)
+register_within device value HostLock within range =
+    lock_within device _ within
+    (locked_within device.lock (value % 0x10000) within.lock (omega arith))
+register_within device value ComponentTag within range = tag_within device value within range
+register_within device value RouteSelect within range = select_within device _ within (omega arith)
+register_within device value RouteEntry within range =
+    route_within device device.select _ within (omega arith)
+register_within device value DefaultPort within range =
+    default_within device _ within (omega arith)
 
 -- whatever is written, the device stays within
-pub written_within : (device next : Registers) (offset value : ℕ) → IsWithin device
-    → value < 0x100000000 → written_at device offset value ≡ Some next → IsWithin next
-written_within device next offset value within range = go (register_at device offset)
-  where
-    go : (o : Option Register) → option_and_then (written_to device value) o ≡ Some next
-        → IsWithin next
-    go None is = absurd (cc)
-    go (Some register) is = register_within device next value within range register is
+pub write_within : (device : Registers) (offset value : ℕ) → IsWithin device
+    → value < 0x100000000 → IsWithin (write_into device offset value).device
+write_within device offset value within range =
+    by_register IsWithin device offset value within
+    (λ register at. register_within device value register within range)
 
 -- a fixed value fits a word
 abbrev fits : Register → Bool

@@ -1,5 +1,5 @@
 -- What a register shows before a write to it, and after.
-use Rattle.std.proofs.Common.{◌≡◌, ℕ, ◌+◌, ◌%◌, ◌^◌, ◌<◌, Some, option_map, refl, sym, ap, ◌∙◌, subst, arith, get_or-set_same}
+use Rattle.std.proofs.Common.{◌≡◌, ℕ, ◌+◌, ◌%◌, ◌^◌, ◌<◌, Some, option_map, unwrap_or, refl, sym, ap, ◌∙◌, subst, arith, get_or-set_same}
 use Rattle.std.specs.Option.{option_and_then}
 use Rattle.std.proofs.lemmas.List.Elements.{All-get_or}
 use Rattle.std.proofs.lemmas.Option.{same_Some}
@@ -7,7 +7,7 @@ use Rattle.maint_registers.specs.declared.table.Register.{Register}
 use Rattle.maint_registers.specs.declared.table.Register.TheVariants.{Fixed, PortInformation, BaseId, HostLock, ComponentTag, RouteSelect, RouteEntry, DefaultPort}
 use Rattle.maint_registers.specs.Devices.{Registers, IsDevice}
 use Rattle.maint_registers.specs.Table.{register_at}
-use Rattle.maint_registers.specs.Access.{value_of, value_at, written_to, written_at}
+use Rattle.maint_registers.specs.Access.{value_of, value_at, written_to, write_into}
 use Rattle.maint_registers.specs.Laws.{Bits, written_bits, only, other_bits}
 use Rattle.maint_registers.specs.Within.{IsWithin}
 
@@ -18,51 +18,48 @@ shown : (device : Registers) (offset port : ℕ) (register : Register) (value : 
 shown device offset port register value at is =
     ap (option_map (value_of device port)) at ∙ ap (λ n. Some n) is
 
-module _ (device next : Registers) (offset value port : ℕ)
+module _ (device : Registers) (offset value port : ℕ)
     (is_device : IsDevice device) (range : value < 2 ^ 32) where
   -- the register shows afterwards what was written, and its other bits
-  abbrev becomes : Register → Bits → Type 0
-  becomes register bits =
+  abbrev becomes : Register → Bits → Registers → Type 0
+  becomes register bits next =
       value_at next offset port ≡ Some (only bits value + other_bits device register)
 
-  -- one step from a device that was written to what it shows
-  step : (register : Register) (bits wanted : Bits) (written : Registers)
-      → Some written ≡ Some next → Some wanted ≡ Some bits
-      → register_at written offset ≡ Some register
-      → value_of written port register ≡ only wanted value + other_bits device register
-      → becomes register bits
-  step register bits wanted written e w at is =
-      subst (λ (d : Registers).
-      value_at d offset port ≡ Some (only bits value + other_bits device register))
-      (same_Some written next e)
-      (shown written offset port register (only bits value + other_bits device register) at
+  -- one step from what the register of a device shows
+  step : (register : Register) (bits wanted : Bits) (next : Registers) → Some wanted ≡ Some bits
+      → register_at next offset ≡ Some register
+      → value_of next port register ≡ only wanted value + other_bits device register
+      → becomes register bits next
+  step register bits wanted next w at is =
+      shown next offset port register (only bits value + other_bits device register) at
       (is ∙ ap (λ (b : Bits). only b value + other_bits device register)
-      (same_Some wanted bits w)))
+      (same_Some wanted bits w))
 
   after : (register : Register) (bits : Bits) → register_at device offset ≡ Some register
-      → written_bits register ≡ Some bits → written_to device value register ≡ Some next
-      → becomes register bits
-  after (Fixed n) bits at w e = cc
-  after PortInformation bits at w e = cc
-  after HostLock bits at w e = cc
-  after BaseId bits at w e = step BaseId bits _ _ e w at refl
-  after ComponentTag bits at w e = step ComponentTag bits _ _ e w at (omega arith)
-  after RouteSelect bits at w e = step RouteSelect bits _ _ e w at (omega arith)
-  after RouteEntry bits at w e =
+      → written_bits register ≡ Some bits
+      → becomes register bits (unwrap_or (written_to device value register) device)
+  after (Fixed n) bits at w = cc
+  after PortInformation bits at w = cc
+  after HostLock bits at w = cc
+  after BaseId bits at w = step BaseId bits _ _ w at refl
+  after ComponentTag bits at w = step ComponentTag bits _ _ w at (omega arith)
+  after RouteSelect bits at w = step RouteSelect bits _ _ w at (omega arith)
+  after RouteEntry bits at w =
       let routes = is_device.destinations in
       let selected = is_device.selected in
       let here = get_or-set_same device.routes device.select (value % 256) 255 (omega arith) in
-      step RouteEntry bits _ _ e w at (omega (arith, here))
-  after DefaultPort bits at w e = step DefaultPort bits _ _ e w at (omega arith)
+      step RouteEntry bits _ _ w at (omega (arith, here))
+  after DefaultPort bits at w = step DefaultPort bits _ _ w at (omega arith)
 
-pub shows_written : (device next : Registers) (offset value port : ℕ) (register : Register)
+pub shows_written : (device : Registers) (offset value port : ℕ) (register : Register)
     (bits : Bits) → IsDevice device → register_at device offset ≡ Some register
     → written_bits register ≡ Some bits → value < 2 ^ 32
-    → written_at device offset value ≡ Some next
-    → value_at next offset port ≡ Some (only bits value + other_bits device register)
-shows_written device next offset value port register bits is at has range wrote =
-    after device next offset value port is range register bits at has
-    (sym (ap (option_and_then (written_to device value)) at) ∙ wrote)
+    → value_at (write_into device offset value).device offset port
+    ≡ Some (only bits value + other_bits device register)
+shows_written device offset value port register bits is at has range =
+    subst (λ o. becomes device offset value port is range register bits
+    (unwrap_or (option_and_then (written_to device value) o) device)) (sym at)
+    (after device offset value port is range register bits at has)
 
 module _ (device : Registers) (port : ℕ) (within : IsWithin device) where
   abbrev has_both : Register → Bits → Type 0

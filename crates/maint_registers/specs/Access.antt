@@ -1,5 +1,5 @@
--- What is read in a register, and what a write makes of it.
-use Rattle.std.specs.Prelude.{ℕ, ◌+◌, ◌*◌, ◌/◌, ◌%◌, ◌==◌, Option, Some, None, option_map, slice_set, if◌then◌else◌}
+-- What is read in a register, what a write makes of it, and what either comes to.
+use Rattle.std.specs.Prelude.{ℕ, ◌+◌, ◌*◌, ◌/◌, ◌%◌, ◌==◌, Option, Some, None, option_map, unwrap_or, slice_set, if◌then◌else◌}
 use Rattle.std.specs.Option.{option_and_then}
 use Rattle.maint_registers.specs.declared.table.Register.{Register}
 use Rattle.maint_registers.specs.declared.table.Register.TheVariants.{Fixed, PortInformation, BaseId, HostLock, ComponentTag, RouteSelect, RouteEntry, DefaultPort}
@@ -23,8 +23,7 @@ abbrev pub value_at : Registers → ℕ → ℕ → Option ℕ
 value_at device offset port = option_map (value_of device port) (register_at device offset)
 
 -- The lock after the ID of a host is written to it: a free lock is taken, the holder's own ID frees
--- it, and any other ID
--- leaves it.
+-- it, and any other ID leaves it.
 abbrev pub locked : ℕ → ℕ → ℕ
 locked lock id = if lock == 0xffff then id else (if lock == id then 0xffff else lock)
 
@@ -45,3 +44,25 @@ written_to device value DefaultPort = Some (record device { default_port = value
 abbrev pub written_at : Registers → ℕ → ℕ → Option Registers
 written_at device offset value =
     option_and_then (written_to device value) (register_at device offset)
+
+-- What an access to a register comes to: the value that it gives if it is carried out, 0 of a write,
+-- and the registers after it.
+pub record Accessed : Type 0 where
+  pub value : Option ℕ
+  pub device : Registers
+
+-- a read that came to a port; it changes nothing
+abbrev pub read_from : Registers → ℕ → ℕ → Accessed
+read_from device offset port = record { value = value_at device offset port; device = device }
+
+-- a write; it changes nothing if it is not carried out
+abbrev pub write_into : Registers → ℕ → ℕ → Accessed
+write_into device offset value = record {
+  value = option_map (λ next. 0) (written_at device offset value);
+  device = unwrap_or (written_at device offset value) device;
+}
+
+-- the status with which an access is answered: 0 if it was carried out, else 7
+abbrev pub access_status : Option ℕ → ℕ
+access_status (Some value) = 0
+access_status None = 7

@@ -6,7 +6,7 @@ use Rattle.maint_registers.specs.declared.table.Register.{Register}
 use Rattle.maint_registers.specs.declared.table.Register.TheVariants.{Fixed, PortInformation, BaseId, HostLock, ComponentTag, RouteSelect, RouteEntry, DefaultPort}
 use Rattle.maint_registers.specs.Devices.{Registers, IsDevice, with_link}
 use Rattle.maint_registers.specs.Table.{status_of, register_at}
-use Rattle.maint_registers.specs.Access.{value_at, written_at, locked}
+use Rattle.maint_registers.specs.Access.{value_at, locked, write_into}
 use Rattle.maint_registers.specs.Within.{IsWithin}
 
 -- some bits of a register: the lowest of them, and how many they are
@@ -38,13 +38,13 @@ other_bits device register = 0
 -- Whoever writes to a register then reads there what was written in the bits that a write changes,
 -- and in all others what stood there.
 abbrev pub ShowsWritten : Type 0
-ShowsWritten = (device next : Registers) (offset value port : ℕ) (register : Register) (bits : Bits)
+ShowsWritten = (device : Registers) (offset value port : ℕ) (register : Register) (bits : Bits)
     → IsDevice device
     → register_at device offset ≡ Some register
     → written_bits register ≡ Some bits
     → value < 2 ^ 32
-    → written_at device offset value ≡ Some next
-    → value_at next offset port ≡ Some (only bits value + other_bits device register)
+    → value_at (write_into device offset value).device offset port
+    ≡ Some (only bits value + other_bits device register)
 
 -- What a register shows is its bits that a write changes, and its other bits beside them.
 abbrev pub ShowsBoth : Type 0
@@ -65,18 +65,18 @@ StaysForOthers = (lock id : ℕ) → lock ≢ 0xffff → lock ≢ id → locked 
 
 -- A write to any other register leaves the lock.
 abbrev pub LockStays : Type 0
-LockStays = (device next : Registers) (offset value : ℕ) → offset ≢ 0x68
-    → written_at device offset value ≡ Some next → next.lock ≡ device.lock
+LockStays = (device : Registers) (offset value : ℕ) → offset ≢ 0x68
+    → (write_into device offset value).device.lock ≡ device.lock
 
 -- And a write to any other register leaves the tag.
 abbrev pub TagStays : Type 0
-TagStays = (device next : Registers) (offset value : ℕ) → offset ≢ 0x6c
-    → written_at device offset value ≡ Some next → next.tag ≡ device.tag
+TagStays = (device : Registers) (offset value : ℕ) → offset ≢ 0x6c
+    → (write_into device offset value).device.tag ≡ device.tag
 
 -- No write changes the ID of 16 bits.
 abbrev pub LargeStays : Type 0
-LargeStays = (device next : Registers) (offset value : ℕ)
-    → written_at device offset value ≡ Some next → next.large_id ≡ device.large_id
+LargeStays = (device : Registers) (offset value : ℕ)
+    → (write_into device offset value).device.large_id ≡ device.large_id
 
 -- A port whose link is set shows it.
 abbrev pub ShowsLink : Type 0

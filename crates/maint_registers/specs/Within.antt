@@ -1,7 +1,7 @@
 -- Each number of a device fits its register, and stays so whatever is written.
 use Rattle.std.specs.Prelude.{◌≡◌, ℕ, ◌<◌, ◌≤◌, Bool, length, All, slice_set, Some}
 use Rattle.maint_registers.specs.Devices.{Registers, new_endpoint, new_switch}
-use Rattle.maint_registers.specs.Access.{value_at, written_at}
+use Rattle.maint_registers.specs.Access.{value_at, write_into}
 
 -- each number of a device fits its register
 pub record IsWithin (device : Registers) : Type 0 where
@@ -23,8 +23,8 @@ NewSwitchIsWithin = (ports linked : ℕ) → ports ≤ 16 → IsWithin (new_swit
 
 -- A word is written, and the device stays within.
 abbrev pub WrittenStaysWithin : Type 0
-WrittenStaysWithin = (device next : Registers) (offset value : ℕ) → IsWithin device
-    → value < 0x100000000 → written_at device offset value ≡ Some next → IsWithin next
+WrittenStaysWithin = (device : Registers) (offset value : ℕ) → IsWithin device
+    → value < 0x100000000 → IsWithin (write_into device offset value).device
 
 -- What is read is a word.
 abbrev pub ReadsWord : Type 0

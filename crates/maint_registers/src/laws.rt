@@ -1,4 +1,8 @@
 //! Laws of registers, for whoever states something of devices.
+ghost use Rattle.std.specs.Prelude.{◌≡◌, true, Some, None};
+ghost use Rattle.maint_registers.specs.Devices.{new_endpoint};
+ghost use Rattle.maint_registers.specs.Access.{read_from, write_into};
+ghost use Rattle.maint_registers.specs.Changes.{held_by};
 ghost use Rattle.maint_registers.specs.Laws.{ShowsWritten, ShowsBoth, LargeStays, LockStays, TagStays};
 ghost use Rattle.maint_registers.specs.Laws.{IsTakenIfFree, StaysForOthers};
 ghost use Rattle.maint_registers.specs.Laws.{ShowsLink, OthersStay};
@@ -6,6 +10,16 @@ ghost use Rattle.maint_registers.specs.Within.{NewEndpointIsWithin, NewSwitchIsW
 ghost use Rattle.maint_registers.specs.Within.{WrittenStaysWithin, LargeStaysWithin};
 ghost use Rattle.maint_registers.specs.Within.{LockStaysWithin, RouteStaysWithin};
 ghost use Rattle.maint_registers.specs.Within.{DefaultStaysWithin, LinksStayWithin};
+
+/// An endpoint gives the value that it shows, and takes a write or refuses it.
+pub fn an_endpoint_is_accessed()
+    ensures read { read_from (new_endpoint 5 true) 0x60 0
+        ≡ record { value = Some 0x5ffff; device = new_endpoint 5 true } }
+    ensures taken { write_into (new_endpoint 5 true) 0x68 7
+        ≡ record { value = Some 0; device = held_by 7 (new_endpoint 5 true) } }
+    ensures refused { write_into (new_endpoint 5 true) 0x10 7
+        ≡ record { value = None; device = new_endpoint 5 true } }
+{}
 
 /// A write changes some bits of a register, and leaves the others.
 pub fn write_changes_its_bits()

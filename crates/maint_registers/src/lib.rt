@@ -20,8 +20,8 @@ mod table;
 mod tests;
 
 pub use laws::{
-    devices_stay_within, link_shows_at_its_port, lock_is_taken_if_free, new_devices_are_within,
-    other_writes_leave_lock_and_tag, reads_are_words, write_changes_its_bits,
-    writes_leave_large_id,
+    an_endpoint_is_accessed, devices_stay_within, link_shows_at_its_port, lock_is_taken_if_free,
+    new_devices_are_within, other_writes_leave_lock_and_tag, reads_are_words,
+    write_changes_its_bits, writes_leave_large_id,
 };
 pub use registers::Registers;

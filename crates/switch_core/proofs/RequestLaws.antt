@@ -1,17 +1,14 @@
 -- Requests at the front of a list, and the priority of their responses.
-use Rattle.std.proofs.Common.{◌≡◌, ℕ, ◌+◌, ◌<◌, min, true, false, Bool, Option, Some, None, unwrap_or, IsSome, List, [], ◌∷◌, slice_get, get_or, All, refl, sym, ap, ◌∙◌, arith, if◌then◌else◌}
-use Rattle.rio_packets.specs.Hops.{closed, message_ended, is_large}
-use Rattle.rio_packets.specs.Fields.{prio_of, dest_of, source_of, hop_place, is_request, body_of}
+use Rattle.std.proofs.Common.{◌≡◌, ℕ, ◌+◌, ◌<◌, min, true, false, Bool, Option, Some, None, IsSome, List, [], ◌∷◌, slice_get, All, refl, sym, ap, arith, if◌then◌else◌}
+use Rattle.rio_packets.specs.Hops.{closed, message_ended}
+use Rattle.rio_packets.specs.Fields.{prio_of, is_request, body_of}
 use Rattle.maint_registers.specs.Devices.{Registers}
-use Rattle.maint_registers.specs.Access.{value_at, written_at}
-use Rattle.maint_packets.specs.declared.request.Op.{Op}
-use Rattle.maint_packets.specs.declared.request.Op.TheVariants.{Read, Write, BadRead, BadWrite}
 use Rattle.maint_packets.specs.declared.request.Request.{Request}
 use Rattle.maint_packets.specs.declared.response.Response.{Response}
-use Rattle.maint_packets.specs.Requests.{op_of, request_of}
-use Rattle.maint_packets.specs.Layout.{offset_of, tid_of, behind_ids}
+use Rattle.maint_packets.specs.Requests.{request_in, request_of}
+use Rattle.maint_packets.specs.Layout.{behind_ids}
 use Rattle.maint_packets.specs.Responses.{response_bytes}
-use Rattle.maint_packets.specs.Answers.{request_answered, answered_to, request_read, request_written}
+use Rattle.maint_packets.specs.Answers.{request_answered}
 use Rattle.link_buffers.specs.Queues.{list_at}
 use Rattle.link_port.specs.Faces.{AreLists}
 
@@ -45,19 +42,7 @@ request_prio packet request is = by_test (is_request packet) refl is
 -- what is a request has one
 pub request_there : (packet : List ℕ) → is_request packet ≡ true → (request : Request)
     × (request_of packet ≡ Some request)
-request_there packet is = (
-  record {
-    prio = prio_of packet;
-    dest = unwrap_or (dest_of packet) 0;
-    source = unwrap_or (source_of packet) 0;
-    large = is_large packet;
-    op = op_of packet;
-    tid = tid_of packet;
-    hop = get_or packet (hop_place packet) 0;
-    offset = offset_of packet;
-  },
-  rw is refl,
-)
+request_there packet is = (request_in packet, rw is refl)
 
 ended_prio : (large : Bool) (prio dest source : ℕ) (rest : List ℕ)
     → prio_of (message_ended large (body_of prio 8 large dest source rest)) ≡ prio
@@ -71,32 +56,12 @@ response_bytes-prio response =
     (behind_ids (if response.write then 3 else 2) response.status response.tid response.hop 0
     response.words)
 
-answered_to-prio : (device : Registers) (request : Request) (port : ℕ) (op : Op)
-    → (answered_to device request port op).response.prio ≡ min (request.prio + 1) 3
-answered_to-prio device request port Read = read (value_at device request.offset port)
-  where
-    read : (value : Option ℕ) → (request_read device request value).response.prio
-        ≡ min (request.prio + 1) 3
-    read (Some value) = refl
-    read None = refl
-answered_to-prio device request port (Write value) =
-    written (written_at device request.offset value)
-  where
-    written : (next : Option Registers) → (request_written device request next).response.prio
-        ≡ min (request.prio + 1) 3
-    written (Some next) = refl
-    written None = refl
-answered_to-prio device request port BadRead = refl
-answered_to-prio device request port BadWrite = refl
-
 -- the priority of the response to a request
 pub answer_prio : (device : Registers) (request : Request) (port : ℕ)
     → prio_of (response_bytes (request_answered device request port).response)
     ≡ min (request.prio + 1) 3
 answer_prio device request port =
     response_bytes-prio (request_answered device request port).response
-    ∙ answered_to-prio device request
-    port request.op
 
 -- what is there
 pub some_there : {A : Type 0} (o : Option A) → IsSome o → (x : A) × (o ≡ Some x)
