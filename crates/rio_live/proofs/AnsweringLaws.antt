@@ -29,7 +29,7 @@ use Rattle.rio_live.specs.declared.live.Asked.TheVariants.{Quiet, Event, Refused
 use Rattle.rio_live.specs.declared.live.Live.{Live}
 use Rattle.rio_live.specs.declared.answers.Going.{Going as Whether}
 use Rattle.rio_live.specs.declared.answers.Going.TheVariants as Goings
-use Rattle.rio_live.specs.Lines.{Taken, seen_so_far, Outcome, Passed, SetUp, Happened, Refused as IsRefusedAs, taken_after, undetected_at_text, answer_text, IsCutOf}
+use Rattle.rio_live.specs.Lines.{Taken, seen_so_far, Outcome, Passed, SetUp, Happened, Refused as IsRefusedAs, taken_after, undetected_at_text, answer_text, IsAnswerFront}
 use Rattle.rio_live.specs.Holding.{StandsBy, LiveHolds}
 use Rattle.rio_live.specs.Answers.{OutcomeIsQuiet, LiveTakes, Happens, HappensFront, LineAnswered, AnswersFront}
 use Rattle.rio_live.proofs.EventLaws.{is_one}
@@ -253,7 +253,7 @@ module _ (taken : Taken) (number : ℕ) (line : List ℕ) where
 
       by_front : (short.front ≡ []) ⊎ ((block : List TraceLine) × (rest : List TraceLine)
           × IsBlock (seen_so_far taken) event block × (Begun event ∷ block ≡ short.front ++ rest))
-          → IsCutOf taken number line (trace_text taken.known.names short.front)
+          → IsAnswerFront taken number line (trace_text taken.known.names short.front)
       by_front (inl none) = inl (ap (trace_text taken.known.names) none)
       by_front (inr some) =
           let found = undetected_at_text taken.known.names number

@@ -11,10 +11,10 @@ use Rattle.rio_live.specs.declared.answers.BrokenOff.{BrokenOff}
 use Rattle.rio_live.specs.declared.answers.Going.{Going as Whether}
 use Rattle.rio_live.specs.declared.answers.Going.TheVariants as Goings
 use Rattle.rio_live.specs.declared.live.Live.{Live}
-use Rattle.rio_live.specs.Lines.{Taken, taken_after, answer_text, IsCutOf}
+use Rattle.rio_live.specs.Lines.{Taken, taken_after, answer_text, IsAnswerFront}
 use Rattle.rio_live.specs.Holding.{LiveHolds, IsTrace}
 use Rattle.rio_live.specs.Answers.{LiveGoes, LineAnswered, AnswersFront}
-use Rattle.rio_live.specs.Program.{AnswerIsCut, Closes, LiveServes}
+use Rattle.rio_live.specs.Program.{IsFurtherFront, Closes, LiveServes}
 use Rattle.rio_live.proofs.TakenLaws.{is_sent}
 use Rattle.rio_live.proofs.ServingLaws.{Course, with_nothing, line_told, with_answer}
 
@@ -138,10 +138,13 @@ module _ (begun : Outgoing) (left : Option (List ℕ)) (read_faults : ℕ) where
       (pending line : List ℕ) {count : ℕ} (read_faults_now : ℕ)
       → (h : Course begun out live left left_now pending count read_faults read_faults_now)
       → (b : AnswersFront h.taken (count + 1) line out next)
-      → AnswerIsCut h.taken (length h.lines + 1) b.text
+      → IsFurtherFront h.taken (length h.lines + 1) b.text
   cut_at {out} {next} {live} pending line read_faults_now h b = (
     is_sent live h.taken h.holds,
-    (line, subst (λ n. IsCutOf h.taken n line b.text) (ap (λ n. n + 1) (sym h.going.counted)) b.is),
+    (
+      line,
+      subst (λ n. IsAnswerFront h.taken n line b.text) (ap (λ n. n + 1) (sym h.going.counted)) b.is,
+    ),
   )
 
   pub Course-no_memory : {out next : Outgoing} {live : Live}

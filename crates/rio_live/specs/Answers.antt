@@ -21,7 +21,7 @@ use Rattle.rio_live.specs.declared.live.Asked.TheVariants.{Quiet, Event, Refused
 use Rattle.rio_live.specs.declared.live.Live.{Live}
 use Rattle.rio_live.specs.declared.answers.Going.{Going}
 use Rattle.rio_live.specs.declared.answers.Going.TheVariants.{On, Undetected}
-use Rattle.rio_live.specs.Lines.{Taken, Outcome, Passed, SetUp, Happened, Refused as IsRefusedAs, ReadsAs, RefusesSetUp, IsCutOf, taken_after, answer_text, undetected_at_text, seen_so_far, most_set_up}
+use Rattle.rio_live.specs.Lines.{Taken, Outcome, Passed, SetUp, Happened, Refused as IsRefusedAs, ReadsAs, RefusesSetUp, IsAnswerFront, taken_after, answer_text, undetected_at_text, seen_so_far, most_set_up}
 use Rattle.rio_live.specs.Holding.{LiveHolds, IsTrace}
 
 -- ---- reading
@@ -124,7 +124,7 @@ pub record LineAnswered (taken : Taken) (number : ℕ) (line : List ℕ) (old ne
 pub record AnswersFront (taken : Taken) (number : ℕ) (line : List ℕ) (old new : Outgoing)
     : Type 0 where
   pub text : List ℕ
-  pub is : IsCutOf taken number line text
+  pub is : IsAnswerFront taken number line text
   pub told : Writes old new text
 
 -- ---- ending

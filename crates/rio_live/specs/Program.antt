@@ -7,16 +7,16 @@ use Rattle.live_lines.specs.declared.status.Status.{Status}
 use Rattle.live_lines.specs.declared.status.Status.TheVariants.{Done, Words, ReadFault, WriteFault, NoMemory, Undetected, TooLong}
 use Rattle.live_lines.specs.Serving.{ServesLines}
 use Rattle.live_lines.specs.Statuses.{status_value, message_of}
-use Rattle.rio_live.specs.Lines.{Taken, nothing_taken, seen_so_far, IsSent, AnswersLines, IsCutOf}
+use Rattle.rio_live.specs.Lines.{Taken, nothing_taken, seen_so_far, IsSent, AnswersLines, IsAnswerFront}
 use Rattle.rio_live.specs.Holding.{IsTrace}
 
 -- the text is a front of the answer of a further line, which has this number, or nothing
-abbrev pub AnswerIsCut : Taken → ℕ → List ℕ → Type 0
-AnswerIsCut taken number text = IsSent taken × ((line : List ℕ) × IsCutOf taken number line text)
+abbrev pub IsFurtherFront : Taken → ℕ → List ℕ → Type 0
+IsFurtherFront taken number text =
+    IsSent taken × ((line : List ℕ) × IsAnswerFront taken number line text)
 
 -- What is written behind the answers, by how it ended: `end` if the input ended, and if memory ran
--- out within an event, a front of its answer. It ends with `Undetected` exactly behind an event
--- that
+-- out within an event, a front of its answer. It ends with `Undetected` exactly behind an event that
 -- was acted on and not sent.
 abbrev pub Closes : Status → Taken → ℕ → List ℕ → Type 0
 Closes Done taken number text = IsSent taken × (text ≡ codes "end\n")
@@ -25,9 +25,9 @@ Closes ReadFault taken number text = IsSent taken × (text ≡ [])
 Closes TooLong taken number text = IsSent taken × (text ≡ [])
 Closes Undetected taken number text =
     ((found : UndetectedAt) × ((seen_so_far taken).undetected ≡ Some found)) × (text ≡ [])
-Closes NoMemory taken number text = AnswerIsCut taken number text
+Closes NoMemory taken number text = IsFurtherFront taken number text
 Closes WriteFault taken number text =
-    (text ≡ []) ⊎ ((text ≡ codes "end\n") ⊎ AnswerIsCut taken number text)
+    (text ≡ []) ⊎ ((text ≡ codes "end\n") ⊎ IsFurtherFront taken number text)
 
 -- Lines were served: those that were read, each behind the one before it, up to where it ended.
 -- What was written is their answers, and what is written behind them. The blocks in the answers are
