@@ -120,7 +120,8 @@ number-bits (suc width) n =
     let size : length (bits width n) ≡ width = length-bits width n in
     rw (size, rest)
     (ap (λ v. v + n % 2 ^ width) (bit_value (bit_at n width) (2 ^ width) (bit_at-lt n width))
-    ∙ sym (mod-pow-add n 1 width) ∙ ap (λ w. n % 2 ^ w) (let same : 1 + width ≡ suc width = omega arith in same))
+    ∙ sym (mod-pow-add n 1 width) ∙ ap (λ w. n % 2 ^ w) (let same : 1 + width ≡ suc width = omega
+    arith in same))
 
 -- it is below the power of 2 that its length gives
 pub number-lt : (bs : List Bool) → number bs < 2 ^ length bs
@@ -135,11 +136,13 @@ unfolding bits number
 bits-number [] = refl
 bits-number (true ∷ bs) =
     let size : suc (length bs) ≡ 1 + length bs = omega arith in
-    ap (bits (suc (length bs))) (let same : 2 ^ length bs + number bs ≡ 1 * 2 ^ length bs + number bs = omega arith in same)
+    ap (bits (suc (length bs))) (let same : 2 ^ length bs + number bs ≡ 1 * 2 ^ length bs + number
+    bs = omega arith in same)
     ∙ bits_cat 1 (length bs) 1 (number bs) (suc (length bs)) size (number-lt bs)
     ∙ ap (λ rest. true ∷ rest) (bits-number bs)
 bits-number (false ∷ bs) =
     let size : suc (length bs) ≡ 1 + length bs = omega arith in
-    ap (bits (suc (length bs))) (let same : 0 + number bs ≡ 0 * 2 ^ length bs + number bs = omega arith in same)
+    ap (bits (suc (length bs))) (let same : 0 + number bs ≡ 0 * 2 ^ length bs + number bs = omega
+    arith in same)
     ∙ bits_cat 1 (length bs) 0 (number bs) (suc (length bs)) size (number-lt bs)
     ∙ ap (λ rest. false ∷ rest) (bits-number bs)

@@ -4,7 +4,8 @@ ghost use Rattle.std.specs.Prelude.{◌≡◌, ℕ, suc, ◌+◌, ◌-◌, ◌%�
 ghost use Rattle.crc_division.specs.Bits.{bits, number};
 ghost use Rattle.crc_division.specs.Division.{added, remainder};
 
-/// A field has as many bits as it is wide and spells the number that fits it; a list of bits is read back from its number.
+/// A field has as many bits as it is wide and spells the number that fits it; a list of bits is
+/// read back from its number.
 pub fn bits_spell_numbers()
     ensures length { (width n : ℕ) → length (bits width n) ≡ width }
     ensures spelled { (width n : ℕ) → number (bits width n) ≡ n % 2 ^ width }
@@ -22,7 +23,8 @@ pub fn remainders_are_short()
         → length (remainder bs divisor) ≡ length divisor - 1 }
 {}
 
-/// A division that textbooks work by hand: 1101011011 with four 0 bits behind it, by x^4 + x + 1, leaves 1110.
+/// A division that textbooks work by hand: 1101011011 with four 0 bits behind it, by x^4 + x + 1,
+/// leaves 1110.
 pub fn worked_division()
     ensures { remainder
         (true ∷ true ∷ false ∷ true ∷ false ∷ true ∷ true ∷ false ∷ true ∷ true ∷ false ∷ false

@@ -1,5 +1,4 @@
--- Packets for an ID come to its endpoint from every device of a walk, if each switch sends them
--- down the tree of paths, or else by the port by which it was entered.
+-- Packets for an ID come to its endpoint if each switch of a walk sends them down the tree or home.
 use Rattle.std.proofs.Common.{◌≡◌, ◌≢◌, ℕ, zero, suc, ◌<◌, true, List, [], ◌∷◌, ◌++◌, length, Option, Some, None, IsSome, unwrap_or, Contains, arith, ◌⊎◌, inl, inr, subst, sym, refl, ap, ◌∙◌, append_assoc, length-append}
 use Rattle.std.specs.Option.{option_and_then}
 use Rattle.std.proofs.lemmas.Option.{same_Some}

@@ -21,9 +21,9 @@ pub fn wrong_maps_are_none()
     ensures skipped { (entries : List Entry) → IsMap ring 5 skipped entries → ⊥ }
 {}
 
-/// The registers of a numbered ring are those that a hand calculation gives: the tag and the lock of
-/// a switch, the ID of an endpoint, and the port of an entry. Its links stay, and so does each entry
-/// from that of 63 on but that of 255.
+/// The registers of a numbered ring are those that a hand calculation gives: the tag and the lock
+/// of a switch, the ID of an endpoint, and the port of an entry. Its links stay, and so does each
+/// entry from that of 63 on but that of 255.
 pub fn the_ring_has_its_registers()
     ensures tag { (before after : AllRegisters) → IsRing before after → (after 4).tag ≡ 2 }
     ensures lock { (before after : AllRegisters) → IsRing before after → (after 4).lock ≡ 5 }

@@ -7,10 +7,14 @@
 //!
 //! Left out: the code that numbers a fabric.
 //!
-//! - [`Map`] has the [`Device`]s, each with its [`Kind`] and its [`Path`], and each [`Entry`] of the route tables.
-//! - [`entries_of`] makes the entries of a map from its devices; [`toward`] is the port by which a path goes on.
-//! - `specs/Topology.antt` says where a path leads, `specs/Walked.antt` in which order devices are met, `specs/Routes.antt`
-//!   where packets go, `specs/Numbered.antt` what a map says, `specs/Locked.antt` which locked device is met first, and `specs/Ways.antt` how a host asks a device.
+//! - [`Map`] has the [`Device`]s, each with its [`Kind`] and its [`Path`], and each [`Entry`] of
+//!   the route tables.
+//! - [`entries_of`] makes the entries of a map from its devices; [`toward`] is the port by which a
+//!   path goes on.
+//! - `specs/Topology.antt` says where a path leads, `specs/Walked.antt` in which order devices are
+//!   met, `specs/Routes.antt` where packets go, `specs/Numbered.antt` what a map says,
+//!   `specs/Locked.antt` which locked device is met first, and `specs/Ways.antt` how a host asks a
+//!   device.
 #![tactic(auto)]
 
 mod entries;

@@ -5,8 +5,8 @@
 //! - `Network`: plain first-in first-out queues, one for each port and priority on either side of a
 //!   link, and the registers of each node;
 //! - `Serving`: where a switch sends a packet, and what registers answer;
-//! - `Steps`: what a packet's taking, holding, freeing, moving, dropping, answering and leaving need
-//!   and do, and which lists of steps are legal;
+//! - `Steps`: what a packet's taking, holding, freeing, moving, dropping, answering and leaving
+//!   need and do, and which lists of steps are legal;
 //! - `Laws`: what holds of every legal list of steps.
 //!
 //! The module `laws` has each law as the contract of a function with an empty body, for every list

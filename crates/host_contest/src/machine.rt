@@ -1,5 +1,5 @@
-//! `Machine`: what a walker knows between two accesses, what it asks next, and what it does with the
-//! answer.
+//! `Machine`: what a walker knows between two accesses, what it asks next, and what it does with
+//! the answer.
 ghost use Rattle.std.specs.Prelude.{◌≡◌, ◌≢◌, ◌≤◌, ◌<◌, ◌+◌, ◌^◌, [], length, OnOk, OnSome, IfSome, IfNone};
 ghost use Rattle.fabric_map.specs.Topology.{Topology};
 ghost use Rattle.host_enumerate.specs.declared.maint.Access.TheVariants.{Write};

@@ -44,8 +44,8 @@ impl Machine {
         self.map.devices.len() as u32 + 1
     }
 
-    /// The device on the path is an endpoint. It gets the next ID, and each switch on its path sends
-    /// packets for that onwards. The host keeps its own.
+    /// The device on the path is an endpoint. It gets the next ID, and each switch on its path
+    /// sends packets for that onwards. The host keeps its own.
     pub(crate) fn number(&mut self) -> Result<(), AllocError>
         requires few { length self.old.map.devices.items ≤ 64 }
         requires bounded { WalkIsBounded self.old.map.devices.items self.old.id self.old.next

@@ -80,7 +80,8 @@ pub trait Maint {
     fn ask(&mut self, alloc: Global, dest: u8, hops: u8, access: Access) -> Result<Answer, MaintEnd>
         requires whole { IsWhole self.old }
         requires offset { access_offset access < 2 ^ 24 }
-        requires answered { (at : PortRef) × IsAnswered (topology self.old) (registers self.old) dest hops access at }
+        requires answered { (at : PortRef)
+            × IsAnswered (topology self.old) (registers self.old) dest hops access at }
         ensures answer { IfOk result (λ answer. (at : PortRef)
             → IsAnswered (topology self.old) (registers self.old) dest hops access at
             → answer ≡ (answered (registers self.old at.node) at.port access).answer) }
@@ -102,7 +103,8 @@ pub trait Maint {
     fn own(&mut self, access: Access) -> Answer
         requires whole { IsWhole self.old }
         requires offset { access_offset access < 2 ^ 24 }
-        ensures answer { result ≡ (answered (registers self.old (topology self.old).host) 0 access).answer }
+        ensures answer { result
+            ≡ (answered (registers self.old (topology self.old).host) 0 access).answer }
         ensures registers { registers self.new
             ≡ after_access (registers self.old) (port_at (topology self.old).host 0) access }
         ensures topology { topology self.new ≡ topology self.old }

@@ -38,8 +38,8 @@ pub struct PlainMaint {
 }
 
 impl PlainMaint {
-    /// The fabric that the set-up lines of a script make, with this host, which is an endpoint with a
-    /// link and an ID below 255. The script passes. It can be asked, and no device has a tag.
+    /// The fabric that the set-up lines of a script make, with this host, which is an endpoint with
+    /// a link and an ID below 255. The script passes. It can be asked, and no device has a tag.
     pub fn new(alloc: Global, script: &Script, host: u8) -> Result<PlainMaint, NoMemory>
         requires passes { ScriptPasses script.now.names.items script.now.lines.items }
         requires host { IsHost (devices_of script.now.lines.items) (links_of script.now.lines.items)
@@ -50,8 +50,8 @@ impl PlainMaint {
         ensures registers { IfOk result (λ maint. ⟦<PlainMaint as Maint>⟧.registers maint
             ≡ registers_of (devices_of script.now.lines.items)) }
         ensures whole { IfOk result (λ maint. ⟦<PlainMaint as Maint>⟧.IsWhole maint) }
-        ensures untagged { IfOk result (λ maint. AreUntagged (⟦<PlainMaint as Maint>⟧.topology maint)
-            (⟦<PlainMaint as Maint>⟧.registers maint)) }
+        ensures untagged { IfOk result (λ maint. AreUntagged
+            (⟦<PlainMaint as Maint>⟧.topology maint) (⟦<PlainMaint as Maint>⟧.registers maint)) }
         ensures host_has_id { IfOk result (λ maint. (⟦<PlainMaint as Maint>⟧.registers maint
             (⟦<PlainMaint as Maint>⟧.topology maint).host).base_id < 255) }
     {

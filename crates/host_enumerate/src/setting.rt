@@ -54,7 +54,8 @@ fn set_entries<M: Maint>(
     requires whole { M.IsWhole maint.old }
     requires front { front.now ≢ [] }
     requires askable { (host_id : ℕ) × (at : PortRef)
-        × IsAskable (M.topology maint.old) (M.registers maint.old) host_id (front.now ++ rest.now) at
+        × IsAskable (M.topology maint.old) (M.registers maint.old) host_id
+        (front.now ++ rest.now) at
         × (host_id ≢ id) }
     requires once { PassesOnce (M.topology maint.old) (front.now ++ rest.now) }
     requires id { id < 255 }

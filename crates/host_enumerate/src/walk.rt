@@ -38,7 +38,8 @@ fn meet<M: Maint>(
     requires begins { path.now ≡ [] → numbering.old.next_id ≡ 0 }
     requires next { IsNext (paths_of numbering.old.devices.items) path.now }
     requires askable { (at : PortRef)
-        × IsAskable (M.topology maint.old) (M.registers maint.old) numbering.old.host_id path.now at }
+        × IsAskable (M.topology maint.old) (M.registers maint.old) numbering.old.host_id
+        path.now at }
     ensures tried { IfOk result (λ kind. (before : AllRegisters)
         → IsNumbering M.Maint maint.old numbering.old path.now before
         → IsTried M.Maint maint.new numbering.old numbering.new path.now before kind) }

@@ -39,8 +39,6 @@ use Rattle.io_law.proofs.Tracing.{added, trace_goes, sent_comes, fit_set_up, gat
 use Rattle.io_law.proofs.Turning.{IsReplied}
 use Rattle.io_law.proofs.Types.{answered_number, numbered_request, met_done, reply_type, answer_is_told}
 
--- ---- places
-
 -- what stands in a list that is made of another is made of what stands there
 record MadeAt {X Y : Type 0} (f : X → Y) (xs : List X) (k : ℕ) (y : Y) : Type 0 where
   pub from : X

@@ -24,7 +24,8 @@ impl Model for InStore {
 
     ghost view = { λ s. record { lists = s.lists.lists; buffers = s.lists.room } };
 
-    ghost invariant = { λ s. IsCounted (record { lists = s.lists.lists; buffers = s.lists.room }) s.free };
+    ghost invariant = { λ s.
+        IsCounted (record { lists = s.lists.lists; buffers = s.lists.room }) s.free };
 }
 
 impl InStore {

@@ -12,7 +12,8 @@
 //!   [`event_laws`] state what holds of every reading; the calls do nothing.
 //! - [`WINDOW`]: the most packets that are outstanding
 //! - [`packet_accepted`] and the like: the control symbols that a port sends
-//! - [`Report`]: what a port tells of its free receive buffers; [`has_credit`]: what may start by it
+//! - [`Report`]: what a port tells of its free receive buffers; [`has_credit`]: what may start by
+//!   it
 //! - [`PortStatus`]: what a link-response tells of the input
 #![tactic(auto)]
 

@@ -191,7 +191,8 @@ impl Output {
         }
     }
 
-    /// A turn of a port that `tells` its free buffers or does not: what is sent, and the next state.
+    /// A turn of a port that `tells` its free buffers or does not: what is sent, and the next
+    /// state.
     pub(crate) fn turn(self, queued: &OutStore, tells: bool) -> (Output, Sends)
         requires covered { Covers (prios_of (output_of self)) queued.now }
         ensures entry { turned (output_of result.0) (sends_of result.1)

@@ -1,5 +1,5 @@
-//! The outstanding packets: their priorities in the order of their ackIDs, the oldest ackID, and the
-//! last report of the far port.
+//! The outstanding packets: their priorities in the order of their ackIDs, the oldest ackID, and
+//! the last report of the far port.
 ghost use Rattle.std.specs.Prelude.{◌≡◌, ◌<◌, [], length, slice_index, take, IfSome};
 ghost use Rattle.link_model.specs.Outstanding.{IsOutstanding, next_ack, distance, is_oldest, without_oldest, with_next, with_report, from_ack};
 ghost use Rattle.link_model.specs.Reports.{IsReport, has_credit};
@@ -59,8 +59,8 @@ impl Outstanding {
         self.report = report;
     }
 
-    /// Returns whether the next packet may start, if it has this priority: the far port told of room
-    /// for it, or does not tell.
+    /// Returns whether the next packet may start, if it has this priority: the far port told of
+    /// room for it, or does not tell.
     pub(crate) fn has_credit(&self, prio: u8) -> bool
         requires { prio < 4 }
         ensures { result ≡ has_credit self.now.report (next_ack self.now) prio }

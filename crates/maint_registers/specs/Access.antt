@@ -45,8 +45,8 @@ abbrev pub written_at : Registers → ℕ → ℕ → Option Registers
 written_at device offset value =
     option_and_then (written_to device value) (register_at device offset)
 
--- What an access to a register comes to: the value that it gives if it is carried out, 0 of a write,
--- and the registers after it.
+-- What an access to a register comes to: the value that it gives if it is carried out, 0 of a
+-- write, and the registers after it.
 pub record Accessed : Type 0 where
   pub value : Option ℕ
   pub device : Registers

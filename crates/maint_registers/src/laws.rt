@@ -38,7 +38,8 @@ pub fn lock_is_taken_if_free()
     ensures stays { StaysForOthers }
 {}
 
-/// A write leaves the lock unless it is to the host lock, and the tag unless it is to the component tag.
+/// A write leaves the lock unless it is to the host lock, and the tag unless it is to the component
+/// tag.
 pub fn other_writes_leave_lock_and_tag()
     ensures lock { LockStays }
     ensures tag { TagStays }

@@ -11,11 +11,12 @@ const DESTINATIONS: usize = 1024;
 /// An endpoint has no 16-bit ID of its own yet.
 const NO_LARGE_ID: u16 = 0xffff;
 
-/// No host holds the device (RapidIO Interconnect Specification 1.3, Part 3, host base device ID lock).
+/// No host holds the device (RapidIO Interconnect Specification 1.3, Part 3, host base device ID
+/// lock).
 pub(crate) const FREE: u16 = 0xffff;
 
-/// An entry that names no port (this project's profile): as the entry of a destination it stands for the default port,
-/// and as the default port it discards.
+/// An entry that names no port (this project's profile): as the entry of a destination it stands
+/// for the default port, and as the default port it discards.
 const NO_ENTRY: u8 = 255;
 
 /// What a device is.
@@ -63,8 +64,8 @@ fn no_routes() -> [u8; DESTINATIONS]
 }
 
 impl Registers {
-    /// The registers of an endpoint with this 8-bit ID, whose one port has a link or none. It has no
-    /// 16-bit ID, which is FFFF, no host holds it, and its tag is 0.
+    /// The registers of an endpoint with this 8-bit ID, whose one port has a link or none. It has
+    /// no 16-bit ID, which is FFFF, no host holds it, and its tag is 0.
     pub fn endpoint(id: u8, linked: bool) -> Registers
         ensures { result ≡ new_endpoint id linked }
     {
@@ -82,8 +83,8 @@ impl Registers {
         }
     }
 
-    /// The registers of a switch with 2 to 16 ports; bit n of `linked`, from the lowest, tells that port n has a link. No host
-    /// holds it, its tag is 0, and it discards every packet.
+    /// The registers of a switch with 2 to 16 ports; bit n of `linked`, from the lowest, tells that
+    /// port n has a link. No host holds it, its tag is 0, and it discards every packet.
     pub fn switch(ports: u8, linked: u16) -> Registers
         requires least { 2 ≤ ports }
         requires most { ports ≤ 16 }
@@ -153,18 +154,19 @@ impl Registers {
         self.lock
     }
 
-    /// Sets the lock, whatever it was. A write of a host goes by the rule of the lock: see [`Registers::write`].
+    /// Sets the lock, whatever it was. A write of a host goes by the rule of the lock: see
+    /// [`Registers::write`].
     pub fn set_lock(&mut self, id: u16)
         ensures { self.new ≡ record self.old { lock = id } }
     {
         self.lock = id;
     }
 
-    /// Returns the port to which a switch sends packets for a destination of either size: its entry,
-    /// or the default port if the entry is 255 or the table has none, which is so from 1,024 on.
-    /// `None` comes exactly if that number is not below the number of ports, or if the device is an
-    /// endpoint
-    /// (RapidIO Interconnect Specification 1.3, Part 3, route tables; both meanings of 255 are this project's profile).
+    /// Returns the port to which a switch sends packets for a destination of either size: its
+    /// entry, or the default port if the entry is 255 or the table has none, which is so from 1,024
+    /// on. `None` comes exactly if that number is not below the number of ports, or if the device
+    /// is an endpoint (RapidIO Interconnect Specification 1.3, Part 3, route tables; both meanings
+    /// of 255 are this project's profile).
     pub fn next_port(&self, dest: u16) -> Option<u8>
         ensures value { result ≡ next_port self.now dest }
         ensures range { IfSome result (λ port. port < self.now.ports) }

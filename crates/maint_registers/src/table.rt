@@ -27,26 +27,28 @@ enum Register {
     DefaultPort,
 }
 
-/// The offset of the error and status register of port 0
-/// (RapidIO Interconnect Specification 1.3, Part 6, port n error and status, in a block that begins at 000100).
+/// The offset of the error and status register of port 0 (RapidIO Interconnect Specification 1.3,
+/// Part 6, port n error and status, in a block that begins at 000100).
 const FIRST_STATUS: u32 = 0x00_0158;
 
 /// How far the registers of two neighbouring ports are apart.
 const STATUS_STEP: u32 = 0x20;
 
 impl Registers {
-    /// Returns what a request that came to a port reads at an offset. `None` comes exactly if the offset is not in the column
-    /// of this kind of device; an offset that is not a multiple of 4 is in none.
+    /// Returns what a request that came to a port reads at an offset. `None` comes exactly if the
+    /// offset is not in the column of this kind of device; an offset that is not a multiple of 4 is
+    /// in none.
     pub fn read(&self, offset: u32, port: u8) -> Option<u32>
         ensures { result ≡ value_at self.now offset port }
     {
         Some(self.value(self.register_at(offset)?, port))
     }
 
-    /// Writes to an offset: the bits that the register there has take their value from the same bits of `value`, but the host
-    /// lock goes by its own rule. Returns false exactly if the offset is not in the column of this kind of device or is not
-    /// written; then nothing changes. A write to the host lock that leaves it returns true
-    /// (RapidIO Interconnect Specification 1.3, Part 1 and Part 3, registers).
+    /// Writes to an offset: the bits that the register there has take their value from the same
+    /// bits of `value`, but the host lock goes by its own rule. Returns false exactly if the offset
+    /// is not in the column of this kind of device or is not written; then nothing changes. A write
+    /// to the host lock that leaves it returns true (RapidIO Interconnect Specification 1.3, Part 1
+    /// and Part 3, registers).
     pub fn write(&mut self, offset: u32, value: u32) -> bool
         ensures exact { IsTrue result ↔ IsSome (written_at self.old offset value) }
         ensures becomes { self.new ≡ unwrap_or (written_at self.old offset value) self.old }
@@ -104,8 +106,8 @@ impl Registers {
         register.or(self.status_register(offset))
     }
 
-    /// The error and status register at an offset, of a port that this device has: 2 with a link, 1 without
-    /// (this project's profile: no other bit).
+    /// The error and status register at an offset, of a port that this device has: 2 with a link, 1
+    /// without (this project's profile: no other bit).
     fn status_register(&self, offset: u32) -> Option<Register>
         ensures { result
             ≡ option_map (λ n. Register.Fixed (status_of self.now n))
@@ -165,8 +167,9 @@ fn status_port(ports: u8, offset: u32) -> Option<u8>
     }
 }
 
-/// The lock after the ID of a host is written to it: a free lock is taken, the holder's own ID frees it, and any other ID
-/// leaves it (RapidIO Interconnect Specification 1.3, Part 3, host base device ID lock).
+/// The lock after the ID of a host is written to it: a free lock is taken, the holder's own ID
+/// frees it, and any other ID leaves it (RapidIO Interconnect Specification 1.3, Part 3, host base
+/// device ID lock).
 fn locked(lock: u16, id: u16) -> u16
     ensures { result ≡ locked lock id }
 {

@@ -1,5 +1,5 @@
-//! The registers of both kinds of device, by the table of `docs/registers.md`, whose values are those of RapidIO
-//! Interconnect Specification 1.3 and this project's profile.
+//! The registers of both kinds of device, by the table of `docs/registers.md`, whose values are
+//! those of RapidIO Interconnect Specification 1.3 and this project's profile.
 ghost use Rattle.std.specs.Prelude.{◌≡◌, false, IsTrue};
 ghost use Rattle.maint_registers.specs.Devices.{is_switch};
 
@@ -47,7 +47,8 @@ fn switch() -> Registers
     Registers::switch(4, 0b0101)
 }
 
-/// What a new device shows and takes at an offset, asked on port 3: what its row says, or nothing without a row.
+/// What a new device shows and takes at an offset, asked on port 3: what its row says, or nothing
+/// without a row.
 fn has_row(rt: &impl Abort, mut registers: Registers, rows: &[Row], offset: u32) {
     let row = rows.iter().find(|row| row.offset == offset);
     let first = row.map(|row| row.first);

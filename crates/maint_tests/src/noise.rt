@@ -17,9 +17,9 @@ switch S 4\nswitch T 3\nswitch U 3\n\
 link H.0 S.0\nlink S.1 T.0\nlink T.1 U.0\nlink U.1 S.2\nlink A.0 S.3\nlink B.0 T.2\nlink C.0 U.2\n";
 
 /// What numbers it, whatever changes are noticed.
-const MAP: &[u8] =
-    b"device 1 endpoint 5 host\ndevice 2 switch 4 0\ndevice 3 switch 3 0.1\ndevice 4 switch 3 0.1.1\n\
-device 5 endpoint 0 0.1.1.2\ndevice 6 endpoint 1 0.1.2\ndevice 7 endpoint 2 0.3\n\
+const MAP: &[u8] = b"device 1 endpoint 5 host\ndevice 2 switch 4 0\ndevice 3 switch 3 0.1\n\
+device 4 switch 3 0.1.1\ndevice 5 endpoint 0 0.1.1.2\n\
+device 6 endpoint 1 0.1.2\ndevice 7 endpoint 2 0.3\n\
 entry 2 0 1\nentry 2 1 1\nentry 2 2 3\nentry 2 5 0\n\
 entry 3 0 1\nentry 3 1 2\nentry 3 2 0\nentry 3 5 0\n\
 entry 4 0 2\nentry 4 1 0\nentry 4 2 0\nentry 4 5 0\n";

@@ -7,7 +7,8 @@ ghost use Rattle.rio_chars.specs.Memory.{counted};
 use crate::{Failed, Sink, Source};
 use std::io::{ErrorKind, Read, Write};
 
-/// How often a read or a write is tried that signals interrupt, so that an error that stays ends it.
+/// How often a read or a write is tried that signals interrupt, so that an error that stays ends
+/// it.
 const TRIES: u32 = 1000;
 
 /// A source over a reader of the standard library, as standard input:

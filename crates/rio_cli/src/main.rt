@@ -1,11 +1,11 @@
 //! `rio`: a simulated RapidIO fabric. `rio replay` reads a script from standard input and writes
 //! its trace to standard output. `rio decode` reads the characters of a link and writes the lines
-//! of their reading. `rio check` reads set-up lines and a trace, and says whether it is lawful. `rio
-//! enumerate NODE` has an endpoint number the fabric of set-up lines, and `rio contest NODE NODE N`
-//! two of them at once. `rio io` carries out reads and writes of memory. `rio soak N` carries out
-//! the script that a number stands for, and counts what became of its packets. The exit status is
-//! the number of what `answer` answers, and a line on standard error says in words what is to be
-//! said of it.
+//! of their reading. `rio check` reads set-up lines and a trace, and says whether it is lawful.
+//! `rio enumerate NODE` has an endpoint number the fabric of set-up lines, and `rio contest NODE
+//! NODE N` two of them at once. `rio io` carries out reads and writes of memory. `rio soak N`
+//! carries out the script that a number stands for, and counts what became of its packets. The exit
+//! status is the number of what `answer` answers, and a line on standard error says in words what
+//! is to be said of it.
 //!
 //! - `run`: the whole program, over any source, sink and sink of messages; `main` gives it the
 //!   arguments and the standard streams, and does nothing more.

@@ -13,8 +13,8 @@ use trace_check::{Expected, expect};
 /// How many bytes of a line are shown.
 const MOST_SHOWN: usize = 80;
 
-/// The line of an input that is refused or not lawful, counted from 1, and the number of the reason,
-/// by what was asked for; and what is said of it in words: one line of text.
+/// The line of an input that is refused or not lawful, counted from 1, and the number of the
+/// reason, by what was asked for; and what is said of it in words: one line of text.
 #[derive(Debug, Drop)]
 pub struct Refusal {
     pub command: Command,

@@ -37,12 +37,13 @@ const MOST_INPUT: usize = 4_194_304;
 /// characters of a link, as words that spaces and line feeds part, and writes the lines of their
 /// reading, each event at the place of the character that completes it, and then `end`, or `end
 /// cut` if a symbol or a packet is in progress. `check` reads set-up lines, a line `---` and a
-/// trace, and writes `lawful STEPS`, or `unlawful LINE REASON` and answers Unlawful. `enumerate NODE`
-/// reads set-up lines, and writes what the node asks and its map, or the device that another host
-/// holds and answers Locked. `contest NODE NODE N` reads set-up lines, and writes how both ended and
-/// the map of one that is done. `io` reads set-up lines, a line `---` and lines of reads and writes,
-/// and writes what became of each. `soak N` reads nothing, and writes what became of the packets of
-/// the script that the number stands for. Other words are answered Words, and nothing is read.
+/// trace, and writes `lawful STEPS`, or `unlawful LINE REASON` and answers Unlawful. `enumerate
+/// NODE` reads set-up lines, and writes what the node asks and its map, or the device that another
+/// host holds and answers Locked. `contest NODE NODE N` reads set-up lines, and writes how both
+/// ended and the map of one that is done. `io` reads set-up lines, a line `---` and lines of reads
+/// and writes, and writes what became of each. `soak N` reads nothing, and writes what became of
+/// the packets of the script that the number stands for. Other words are answered Words, and
+/// nothing is read.
 ///
 /// A refusal is one line, and the whole output: `refused words`, `refused length` for more than
 /// 4,194,304 bytes of input, `refused LINE REASON` for a script or set-up lines, and `refused LINE

@@ -36,11 +36,13 @@ pub(crate) enum Mode {
 ///
 ///     a symbol in progress, which Outside and InPacket may have:
 ///
-///     Nothing --delimiter--> Opened --data--> One --data--> Two --data--> the symbol is good or bad
+///     Nothing --delimiter--> Opened --data--> One --data--> Two --data--> a good or a bad symbol
 ///                               |              |             |
-///                               +--------------+-------------+--> no data breaks it off, and drops the packet:
+///                               +--------------+-------------+--> no data breaks it off,
+///                                                                 and drops the packet:
 ///                                                                 delimiter: Outside, Opened
-///                                                                 idle: Outside    stray: Skipping
+///                                                                 idle: Outside
+///                                                                 stray: Skipping
 /// ```
 #[derive(Debug, Drop)]
 pub struct Framer {

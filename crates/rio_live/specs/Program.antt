@@ -16,8 +16,8 @@ IsFurtherFront taken number text =
     IsSent taken × ((line : List ℕ) × IsAnswerFront taken number line text)
 
 -- What is written behind the answers, by how it ended: `end` if the input ended, and if memory ran
--- out within an event, a front of its answer. It ends with `Undetected` exactly behind an event that
--- was acted on and not sent.
+-- out within an event, a front of its answer. It ends with `Undetected` exactly behind an event
+-- that was acted on and not sent.
 abbrev pub Closes : Status → Taken → ℕ → List ℕ → Type 0
 Closes Done taken number text = IsSent taken × (text ≡ codes "end\n")
 Closes Words taken number text = ⊥

@@ -24,7 +24,8 @@ impl Model for Symbol {
 
     ghost view = { λ s. record { s0 = s.s0; p0 = s.p0; p1 = s.p1; s1 = s.s1; cmd = s.cmd } };
 
-    ghost invariant = { λ s. InRange (record { s0 = s.s0; p0 = s.p0; p1 = s.p1; s1 = s.s1; cmd = s.cmd }) };
+    ghost invariant = { λ s.
+        InRange (record { s0 = s.s0; p0 = s.p0; p1 = s.p1; s1 = s.s1; cmd = s.cmd }) };
 
     ghost inverse = { λ f. record { s0 = f.s0; p0 = f.p0; p1 = f.p1; s1 = f.s1; cmd = f.cmd } };
 }

@@ -1,4 +1,5 @@
-//! A trace as a ladder: a lifeline for each port of a link, and an arrow for each packet and symbol.
+//! A trace as a ladder: a lifeline for each port of a link, and an arrow for each packet and
+//! symbol.
 
 use crate::cells::Cells;
 use crate::command::Range;

@@ -12,8 +12,8 @@ pub(crate) const MOST_LINE: usize = 4_194_304;
 /// The most bytes that one read gives.
 const PIECE: usize = 65_536;
 
-/// Bytes that were read from a source, up to `end`. The line that was read last is from `begin` up to
-/// `stop`, and the next one begins at `behind`. Before `searched` no line feed is left.
+/// Bytes that were read from a source, up to `end`. The line that was read last is from `begin` up
+/// to `stop`, and the next one begins at `behind`. Before `searched` no line feed is left.
 #[derive(Drop)]
 pub(crate) struct Lines {
     bytes: Vec<u8>,

@@ -81,8 +81,8 @@ fn refused<T>(line: u32, reason: Reason) -> Result<T, ViewEnd> {
     Err(ViewEnd::Refused(Refusal { line, reason }))
 }
 
-/// Reads set-up lines, a line `---` and a trace, and writes a view of it, in pieces of kilobytes. If
-/// a line is refused, what waits to be written is dropped.
+/// Reads set-up lines, a line `---` and a trace, and writes a view of it, in pieces of kilobytes.
+/// If a line is refused, what waits to be written is dropped.
 pub(crate) fn show<S: Source, K: Sink, V: View + Drop>(
     alloc: Global,
     view: V,

@@ -189,7 +189,7 @@ impl Words {
         listen(ear, chars, &mut faults)
     }
 
-    /// A line for a packet that leaves the fabric, or is answered or dropped.
+    /// A line for a packet that leaves the fabric, or is answered or dropped; any other stays.
     fn put_end(&mut self, out: &mut Text, set_up: &SetUp, step: &NetworkStep) {
         match step {
             NetworkStep::Drop(port, packet) => {
@@ -208,7 +208,6 @@ impl Words {
                 put_node(out, set_up, *node);
                 self.put_last(out, packet);
             }
-            // Any other step leaves its packet in the fabric.
             _ => {}
         }
     }

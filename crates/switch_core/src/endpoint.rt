@@ -42,7 +42,8 @@ pub enum Collected {
     Full,
 }
 
-/// Puts a packet to those that a port has to send. `Full` comes exactly if its priority has no room there; then nothing changes.
+/// Puts a packet to those that a port has to send. `Full` comes exactly if its priority has no room
+/// there; then nothing changes.
 pub fn endpoint_send<P: PortFace>(port: &mut P, packet: Packet) -> Sent
     ensures sent { result ≡ sent_by (face_of P.received P.queued port.old) packet }
     ensures face { face_of P.received P.queued port.new
@@ -56,10 +57,11 @@ pub fn endpoint_send<P: PortFace>(port: &mut P, packet: Packet) -> Sent
     Sent::Taken
 }
 
-/// Collects the first packet of the highest priority that has one. If it is a request, of any destination and hop count, the
-/// registers answer it and the response is put to be sent; `Full` comes exactly if the response has no room, and then nothing
-/// changes. Any other packet leaves. `Empty` comes exactly if nothing is held
-/// (RapidIO Interconnect Specification 1.3, Part 1, maintenance packets).
+/// Collects the first packet of the highest priority that has one. If it is a request, of any
+/// destination and hop count, the registers answer it and the response is put to be sent; `Full`
+/// comes exactly if the response has no room, and then nothing changes. Any other packet leaves.
+/// `Empty` comes exactly if nothing is held (RapidIO Interconnect Specification 1.3, Part 1,
+/// maintenance packets).
 pub fn endpoint_collect<P: PortFace>(port: &mut P, registers: &mut Registers) -> Collected
     requires { is_switch registers.old ≡ false }
     ensures collected { result

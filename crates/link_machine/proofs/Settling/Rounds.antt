@@ -65,7 +65,8 @@ by_room t u false ack four r =
 pub after_round : (near : Side) (s m : LinkState) → IsSoundLink s → AfterRound near s m
     → IsRound (from_end near s) (from_end near m)
 after_round near s m l h =
-    by_room (from_end near s) (from_end near m) h.room h.ack (from_end_keeps near s l).port_a.sends.four
+    by_room (from_end near s) (from_end near m) h.room h.ack (from_end_keeps near s
+    l).port_a.sends.four
     h.round
 
 -- A round, from a link at rest on which a turn starts a packet.

@@ -40,11 +40,13 @@ returns-clause-noted g c =
     let moves = map (move_note c.args.to) c.args.came.now.moves.items in
     let answers = sent_notes c.args.to c.args.answers.now in
     ok_then c.note_sent.result
-    (λ taken. g.met.W.Watch.is_watch.on c.args.watch.now c.got.new.self c.note_sent.new.watch (got ∷ [])
+    (λ taken. g.met.W.Watch.is_watch.on c.args.watch.now c.got.new.self c.note_sent.new.watch
+    (got ∷ [])
     (moves ++ answers)
     (subst (λ (chars : List Char). g.W.Watch.grew c.args.watch.now (Got c.args.to chars ∷ [])
     c.got.new.self) c.as_slice.ensures.value c.in_ok-got.ensures.taken)
-    (g.met.W.Watch.is_watch.on c.got.new.self c.note_moves.new.watch c.note_sent.new.watch moves answers
+    (g.met.W.Watch.is_watch.on c.got.new.self c.note_moves.new.watch c.note_sent.new.watch moves
+    answers
     (subst (λ (steps : List Move). g.W.Watch.grew c.got.new.self
     (map (move_note c.args.to) steps) c.note_moves.new.watch) c.as_slice-2.ensures.value
     c.in_ok-note_moves.ensures.noted) taken))

@@ -65,7 +65,8 @@ returns-in-Ok-clause-answer g c at answers =
     let is = c.request_for-request.ensures.value
     ∙ ap (λ i. request_for i c.args.self.now.tid c.args.dest c.args.hops c.args.access) id in
     c.answer_in.ensures ∙ ap (λ (r : Request). answer_in c.in-Ok.response r.offset) is
-    ∙ asked_answer g.N.Noise.edits g.K.Sink.written c.args.self.now c.requires.whole c.ask-asked.new.self
+    ∙ asked_answer g.N.Noise.edits g.K.Sink.written c.args.self.now c.requires.whole
+    c.ask-asked.new.self
     c.ask-asked.new.noise c.ask-asked.new.sink c.args.self.now.undetected c.args.dest c.args.hops
     c.args.access c.requires.offset c.request_for-request.result c.in-Ok.response c.host_id.result
     c.host_id.ensures c.request_for-request.ensures.value c.as_slice.result.now
@@ -73,7 +74,8 @@ returns-in-Ok-clause-answer g c at answers =
 
 pub returns-in-Ok-clause-registers : goal.returns-in-Ok-clause-registers
 returns-in-Ok-clause-registers g c at answers =
-    asked_registers g.N.Noise.edits g.K.Sink.written c.args.self.now c.requires.whole c.ask-asked.new.self
+    asked_registers g.N.Noise.edits g.K.Sink.written c.args.self.now c.requires.whole
+    c.ask-asked.new.self
     c.ask-asked.new.noise c.ask-asked.new.sink c.args.self.now.undetected c.args.dest c.args.hops
     c.args.access c.requires.offset c.request_for-request.result c.in-Ok.response c.host_id.result
     c.host_id.ensures c.request_for-request.ensures.value c.as_slice.result.now
@@ -84,7 +86,8 @@ returns-in-Ok-clause-topology g c = refl
 
 pub returns-in-Ok-clause-whole : goal.returns-in-Ok-clause-whole
 returns-in-Ok-clause-whole g c =
-    asked_whole g.N.Noise.edits g.K.Sink.written c.args.self.now c.requires.whole c.ask-asked.new.self
+    asked_whole g.N.Noise.edits g.K.Sink.written c.args.self.now c.requires.whole
+    c.ask-asked.new.self
     c.ask-asked.new.noise c.ask-asked.new.sink c.args.self.now.undetected c.args.dest c.args.hops
     c.args.access c.requires.offset c.request_for-request.result c.in-Ok.response c.host_id.result
     c.host_id.ensures c.request_for-request.ensures.value c.as_slice.result.now
@@ -96,7 +99,8 @@ returns-in-Ok-clause-follows g c origin followed =
     c.ask-asked.new.noise c.ask-asked.new.sink c.args.self.now.undetected c.args.dest c.args.hops
     c.args.access c.requires.offset c.request_for-request.result c.in-Ok.response c.host_id.result
     c.host_id.ensures c.request_for-request.ensures.value c.as_slice.result.now
-    c.as_slice.ensures.value c.in-Ok.ensures.replied g.K.Sink.faults origin c.ask-asked.ensures.never_falls followed
+    c.as_slice.ensures.value c.in-Ok.ensures.replied g.K.Sink.faults origin
+    c.ask-asked.ensures.never_falls followed
 
 pub returns-in-Ok-clause-undetected : goal.returns-in-Ok-clause-undetected
 returns-in-Ok-clause-undetected g c = refl
@@ -109,8 +113,10 @@ returns-in-Err-clause-topology g c = refl
 
 pub returns-in-Err-clause-leaves : goal.returns-in-Err-clause-leaves
 returns-in-Err-clause-leaves g c origin followed =
-    abandons_at g.N.Noise.edits g.K.Sink.written c.args.self.now c.requires.whole c.ask-asked.new.self
-    c.ask-asked.new.noise c.ask-asked.new.sink c.count_after-self.result c.args.dest c.args.hops c.args.access
+    abandons_at g.N.Noise.edits g.K.Sink.written c.args.self.now c.requires.whole
+    c.ask-asked.new.self
+    c.ask-asked.new.noise c.ask-asked.new.sink c.count_after-self.result c.args.dest c.args.hops
+    c.args.access
     c.requires.offset (omega (arith, c.ranges.hops.fits)) c.requires.answered.0
     c.requires.answered.1 c.request_for-request.result c.host_id.result c.host_id.ensures
     c.request_for-request.ensures.value c.as_slice.result.now c.as_slice.ensures.value
@@ -120,7 +126,8 @@ returns-in-Err-clause-leaves g c origin followed =
 pub returns-in-Err-clause-cause : goal.returns-in-Err-clause-cause
 returns-in-Err-clause-cause g c =
     causes g.N.Noise.edits g.K.Sink.written c.args.self.now c.requires.whole c.ask-asked.new.self
-    c.ask-asked.new.noise c.ask-asked.new.sink c.count_after-self.result c.args.dest c.args.hops c.args.access
+    c.ask-asked.new.noise c.ask-asked.new.sink c.count_after-self.result c.args.dest c.args.hops
+    c.args.access
     c.requires.offset (omega (arith, c.ranges.hops.fits)) c.requires.answered.0
     c.requires.answered.1 c.request_for-request.result c.host_id.result c.host_id.ensures
     c.request_for-request.ensures.value c.as_slice.result.now c.as_slice.ensures.value

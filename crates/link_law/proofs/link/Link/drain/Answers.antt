@@ -7,8 +7,10 @@ use Rattle.link_law.proofs.link.Link.drain.Goals as goal
 
 pub loop-init : goal.loop-init
 loop-init g c =
-    let s = link c.args.self.now c.args.a.now c.args.b.now in
-    (draining_begins {cut = g.W.Watch.cut} g.met.W.Watch.is_watch s c.args.watch.now c.requires, refl)
+    let s = link c.args.self.now c.args.a.now c.args.b.now in (
+      draining_begins {cut = g.W.Watch.cut} g.met.W.Watch.is_watch s c.args.watch.now c.requires,
+      refl,
+    )
 
 pub returns-then-is_idle-clause-does : goal.returns-then-is_idle-clause-does
 returns-then-is_idle-clause-does g c =
@@ -26,7 +28,8 @@ returns-in_err-round-clause-does g c =
     let end = c.in_err-round.field-0.0 in
     did_end g.W.Watch.grew g.W.Watch.cut Drains s c.args.watch.now c.round.new.watch end
     c.from_residual.result next (search rules)
-    (round_ends g.W.Watch.grew g.W.Watch.cut g.met.W.Watch.is_watch s here c.args.watch.now c.loop.watch
+    (round_ends g.W.Watch.grew g.W.Watch.cut g.met.W.Watch.is_watch s here c.args.watch.now
+    c.loop.watch
     c.round.new.watch end c.loop.invariant.0.sound
     (c.is_idle.ensures c.loop.a c.loop.b ∙ ap not c.if-is_idle.false) c.loop.invariant.0.way
     c.in_err-round.ensures.does)
@@ -36,7 +39,8 @@ loop-preserved g c =
     let s = link c.args.self.now c.args.a.now c.args.b.now in
     let here = link c.loop.self c.loop.a c.loop.b in
     let next = link c.round.new.self c.round.new.a c.round.new.b in (
-      draining_on {cut = g.W.Watch.cut} g.met.W.Watch.is_watch s here next c.args.watch.now c.loop.watch
+      draining_on {cut = g.W.Watch.cut} g.met.W.Watch.is_watch s here next c.args.watch.now
+          c.loop.watch
           c.round.new.watch c.loop.counter (omega arith)
           (c.is_idle.ensures c.loop.a c.loop.b ∙ ap not c.if-is_idle.false)
           c.loop.invariant.0 c.in_ok-round.ensures.does,

@@ -8,7 +8,8 @@ use Rattle.link_law.proofs.link.Link.empty.Goals as goal
 pub returns-then-length-eq0-clause-does : goal.returns-then-length-eq0-clause-does
 returns-then-length-eq0-clause-does g c =
     let s = link c.args.self.now c.args.a.now c.args.b.now in
-    empties_none g.W.Watch.grew g.W.Watch.cut g.met.W.Watch.is_watch c.args.from s c.args.watch.now (let is =
+    empties_none g.W.Watch.grew g.W.Watch.cut g.met.W.Watch.is_watch c.args.from s c.args.watch.now
+    (let is =
     wire_is c.args.from c.args.self.now c.args.a.now c.args.b.now in omega arith)
 
 pub returns-in_default-clause-does : goal.returns-in_default-clause-does

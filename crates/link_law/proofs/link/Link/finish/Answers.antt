@@ -12,7 +12,8 @@ pub returns-in_err-tell_if_due-clause-does : goal.returns-in_err-tell_if_due-cla
 returns-in_err-tell_if_due-clause-does g c =
     let s = link c.args.self.now c.args.a.now c.args.b.now in
     let first = link c.tell_if_due.new.self c.tell_if_due.new.a c.tell_if_due.new.b in
-    did_early g.met.W.Watch.is_watch c.args.watch.now c.tell_if_due.new.watch c.in_err-tell_if_due.field-0.0
+    did_early g.met.W.Watch.is_watch c.args.watch.now c.tell_if_due.new.watch
+    c.in_err-tell_if_due.field-0.0
     c.from_residual.result first (tells_follow s (quiet_of s c.requires)) (search rules)
     c.in_err-tell_if_due.ensures.does
 
@@ -58,9 +59,11 @@ returns-in_err-send_all-clause-does g c =
     let at = goal.at.returns-in_err-send_all-clause-does g c in
     let second = link c.tell_if_due-2.new.self c.tell_if_due-2.new.a c.tell_if_due-2.new.b in
     let sent = link c.send_all.new.self c.send_all.new.a c.send_all.new.b in
-    did_next g.met.W.Watch.is_watch SecondTells c.send_all.new.watch c.from_residual-in_err-send_all.result
+    did_next g.met.W.Watch.is_watch SecondTells c.send_all.new.watch
+    c.from_residual-in_err-send_all.result
     sent c.in_ok-tell_if_due.ensures.does
-    (did_next g.met.W.Watch.is_watch FromSending c.send_all.new.watch c.from_residual-in_err-send_all.result
+    (did_next g.met.W.Watch.is_watch FromSending c.send_all.new.watch
+    c.from_residual-in_err-send_all.result
     sent c.in_ok-tell_if_due-2.ensures.does
     (did_early g.met.W.Watch.is_watch c.tell_if_due-2.new.watch c.send_all.new.watch
     c.in_err-send_all.field-0.0 c.from_residual-in_err-send_all.result sent

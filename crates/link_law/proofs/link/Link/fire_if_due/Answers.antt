@@ -13,7 +13,8 @@ use Rattle.link_law.proofs.link.Link.fire_if_due.Goals as goal
 pub returns-then-not-fires-clause-does : goal.returns-then-not-fires-clause-does
 returns-then-not-fires-clause-does g c =
     let s = link c.args.self.now c.args.a.now c.args.b.now in
-    comes_none g.W.Watch.grew g.W.Watch.cut g.met.W.Watch.is_watch (of_end c.args.side (λ link. may_fire
+    comes_none g.W.Watch.grew g.W.Watch.cut g.met.W.Watch.is_watch (of_end c.args.side
+    (λ link. may_fire
     link.a.output)) (Only (Fire c.args.side)) s c.args.watch.now (ap (λ (p : PortState). may_fire
     p.output) (sym (c.near.ensures c.args.self.now)) ∙ sym c.fires.ensures ∙ c.if-not-fires.true)
 

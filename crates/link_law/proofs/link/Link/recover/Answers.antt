@@ -49,7 +49,8 @@ returns-in_err-restart-clause-does g c =
     (NextOf goes (Restarts c.args.side) (Requests c.args.side)) s c.args.watch.now
     c.restart.new.watch
     c.from_residual.result restarted alive
-    (did_early g.met.W.Watch.is_watch c.args.watch.now c.restart.new.watch c.in_err-restart.field-0.0
+    (did_early g.met.W.Watch.is_watch c.args.watch.now c.restart.new.watch
+    c.in_err-restart.field-0.0
     c.from_residual.result restarted
     (requests_follow c.args.side (Restarts c.args.side) s c.requires) (search rules)
     c.in_err-restart.ensures.does)
@@ -64,5 +65,6 @@ returns-clause-does g c =
     (NextOf goes (Restarts c.args.side) (Requests c.args.side)) s c.args.watch.now
     c.request.new.watch
     c.request.result next alive
-    (did_next g.met.W.Watch.is_watch (Requests c.args.side) c.request.new.watch c.request.result next
+    (did_next g.met.W.Watch.is_watch (Requests c.args.side) c.request.new.watch c.request.result
+    next
     c.in_ok-restart.ensures.does c.request.ensures.does)

@@ -53,7 +53,8 @@ returns-in_err-fire_if_due-clause-does g c =
     (NextOf goes (TimesOut c.args.side) (TakesTurn c.args.side)) s c.args.watch.now
     c.fire_if_due.new.watch
     c.from_residual.result fired due
-    (did_early g.met.W.Watch.is_watch c.args.watch.now c.fire_if_due.new.watch c.in_err-fire_if_due.field-0.0
+    (did_early g.met.W.Watch.is_watch c.args.watch.now c.fire_if_due.new.watch
+    c.in_err-fire_if_due.field-0.0
     c.from_residual.result fired (turn_follows c.args.side (TimesOut c.args.side) s c.requires)
     (search rules) c.in_err-fire_if_due.ensures.does)
 
@@ -66,5 +67,6 @@ returns-clause-does g c =
     (NextOf goes (TimesOut c.args.side) (TakesTurn c.args.side)) s c.args.watch.now
     c.take_turn.new.watch
     c.take_turn.result next due
-    (did_next g.met.W.Watch.is_watch (TakesTurn c.args.side) c.take_turn.new.watch c.take_turn.result next
+    (did_next g.met.W.Watch.is_watch (TakesTurn c.args.side) c.take_turn.new.watch
+    c.take_turn.result next
     c.in_ok-fire_if_due.ensures.does c.take_turn.ensures.does)

@@ -35,7 +35,8 @@ returns-in_err-take_turn-clause-does g c =
     c.from_residual.result next (quiet_first c.args.side s c.requires)
     (did_end g.W.Watch.grew g.W.Watch.cut (Sending c.args.side) s c.args.watch.now
     c.take_turn.new.watch end c.from_residual.result next (search rules)
-    (sent_ends g.W.Watch.grew g.W.Watch.cut g.met.W.Watch.is_watch c.args.side s here c.args.watch.now
+    (sent_ends g.W.Watch.grew g.W.Watch.cut g.met.W.Watch.is_watch c.args.side s here
+    c.args.watch.now
     c.loop-alloc.watch c.take_turn.new.watch end busy c.loop-alloc.invariant.0
     c.in_err-take_turn.ensures.does))
 
@@ -68,7 +69,8 @@ returns-then-stands_back-clause-does g c =
     all_did g.W.Watch.grew g.W.Watch.cut c.args.side s c.args.watch.now
     c.take_turn-then-stands_back.new.watch c.take_turn-then-stands_back.result last
     (quiet_first c.args.side s c.requires)
-    (last_did g.W.Watch.grew g.W.Watch.cut g.met.W.Watch.is_watch c.args.side s here next c.args.watch.now
+    (last_did g.W.Watch.grew g.W.Watch.cut g.met.W.Watch.is_watch c.args.side s here next
+    c.args.watch.now
     c.loop-alloc.watch c.take_turn.new.watch c.take_turn-then-stands_back.new.watch
     c.take_turn-then-stands_back.result last busy leaves c.loop-alloc.invariant.0
     c.in_ok-take_turn.ensures.does c.take_turn-then-stands_back.ensures.does)
@@ -107,7 +109,8 @@ returns-clause-does g c =
     let s = link c.args.self.now c.args.a.now c.args.b.now in
     let here = link c.loop-alloc.self c.loop-alloc.a c.loop-alloc.b in
     all_comes c.args.side s here c.args.watch.now c.loop-alloc.watch (quiet_first c.args.side s
-    c.requires) (sent_over {cut = g.W.Watch.cut} g.met.W.Watch.is_watch c.args.side s here c.args.watch.now
+    c.requires) (sent_over {cut = g.W.Watch.cut} g.met.W.Watch.is_watch c.args.side s here
+    c.args.watch.now
     c.loop-alloc.watch (ap (λ (p : PortState). is_ready p)
     (sym (c.near.ensures c.loop-alloc.self)) ∙ sym c.is_ready.ensures ∙ c.loop-alloc-test.false)
     c.loop-alloc.invariant.0)

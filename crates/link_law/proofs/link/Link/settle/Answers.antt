@@ -27,7 +27,8 @@ returns-in_err-recover-clause-ended g c =
     c.from_residual-in_err-recover.result first
     (did_next g.met.W.Watch.is_watch FromRecovering c.recover.new.watch
     c.from_residual-in_err-recover.result first c.in_ok-drain.ensures.does
-    (did_early g.met.W.Watch.is_watch c.drain.new.watch c.recover.new.watch c.in_err-recover.field-0.0
+    (did_early g.met.W.Watch.is_watch c.drain.new.watch c.recover.new.watch
+    c.in_err-recover.field-0.0
     c.from_residual-in_err-recover.result first (second_follows drained
     (drained_at s drained c.args.watch.now c.drain.new.watch c.requires c.in_ok-drain.ensures.does))
     (search rules)
@@ -45,7 +46,8 @@ returns-in_err-recover-2-clause-ended g c =
     c.from_residual-in_err-recover-2.result second c.in_ok-drain.ensures.does
     (did_next g.met.W.Watch.is_watch SecondRecovers c.recover-2.new.watch
     c.from_residual-in_err-recover-2.result second c.in_ok-recover.ensures.does
-    (did_early g.met.W.Watch.is_watch c.recover.new.watch c.recover-2.new.watch c.in_err-recover-2.field-0.0
+    (did_early g.met.W.Watch.is_watch c.recover.new.watch c.recover-2.new.watch
+    c.in_err-recover-2.field-0.0
     c.from_residual-in_err-recover-2.result second (finish_follows first
     (first_at drained first c.drain.new.watch c.recover.new.watch
     (drained_at s drained c.args.watch.now c.drain.new.watch c.requires c.in_ok-drain.ensures.does)

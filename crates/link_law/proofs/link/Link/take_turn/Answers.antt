@@ -19,7 +19,8 @@ returns-in_err-pump-clause-does g c =
     let s = link c.args.self.now c.args.a.now c.args.b.now in
     let turned = link c.pump.new.self c.pump.new.a c.pump.new.b in
     let end = c.in_err-pump.field-0.0 in
-    did_early g.met.W.Watch.is_watch c.args.watch.now c.pump.new.watch (end_of end) c.from_residual.result
+    did_early g.met.W.Watch.is_watch c.args.watch.now c.pump.new.watch
+    (end_of end) c.from_residual.result
     turned (drain_follows (Pumps c.args.side) s c.requires)
     (given_is c.from_residual.result (end_of end) c.from_residual.ensures.1)
     (pump_ends g.W.Watch.grew g.W.Watch.cut c.args.side s c.args.watch.now c.pump.new.watch end
