@@ -89,32 +89,80 @@ pub(crate) fn show<S: Source, K: Sink, V: View + Drop>(
     source: &mut S,
     sink: &mut K,
 ) -> Result<(), ViewEnd> {
-    let mut view = view;
     let mut lines = Lines::new(alloc)?;
-    let mut out = Text::new(alloc);
     let (set_up, first) = read_front(alloc, &mut lines, source)?;
-    show_trace(
-        alloc, &set_up, first, &mut lines, source, &mut view, &mut out, sink,
-    )
+    let mut showing = Showing {
+        alloc,
+        set_up,
+        view,
+        out: Text::new(alloc),
+    };
+    showing.show_trace(first, &mut lines, source, sink)
 }
 
-/// Shows a trace, of which the first line has this number.
-fn show_trace<S: Source, K: Sink, V: View>(
+/// A view of a trace of which the set-up lines were read, and what of it waits to be written.
+#[derive(Drop)]
+struct Showing<V> {
     alloc: Global,
-    set_up: &SetUp,
-    first: u32,
-    lines: &mut Lines,
-    source: &mut S,
-    view: &mut V,
-    out: &mut Text,
-    sink: &mut K,
-) -> Result<(), ViewEnd>
-    requires { KnownIsReady set_up.now.known }
-{
-    view.begin(set_up, out)?;
-    show_lines(alloc, set_up, first, lines, source, view, out, sink)?;
-    view.end(set_up, out)?;
-    write_out(out, sink)
+    set_up: SetUp,
+    view: V,
+    out: Text,
+    ghost ready: { KnownIsReady set_up.known },
+}
+
+impl<V: View> Showing<V> {
+    /// Shows a trace, of which the first line has this number.
+    fn show_trace<S: Source, K: Sink>(
+        &mut self,
+        first: u32,
+        lines: &mut Lines,
+        source: &mut S,
+        sink: &mut K,
+    ) -> Result<(), ViewEnd> {
+        self.view.begin(&self.set_up, &mut self.out)?;
+        self.show_lines(first, lines, source, sink)?;
+        self.view.end(&self.set_up, &mut self.out)?;
+        write_out(&mut self.out, sink)
+    }
+
+    /// Shows the lines of a trace, of which the first has this number.
+    fn show_lines<S: Source, K: Sink>(
+        &mut self,
+        first: u32,
+        lines: &mut Lines,
+        source: &mut S,
+        sink: &mut K,
+    ) -> Result<(), ViewEnd> {
+        let mut is_done = false;
+        for number in first..u32::MAX {
+            if !lines.read(source)? {
+                return end_before(number, is_done);
+            }
+            if is_done {
+                return refused(number, Reason::Behind);
+            }
+            is_done = self.show_line(number, lines.line())?;
+            make_room(&mut self.out, sink)?;
+        }
+        Err(ViewEnd::Ended(Status::TooLong))
+    }
+
+    /// Shows a line, and tells whether it is the last one.
+    fn show_line(&mut self, number: u32, text: &[u8]) -> Result<bool, ViewEnd> {
+        let line = match read_trace_line(self.alloc, &self.set_up, text) {
+            Ok(line) => line,
+            Err(TraceLineEnd::NoForm) => return refused(number, Reason::NoForm),
+            Err(TraceLineEnd::NoMemory) => return Err(ViewEnd::Ended(Status::NoMemory)),
+        };
+        let seen = Seen {
+            set_up: &self.set_up,
+            number,
+            text,
+            line: &line,
+        };
+        self.view.take(&seen, &mut self.out)?;
+        Ok(matches!(line, TraceLine::Ended | TraceLine::Undetected(..)))
+    }
 }
 
 /// Reads the set-up lines and the line `---`, and answers the number of the line that follows.
@@ -178,33 +226,6 @@ fn set_up_of(alloc: Global, script: &[u8]) -> Result<SetUp, ViewEnd>
     }
 }
 
-/// Shows the lines of a trace, of which the first has this number.
-fn show_lines<S: Source, K: Sink, V: View>(
-    alloc: Global,
-    set_up: &SetUp,
-    first: u32,
-    lines: &mut Lines,
-    source: &mut S,
-    view: &mut V,
-    out: &mut Text,
-    sink: &mut K,
-) -> Result<(), ViewEnd>
-    requires { KnownIsReady set_up.now.known }
-{
-    let mut is_done = false;
-    for number in first..u32::MAX {
-        if !lines.read(source)? {
-            return end_before(number, is_done);
-        }
-        if is_done {
-            return refused(number, Reason::Behind);
-        }
-        is_done = show_line(alloc, set_up, number, lines.line(), view, out)?;
-        make_room(out, sink)?;
-    }
-    Err(ViewEnd::Ended(Status::TooLong))
-}
-
 /// What it means that the line of this number does not come.
 fn end_before(number: u32, is_done: bool) -> Result<(), ViewEnd> {
     if is_done {
@@ -212,32 +233,6 @@ fn end_before(number: u32, is_done: bool) -> Result<(), ViewEnd> {
     } else {
         refused(number, Reason::NoEnd)
     }
-}
-
-/// Shows a line, and tells whether it is the last one.
-fn show_line<V: View>(
-    alloc: Global,
-    set_up: &SetUp,
-    number: u32,
-    text: &[u8],
-    view: &mut V,
-    out: &mut Text,
-) -> Result<bool, ViewEnd>
-    requires { KnownIsReady set_up.now.known }
-{
-    let line = match read_trace_line(alloc, set_up, text) {
-        Ok(line) => line,
-        Err(TraceLineEnd::NoForm) => return refused(number, Reason::NoForm),
-        Err(TraceLineEnd::NoMemory) => return Err(ViewEnd::Ended(Status::NoMemory)),
-    };
-    let seen = Seen {
-        set_up,
-        number,
-        text,
-        line: &line,
-    };
-    view.take(&seen, out)?;
-    Ok(matches!(line, TraceLine::Ended | TraceLine::Undetected(..)))
 }
 
 /// Writes what waits, if it is much.
