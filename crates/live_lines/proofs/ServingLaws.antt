@@ -11,8 +11,8 @@ use Rattle.live_lines.specs.Lines.{IsLine, LinesStop, with_feed}
 use Rattle.live_lines.specs.Serving.{ServesLines, WritesAll, end_status}
 use Rattle.live_lines.specs.declared.input.LineEnd.{LineEnd}
 use Rattle.live_lines.specs.declared.input.LineEnd.TheVariants.{End, Fault, TooLong, NoMemory}
-use Rattle.live_lines.specs.declared.status.Status.TheVariants.{Done, WriteFault, Undetected}
-use Rattle.live_lines.specs.declared.status.Status.TheVariants as ends_with
+use Rattle.live_lines.specs.declared.status.LiveStatus.TheVariants.{Done, WriteFault, Undetected}
+use Rattle.live_lines.specs.declared.status.LiveStatus.TheVariants as ends_with
 
 -- what was read, with what is read behind it
 read_more : (left mid last : Option (List ℕ)) (front pending taken rest : List ℕ)

@@ -38,13 +38,13 @@ impl From<Failed> for LineEnd {
 
 /// Bytes that were read from a source, and that no line has yet.
 #[derive(Drop)]
-pub struct Input {
+pub struct LineReader {
     bytes: Vec<u8>,
     begin: usize,
     end: usize,
 }
 
-impl Model for Input {
+impl Model for LineReader {
     ghost use Rattle.std.specs.Prelude.{drop, take, length, List, ℕ, ◌≡◌, ◌≤◌};
 
     ghost Value = { List ℕ };
@@ -55,12 +55,12 @@ impl Model for Input {
         × (input.end ≤ 65536) };
 }
 
-impl Input {
+impl LineReader {
     /// No bytes, and room for those of one read.
-    pub fn new(alloc: Global) -> Result<Input, AllocError>
+    pub fn new(alloc: Global) -> Result<LineReader, AllocError>
         ensures { IfOk result (λ input. input ≡ []) }
     {
-        Ok(Input {
+        Ok(LineReader {
             bytes: vec![in alloc; 0u8; PIECE]?,
             begin: 0,
             end: 0,

@@ -6,12 +6,12 @@
 //!
 //! Left out: what a line asks for, and what is answered.
 //!
-//! - [`Input`] and [`LineEnd`]: the lines of a source, and why there is no further one
-//! - [`Status`], `status_number` and `say`: how a program ended
+//! - [`LineReader`] and [`LineEnd`]: the lines of a source, and why there is no further one
+//! - [`LiveStatus`], `status_number` and `say`: how a program ended
 #![tactic(auto)]
 
 mod input;
 mod status;
 
-pub use input::{Input, LineEnd, MOST_LINE};
-pub use status::{Status, say, status_number};
+pub use input::{LineEnd, LineReader, MOST_LINE};
+pub use status::{LiveStatus, say, status_number};

@@ -48,7 +48,7 @@ pub(crate) fn end_of_walk(end: EnumEnd) -> End {
 
 /// How a call of the program ended.
 #[derive(Clone, Copy, Debug, PartialEq, Eq)]
-pub enum Status {
+pub enum PlainStatus {
     /// The map was written.
     Done,
     /// The words are of no known form.
@@ -70,30 +70,30 @@ pub enum Status {
 }
 
 /// The status of a call that ended so.
-pub(crate) fn status_of(end: &End) -> Status {
+pub(crate) fn status_of(end: &End) -> PlainStatus {
     match end {
-        End::Words => Status::Words,
-        End::Script(_) => Status::Script,
-        End::ReadFault => Status::ReadFault,
-        End::NoMemory => Status::NoMemory,
-        End::WriteFault => Status::WriteFault,
-        End::Undetected => Status::Undetected,
-        End::TooLong => Status::TooLong,
-        End::Locked { .. } => Status::Locked,
+        End::Words => PlainStatus::Words,
+        End::Script(_) => PlainStatus::Script,
+        End::ReadFault => PlainStatus::ReadFault,
+        End::NoMemory => PlainStatus::NoMemory,
+        End::WriteFault => PlainStatus::WriteFault,
+        End::Undetected => PlainStatus::Undetected,
+        End::TooLong => PlainStatus::TooLong,
+        End::Locked { .. } => PlainStatus::Locked,
     }
 }
 
 /// The exit status of the program.
-pub fn status_number(status: Status) -> u8 {
+pub fn status_number(status: PlainStatus) -> u8 {
     match status {
-        Status::Done => 0,
-        Status::Words => 2,
-        Status::Script => 3,
-        Status::ReadFault => 4,
-        Status::WriteFault => 5,
-        Status::NoMemory => 6,
-        Status::Undetected => 7,
-        Status::TooLong => 8,
-        Status::Locked => 9,
+        PlainStatus::Done => 0,
+        PlainStatus::Words => 2,
+        PlainStatus::Script => 3,
+        PlainStatus::ReadFault => 4,
+        PlainStatus::WriteFault => 5,
+        PlainStatus::NoMemory => 6,
+        PlainStatus::Undetected => 7,
+        PlainStatus::TooLong => 8,
+        PlainStatus::Locked => 9,
     }
 }

@@ -4,7 +4,7 @@
 //!
 //! - `run`: the whole program, over any source and sink; `main` gives it the arguments and the
 //!   standard streams.
-//! - `answer` and `Status`: what the words ask for is done, and how that ended.
+//! - `answer` and `PlainStatus`: what the words ask for is done, and how that ended.
 //! - `number_script`: the plain registers and links of a script are numbered.
 //! - `accepting` says which scripts are taken, and `writing` writes maps and refusals.
 #![tactic(auto)]
@@ -15,7 +15,7 @@ mod numbering;
 mod program;
 mod writing;
 
-pub use ends::{End, Status, status_number};
+pub use ends::{End, PlainStatus, status_number};
 pub use numbering::number_script;
 pub use program::{answer, run};
 use rio_chars::{StdSink, StdSource};

@@ -3,7 +3,7 @@ ghost use Rattle.std.specs.Prelude.{◌≤◌, length};
 ghost use Rattle.fabric_script.specs.Scripts.{ScriptPasses};
 
 use crate::accepting::accept;
-use crate::ends::{End, Status, status_number, status_of};
+use crate::ends::{End, PlainStatus, status_number, status_of};
 use crate::numbering::number_script;
 use crate::writing::write_answer;
 use fabric_map::Map;
@@ -42,23 +42,23 @@ pub fn answer<S: Source, K: Sink>(
     words: &[String],
     source: &mut S,
     sink: &mut K,
-) -> Status {
+) -> PlainStatus {
     let Ok(mut buffer) = TextBuffer::new(alloc) else {
-        return Status::NoMemory;
+        return PlainStatus::NoMemory;
     };
     let answer = map_of_words(alloc, words, source);
     tell(&mut buffer, sink, &answer)
 }
 
 /// Writes a map or why there is none, and answers how the call ended.
-fn tell<K: Sink>(buffer: &mut TextBuffer, sink: &mut K, answer: &Result<Map, End>) -> Status {
+fn tell<K: Sink>(buffer: &mut TextBuffer, sink: &mut K, answer: &Result<Map, End>) -> PlainStatus {
     let mut outbox = Outbox::new(buffer, sink);
     write_answer(&mut outbox, answer);
     if outbox.failed() {
-        return Status::WriteFault;
+        return PlainStatus::WriteFault;
     }
     match answer {
-        Ok(_map) => Status::Done,
+        Ok(_map) => PlainStatus::Done,
         Err(end) => status_of(end),
     }
 }

@@ -25,10 +25,10 @@ use Rattle.fabric_ports.specs.declared.answers.FabricEnd.{FabricEnd}
 use Rattle.fabric_ports.specs.declared.answers.FabricEnd.TheVariants.{Undetected as UndetectedEnd}
 use Rattle.fabric_ports.specs.declared.answers.Happened.{Happened as Did}
 use Rattle.fabric_ports.specs.declared.fabric.Fabric.{Fabric}
-use Rattle.rio_live.specs.declared.live.Asked.TheVariants.{Quiet, Event, Refused}
+use Rattle.rio_live.specs.declared.live.TakenAs.TheVariants.{Quiet, Event, Refused}
 use Rattle.rio_live.specs.declared.live.Live.{Live}
-use Rattle.rio_live.specs.declared.answers.Going.{Going as Whether}
-use Rattle.rio_live.specs.declared.answers.Going.TheVariants as Goings
+use Rattle.rio_live.specs.declared.answers.AfterLine.{AfterLine}
+use Rattle.rio_live.specs.declared.answers.AfterLine.TheVariants as Goings
 use Rattle.rio_live.specs.Lines.{Taken, seen_so_far, Outcome, Passed, SetUp, Happened, Refused as IsRefusedAs, taken_after, undetected_at_text, answer_text, IsAnswerFront}
 use Rattle.rio_live.specs.Holding.{StandsBy, LiveHolds}
 use Rattle.rio_live.specs.Answers.{OutcomeIsQuiet, LiveTakes, Happens, HappensFront, LineAnswered, AnswersFront}
@@ -217,7 +217,7 @@ module _ (taken : Taken) (number : ℕ) (line : List ℕ) where
   }
 
   pub answered_event : (out mid next : Outgoing) (live now : Live) (event : Line)
-      (going : Whether) → LiveTakes taken line (Event event) live
+      (going : AfterLine) → LiveTakes taken line (Event event) live
       → Happens taken number line event out mid now going
       → Writes mid next (codes "ok\n")
       → LineAnswered taken number line out next now going
@@ -266,7 +266,7 @@ module _ (taken : Taken) (number : ℕ) (line : List ℕ) where
           )
 
   -- and what waited was written
-  pub answered_whole : (out mid next : Outgoing) (live : Live) (going : Whether)
+  pub answered_whole : (out mid next : Outgoing) (live : Live) (going : AfterLine)
       → LineAnswered taken number line out mid live going
       → Writes mid next []
       → LineAnswered taken number line out next live going

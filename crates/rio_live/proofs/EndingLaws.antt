@@ -4,8 +4,8 @@ use Rattle.std.specs.Io.KnownBytes.{Consumes}
 use Rattle.rio_chars.specs.Written.{Outgoing, Writes}
 use Rattle.live_lines.specs.declared.input.LineEnd.{LineEnd}
 use Rattle.live_lines.specs.declared.input.LineEnd.TheVariants as stops_at
-use Rattle.live_lines.specs.declared.status.Status.{Status}
-use Rattle.live_lines.specs.declared.status.Status.TheVariants as ends_with
+use Rattle.live_lines.specs.declared.status.LiveStatus.{LiveStatus}
+use Rattle.live_lines.specs.declared.status.LiveStatus.TheVariants as ends_with
 use Rattle.live_lines.specs.Lines.{LinesStop}
 use Rattle.live_lines.specs.Serving.{ServesLines, end_status}
 use Rattle.live_lines.proofs.ServingLaws.{Going-read, Going-told, Going-stops, Going-done, Going-fault}
@@ -53,7 +53,7 @@ module _ (begun : Outgoing) (left : Option (List ℕ)) (read_faults : ℕ) where
 
   -- the last line of the trace was told
   closes_trace : {left_last : Option (List ℕ)} {read_faults_last : ℕ} (next : Outgoing)
-      (live : Live) (status : Status) (lines : List (List ℕ)) (text : List ℕ) (taken : Taken)
+      (live : Live) (status : LiveStatus) (lines : List (List ℕ)) (text : List ℕ) (taken : Taken)
       → AnswersLines nothing_taken 1 lines text taken → LiveHolds live taken
       → (next.failed ≡ true
       → ServesLines (2 ^ 32 - 1) ends_with.WriteFault left left_last read_faults read_faults_last
@@ -67,7 +67,7 @@ module _ (begun : Outgoing) (left : Option (List ℕ)) (read_faults : ℕ) where
   closes_trace {left_last} {read_faults_last} next live status lines text taken answers holds
       fault done is = by_failed next.failed refl
     where
-      as_serves : (s : Status) → Closes s taken (length lines + 1) (codes "end\n")
+      as_serves : (s : LiveStatus) → Closes s taken (length lines + 1) (codes "end\n")
           → ServesLines (2 ^ 32 - 1) s left left_last read_faults read_faults_last
           begun.written next.written begun.faults next.faults lines (text ++ codes "end\n")
           → LiveServes s left left_last read_faults read_faults_last
@@ -100,7 +100,7 @@ module _ (begun : Outgoing) (left : Option (List ℕ)) (read_faults : ℕ) where
   -- the input ended
   pub Course-ends : {out next : Outgoing} {live : Live} {left_now left_last : Option (List ℕ)}
       (pending taken : List ℕ) {count : ℕ} (read_faults_now read_faults_last : ℕ)
-      (status : Status)
+      (status : LiveStatus)
       → Course begun out live left left_now pending count read_faults read_faults_now
       → begun.waiting ≡ [] → begun.failed ≡ false → next.waiting ≡ []
       → Consumes left_now left_last taken
@@ -130,7 +130,7 @@ module _ (begun : Outgoing) (left : Option (List ℕ)) (read_faults : ℕ) where
   pub Course-closed : (next : Outgoing) {out : Outgoing} {live : Live}
       {left_now left_last : Option (List ℕ)}
       (pending taken : List ℕ) {count : ℕ} (read_faults_now read_faults_last : ℕ)
-      (end : LineEnd) (status : Status)
+      (end : LineEnd) (status : LiveStatus)
       → Course begun out live left left_now pending count read_faults read_faults_now
       → begun.waiting ≡ [] → begun.failed ≡ false → out.failed ≡ false
       → out.waiting ≡ [] → Consumes left_now left_last taken
@@ -171,7 +171,7 @@ module _ (begun : Outgoing) (left : Option (List ℕ)) (read_faults : ℕ) where
 
   -- the most lines were served
   pub Course-done : {out next : Outgoing} {live : Live} {left_now : Option (List ℕ)}
-      (pending : List ℕ) {count : ℕ} (read_faults_now : ℕ) (status : Status)
+      (pending : List ℕ) {count : ℕ} (read_faults_now : ℕ) (status : LiveStatus)
       → Course begun out live left left_now pending count read_faults read_faults_now
       → begun.waiting ≡ [] → begun.failed ≡ false → next.waiting ≡ []
       → count ≡ 2 ^ 32 - 1 → Writes out next (codes "end\n")

@@ -2,14 +2,14 @@
 use Rattle.std.proofs.Common.{◌≡◌, ℕ, ◌+◌, ◌-◌, ◌^◌, Option, Result, Ok, Err, IfOk, OnErr, true, false, List, [], ◌∷◌, ◌++◌, length, inl, inr, refl, sym, ap, subst}
 use Rattle.std.specs.Io.KnownBytes.{Consumes}
 use Rattle.rio_chars.specs.Written.{Outgoing}
-use Rattle.live_lines.specs.declared.status.Status.{Status}
-use Rattle.live_lines.specs.declared.status.Status.TheVariants as ends_with
+use Rattle.live_lines.specs.declared.status.LiveStatus.{LiveStatus}
+use Rattle.live_lines.specs.declared.status.LiveStatus.TheVariants as ends_with
 use Rattle.live_lines.specs.Lines.{IsLine, with_feed}
 use Rattle.live_lines.specs.Serving.{ServesLines}
 use Rattle.live_lines.proofs.ServingLaws.{Going, Going-read, Going-told, Going-no_memory, Going-undetected, Going-fault}
 use Rattle.rio_live.specs.declared.answers.BrokenOff.{BrokenOff}
-use Rattle.rio_live.specs.declared.answers.Going.{Going as Whether}
-use Rattle.rio_live.specs.declared.answers.Going.TheVariants as Goings
+use Rattle.rio_live.specs.declared.answers.AfterLine.{AfterLine}
+use Rattle.rio_live.specs.declared.answers.AfterLine.TheVariants as Goings
 use Rattle.rio_live.specs.declared.live.Live.{Live}
 use Rattle.rio_live.specs.Lines.{Taken, taken_after, answer_text, IsAnswerFront}
 use Rattle.rio_live.specs.Holding.{LiveHolds, IsTrace}
@@ -20,7 +20,7 @@ use Rattle.rio_live.proofs.ServingLaws.{Course, with_nothing, line_told, with_an
 
 module _ (begun : Outgoing) (left : Option (List ℕ)) (read_faults : ℕ) where
   -- the lines that were taken are a trace, whether there may be a further one or not
-  goes_trace : (going : Whether) (live : Live) (taken : Taken) → LiveGoes going live taken
+  goes_trace : (going : AfterLine) (live : Live) (taken : Taken) → LiveGoes going live taken
       → IsTrace taken
   goes_trace Goings.On live taken goes = goes.trace
   goes_trace Goings.Undetected live taken goes = goes.0
@@ -28,7 +28,7 @@ module _ (begun : Outgoing) (left : Option (List ℕ)) (read_faults : ℕ) where
   -- a write failed in the answer of a line
   pub Course-fault : {out next : Outgoing} {live live_next : Live}
       {left_now left_next : Option (List ℕ)} (pending pending_next line taken : List ℕ)
-      {count : ℕ} (read_faults_now read_faults_next : ℕ) (going : Whether)
+      {count : ℕ} (read_faults_now read_faults_next : ℕ) (going : AfterLine)
       → (h : Course begun out live left left_now pending count read_faults read_faults_now)
       → begun.waiting ≡ [] → begun.failed ≡ false → next.failed ≡ true
       → Consumes left_now left_next taken → pending ++ taken ≡ with_feed line ++ pending_next
@@ -94,7 +94,7 @@ module _ (begun : Outgoing) (left : Option (List ℕ)) (read_faults : ℕ) where
 
   -- the answer of a line broke off
   breaks : {out next : Outgoing} {live : Live} {left_now left_next : Option (List ℕ)}
-      (status : Status) (pending pending_next line taken : List ℕ) {count : ℕ}
+      (status : LiveStatus) (pending pending_next line taken : List ℕ) {count : ℕ}
       (read_faults_now read_faults_next : ℕ)
       → (h : Course begun out live left left_now pending count read_faults read_faults_now)
       → (b : AnswersFront h.taken (count + 1) line out next)
@@ -189,7 +189,7 @@ module _ (begun : Outgoing) (left : Option (List ℕ)) (read_faults : ℕ) where
   -- a write failed, whether the line was answered or not
   pub Course-failed : (next : Outgoing) (live_next : Live) {out : Outgoing} {live : Live}
       {left_now left_next : Option (List ℕ)} (pending pending_next line taken : List ℕ)
-      {count : ℕ} (read_faults_now read_faults_next : ℕ) (result : Result Whether BrokenOff)
+      {count : ℕ} (read_faults_now read_faults_next : ℕ) (result : Result AfterLine BrokenOff)
       → Course begun out live left left_now pending count read_faults read_faults_now
       → begun.waiting ≡ [] → begun.failed ≡ false → next.failed ≡ true
       → Consumes left_now left_next taken → pending ++ taken ≡ with_feed line ++ pending_next

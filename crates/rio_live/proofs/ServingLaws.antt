@@ -2,12 +2,12 @@
 use Rattle.std.proofs.Common.{◌≡◌, ℕ, ◌+◌, ◌-◌, ◌^◌, Option, Result, Ok, IfOk, List, [], ◌∷◌, ◌++◌, inl, refl, sym, subst, append-nil, arith}
 use Rattle.std.specs.Io.KnownBytes.{Consumes}
 use Rattle.rio_chars.specs.Written.{Outgoing, Writes}
-use Rattle.live_lines.specs.declared.status.Status.{Status}
-use Rattle.live_lines.specs.declared.status.Status.TheVariants as ends_with
+use Rattle.live_lines.specs.declared.status.LiveStatus.{LiveStatus}
+use Rattle.live_lines.specs.declared.status.LiveStatus.TheVariants as ends_with
 use Rattle.live_lines.specs.Lines.{IsLine, with_feed}
 use Rattle.live_lines.specs.Serving.{ServesLines}
 use Rattle.live_lines.proofs.ServingLaws.{Going, Going-begin, Going-line, Going-told, served_none}
-use Rattle.rio_live.specs.declared.answers.Going.TheVariants as Goings
+use Rattle.rio_live.specs.declared.answers.AfterLine.TheVariants as Goings
 use Rattle.rio_live.specs.declared.live.Live.{Live}
 use Rattle.rio_live.specs.Lines.{Taken, nothing_taken, Outcome, ReadsAs, taken_after, answer_text, AnswersLines}
 use Rattle.rio_live.specs.Holding.{LiveHolds}
@@ -112,7 +112,7 @@ module _ (begun : Outgoing) (left : Option (List ℕ)) (read_faults : ℕ) where
 
   -- what is said of a text, and of it with nothing behind it
   pub with_nothing : {left_last : Option (List ℕ)} {read_faults_last : ℕ} (out : Outgoing)
-      (status : Status) (lines : List (List ℕ)) (text : List ℕ)
+      (status : LiveStatus) (lines : List (List ℕ)) (text : List ℕ)
       → ServesLines (2 ^ 32 - 1) status left left_last read_faults read_faults_last
       begun.written out.written begun.faults out.faults lines text
       → ServesLines (2 ^ 32 - 1) status left left_last read_faults read_faults_last

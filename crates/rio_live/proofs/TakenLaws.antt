@@ -22,7 +22,7 @@ use Rattle.fabric_ports.specs.declared.fabric.Fabric.{Fabric}
 use Rattle.fabric_replay.proofs.Joining.{blocks-append, one_block}
 use Rattle.fabric_replay.proofs.Naming.{names_suffice, names_few, found_named}
 use Rattle.live_lines.specs.Lines.{with_feed}
-use Rattle.rio_live.specs.declared.live.Asked.TheVariants.{Quiet}
+use Rattle.rio_live.specs.declared.live.TakenAs.TheVariants.{Quiet}
 use Rattle.rio_live.specs.declared.live.Live.{Live}
 use Rattle.rio_live.specs.Lines.{Taken, nothing_taken, seen_so_far, Outcome, SetUp, Happened, most_set_up, with_line, RefusesSetUp, ReadsFirst, ReadsBehindEvent, ReadsAs, taken_after, answer_text, IsSent, AnswersLines}
 use Rattle.rio_live.specs.Holding.{AreEvents, IsTrace, SetUpIsSpelled, StandsBy, LiveHolds}

@@ -14,20 +14,20 @@ use Rattle.trace_lines.specs.Text.{trace_text}
 use Rattle.live_lines.specs.Lines.{with_feed}
 use Rattle.live_lines.specs.declared.input.LineEnd.{LineEnd}
 use Rattle.live_lines.specs.declared.input.LineEnd.TheVariants.{End, Fault, TooLong, NoMemory}
-use Rattle.live_lines.specs.declared.status.Status.{Status}
-use Rattle.live_lines.specs.declared.status.Status.TheVariants as ends_with
-use Rattle.rio_live.specs.declared.live.Asked.{Asked}
-use Rattle.rio_live.specs.declared.live.Asked.TheVariants.{Quiet, Event, Refused}
+use Rattle.live_lines.specs.declared.status.LiveStatus.{LiveStatus}
+use Rattle.live_lines.specs.declared.status.LiveStatus.TheVariants as ends_with
+use Rattle.rio_live.specs.declared.live.TakenAs.{TakenAs}
+use Rattle.rio_live.specs.declared.live.TakenAs.TheVariants.{Quiet, Event, Refused}
 use Rattle.rio_live.specs.declared.live.Live.{Live}
-use Rattle.rio_live.specs.declared.answers.Going.{Going}
-use Rattle.rio_live.specs.declared.answers.Going.TheVariants.{On, Undetected}
+use Rattle.rio_live.specs.declared.answers.AfterLine.{AfterLine}
+use Rattle.rio_live.specs.declared.answers.AfterLine.TheVariants.{On, Undetected}
 use Rattle.rio_live.specs.Lines.{Taken, Outcome, Passed, SetUp, Happened, Refused as IsRefusedAs, ReadsAs, RefusesSetUp, IsAnswerFront, taken_after, answer_text, undetected_at_text, seen_so_far, most_set_up}
 use Rattle.rio_live.specs.Holding.{LiveHolds, IsTrace}
 
 -- ---- reading
 
 -- what is read of a line that is to be an event
-abbrev pub ReadsBy : Known → List ℕ → Asked → Type 0
+abbrev pub ReadsBy : Known → List ℕ → TakenAs → Type 0
 ReadsBy known line Quiet = ⊥
 ReadsBy known line (Event event) = Spells known line event
 ReadsBy known line (Refused reason) = IsRefused known line reason
@@ -78,7 +78,7 @@ OutcomeIsQuiet (Happened event block) = ⊥
 OutcomeIsQuiet (IsRefusedAs reason) = ⊥
 
 -- what was done with a line of which this was read
-abbrev pub LiveTakes : Taken → List ℕ → Asked → Live → Type 0
+abbrev pub LiveTakes : Taken → List ℕ → TakenAs → Live → Type 0
 LiveTakes taken line Quiet live =
     (outcome : Outcome) × OutcomeIsQuiet outcome × ReadsAs taken line outcome
     × ((number : ℕ) → LiveHolds live (taken_after taken number line outcome))
@@ -90,14 +90,14 @@ LiveTakes taken line (Refused reason) live =
 -- ---- answering
 
 -- these lines were taken, and there may be a further one, or the last event was not sent
-abbrev pub LiveGoes : Going → Live → Taken → Type 0
+abbrev pub LiveGoes : AfterLine → Live → Taken → Type 0
 LiveGoes On live taken = LiveHolds live taken
 LiveGoes Undetected live taken =
     IsTrace taken × ((found : UndetectedAt) × ((seen_so_far taken).undetected ≡ Some found))
 
 -- an event was carried out, and its block was written
 pub record Happens (taken : Taken) (number : ℕ) (line : List ℕ) (event : Line) (old new : Outgoing)
-    (live : Live) (going : Going) : Type 0 where
+    (live : Live) (going : AfterLine) : Type 0 where
   pub block : List TraceLine
   pub is : IsBlock (seen_so_far taken) event block
   pub told : Writes old new (trace_text taken.known.names (Begun event ∷ block)
@@ -114,7 +114,7 @@ pub record HappensFront (taken : Taken) (event : Line) (old new : Outgoing) : Ty
 
 -- a line was answered
 pub record LineAnswered (taken : Taken) (number : ℕ) (line : List ℕ) (old new : Outgoing)
-    (live : Live) (going : Going) : Type 0 where
+    (live : Live) (going : AfterLine) : Type 0 where
   pub outcome : Outcome
   pub reads : ReadsAs taken line outcome
   pub told : Writes old new (answer_text taken number line outcome)
@@ -130,7 +130,7 @@ pub record AnswersFront (taken : Taken) (number : ℕ) (line : List ℕ) (old ne
 -- ---- ending
 
 -- there is no further line, and the last line of the trace was written if the input ended
-abbrev pub LinesStopped : LineEnd → Outgoing → Outgoing → Status → Type 0
+abbrev pub LinesStopped : LineEnd → Outgoing → Outgoing → LiveStatus → Type 0
 LinesStopped End old new status = Writes old new (codes "end\n") × (new.waiting ≡ [])
     × (status ≡ (if new.failed then ends_with.WriteFault else ends_with.Done))
 LinesStopped Fault old new status = (status ≡ ends_with.ReadFault) × (new ≡ old)

@@ -3,8 +3,8 @@ use Rattle.std.specs.Prelude.{◌≡◌, ◌⊎◌, ◌+◌, ◌-◌, ◌^◌, �
 use Rattle.std.specs.Io.KnownBytes.{Keeps}
 use Rattle.rio_chars.specs.Unless.{WritesUnless}
 use Rattle.fabric_trace.specs.Known.{UndetectedAt}
-use Rattle.live_lines.specs.declared.status.Status.{Status}
-use Rattle.live_lines.specs.declared.status.Status.TheVariants.{Done, Words, ReadFault, WriteFault, NoMemory, Undetected, TooLong}
+use Rattle.live_lines.specs.declared.status.LiveStatus.{LiveStatus}
+use Rattle.live_lines.specs.declared.status.LiveStatus.TheVariants.{Done, Words, ReadFault, WriteFault, NoMemory, Undetected, TooLong}
 use Rattle.live_lines.specs.Serving.{ServesLines}
 use Rattle.live_lines.specs.Statuses.{status_value, message_of}
 use Rattle.rio_live.specs.Lines.{Taken, nothing_taken, seen_so_far, IsSent, AnswersLines, IsAnswerFront}
@@ -18,7 +18,7 @@ IsFurtherFront taken number text =
 -- What is written behind the answers, by how it ended: `end` if the input ended, and if memory ran
 -- out within an event, a front of its answer. It ends with `Undetected` exactly behind an event
 -- that was acted on and not sent.
-abbrev pub Closes : Status → Taken → ℕ → List ℕ → Type 0
+abbrev pub Closes : LiveStatus → Taken → ℕ → List ℕ → Type 0
 Closes Done taken number text = IsSent taken × (text ≡ codes "end\n")
 Closes Words taken number text = ⊥
 Closes ReadFault taken number text = IsSent taken × (text ≡ [])
@@ -32,7 +32,7 @@ Closes WriteFault taken number text =
 -- Lines were served: those that were read, each behind the one before it, up to where it ended.
 -- What was written is their answers, and what is written behind them. The blocks in the answers are
 -- the trace of the lines that were taken.
-pub record LiveServes (status : Status) (left left_after : Option (List ℕ))
+pub record LiveServes (status : LiveStatus) (left left_after : Option (List ℕ))
     (read_faults read_faults_after : ℕ) (written written_after : Option (List ℕ))
     (write_faults write_faults_after : ℕ) : Type 0 where
   pub lines : List (List ℕ)
@@ -56,7 +56,7 @@ abbrev pub live_usage : List ℕ
 live_usage = codes "usage: rio_live, with no words\n"
 
 -- There are words, and nothing is read or written; or lines were served.
-abbrev pub LiveDid : List (List ℕ) → Status → Option (List ℕ) → Option (List ℕ) → ℕ → ℕ
+abbrev pub LiveDid : List (List ℕ) → LiveStatus → Option (List ℕ) → Option (List ℕ) → ℕ → ℕ
     → Option (List ℕ) → Option (List ℕ) → ℕ → ℕ → Type 0
 LiveDid arguments status left left_after read_faults read_faults_after written written_after
     write_faults write_faults_after =
@@ -72,7 +72,7 @@ pub record LiveRan {S : Type 0} {K : Type 0} {M : Type 0} (arguments : List (Lis
     (left : S → Option (List ℕ)) (read_faults : S → ℕ) (source source_after : S)
     (written : K → Option (List ℕ)) (write_faults : K → ℕ) (sink sink_after : K)
     (said : M → Option (List ℕ)) (say_faults : M → ℕ) (messages messages_after : M) : Type 0 where
-  pub status : Status
+  pub status : LiveStatus
   pub did : LiveDid arguments status (left source) (left source_after) (read_faults source)
       (read_faults source_after) (written sink) (written sink_after) (write_faults sink)
       (write_faults sink_after)

@@ -8,7 +8,7 @@ ghost use Rattle.rio_live.specs.Lines.{Taken};
 ghost use Rattle.rio_live.specs.Holding.{LiveHolds};
 ghost use Rattle.rio_live.specs.Answers.{Happens, HappensFront, LineAnswered, AnswersFront};
 
-use crate::live::{Asked, Live};
+use crate::live::{Live, TakenAs};
 use fabric_ports::FabricEnd;
 use fabric_script::Line;
 use rio_chars::{NoMemory, Outbox, Sink};
@@ -17,7 +17,7 @@ use trace_lines::TraceWriter;
 
 /// Whether there may be a further line.
 #[derive(Clone, Copy, Debug, PartialEq, Eq)]
-pub(crate) enum Going {
+pub(crate) enum AfterLine {
     /// There may be one.
     On,
     /// A port acted on an event that was not sent: the fabric is of no use any more.
@@ -42,7 +42,7 @@ pub(crate) fn answer<K: Sink>(
     number: u32,
     line: &[u8],
     outbox: &mut Outbox<K>,
-) -> Result<Going, BrokenOff>
+) -> Result<AfterLine, BrokenOff>
     requires { (taken : Taken) × LiveHolds live.old taken }
     ensures answered { IfOk result (λ going. (taken : Taken) → LiveHolds live.old taken
         → LineAnswered taken number line.now outbox.old outbox.new live.new going) }
@@ -50,12 +50,12 @@ pub(crate) fn answer<K: Sink>(
         → AnswersFront taken number line.now outbox.old outbox.new) }
 {
     let going = match live.take(alloc, line)? {
-        Asked::Quiet => Going::On,
-        Asked::Refused(reason) => {
+        TakenAs::Quiet => AfterLine::On,
+        TakenAs::Refused(reason) => {
             write_refused(outbox, reason);
-            Going::On
+            AfterLine::On
         }
-        Asked::Event(event) => happen(alloc, live, number, &event, outbox)?,
+        TakenAs::Event(event) => happen(alloc, live, number, &event, outbox)?,
     };
     outbox.write(b"ok\n");
     Ok(going)
@@ -68,7 +68,7 @@ fn happen<K: Sink>(
     number: u32,
     event: &Line,
     outbox: &mut Outbox<K>,
-) -> Result<Going, BrokenOff>
+) -> Result<AfterLine, BrokenOff>
     requires { (taken : Taken) × LiveHolds live.old taken
         × ((line : List ℕ) × Spells (for_event taken.known) line event.now) }
     ensures happens { IfOk result (λ going. (taken : Taken) (line : List ℕ)
@@ -85,11 +85,11 @@ fn happen<K: Sink>(
     match fabric.event(alloc, event, &mut writer) {
         Ok(_) => {
             live.put_fabric(fabric);
-            Ok(Going::On)
+            Ok(AfterLine::On)
         }
         Err(FabricEnd::Undetected { port, event }) => {
             writer.write_undetected(number, port, event.event());
-            Ok(Going::Undetected)
+            Ok(AfterLine::Undetected)
         }
         Err(FabricEnd::Failed) => Err(BrokenOff),
         Err(FabricEnd::NoMemory) => Err(BrokenOff),

@@ -31,7 +31,7 @@ pub(crate) struct Live {
 }
 
 /// What a line is.
-pub(crate) enum Asked {
+pub(crate) enum TakenAs {
     /// A line of set-up, which is taken now; or one that is empty or a comment.
     Quiet,
     /// An event.
@@ -63,7 +63,7 @@ impl Live {
     }
 
     /// Reads a line, and takes it if it is one of set-up.
-    pub(crate) fn take(&mut self, alloc: Global, line: &[u8]) -> Result<Asked, NoMemory>
+    pub(crate) fn take(&mut self, alloc: Global, line: &[u8]) -> Result<TakenAs, NoMemory>
         ensures { IfOk result (λ asked. (taken : Taken) → LiveHolds self.old taken
             → LiveTakes taken line.now asked self.new) }
     {
@@ -71,21 +71,21 @@ impl Live {
             return self.take_first(alloc, line);
         }
         if is_skipped(line) {
-            return Ok(Asked::Quiet);
+            return Ok(TakenAs::Quiet);
         }
         self.read_event(alloc, line)
     }
 
     /// Reads a line before the first event, and takes it if it is one of set-up.
-    fn take_first(&mut self, alloc: Global, line: &[u8]) -> Result<Asked, NoMemory>
+    fn take_first(&mut self, alloc: Global, line: &[u8]) -> Result<TakenAs, NoMemory>
         requires { self.old.fabric ≡ None }
         ensures { IfOk result (λ asked. (taken : Taken) → LiveHolds self.old taken
             → LiveTakes taken line.now asked self.new) }
     {
         match self.take_set_up(alloc, line)? {
-            None => Ok(Asked::Quiet),
+            None => Ok(TakenAs::Quiet),
             Some(OUT_OF_PLACE) => self.read_event(alloc, line),
-            Some(reason) => Ok(Asked::Refused(reason)),
+            Some(reason) => Ok(TakenAs::Refused(reason)),
         }
     }
 
@@ -142,12 +142,12 @@ impl Live {
     }
 
     /// Reads a line that is to be an event.
-    fn read_event(&self, alloc: Global, line: &[u8]) -> Result<Asked, NoMemory>
+    fn read_event(&self, alloc: Global, line: &[u8]) -> Result<TakenAs, NoMemory>
         ensures { IfOk result (λ asked. ReadsBy self.now.set_up.known line.now asked) }
     {
         match self.set_up.read_event(alloc, line) {
-            Ok(event) => Ok(Asked::Event(event)),
-            Err(EventEnd::Refused(reason)) => Ok(Asked::Refused(reason)),
+            Ok(event) => Ok(TakenAs::Event(event)),
+            Err(EventEnd::Refused(reason)) => Ok(TakenAs::Refused(reason)),
             Err(EventEnd::NoMemory) => Err(NoMemory),
         }
     }

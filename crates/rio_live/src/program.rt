@@ -4,7 +4,7 @@ ghost use Rattle.std.specs.String.{string_bytes};
 ghost use Rattle.rio_live.specs.Program.{LiveRan, LiveDid};
 
 use crate::serving::serve;
-use live_lines::{Status, say, status_number};
+use live_lines::{LiveStatus, say, status_number};
 use rio_chars::{Sink, Source};
 use std::alloc::Global;
 
@@ -37,7 +37,7 @@ fn serve_words<S: Source, K: Sink>(
     arguments: &[String],
     source: &mut S,
     sink: &mut K,
-) -> Status
+) -> LiveStatus
     ensures { LiveDid (map string_bytes arguments.now) result (S.left source.old)
         (S.left source.new)
         (S.faults source.old) (S.faults source.new) (K.written sink.old) (K.written sink.new)
@@ -45,6 +45,6 @@ fn serve_words<S: Source, K: Sink>(
 {
     match arguments {
         [] | [_] => serve(alloc, source, sink),
-        _ => Status::Words,
+        _ => LiveStatus::Words,
     }
 }

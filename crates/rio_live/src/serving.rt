@@ -1,34 +1,34 @@
 //! A fabric that answers line by line.
 ghost use Rattle.std.specs.Prelude.{◌≡◌, [], false, IfOk, OnErr, codes, if◌then◌else◌};
 ghost use Rattle.rio_chars.specs.Written.{Writes};
-ghost use Rattle.live_lines.specs.declared.status.Status.TheVariants as ends_with;
+ghost use Rattle.live_lines.specs.declared.status.LiveStatus.TheVariants as ends_with;
 ghost use Rattle.rio_live.specs.Lines.{Taken, nothing_taken};
 ghost use Rattle.rio_live.specs.Holding.{LiveHolds};
 ghost use Rattle.rio_live.specs.Answers.{LineAnswered, AnswersFront, LinesStopped};
 ghost use Rattle.rio_live.specs.Program.{LiveServes};
 
-use crate::answers::{BrokenOff, Going, answer};
+use crate::answers::{AfterLine, BrokenOff, answer};
 use crate::live::Live;
-use live_lines::{Input, LineEnd, Status};
+use live_lines::{LineEnd, LineReader, LiveStatus};
 use rio_chars::{Outbox, Sink, Source, TextBuffer};
 use std::alloc::Global;
 use trace_lines::TraceWriter;
 
 /// Reads lines, and answers each before the next is asked for. At the end of input the last line of
 /// the trace is written.
-pub fn serve<S: Source, K: Sink>(alloc: Global, source: &mut S, sink: &mut K) -> Status
+pub fn serve<S: Source, K: Sink>(alloc: Global, source: &mut S, sink: &mut K) -> LiveStatus
     ensures { LiveServes result (S.left source.old) (S.left source.new) (S.faults source.old)
         (S.faults source.new) (K.written sink.old) (K.written sink.new) (K.faults sink.old)
         (K.faults sink.new) }
 {
     let Ok(mut live) = Live::new(alloc) else {
-        return Status::NoMemory;
+        return LiveStatus::NoMemory;
     };
-    let Ok(mut input) = Input::new(alloc) else {
-        return Status::NoMemory;
+    let Ok(mut input) = LineReader::new(alloc) else {
+        return LiveStatus::NoMemory;
     };
     let Ok(mut buffer) = TextBuffer::new(alloc) else {
-        return Status::NoMemory;
+        return LiveStatus::NoMemory;
     };
     let mut outbox = Outbox::new(&mut buffer, sink);
     let status = serve_lines(alloc, &mut live, &mut input, source, &mut outbox);
@@ -40,10 +40,10 @@ pub fn serve<S: Source, K: Sink>(alloc: Global, source: &mut S, sink: &mut K) ->
 fn serve_lines<S: Source, K: Sink>(
     alloc: Global,
     live: &mut Live,
-    input: &mut Input,
+    input: &mut LineReader,
     source: &mut S,
     outbox: &mut Outbox<K>,
-) -> Status
+) -> LiveStatus
     requires holds { LiveHolds live.old nothing_taken }
     requires input { input.old ≡ [] }
     requires fine { outbox.old.failed ≡ false }
@@ -62,13 +62,13 @@ fn serve_lines<S: Source, K: Sink>(
         number += 1;
         let answered = answer_line(alloc, live, number, line.as_slice(), outbox);
         if outbox.failed() {
-            return Status::WriteFault;
+            return LiveStatus::WriteFault;
         }
         match answered {
-            Ok(Going::On) => {}
-            Ok(Going::Undetected) => return Status::Undetected,
+            Ok(AfterLine::On) => {}
+            Ok(AfterLine::Undetected) => return LiveStatus::Undetected,
             // No write failed, so memory ran out.
-            Err(BrokenOff) => return Status::NoMemory,
+            Err(BrokenOff) => return LiveStatus::NoMemory,
         }
     }
     end_trace(outbox)
@@ -81,7 +81,7 @@ fn answer_line<K: Sink>(
     number: u32,
     line: &[u8],
     outbox: &mut Outbox<K>,
-) -> Result<Going, BrokenOff>
+) -> Result<AfterLine, BrokenOff>
     requires { (taken : Taken) × LiveHolds live.old taken }
     ensures answered { IfOk result (λ going. (taken : Taken) → LiveHolds live.old taken
         → LineAnswered taken number line.now outbox.old outbox.new live.new going) }
@@ -96,18 +96,18 @@ fn answer_line<K: Sink>(
 }
 
 /// Ends where there is no further line: the last line of the trace is written if the input ended.
-fn end_lines<K: Sink>(end: LineEnd, outbox: &mut Outbox<K>) -> Status
+fn end_lines<K: Sink>(end: LineEnd, outbox: &mut Outbox<K>) -> LiveStatus
     ensures stopped { LinesStopped end outbox.old outbox.new result }
     ensures same { outbox.new.sink ≡ outbox.old.sink }
 {
     match end {
         LineEnd::End => end_trace(outbox),
-        LineEnd::Fault | LineEnd::TooLong | LineEnd::NoMemory => Status::from(end),
+        LineEnd::Fault | LineEnd::TooLong | LineEnd::NoMemory => LiveStatus::from(end),
     }
 }
 
 /// Writes the last line of the trace, and answers how the program ends.
-fn end_trace<K: Sink>(outbox: &mut Outbox<K>) -> Status
+fn end_trace<K: Sink>(outbox: &mut Outbox<K>) -> LiveStatus
     ensures written { Writes outbox.old outbox.new (codes "end\n") }
     ensures empty { outbox.new.waiting ≡ [] }
     ensures status { result ≡ (if outbox.new.failed then ends_with.WriteFault else ends_with.Done) }
@@ -116,8 +116,8 @@ fn end_trace<K: Sink>(outbox: &mut Outbox<K>) -> Status
     writer.write_end();
     outbox.flush();
     if outbox.failed() {
-        Status::WriteFault
+        LiveStatus::WriteFault
     } else {
-        Status::Done
+        LiveStatus::Done
     }
 }

@@ -2,7 +2,7 @@
 use Rattle.std.specs.Prelude.{◌≡◌, ℕ, List, [], ◌∷◌, ◌++◌, Result, Ok, Err, codes}
 use Rattle.link_port.specs.Prelude.{PortState}
 use Rattle.rio_port.specs.declared.requests.PortRequest.{PortRequest}
-use Rattle.rio_port.specs.declared.requests.Reason.{Reason}
+use Rattle.rio_port.specs.declared.requests.RequestReason.{RequestReason}
 use Rattle.fabric_script.specs.Lines.{words_of}
 use Rattle.rio_port.specs.Requests.{ReadsWords}
 use Rattle.rio_port.specs.Texts.{refused_text}
@@ -13,17 +13,17 @@ abbrev pub answer_ended : PortAnswer → PortAnswer
 answer_ended answer = saying answer.port (answer.text ++ codes "ok\n")
 
 -- what was read of a line, whose words single spaces part
-abbrev pub ReadsLine : List ℕ → Result PortRequest Reason → Type 0
+abbrev pub ReadsLine : List ℕ → Result PortRequest RequestReason → Type 0
 ReadsLine line asked = ReadsWords (words_of line) asked
 
 -- what is answered, and where the port stands then: a refusal leaves it as it was
-abbrev pub asked_answer : PortState → Result PortRequest Reason → PortAnswer
+abbrev pub asked_answer : PortState → Result PortRequest RequestReason → PortAnswer
 asked_answer port (Ok request) = answer_ended (request_answer port request)
 asked_answer port (Err reason) = answer_ended (saying port (refused_text reason))
 
 -- the answer of a line
 pub record AnswersLine (port : PortState) (line : List ℕ) (answer : PortAnswer) : Type 0 where
-  pub asked : Result PortRequest Reason
+  pub asked : Result PortRequest RequestReason
   pub reads : ReadsLine line asked
   pub is : answer ≡ asked_answer port asked
 

@@ -4,8 +4,8 @@ use Rattle.std.specs.Fmt.{decimal}
 use Rattle.std.specs.Io.KnownBytes.{Keeps}
 use Rattle.rio_chars.specs.Unless.{WritesUnless}
 use Rattle.link_port.specs.Prelude.{PortState, new_port}
-use Rattle.live_lines.specs.declared.status.Status.{Status}
-use Rattle.live_lines.specs.declared.status.Status.TheVariants.{Words}
+use Rattle.live_lines.specs.declared.status.LiveStatus.{LiveStatus}
+use Rattle.live_lines.specs.declared.status.LiveStatus.TheVariants.{Words}
 use Rattle.live_lines.specs.Serving.{ServesLines}
 use Rattle.live_lines.specs.Statuses.{status_value, message_of}
 use Rattle.rio_port.specs.Answers.{PortAnswer}
@@ -20,7 +20,7 @@ AskBuffers (name ∷ word ∷ more ∷ words) buffers = ⊥
 
 -- From this port on, lines were served: those that were read, each behind the one before it, up to
 -- where it ended. What was written is their answers.
-pub record ServesFrom (port : PortState) (status : Status) (left left_after : Option (List ℕ))
+pub record ServesFrom (port : PortState) (status : LiveStatus) (left left_after : Option (List ℕ))
     (read_faults read_faults_after : ℕ) (written written_after : Option (List ℕ))
     (write_faults write_faults_after : ℕ) : Type 0 where
   pub lines : List (List ℕ)
@@ -35,7 +35,7 @@ port_usage = codes "usage: rio_port [BUFFERS], with 4 to 30 buffers\n"
 
 -- The words ask for no port, and nothing is read or written; or a port of so many buffers served
 -- lines.
-abbrev pub PortDid : List (List ℕ) → Status → Option (List ℕ) → Option (List ℕ) → ℕ → ℕ
+abbrev pub PortDid : List (List ℕ) → LiveStatus → Option (List ℕ) → Option (List ℕ) → ℕ → ℕ
     → Option (List ℕ) → Option (List ℕ) → ℕ → ℕ → Type 0
 PortDid arguments status left left_after read_faults read_faults_after written written_after
     write_faults write_faults_after =
@@ -51,7 +51,7 @@ pub record PortRan {S : Type 0} {K : Type 0} {M : Type 0} (arguments : List (Lis
     (left : S → Option (List ℕ)) (read_faults : S → ℕ) (source source_after : S)
     (written : K → Option (List ℕ)) (write_faults : K → ℕ) (sink sink_after : K)
     (said : M → Option (List ℕ)) (say_faults : M → ℕ) (messages messages_after : M) : Type 0 where
-  pub status : Status
+  pub status : LiveStatus
   pub did : PortDid arguments status (left source) (left source_after) (read_faults source)
       (read_faults source_after) (written sink) (written sink_after) (write_faults sink)
       (write_faults sink_after)

@@ -7,7 +7,7 @@ use Rattle.rio_packets.specs.Fields.{body_of}
 use Rattle.rio_packets.specs.LinkForm.{LinkForm}
 use Rattle.rio_packets.specs.declared.making.Header.{Header}
 use Rattle.fabric_script.specs.Texts.{hex_text}
-use Rattle.rio_port.specs.declared.requests.Reason.{Reason}
+use Rattle.rio_port.specs.declared.requests.RequestReason.{RequestReason}
 use Rattle.rio_port.specs.declared.requests.PortRequest.{PortRequest}
 use Rattle.rio_port.specs.declared.requests.PortRequest.TheVariants.{Got, Turn, TimeOut, Send, Take, State}
 
@@ -63,6 +63,6 @@ AsksRequest Take words = words ≡ codes "take" ∷ []
 AsksRequest State words = words ≡ codes "state" ∷ []
 
 -- what was read of words: what they ask for, or that they ask for nothing
-abbrev pub ReadsWords : List (List ℕ) → Result PortRequest Reason → Type 0
+abbrev pub ReadsWords : List (List ℕ) → Result PortRequest RequestReason → Type 0
 ReadsWords words (Ok request) = AsksRequest request words
 ReadsWords words (Err reason) = (request : PortRequest) → ¬ AsksRequest request words

@@ -14,8 +14,8 @@ use Rattle.link_port.specs.declared.kinds.OutKind.{OutKind}
 use Rattle.link_port.specs.declared.kinds.OutKind.TheVariants as out
 use Rattle.link_port.specs.declared.kinds.InKind.{InKind}
 use Rattle.link_port.specs.declared.kinds.InKind.TheVariants as in_half
-use Rattle.rio_port.specs.declared.requests.Reason.{Reason}
-use Rattle.rio_port.specs.declared.requests.Reason.TheVariants.{Words, Number, Character, Bytes, Length}
+use Rattle.rio_port.specs.declared.requests.RequestReason.{RequestReason}
+use Rattle.rio_port.specs.declared.requests.RequestReason.TheVariants.{Words, Number, Character, Bytes, Length}
 
 -- the port sends these characters
 abbrev pub sent_text : List Char → List ℕ
@@ -70,12 +70,12 @@ state_text port =
     ++ codes "\noutstanding " ++ decimal (length (prios_of port.output))
     ++ codes "\nwaiting " ++ yes_or_no (nat_lt 0 (packet_count (waiting_in port))) ++ codes "\n"
 
-abbrev pub reason_word : Reason → List ℕ
+abbrev pub reason_word : RequestReason → List ℕ
 reason_word Words = codes "words"
 reason_word Number = codes "number"
 reason_word Character = codes "character"
 reason_word Bytes = codes "bytes"
 reason_word Length = codes "length"
 
-abbrev pub refused_text : Reason → List ℕ
+abbrev pub refused_text : RequestReason → List ℕ
 refused_text reason = codes "refused " ++ reason_word reason ++ codes "\n"

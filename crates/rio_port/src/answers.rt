@@ -9,7 +9,7 @@ ghost use Rattle.rio_port.specs.Texts.{acted_text, freed_text, burst_text};
 ghost use Rattle.rio_port.specs.Answers.{answers_chars, answers_turns, answers_packet, answers_held, request_answer, port_has_room};
 ghost use Rattle.rio_port.specs.Lines.{asked_answer};
 
-use crate::requests::{PortRequest, Reason};
+use crate::requests::{PortRequest, RequestReason};
 use crate::texts::{write_packet, write_refused, write_sent, write_state};
 use arrayvec::ArrayVec;
 use link_port::{Port, PortFace};
@@ -20,7 +20,7 @@ use rio_packets::Packet;
 /// Does what a line asks for, and tells its answer; or tells why it is refused.
 pub(crate) fn answer<K: Sink>(
     port: &mut Port,
-    asked: Result<PortRequest, Reason>,
+    asked: Result<PortRequest, RequestReason>,
     outbox: &mut Outbox<K>,
 )
     ensures port { port.new ≡ (asked_answer port.old asked).port }

@@ -8,7 +8,8 @@
 //! - `run`: the whole program, over any source, sink and sink of messages; `main` gives it the
 //!   arguments and the standard streams, and does nothing more.
 //! - `serve`: the same of a port with so many buffers, and how it ended.
-//! - [`PortRequest`] and [`Reason`]: what a line asks for, and why one is refused; `read_request`.
+//! - [`PortRequest`] and [`RequestReason`]: what a line asks for, and why one is refused;
+//!   `read_request`.
 //!
 //! If the system does not give the arguments, the status is 1 and nothing is written.
 #![tactic(auto)]
@@ -21,7 +22,7 @@ mod texts;
 mod words;
 
 pub use program::run;
-pub use requests::{PortRequest, Reason, read_request};
+pub use requests::{PortRequest, RequestReason, read_request};
 use rio_chars::{StdSink, StdSource};
 pub use serving::serve;
 use std::process::ExitCode;

@@ -6,7 +6,7 @@ ghost use Rattle.rio_port.specs.Program.{PortRan, PortDid, AskBuffers};
 
 use crate::serving::serve;
 use fabric_script::read_number;
-use live_lines::{Status, say, status_number};
+use live_lines::{LiveStatus, say, status_number};
 use rio_chars::{Sink, Source};
 use std::alloc::Global;
 
@@ -42,7 +42,7 @@ fn serve_words<S: Source, K: Sink>(
     arguments: &[String],
     source: &mut S,
     sink: &mut K,
-) -> Status
+) -> LiveStatus
     ensures { PortDid (map string_bytes arguments.now) result (S.left source.old)
         (S.left source.new)
         (S.faults source.old) (S.faults source.new) (K.written sink.old) (K.written sink.new)
@@ -50,7 +50,7 @@ fn serve_words<S: Source, K: Sink>(
 {
     match buffers_of(arguments) {
         Some(buffers) => serve(alloc, buffers, source, sink),
-        None => Status::Words,
+        None => LiveStatus::Words,
     }
 }
 

@@ -33,7 +33,7 @@ pub enum PortRequest {
 
 /// Why a line is refused.
 #[derive(Clone, Copy, Debug, PartialEq, Eq)]
-pub enum Reason {
+pub enum RequestReason {
     /// The first word is none of these, or the number of words is not its form's.
     Words,
     /// A number is misspelled or out of range.
@@ -47,7 +47,10 @@ pub enum Reason {
 }
 
 /// What a line asks for, or why it is refused: exactly if it asks for nothing.
-pub fn read_request(alloc: Global, line: &[u8]) -> Result<Result<PortRequest, Reason>, AllocError>
+pub fn read_request(
+    alloc: Global,
+    line: &[u8],
+) -> Result<Result<PortRequest, RequestReason>, AllocError>
     ensures { IfOk result (λ asked. ReadsLine line.now asked) }
 {
     let (keyword, words) = split_word(line);
@@ -67,7 +70,7 @@ pub fn read_request(alloc: Global, line: &[u8]) -> Result<Result<PortRequest, Re
 }
 
 /// A line of one word.
-fn read_single(keyword: &[u8], words: Option<&[u8]>) -> Result<PortRequest, Reason>
+fn read_single(keyword: &[u8], words: Option<&[u8]>) -> Result<PortRequest, RequestReason>
     requires got { keyword.now ≢ codes "got" }
     requires turn { keyword.now ≢ codes "turn" }
     requires send { keyword.now ≢ codes "send" }
@@ -75,7 +78,7 @@ fn read_single(keyword: &[u8], words: Option<&[u8]>) -> Result<PortRequest, Reas
     ensures { ReadsWords (keyword.entry.now ∷ words_left words.entry) result }
 {
     if words.is_some() {
-        return Err(Reason::Words);
+        return Err(RequestReason::Words);
     }
     if keyword == b"timeout".as_slice() {
         Ok(PortRequest::TimeOut)
@@ -84,31 +87,34 @@ fn read_single(keyword: &[u8], words: Option<&[u8]>) -> Result<PortRequest, Reas
     } else if keyword == b"state".as_slice() {
         Ok(PortRequest::State)
     } else {
-        Err(Reason::Words)
+        Err(RequestReason::Words)
     }
 }
 
 /// The words behind `got`.
-fn read_got(alloc: Global, words: Option<&[u8]>) -> Result<Result<PortRequest, Reason>, AllocError>
+fn read_got(
+    alloc: Global,
+    words: Option<&[u8]>,
+) -> Result<Result<PortRequest, RequestReason>, AllocError>
     ensures { IfOk result (λ asked.
         ReadsWords (codes "got" ∷ words_left words.entry) asked) }
 {
     match read_chars(alloc, words)? {
         Some(chars) => Ok(Ok(PortRequest::Got(chars))),
-        None => Ok(Err(Reason::Character)),
+        None => Ok(Err(RequestReason::Character)),
     }
 }
 
 /// The words behind `turn`.
-fn read_turn(words: Option<&[u8]>) -> Result<PortRequest, Reason>
+fn read_turn(words: Option<&[u8]>) -> Result<PortRequest, RequestReason>
     ensures { ReadsWords (codes "turn" ∷ words_left words.entry) result }
 {
     let (number, rest) = take_number(words, MOST_TURNS)?;
     if rest.is_some() {
-        return Err(Reason::Words);
+        return Err(RequestReason::Words);
     }
     if number == 0 {
-        return Err(Reason::Number);
+        return Err(RequestReason::Number);
     }
     Ok(PortRequest::Turn(number))
 }
@@ -118,7 +124,7 @@ fn read_send(
     alloc: Global,
     large: bool,
     words: Option<&[u8]>,
-) -> Result<Result<PortRequest, Reason>, AllocError>
+) -> Result<Result<PortRequest, RequestReason>, AllocError>
     ensures { IfOk result (λ asked.
         ReadsWords (send_word large ∷ words_left words.entry) asked) }
 {
@@ -127,16 +133,16 @@ fn read_send(
         Err(reason) => return Ok(Err(reason)),
     };
     let Some(bytes) = read_bytes(alloc, rest)? else {
-        return Ok(Err(Reason::Bytes));
+        return Ok(Err(RequestReason::Bytes));
     };
     match build(&header, bytes.as_slice()) {
         Ok(packet) => Ok(Ok(PortRequest::Send(packet))),
-        Err(_) => Ok(Err(Reason::Length)),
+        Err(_) => Ok(Err(RequestReason::Length)),
     }
 }
 
 /// The four numbers of a packet, and the words behind them.
-fn read_header(large: bool, words: Option<&[u8]>) -> Result<(Header, Option<&[u8]>), Reason>
+fn read_header(large: bool, words: Option<&[u8]>) -> Result<(Header, Option<&[u8]>), RequestReason>
     ensures { MatchResult result
         (λ read. SpellsHeader large (words_left words.entry) read.0 (words_left read.1))
         (λ reason. (header : AHeader) (rest : List (List ℕ))

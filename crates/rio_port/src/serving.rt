@@ -9,13 +9,18 @@ ghost use Rattle.rio_port.specs.Program.{ServesFrom};
 use crate::answers::answer;
 use crate::requests::read_request;
 use link_port::Port;
-use live_lines::{Input, Status};
+use live_lines::{LineReader, LiveStatus};
 use rio_chars::{Outbox, Sink, Source, TextBuffer};
 use std::alloc::{AllocError, Global};
 
 /// Reads lines, and answers each before the next is asked for, with a port of 4 to 30 buffers that
 /// does not tell them.
-pub fn serve<S: Source, K: Sink>(alloc: Global, buffers: u8, source: &mut S, sink: &mut K) -> Status
+pub fn serve<S: Source, K: Sink>(
+    alloc: Global,
+    buffers: u8,
+    source: &mut S,
+    sink: &mut K,
+) -> LiveStatus
     requires least { 4 ≤ buffers }
     requires most { buffers ≤ 30 }
     ensures { ServesFrom (new_port false buffers) result (S.left source.old) (S.left source.new)
@@ -23,13 +28,13 @@ pub fn serve<S: Source, K: Sink>(alloc: Global, buffers: u8, source: &mut S, sin
         (K.faults sink.old) (K.faults sink.new) }
 {
     let Ok(mut port) = Port::new(alloc, buffers) else {
-        return Status::NoMemory;
+        return LiveStatus::NoMemory;
     };
-    let Ok(mut input) = Input::new(alloc) else {
-        return Status::NoMemory;
+    let Ok(mut input) = LineReader::new(alloc) else {
+        return LiveStatus::NoMemory;
     };
     let Ok(mut buffer) = TextBuffer::new(alloc) else {
-        return Status::NoMemory;
+        return LiveStatus::NoMemory;
     };
     let mut outbox = Outbox::new(&mut buffer, sink);
     let status = serve_lines(alloc, &mut port, &mut input, source, &mut outbox);
@@ -41,10 +46,10 @@ pub fn serve<S: Source, K: Sink>(alloc: Global, buffers: u8, source: &mut S, sin
 fn serve_lines<S: Source, K: Sink>(
     alloc: Global,
     port: &mut Port,
-    input: &mut Input,
+    input: &mut LineReader,
     source: &mut S,
     outbox: &mut Outbox<K>,
-) -> Status
+) -> LiveStatus
     requires input { input.old ≡ [] }
     requires fine { outbox.old.failed ≡ false }
     requires empty { outbox.old.waiting ≡ [] }
@@ -57,17 +62,17 @@ fn serve_lines<S: Source, K: Sink>(
     let mut count = 0u64;
     while count < u64::MAX {
         if let Err(end) = input.read_line(source, &mut line) {
-            return Status::from(end);
+            return LiveStatus::from(end);
         }
         let Ok(()) = answer_line(alloc, port, line.as_slice(), outbox) else {
-            return Status::NoMemory;
+            return LiveStatus::NoMemory;
         };
         if outbox.failed() {
-            return Status::WriteFault;
+            return LiveStatus::WriteFault;
         }
         count += 1;
     }
-    Status::Done
+    LiveStatus::Done
 }
 
 /// Answers a line, and writes all of the answer unless a write fails. Where memory is not given,

@@ -3,7 +3,7 @@ ghost use Rattle.std.specs.Prelude.{◌≡◌};
 ghost use Rattle.rio_chars.specs.Written.{Writes};
 ghost use Rattle.rio_port.specs.Texts.{sent_text, packet_text, state_text, refused_text, output_word as output_word_of, input_word as input_word_of, yes_or_no as yes_or_no_of, reason_word as reason_word_of};
 
-use crate::requests::Reason;
+use crate::requests::RequestReason;
 use link_port::{InKind, OutKind, Port};
 use rio_chars::{Char, Outbox, Sink};
 use rio_packets::Packet;
@@ -42,7 +42,7 @@ pub(crate) fn write_state<K: Sink>(outbox: &mut Outbox<K>, port: &Port)
 }
 
 /// Tells why a line is refused.
-pub(crate) fn write_refused<K: Sink>(outbox: &mut Outbox<K>, reason: Reason)
+pub(crate) fn write_refused<K: Sink>(outbox: &mut Outbox<K>, reason: RequestReason)
     ensures { Writes outbox.old outbox.new (refused_text reason) }
 {
     outbox.write(b"refused ");
@@ -77,14 +77,14 @@ fn yes_or_no(is: bool) -> &'static [u8]
     if is { b"yes" } else { b"no" }
 }
 
-fn reason_word(reason: Reason) -> &'static [u8]
+fn reason_word(reason: RequestReason) -> &'static [u8]
     ensures { result.now ≡ reason_word_of reason }
 {
     match reason {
-        Reason::Words => b"words",
-        Reason::Number => b"number",
-        Reason::Character => b"character",
-        Reason::Bytes => b"bytes",
-        Reason::Length => b"length",
+        RequestReason::Words => b"words",
+        RequestReason::Number => b"number",
+        RequestReason::Character => b"character",
+        RequestReason::Bytes => b"bytes",
+        RequestReason::Length => b"length",
     }
 }

@@ -6,25 +6,28 @@ ghost use Rattle.fabric_script.specs.Words.{words_left};
 ghost use Rattle.fabric_script.specs.Texts.{hex_text};
 ghost use Rattle.rio_port.specs.Requests.{SpellsGot};
 
-use crate::requests::Reason;
+use crate::requests::RequestReason;
 use fabric_script::{read_number, split_word};
 use rio_chars::{Char, Chars, read_char};
 use std::alloc::{AllocError, Global};
 
 /// The number that the first of the words spells, at most this one, and the words behind it.
-pub(crate) fn take_number(words: Option<&[u8]>, most: u32) -> Result<(u32, Option<&[u8]>), Reason>
+pub(crate) fn take_number(
+    words: Option<&[u8]>,
+    most: u32,
+) -> Result<(u32, Option<&[u8]>), RequestReason>
     ensures { MatchResult result
         (λ read. (read.0 ≤ most) × (words_left words.entry ≡ decimal read.0 ∷ words_left read.1))
         (λ reason. (number : ℕ) (rest : List (List ℕ)) → number ≤ most
         → words_left words.entry ≢ decimal number ∷ rest) }
 {
     let Some(text) = words else {
-        return Err(Reason::Words);
+        return Err(RequestReason::Words);
     };
     let (word, rest) = split_word(text);
     match read_number(word) {
         Some(number) if number <= most => Ok((number, rest)),
-        _ => Err(Reason::Number),
+        _ => Err(RequestReason::Number),
     }
 }
 

@@ -12,7 +12,7 @@ pub struct Range {
 
 /// What the program is asked for.
 #[derive(Clone, Copy)]
-pub enum Command {
+pub enum ViewCommand {
     /// The trace with words behind each line, or one line for each transfer.
     Words { flow: bool },
     /// A table of what each port did.
@@ -36,18 +36,18 @@ const EVERYTHING: Range = Range {
 };
 
 /// What single words ask for.
-const COMMANDS: [(&[u8], Command); 7] = [
-    (b"words", Command::Words { flow: false }),
-    (b"counts", Command::Counts),
-    (b"ladder", Command::Ladder(EVERYTHING)),
-    (b"wave", Command::Wave),
-    (b"packets", Command::Packets),
-    (b"coverage", Command::Coverage),
-    (b"--help", Command::Help),
+const COMMANDS: [(&[u8], ViewCommand); 7] = [
+    (b"words", ViewCommand::Words { flow: false }),
+    (b"counts", ViewCommand::Counts),
+    (b"ladder", ViewCommand::Ladder(EVERYTHING)),
+    (b"wave", ViewCommand::Wave),
+    (b"packets", ViewCommand::Packets),
+    (b"coverage", ViewCommand::Coverage),
+    (b"--help", ViewCommand::Help),
 ];
 
 /// What the words ask for, if the program knows them.
-pub(crate) fn command_of(words: &[String]) -> Option<Command> {
+pub(crate) fn command_of(words: &[String]) -> Option<ViewCommand> {
     match words {
         [word] => single(word.as_str().as_bytes()),
         [word, option] => with_option(word.as_str().as_bytes(), option.as_str().as_bytes()),
@@ -57,7 +57,7 @@ pub(crate) fn command_of(words: &[String]) -> Option<Command> {
 }
 
 /// One word.
-fn single(word: &[u8]) -> Option<Command> {
+fn single(word: &[u8]) -> Option<ViewCommand> {
     for (name, command) in &COMMANDS {
         if word == *name {
             return Some(*command);
@@ -67,17 +67,17 @@ fn single(word: &[u8]) -> Option<Command> {
 }
 
 /// A word and an option without a number.
-fn with_option(word: &[u8], option: &[u8]) -> Option<Command> {
+fn with_option(word: &[u8], option: &[u8]) -> Option<ViewCommand> {
     if word == b"words".as_slice() && option == b"--flow".as_slice() {
-        Some(Command::Words { flow: true })
+        Some(ViewCommand::Words { flow: true })
     } else {
         None
     }
 }
 
 /// The options of a ladder: the first event, the last event, or both.
-fn ladder_of(options: &[String]) -> Option<Command> {
-    Some(Command::Ladder(range_of(options)?))
+fn ladder_of(options: &[String]) -> Option<ViewCommand> {
+    Some(ViewCommand::Ladder(range_of(options)?))
 }
 
 /// The range that options name.

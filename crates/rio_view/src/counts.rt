@@ -66,16 +66,16 @@ const CAUSES: [usize; 6] = [1, 2, 3, 4, 5, 31];
 
 /// What each port did, and how many packets went in and out.
 #[derive(Drop)]
-pub(crate) struct Counts {
+pub(crate) struct CountsView {
     tallies: Option<Tallies>,
     last: &'static [u8],
     alloc: Global,
 }
 
-impl Counts {
+impl CountsView {
     /// Nothing was done.
-    pub(crate) fn new(alloc: Global) -> Counts {
-        Counts {
+    pub(crate) fn new(alloc: Global) -> CountsView {
+        CountsView {
             tallies: None,
             last: b"",
             alloc,
@@ -83,7 +83,7 @@ impl Counts {
     }
 }
 
-impl View for Counts {
+impl View for CountsView {
     fn begin(&mut self, set_up: &SetUp, _: &mut Text) -> Result<(), ViewEnd> {
         let nodes = set_up.names().len().min(64) as u8;
         self.tallies = Some(Tallies::new(self.alloc, nodes)?);
@@ -137,7 +137,7 @@ impl Table {
     }
 
     /// Puts a row.
-    fn put_row(self, sums: &Sums, row: &mut Row<'_>) {
+    fn put_row(self, sums: &Sums, row: &mut CountsRow<'_>) {
         match self {
             Table::Done => put_done(sums, row),
             Table::Symbols => put_symbols(sums, row),
@@ -165,7 +165,7 @@ fn put_table(tallies: &Tallies, set_up: &SetUp, out: &mut Text, table: Table) {
             if let Some(sums) = shown(tallies, set_up, port) {
                 put_name(out, set_up, port);
                 let heads = table.heads();
-                table.put_row(sums, &mut Row { out, heads });
+                table.put_row(sums, &mut CountsRow { out, heads });
                 out.put(b"\n");
             }
         }
@@ -218,12 +218,12 @@ fn put_name(out: &mut Text, set_up: &SetUp, port: PortRef) {
 
 /// The rest of a row: numbers below the heads that are left.
 #[derive(Drop)]
-struct Row<'a> {
+struct CountsRow<'a> {
     out: &'a mut Text,
     heads: &'a [&'a [u8]],
 }
 
-impl Row<'_> {
+impl CountsRow<'_> {
     /// Puts the next number.
     fn put(&mut self, number: u64) {
         let mut width = NAME;
@@ -244,7 +244,7 @@ impl Row<'_> {
 }
 
 /// What a port did.
-fn put_done(sums: &Sums, row: &mut Row<'_>) {
+fn put_done(sums: &Sums, row: &mut CountsRow<'_>) {
     row.put(sums.characters);
     row.put(sums.packets);
     row.put(sums.again());
@@ -259,7 +259,7 @@ fn put_done(sums: &Sums, row: &mut Row<'_>) {
 }
 
 /// The symbols that a port sent, by what they tell the sender and the receiver of packets.
-fn put_symbols(sums: &Sums, row: &mut Row<'_>) {
+fn put_symbols(sums: &Sums, row: &mut CountsRow<'_>) {
     let [
         accepted,
         retry,
@@ -289,7 +289,7 @@ fn put_symbols(sums: &Sums, row: &mut Row<'_>) {
 }
 
 /// The refusals that a port sent, by their causes.
-fn put_causes(sums: &Sums, row: &mut Row<'_>) {
+fn put_causes(sums: &Sums, row: &mut CountsRow<'_>) {
     let mut other = sum(&sums.causes);
     for cause in CAUSES {
         let count = sums.causes.get(cause).copied().unwrap_or(0);

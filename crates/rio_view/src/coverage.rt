@@ -5,8 +5,8 @@ use crate::entries::{COUNT, entries};
 use crate::fabric::{Ports, port_of};
 use crate::heard::Ear;
 use crate::reading::ViewEnd;
-use crate::shadow::{Came, Met, Shadow};
-use crate::status::Status;
+use crate::shadow::{Came, EntriesMet, Shadow};
+use crate::status::ViewStatus;
 use crate::text::Text;
 use crate::view::{Seen, View};
 use fabric_script::{Line, PortRef, SetUp};
@@ -27,7 +27,7 @@ pub(crate) struct Coverage {
     shadows: Ports<Option<Shadow>>,
     buffers: Ports<Option<u8>>,
     tells: Ports<bool>,
-    met: Met,
+    met: EntriesMet,
     alloc: Global,
 }
 
@@ -38,7 +38,7 @@ impl Coverage {
             shadows: Ports::new(alloc),
             buffers: Ports::new(alloc),
             tells: Ports::new(alloc),
-            met: Met { counts: [0; COUNT] },
+            met: EntriesMet { counts: [0; COUNT] },
             alloc,
         }
     }
@@ -122,7 +122,7 @@ impl Coverage {
     /// A port that follows the trace.
     fn add_port(&mut self, port: PortRef) -> Result<(), ViewEnd> {
         let Ok(made) = self.make_port(port) else {
-            return Err(ViewEnd::Ended(Status::NoMemory));
+            return Err(ViewEnd::Ended(ViewStatus::NoMemory));
         };
         if let Some(shadow) = self.shadows.get_mut(port) {
             *shadow = Some(Shadow {

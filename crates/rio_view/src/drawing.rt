@@ -3,8 +3,8 @@
 use crate::cells::Cells;
 use crate::heard::{Hear, Heard};
 use crate::ladder::Lane;
-use crate::packets::{Asked, put_sent_packet};
-use crate::picture::{Arrow, ArrowKind, Picture, Row};
+use crate::packets::{AskedRegisters, put_sent_packet};
+use crate::picture::{Arrow, ArrowKind, Picture, PictureRow};
 use crate::symbols::{bad_words, is_delimiter, put_brief_symbol};
 use crate::text::Text;
 use rio_chars::Char;
@@ -25,7 +25,7 @@ const SYMBOL: usize = 4;
 pub(crate) struct Draws<'a> {
     pub(crate) picture: &'a mut Picture,
     pub(crate) lane: &'a mut Lane,
-    pub(crate) asked: &'a mut Asked,
+    pub(crate) asked: &'a mut AskedRegisters,
     pub(crate) ends: (u32, u32),
     pub(crate) shown: bool,
     pub(crate) alloc: Global,
@@ -69,7 +69,7 @@ impl Draws<'_> {
         }
         let mut arrow = Arrow::new(self.alloc, kind, self.ends);
         arrow.label = label;
-        Ok(Some(self.picture.add(Row::Arrow(arrow))?))
+        Ok(Some(self.picture.add(PictureRow::Arrow(arrow))?))
     }
 
     /// A symbol, behind characters of the packet that it comes in or ends.
@@ -166,7 +166,7 @@ fn ends_packet(symbol: &Symbol) -> bool {
 pub(crate) struct Takes<'a> {
     pub(crate) wire: &'a mut Cells,
     pub(crate) asks: &'a mut bool,
-    pub(crate) asked: &'a mut Asked,
+    pub(crate) asked: &'a mut AskedRegisters,
     pub(crate) notes: &'a mut Vec<(Text, bool)>,
     pub(crate) alloc: Global,
 }

@@ -6,8 +6,8 @@ use crate::command::Range;
 use crate::drawing::{Draws, Takes};
 use crate::fabric::{Ports, links_of, peer_of, port_of, put_port};
 use crate::heard::{Ear, listen};
-use crate::packets::{Asked, put_packet};
-use crate::picture::{Arrow, ArrowKind, GAP, MARGIN, Mark, Picture, Row, WIDE};
+use crate::packets::{AskedRegisters, put_packet};
+use crate::picture::{Arrow, ArrowKind, GAP, MARGIN, Mark, Picture, PictureRow, WIDE};
 use crate::reading::ViewEnd;
 use crate::text::Text;
 use crate::view::{Seen, View};
@@ -45,7 +45,7 @@ impl Lane {
 
 /// A change of what stands on the wire of a port.
 #[derive(Clone, Copy)]
-enum Edit {
+enum WireChange {
     Alter(u32),
     Insert(u32),
     Erase(u32, u32),
@@ -61,9 +61,9 @@ pub(crate) struct Ladder {
     taking: Ports<Ear>,
     lanes: Ports<Lane>,
     /// An edit that is made unless the next line says that the wire is too short.
-    pending: Option<(PortRef, Edit)>,
+    pending: Option<(PortRef, WireChange)>,
     picture: Picture,
-    asked: Asked,
+    asked: AskedRegisters,
     alloc: Global,
 }
 
@@ -79,7 +79,7 @@ impl Ladder {
             lanes: Ports::new(alloc),
             pending: None,
             picture: Picture::new(alloc),
-            asked: Asked::new(alloc)?,
+            asked: AskedRegisters::new(alloc)?,
             alloc,
         })
     }
@@ -159,7 +159,8 @@ impl Ladder {
             text.put_number(u64::from(self.event));
             text.put(b"  ");
             text.put(seen.text.get(2..).unwrap_or(seen.text));
-            self.picture.add(Row::Band(text, self.pending.is_some()))?;
+            self.picture
+                .add(PictureRow::Band(text, self.pending.is_some()))?;
         }
         Ok(())
     }
@@ -176,20 +177,20 @@ impl Ladder {
     }
 
     /// Makes an edit.
-    fn edit(&mut self, port: PortRef, edit: Edit) -> Result<(), AllocError> {
+    fn edit(&mut self, port: PortRef, edit: WireChange) -> Result<(), AllocError> {
         let Some(lane) = self.lanes.get_mut(port) else {
             return Ok(());
         };
         match edit {
-            Edit::Alter(place) => {
+            WireChange::Alter(place) => {
                 let row = lane.wire.alter(place as usize);
                 self.picture.change(row);
             }
-            Edit::Insert(place) => {
+            WireChange::Insert(place) => {
                 let row = lane.wire.insert(place as usize)?;
                 self.picture.change(row);
             }
-            Edit::Erase(place, count) => {
+            WireChange::Erase(place, count) => {
                 for _ in 0..count {
                     let row = lane.wire.erase(place as usize);
                     self.picture.lose(row);
@@ -325,7 +326,7 @@ impl Ladder {
         let mut arrow = Arrow::new(self.alloc, ArrowKind::Inside, ends);
         arrow.label.put(b"move");
         self.put_tip(&mut arrow.tip, packet);
-        self.picture.add(Row::Arrow(arrow))?;
+        self.picture.add(PictureRow::Arrow(arrow))?;
         Ok(())
     }
 
@@ -370,7 +371,7 @@ impl Ladder {
         if let Some(packet) = packet {
             self.put_tip(&mut mark.tip, packet);
         }
-        self.picture.add(Row::Mark(mark))?;
+        self.picture.add(PictureRow::Mark(mark))?;
         Ok(())
     }
 
@@ -384,11 +385,11 @@ impl Ladder {
 }
 
 /// The edit that an event makes, and on the wire of which port.
-fn edit_of(line: &Line) -> Option<(PortRef, Edit)> {
+fn edit_of(line: &Line) -> Option<(PortRef, WireChange)> {
     match line {
-        Line::Alter { port, place, .. } => Some((*port, Edit::Alter(*place))),
-        Line::Insert { port, place, .. } => Some((*port, Edit::Insert(*place))),
-        Line::Erase { port, place, n } => Some((*port, Edit::Erase(*place, *n))),
+        Line::Alter { port, place, .. } => Some((*port, WireChange::Alter(*place))),
+        Line::Insert { port, place, .. } => Some((*port, WireChange::Insert(*place))),
+        Line::Erase { port, place, n } => Some((*port, WireChange::Erase(*place, *n))),
         _ => None,
     }
 }

@@ -2,7 +2,7 @@
 ghost use Rattle.std.specs.Prelude.{◌≡◌, ◌≤◌, length};
 
 use crate::reading::ViewEnd;
-use crate::status::Status;
+use crate::status::ViewStatus;
 use rio_chars::Source;
 use std::alloc::{AllocError, Global};
 
@@ -59,7 +59,7 @@ impl Lines {
             }
             self.fill(source)?;
         }
-        Err(ViewEnd::Ended(Status::TooLong))
+        Err(ViewEnd::Ended(ViewStatus::TooLong))
     }
 
     /// Takes the next line, and tells whether its line feed was read.
@@ -80,7 +80,7 @@ impl Lines {
     /// Tells that there is a line, unless it is too long.
     fn whole(&self) -> Result<bool, ViewEnd> {
         if self.stop - self.begin > MOST_LINE {
-            return Err(ViewEnd::Ended(Status::TooLong));
+            return Err(ViewEnd::Ended(ViewStatus::TooLong));
         }
         Ok(true)
     }
@@ -98,7 +98,7 @@ impl Lines {
     fn fill<S: Source>(&mut self, source: &mut S) -> Result<(), ViewEnd> {
         self.compact();
         if self.end > MOST_LINE {
-            return Err(ViewEnd::Ended(Status::TooLong));
+            return Err(ViewEnd::Ended(ViewStatus::TooLong));
         }
         if self.bytes.len() < self.end + PIECE {
             self.bytes.resize(self.end + PIECE, 0)?;

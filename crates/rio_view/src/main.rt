@@ -7,7 +7,7 @@
 //!
 //! - `run`: the whole program, over any source, sink and sink of messages; `main` gives it the
 //!   arguments and the standard streams, and does nothing more.
-//! - [`Command`]: what the words ask for; [`Status`]: how it ended.
+//! - [`ViewCommand`]: what the words ask for; [`ViewStatus`]: how it ended.
 //! - [`Tallies`]: what each port did, as [`Sums`] over the lines of a trace.
 //!
 //! If the system does not give the arguments, the status is 1 and nothing is written.
@@ -42,14 +42,14 @@ mod view;
 mod wave;
 mod words;
 
-pub use command::Command;
+pub use command::ViewCommand;
 pub use program::run;
 use rio_chars::{StdSink, StdSource};
-pub use status::{Status, status_number};
+pub use status::{ViewStatus, status_number};
 use std::process::ExitCode;
 use std::{env, io};
 pub use sums::{LineCounts, LineKind, Sums, TooMany};
-pub use tally::{Tallies, Tally};
+pub use tally::{PortTally, Tallies};
 
 fn main(rt: HostRuntime) -> ExitCode {
     let Ok(arguments) = arguments(&rt) else {

@@ -1,7 +1,7 @@
 //! What the program says of its end in words.
 
-use crate::reading::{Reason, Refusal, ViewEnd};
-use crate::status::Status;
+use crate::reading::{LineFault, RefusedLine, ViewEnd};
+use crate::status::ViewStatus;
 use rio_chars::{Sink, write_decimal, write_unless};
 
 /// How the program is used, on one line.
@@ -34,7 +34,7 @@ pub(crate) fn say<M: Sink>(messages: &mut M, end: &Result<(), ViewEnd>) {
 }
 
 /// Says which line is refused, and why.
-fn say_refusal<M: Sink>(messages: &mut M, refusal: &Refusal) {
+fn say_refusal<M: Sink>(messages: &mut M, refusal: &RefusedLine) {
     let mut digits = [0; 10];
     let begin = write_decimal(refusal.line, &mut digits);
     let failed = write_unless(false, messages, b"rio_view: line ");
@@ -44,13 +44,13 @@ fn say_refusal<M: Sink>(messages: &mut M, refusal: &Refusal) {
 }
 
 /// Why a line is refused.
-fn reason_text(reason: Reason) -> &'static [u8] {
+fn reason_text(reason: LineFault) -> &'static [u8] {
     match reason {
-        Reason::SetUp(number) => set_up_text(number),
-        Reason::NoTrace => b"no line --- stands behind the set-up lines\n",
-        Reason::NoForm => b"no line of a trace has this form\n",
-        Reason::Behind => b"a line stands behind the last line of the trace\n",
-        Reason::NoEnd => b"the trace has no last line: end, or undetected\n",
+        LineFault::SetUp(number) => set_up_text(number),
+        LineFault::NoTrace => b"no line --- stands behind the set-up lines\n",
+        LineFault::NoForm => b"no line of a trace has this form\n",
+        LineFault::Behind => b"a line stands behind the last line of the trace\n",
+        LineFault::NoEnd => b"the trace has no last line: end, or undetected\n",
     }
 }
 
@@ -74,13 +74,13 @@ fn set_up_text(number: u8) -> &'static [u8] {
 }
 
 /// What is said of a status that names no line.
-fn status_text(status: Status) -> &'static [u8] {
+fn status_text(status: ViewStatus) -> &'static [u8] {
     match status {
-        Status::Done | Status::Refused => b"\n",
-        Status::Words => USAGE,
-        Status::ReadFault => b"standard input cannot be read\n",
-        Status::WriteFault => b"standard output cannot be written\n",
-        Status::NoMemory => b"there is not enough memory\n",
-        Status::TooLong => b"a line, or all set-up lines, are longer than 4194304 bytes\n",
+        ViewStatus::Done | ViewStatus::Refused => b"\n",
+        ViewStatus::Words => USAGE,
+        ViewStatus::ReadFault => b"standard input cannot be read\n",
+        ViewStatus::WriteFault => b"standard output cannot be written\n",
+        ViewStatus::NoMemory => b"there is not enough memory\n",
+        ViewStatus::TooLong => b"a line, or all set-up lines, are longer than 4194304 bytes\n",
     }
 }

@@ -25,7 +25,7 @@ const PLACES: usize = 65_536;
 /// not name its register. Sources with 16-bit IDs of one low byte share places, and the last
 /// request stays.
 #[derive(Drop)]
-pub(crate) struct Asked {
+pub(crate) struct AskedRegisters {
     noted: Vec<Option<Noted>>,
 }
 
@@ -36,10 +36,10 @@ struct Noted {
     offset: u32,
 }
 
-impl Asked {
+impl AskedRegisters {
     /// No request was seen.
-    pub(crate) fn new(alloc: Global) -> Result<Asked, AllocError> {
-        Ok(Asked {
+    pub(crate) fn new(alloc: Global) -> Result<AskedRegisters, AllocError> {
+        Ok(AskedRegisters {
             noted: vec![in alloc; None; 2 * PLACES]?,
         })
     }
@@ -72,7 +72,7 @@ fn place_of(large: bool, source: u16, tid: u8) -> usize {
 }
 
 /// What a packet says, with its ackID in front if it has one.
-pub(crate) fn put_packet(out: &mut Text, asked: &mut Asked, packet: &Packet) {
+pub(crate) fn put_packet(out: &mut Text, asked: &mut AskedRegisters, packet: &Packet) {
     asked.note(packet);
     if let (Some(source), Some(dest)) = (packet.source(), packet.dest()) {
         put_ids(out, packet, source, dest);
@@ -104,7 +104,7 @@ fn put_priority(out: &mut Text, packet: &Packet) {
 }
 
 /// What a packet asks for, answers or has.
-fn put_body(out: &mut Text, asked: &Asked, packet: &Packet) {
+fn put_body(out: &mut Text, asked: &AskedRegisters, packet: &Packet) {
     if packet.hop().is_some() {
         put_maintenance(out, asked, packet);
     } else {
@@ -116,7 +116,12 @@ fn put_body(out: &mut Text, asked: &Asked, packet: &Packet) {
 }
 
 /// What a packet says that came with an ackID.
-pub(crate) fn put_sent_packet(out: &mut Text, asked: &mut Asked, ack: u8, packet: &Packet) {
+pub(crate) fn put_sent_packet(
+    out: &mut Text,
+    asked: &mut AskedRegisters,
+    ack: u8,
+    packet: &Packet,
+) {
     out.put(b"packet ");
     out.put_number(u64::from(ack));
     out.put(b": ");
@@ -124,7 +129,7 @@ pub(crate) fn put_sent_packet(out: &mut Text, asked: &mut Asked, ack: u8, packet
 }
 
 /// What a maintenance packet says.
-fn put_maintenance(out: &mut Text, asked: &Asked, packet: &Packet) {
+fn put_maintenance(out: &mut Text, asked: &AskedRegisters, packet: &Packet) {
     if let Some(request) = read_request(packet) {
         put_request(out, &request);
     } else if let Some(response) = read_response(packet) {
@@ -159,7 +164,7 @@ fn put_value(out: &mut Text, value: u32) {
 }
 
 /// What a response says, with the register that was asked for if its request was seen.
-fn put_response(out: &mut Text, asked: &Asked, response: &Response) {
+fn put_response(out: &mut Text, asked: &AskedRegisters, response: &Response) {
     out.put(if response.write {
         b"write-response "
     } else {

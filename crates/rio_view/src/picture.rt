@@ -106,7 +106,7 @@ pub(crate) struct Mark {
 
 /// A row of the picture.
 #[derive(Drop)]
-pub(crate) enum Row {
+pub(crate) enum PictureRow {
     /// An event of the script, and whether it edits a wire.
     Band(Text, bool),
     /// An arrow.
@@ -118,7 +118,7 @@ pub(crate) enum Row {
 /// The rows and the lifelines of a picture.
 #[derive(Drop)]
 pub(crate) struct Picture {
-    rows: Vec<Row>,
+    rows: Vec<PictureRow>,
     lives: Vec<(u32, Text)>,
 }
 
@@ -138,7 +138,7 @@ impl Picture {
     }
 
     /// A row below the others, and its number.
-    pub(crate) fn add(&mut self, row: Row) -> Result<usize, AllocError> {
+    pub(crate) fn add(&mut self, row: PictureRow) -> Result<usize, AllocError> {
         let number = self.rows.len();
         self.rows.push(row)?;
         Ok(number)
@@ -147,7 +147,7 @@ impl Picture {
     /// The arrow of this row, if it is one.
     pub(crate) fn arrow(&mut self, number: usize) -> Option<&mut Arrow> {
         match self.rows.get_mut(number) {
-            Some(Row::Arrow(arrow)) => Some(arrow),
+            Some(PictureRow::Arrow(arrow)) => Some(arrow),
             _ => None,
         }
     }
@@ -168,7 +168,7 @@ impl Picture {
 
     /// Puts words behind the event of the last row, if it is one.
     pub(crate) fn add_to_band(&mut self, words: &[u8]) {
-        if let Some(Row::Band(text, _)) = self.rows.last_mut() {
+        if let Some(PictureRow::Band(text, _)) = self.rows.last_mut() {
             text.put(words);
         }
     }
@@ -198,13 +198,13 @@ impl Picture {
     }
 }
 
-impl Row {
+impl PictureRow {
     /// The row, from this height on.
     fn draw(&self, out: &mut Text, wide: u64, at: u64) {
         match self {
-            Row::Band(text, edit) => draw_band(out, wide, at, text, *edit),
-            Row::Arrow(arrow) => arrow.draw(out, at.saturating_add(HIGH / 2 + 6)),
-            Row::Mark(mark) => mark.draw(out, at.saturating_add(HIGH / 2)),
+            PictureRow::Band(text, edit) => draw_band(out, wide, at, text, *edit),
+            PictureRow::Arrow(arrow) => arrow.draw(out, at.saturating_add(HIGH / 2 + 6)),
+            PictureRow::Mark(mark) => mark.draw(out, at.saturating_add(HIGH / 2)),
         }
     }
 }

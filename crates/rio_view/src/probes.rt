@@ -109,9 +109,9 @@ impl Probe {
     }
 
     /// A character comes, and what it completes is answered.
-    fn take(&mut self, c: Char, pen: &mut Pen<'_>) -> Result<Completed, AllocError> {
+    fn take(&mut self, c: Char, pen: &mut Pen<'_>) -> Result<Completions, AllocError> {
         self.show(Some(c), pen);
-        let mut completed = Completed::default();
+        let mut completed = Completions::default();
         listen(&mut self.ear, &[c], &mut completed)?;
         let reads = self.reads_of(c, &completed);
         self.read(reads, pen);
@@ -125,7 +125,7 @@ impl Probe {
     }
 
     /// What is read at a character.
-    fn reads_of(&mut self, c: Char, completed: &Completed) -> Reads {
+    fn reads_of(&mut self, c: Char, completed: &Completions) -> Reads {
         if completed.is_bad {
             self.left = 0;
             return Reads::Bad;
@@ -160,14 +160,14 @@ impl Probe {
 
 /// What a character completes.
 #[derive(Default, Drop)]
-struct Completed {
+struct Completions {
     symbol: Option<Symbol>,
     ack: Option<u8>,
     is_packet: bool,
     is_bad: bool,
 }
 
-impl Hear for Completed {
+impl Hear for Completions {
     fn hear(&mut self, _: &[Char], heard: &Heard) -> Result<(), AllocError> {
         match heard {
             Heard::Nothing => {}
@@ -203,7 +203,7 @@ pub(crate) enum Change {
 
 /// The signals of a port.
 #[derive(Default, Drop)]
-pub(crate) struct Station {
+pub(crate) struct PortSignals {
     sending: Probe,
     taking: Probe,
     first: u32,
@@ -216,7 +216,7 @@ pub(crate) struct Station {
     fires: u64,
 }
 
-impl Station {
+impl PortSignals {
     /// Declares the signals, from this number on, and answers the number behind them.
     pub(crate) fn declare(&mut self, first: u32, out: &mut Text) -> u32 {
         self.sending.declare(first, b"sent", out);

@@ -1,15 +1,15 @@
 //! The whole program, but for where its words and its streams come from.
 
 use crate::capture::Capture;
-use crate::command::{Command, Range, command_of};
-use crate::counts::Counts;
+use crate::command::{Range, ViewCommand, command_of};
+use crate::counts::CountsView;
 use crate::coverage::Coverage;
 use crate::ladder::Ladder;
 use crate::messages::{HELP, say};
 use crate::reading::{ViewEnd, show};
-use crate::status::{Status, status_number};
+use crate::status::{ViewStatus, status_number};
 use crate::wave::Wave;
-use crate::words::Words;
+use crate::words::WordsView;
 use rio_chars::{Sink, Source, write_all};
 use std::alloc::Global;
 
@@ -44,27 +44,27 @@ fn view_words<S: Source, K: Sink>(
     };
     match command {
         Some(command) => view(alloc, command, source, sink),
-        None => Err(ViewEnd::Ended(Status::Words)),
+        None => Err(ViewEnd::Ended(ViewStatus::Words)),
     }
 }
 
 /// Writes a view of what is read.
 fn view<S: Source, K: Sink>(
     alloc: Global,
-    command: Command,
+    command: ViewCommand,
     source: &mut S,
     sink: &mut K,
 ) -> Result<(), ViewEnd> {
     match command {
-        Command::Words { flow } => show_words(alloc, flow, source, sink),
-        Command::Counts => show(alloc, Counts::new(alloc), source, sink),
-        Command::Ladder(range) => show_ladder(alloc, range, source, sink),
-        Command::Wave => show(alloc, Wave::new(alloc), source, sink),
-        Command::Packets => show(alloc, Capture::new(alloc), source, sink),
-        Command::Coverage => show(alloc, Coverage::new(alloc), source, sink),
-        Command::Help => match write_all(sink, HELP) {
+        ViewCommand::Words { flow } => show_words(alloc, flow, source, sink),
+        ViewCommand::Counts => show(alloc, CountsView::new(alloc), source, sink),
+        ViewCommand::Ladder(range) => show_ladder(alloc, range, source, sink),
+        ViewCommand::Wave => show(alloc, Wave::new(alloc), source, sink),
+        ViewCommand::Packets => show(alloc, Capture::new(alloc), source, sink),
+        ViewCommand::Coverage => show(alloc, Coverage::new(alloc), source, sink),
+        ViewCommand::Help => match write_all(sink, HELP) {
             Ok(()) => Ok(()),
-            Err(_) => Err(ViewEnd::Ended(Status::WriteFault)),
+            Err(_) => Err(ViewEnd::Ended(ViewStatus::WriteFault)),
         },
     }
 }
@@ -76,7 +76,7 @@ fn show_words<S: Source, K: Sink>(
     source: &mut S,
     sink: &mut K,
 ) -> Result<(), ViewEnd> {
-    show(alloc, Words::new(alloc, flow)?, source, sink)
+    show(alloc, WordsView::new(alloc, flow)?, source, sink)
 }
 
 /// Writes what is read as a ladder.

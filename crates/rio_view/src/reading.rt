@@ -3,7 +3,7 @@ ghost use Rattle.std.specs.Prelude.{IfOk};
 ghost use Rattle.fabric_script.specs.SetUps.{KnownIsReady};
 
 use crate::lines::{Lines, MOST_LINE};
-use crate::status::Status;
+use crate::status::ViewStatus;
 use crate::text::Text;
 use crate::view::{Seen, View};
 use fabric_script::{ScriptEnd, SetUp, read_set_up};
@@ -19,7 +19,7 @@ const ROOM: usize = 65_536;
 
 /// Why a line is refused.
 #[derive(Clone, Copy)]
-pub(crate) enum Reason {
+pub(crate) enum LineFault {
     /// A set-up line is refused, for the reason of this number.
     SetUp(u8),
     /// No line `---` comes.
@@ -34,25 +34,25 @@ pub(crate) enum Reason {
 
 /// The line that is refused, and why.
 #[derive(Clone, Copy)]
-pub(crate) struct Refusal {
+pub(crate) struct RefusedLine {
     pub(crate) line: u32,
-    pub(crate) reason: Reason,
+    pub(crate) reason: LineFault,
 }
 
 /// Why there is no whole view.
 #[derive(Clone, Copy)]
 pub(crate) enum ViewEnd {
     /// A line of the input is refused.
-    Refused(Refusal),
+    Refused(RefusedLine),
     /// For another reason.
-    Ended(Status),
+    Ended(ViewStatus),
 }
 
 impl ViewEnd {
     /// How the program ends.
-    pub(crate) fn status(self) -> Status {
+    pub(crate) fn status(self) -> ViewStatus {
         match self {
-            ViewEnd::Refused(_) => Status::Refused,
+            ViewEnd::Refused(_) => ViewStatus::Refused,
             ViewEnd::Ended(status) => status,
         }
     }
@@ -60,25 +60,25 @@ impl ViewEnd {
 
 impl From<AllocError> for ViewEnd {
     fn from(_: AllocError) -> Self {
-        ViewEnd::Ended(Status::NoMemory)
+        ViewEnd::Ended(ViewStatus::NoMemory)
     }
 }
 
 impl<T: Drop> From<AllocFailed<T>> for ViewEnd {
     fn from(_: AllocFailed<T>) -> Self {
-        ViewEnd::Ended(Status::NoMemory)
+        ViewEnd::Ended(ViewStatus::NoMemory)
     }
 }
 
 impl From<Failed> for ViewEnd {
     fn from(_: Failed) -> Self {
-        ViewEnd::Ended(Status::ReadFault)
+        ViewEnd::Ended(ViewStatus::ReadFault)
     }
 }
 
 /// A line is refused.
-fn refused<T>(line: u32, reason: Reason) -> Result<T, ViewEnd> {
-    Err(ViewEnd::Refused(Refusal { line, reason }))
+fn refused<T>(line: u32, reason: LineFault) -> Result<T, ViewEnd> {
+    Err(ViewEnd::Refused(RefusedLine { line, reason }))
 }
 
 /// Reads set-up lines, a line `---` and a trace, and writes a view of it, in pieces of kilobytes.
@@ -139,20 +139,20 @@ impl<V: View> Showing<V> {
                 return end_before(number, is_done);
             }
             if is_done {
-                return refused(number, Reason::Behind);
+                return refused(number, LineFault::Behind);
             }
             is_done = self.show_line(number, lines.line())?;
             make_room(&mut self.out, sink)?;
         }
-        Err(ViewEnd::Ended(Status::TooLong))
+        Err(ViewEnd::Ended(ViewStatus::TooLong))
     }
 
     /// Shows a line, and tells whether it is the last one.
     fn show_line(&mut self, number: u32, text: &[u8]) -> Result<bool, ViewEnd> {
         let line = match read_trace_line(self.alloc, &self.set_up, text) {
             Ok(line) => line,
-            Err(TraceLineEnd::NoForm) => return refused(number, Reason::NoForm),
-            Err(TraceLineEnd::NoMemory) => return Err(ViewEnd::Ended(Status::NoMemory)),
+            Err(TraceLineEnd::NoForm) => return refused(number, LineFault::NoForm),
+            Err(TraceLineEnd::NoMemory) => return Err(ViewEnd::Ended(ViewStatus::NoMemory)),
         };
         let seen = Seen {
             set_up: &self.set_up,
@@ -179,7 +179,7 @@ fn read_front<S: Source>(
     if is_between {
         Ok((set_up, number))
     } else {
-        refused(number, Reason::NoTrace)
+        refused(number, LineFault::NoTrace)
     }
 }
 
@@ -199,13 +199,13 @@ fn read_script<S: Source>(
         }
         add_line(script, lines.line())?;
     }
-    Err(ViewEnd::Ended(Status::TooLong))
+    Err(ViewEnd::Ended(ViewStatus::TooLong))
 }
 
 /// Adds a set-up line, unless those before it are too long.
 fn add_line(script: &mut Vec<u8>, text: &[u8]) -> Result<(), ViewEnd> {
     if script.len() > MOST_LINE {
-        return Err(ViewEnd::Ended(Status::TooLong));
+        return Err(ViewEnd::Ended(ViewStatus::TooLong));
     }
     script.extend_from_slice(text)?;
     script.push(b'\n')?;
@@ -217,12 +217,12 @@ fn set_up_of(alloc: Global, script: &[u8]) -> Result<SetUp, ViewEnd>
     ensures { IfOk result (λ set_up. KnownIsReady set_up.known) }
 {
     if script.len() > MOST_LINE {
-        return Err(ViewEnd::Ended(Status::TooLong));
+        return Err(ViewEnd::Ended(ViewStatus::TooLong));
     }
     match read_set_up(alloc, script) {
         Ok(set_up) => Ok(set_up),
-        Err(ScriptEnd::Refused(refusal)) => refused(refusal.line, Reason::SetUp(refusal.reason)),
-        Err(ScriptEnd::NoMemory) => Err(ViewEnd::Ended(Status::NoMemory)),
+        Err(ScriptEnd::Refused(refusal)) => refused(refusal.line, LineFault::SetUp(refusal.reason)),
+        Err(ScriptEnd::NoMemory) => Err(ViewEnd::Ended(ViewStatus::NoMemory)),
     }
 }
 
@@ -231,7 +231,7 @@ fn end_before(number: u32, is_done: bool) -> Result<(), ViewEnd> {
     if is_done {
         Ok(())
     } else {
-        refused(number, Reason::NoEnd)
+        refused(number, LineFault::NoEnd)
     }
 }
 
@@ -246,10 +246,10 @@ fn make_room<K: Sink>(out: &mut Text, sink: &mut K) -> Result<(), ViewEnd> {
 /// Writes what waits.
 fn write_out<K: Sink>(out: &mut Text, sink: &mut K) -> Result<(), ViewEnd> {
     if out.failed() {
-        return Err(ViewEnd::Ended(Status::NoMemory));
+        return Err(ViewEnd::Ended(ViewStatus::NoMemory));
     }
     if write_all(sink, out.as_slice()).is_err() {
-        return Err(ViewEnd::Ended(Status::WriteFault));
+        return Err(ViewEnd::Ended(ViewStatus::WriteFault));
     }
     out.clear();
     Ok(())

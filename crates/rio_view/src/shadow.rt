@@ -14,11 +14,11 @@ use std::alloc::AllocError;
 
 /// How often each entry was met.
 #[derive(Drop)]
-pub(crate) struct Met {
+pub(crate) struct EntriesMet {
     pub(crate) counts: [u64; COUNT],
 }
 
-impl Met {
+impl EntriesMet {
     /// An entry is met.
     fn meet(&mut self, entry: usize) {
         if let Some(count) = self.counts.get_mut(entry) {
@@ -62,7 +62,11 @@ struct Before {
 
 impl Shadow {
     /// The port does what a line says.
-    pub(crate) fn follow(&mut self, came: &Came<'_>, met: &mut Met) -> Result<(), AllocError> {
+    pub(crate) fn follow(
+        &mut self,
+        came: &Came<'_>,
+        met: &mut EntriesMet,
+    ) -> Result<(), AllocError> {
         match *came {
             Came::Sent(chars) => self.send(chars, met)?,
             Came::Got(chars) => self.get(chars, met),
@@ -82,7 +86,7 @@ impl Shadow {
     }
 
     /// The port takes characters.
-    fn get(&mut self, chars: &[Char], met: &mut Met) {
+    fn get(&mut self, chars: &[Char], met: &mut EntriesMet) {
         for c in chars {
             let before = self.states();
             let mut freed = ArrayVec::new();
@@ -92,7 +96,7 @@ impl Shadow {
     }
 
     /// Notes what the last character did.
-    fn note(&self, before: Before, taken: &Taken, met: &mut Met) {
+    fn note(&self, before: Before, taken: &Taken, met: &mut EntriesMet) {
         match &taken.first {
             None => {}
             Some(Event::Ctl(symbol)) => self.note_symbol(before, symbol, met),
@@ -105,14 +109,14 @@ impl Shadow {
     }
 
     /// Notes a symbol. One that ends a packet does nothing in the input half.
-    fn note_symbol(&self, before: Before, symbol: &Symbol, met: &mut Met) {
+    fn note_symbol(&self, before: Before, symbol: &Symbol, met: &mut EntriesMet) {
         let behind = self.port.out_kind();
         met.meet(of_sender(before.output, before.asked, symbol.s0, behind));
         met.meet(of_receiver(before.input, symbol));
     }
 
     /// The port sends characters.
-    fn send(&mut self, chars: &[Char], met: &mut Met) -> Result<(), AllocError> {
+    fn send(&mut self, chars: &[Char], met: &mut EntriesMet) -> Result<(), AllocError> {
         let mut turns = Turns {
             port: &mut self.port,
             met,
@@ -121,7 +125,7 @@ impl Shadow {
     }
 
     /// The time-out fires.
-    fn fire(&mut self, met: &mut Met) {
+    fn fire(&mut self, met: &mut EntriesMet) {
         met.meet(of_time_out(self.port.out_kind()));
         self.port.time_out();
     }
@@ -137,7 +141,7 @@ impl Shadow {
 #[derive(Drop)]
 struct Turns<'a> {
     port: &'a mut Port,
-    met: &'a mut Met,
+    met: &'a mut EntriesMet,
 }
 
 impl Hear for Turns<'_> {

@@ -2,7 +2,7 @@
 
 /// How the program ended. The numbers are those of `rio`.
 #[derive(Clone, Copy)]
-pub enum Status {
+pub enum ViewStatus {
     /// The whole view was written.
     Done,
     /// The words ask for no view.
@@ -20,14 +20,14 @@ pub enum Status {
 }
 
 /// The exit status of the program.
-pub fn status_number(status: Status) -> u8 {
+pub fn status_number(status: ViewStatus) -> u8 {
     match status {
-        Status::Done => 0,
-        Status::Words => 2,
-        Status::Refused => 3,
-        Status::ReadFault => 4,
-        Status::WriteFault => 5,
-        Status::NoMemory => 6,
-        Status::TooLong => 8,
+        ViewStatus::Done => 0,
+        ViewStatus::Words => 2,
+        ViewStatus::Refused => 3,
+        ViewStatus::ReadFault => 4,
+        ViewStatus::WriteFault => 5,
+        ViewStatus::NoMemory => 6,
+        ViewStatus::TooLong => 8,
     }
 }

@@ -6,7 +6,7 @@ ghost use Rattle.rio_framer.specs.Giving.{listed, events_by};
 ghost use Rattle.rio_view.specs.Sums.{kind_raised, noted, noted_all, packet_counted, no_sums};
 
 use crate::reading::ViewEnd;
-use crate::status::Status;
+use crate::status::ViewStatus;
 use rio_framer::{Framer, Told};
 use rio_symbols::Symbol;
 use rio_symbols::stype0::PACKET_NOT_ACCEPTED;
@@ -17,7 +17,7 @@ pub struct TooMany;
 
 impl From<TooMany> for ViewEnd {
     fn from(_: TooMany) -> Self {
-        ViewEnd::Ended(Status::TooLong)
+        ViewEnd::Ended(ViewStatus::TooLong)
     }
 }
 

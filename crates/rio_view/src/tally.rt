@@ -15,12 +15,12 @@ use trace_lines::{NetworkStep, TraceLine};
 
 /// What a port did, and where the reading of what it sends is.
 #[derive(Drop)]
-pub struct Tally {
+pub struct PortTally {
     framer: Framer,
     sums: Sums,
 }
 
-impl Model for Tally {
+impl Model for PortTally {
     ghost use Rattle.rio_view.specs.Sums.{PortCounts};
 
     ghost Value = { PortCounts };
@@ -28,12 +28,12 @@ impl Model for Tally {
     ghost view = { λ t. record { place = t.framer.place; sums = t.sums } };
 }
 
-impl Tally {
+impl PortTally {
     /// Nothing was done.
-    fn new() -> Tally
+    fn new() -> PortTally
         ensures { result ≡ nothing_done }
     {
-        Tally {
+        PortTally {
             framer: Framer::new(),
             sums: Sums::new(),
         }
@@ -71,7 +71,7 @@ impl Tally {
 /// What each port did.
 #[derive(Drop)]
 pub struct Tallies {
-    items: Vec<Tally>,
+    items: Vec<PortTally>,
 }
 
 impl Model for Tallies {
@@ -90,13 +90,13 @@ impl Tallies {
     {
         let mut items = Vec::new(alloc);
         for _ in 0..16 * usize::from(nodes) {
-            items.push(Tally::new())?;
+            items.push(PortTally::new())?;
         }
         Ok(Tallies { items })
     }
 
     /// What a port did, if it is one of these.
-    pub fn get(&self, port: PortRef) -> Option<&Tally>
+    pub fn get(&self, port: PortRef) -> Option<&PortTally>
         ensures { option_copied result ≡ slice_get self.now (count_place port) }
     {
         self.items.get(place_of(port))

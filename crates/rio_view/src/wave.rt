@@ -3,7 +3,7 @@
 
 use crate::fabric::{Ports, links_of, port_of, put_port};
 use crate::pen::Pen;
-use crate::probes::{Change, Station};
+use crate::probes::{Change, PortSignals};
 use crate::reading::ViewEnd;
 use crate::text::Text;
 use crate::view::{Seen, View};
@@ -19,7 +19,7 @@ $scope module links $end\n";
 /// A wave in the making.
 #[derive(Drop)]
 pub(crate) struct Wave {
-    stations: Ports<Station>,
+    stations: Ports<PortSignals>,
     links: Vec<(PortRef, PortRef)>,
     time: u64,
     /// The moment of the last change.

@@ -2,7 +2,7 @@
 
 use crate::fabric::{Ports, links_of, peer_of, put_node, put_port};
 use crate::heard::{Ear, Hear, Heard, listen};
-use crate::packets::{Asked, put_packet, put_sent_packet};
+use crate::packets::{AskedRegisters, put_packet, put_sent_packet};
 use crate::reading::ViewEnd;
 use crate::symbols::{bad_words, is_delimiter, put_brief_symbol, put_symbol};
 use crate::text::Text;
@@ -17,30 +17,30 @@ use trace_lines::{Lack, NetworkStep, TraceLine};
 
 /// A trace in words.
 #[derive(Drop)]
-pub(crate) struct Words {
+pub(crate) struct WordsView {
     flow: bool,
     sending: Ports<Ear>,
     taking: Ports<Ear>,
     links: Vec<(PortRef, PortRef)>,
-    asked: Asked,
+    asked: AskedRegisters,
     alloc: Global,
 }
 
-impl Words {
+impl WordsView {
     /// Nothing was read. With `flow`, one line is written for each transfer.
-    pub(crate) fn new(alloc: Global, flow: bool) -> Result<Words, AllocError> {
-        Ok(Words {
+    pub(crate) fn new(alloc: Global, flow: bool) -> Result<WordsView, AllocError> {
+        Ok(WordsView {
             flow,
             sending: Ports::new(alloc),
             taking: Ports::new(alloc),
             links: Vec::new(alloc),
-            asked: Asked::new(alloc)?,
+            asked: AskedRegisters::new(alloc)?,
             alloc,
         })
     }
 }
 
-impl View for Words {
+impl View for WordsView {
     fn begin(&mut self, set_up: &SetUp, _: &mut Text) -> Result<(), ViewEnd> {
         self.sending.fill(set_up.names().len())?;
         self.taking.fill(set_up.names().len())?;
@@ -62,7 +62,7 @@ impl View for Words {
     }
 }
 
-impl Words {
+impl WordsView {
     /// The line, and its words behind it if it has any.
     fn put_whole(&mut self, seen: &Seen<'_>, out: &mut Text) -> Result<(), AllocError> {
         out.put(seen.text);
@@ -223,7 +223,7 @@ impl Words {
 /// What characters say, behind a line.
 fn put_chars(
     out: &mut Text,
-    asked: &mut Asked,
+    asked: &mut AskedRegisters,
     ear: Option<&mut Ear>,
     chars: &[Char],
 ) -> Result<(), AllocError> {
@@ -247,7 +247,7 @@ fn put_chars(
 #[derive(Drop)]
 struct Behind<'a> {
     out: &'a mut Text,
-    asked: &'a mut Asked,
+    asked: &'a mut AskedRegisters,
     parting: &'static [u8],
 }
 
@@ -296,7 +296,7 @@ impl Hear for Behind<'_> {
 #[derive(Drop)]
 struct Transfers<'a> {
     out: &'a mut Text,
-    asked: &'a mut Asked,
+    asked: &'a mut AskedRegisters,
     set_up: &'a SetUp,
     port: PortRef,
     peer: Option<PortRef>,
@@ -390,7 +390,7 @@ fn put_lack(out: &mut Text, lack: Lack) {
 }
 
 /// What an event says.
-pub(crate) fn put_event(out: &mut Text, asked: &mut Asked, event: &Event) {
+pub(crate) fn put_event(out: &mut Text, asked: &mut AskedRegisters, event: &Event) {
     match event {
         Event::Ctl(symbol) => put_symbol(out, symbol),
         Event::Pkt(ack, packet) => put_sent_packet(out, asked, *ack, packet),

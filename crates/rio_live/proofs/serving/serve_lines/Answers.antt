@@ -1,5 +1,5 @@
 use Rattle.std.proofs.Common.{◌≡◌, ◌+◌, ◌-◌, ◌^◌, refl, sym, ◌∙◌, arith}
-use Rattle.rio_live.specs.declared.answers.Going.TheVariants as Goings
+use Rattle.rio_live.specs.declared.answers.AfterLine.TheVariants as Goings
 use Rattle.rio_live.specs.Lines.{Taken}
 use Rattle.rio_live.specs.Holding.{LiveHolds}
 use Rattle.rio_live.specs.Answers.{LineAnswered}

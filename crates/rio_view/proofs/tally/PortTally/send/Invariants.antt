@@ -2,7 +2,7 @@ use Rattle.std.proofs.Common.{◌≡◌, length}
 use Rattle.link_model.specs.Places.{place_after}
 use Rattle.link_model.specs.Said.{said}
 use Rattle.rio_view.specs.Sums.{noted_all}
-use Rattle.rio_view.proofs.tally.Tally.send.Given as goal
+use Rattle.rio_view.proofs.tally.PortTally.send.Given as goal
 
 abbrev pub invariant-loop-left : goal.invariant-loop-left
 invariant-loop-left l =

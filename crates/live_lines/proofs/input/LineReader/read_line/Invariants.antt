@@ -1,7 +1,7 @@
 use Rattle.std.proofs.Common.{◌≡◌, ◌≤◌, ◌-◌, ◌++◌, ℕ, List, length}
 use Rattle.std.specs.Io.KnownBytes.{Consumes}
 use Rattle.live_lines.specs.Lines.{HasNoFeed}
-use Rattle.live_lines.proofs.input.Input.read_line.Given as goal
+use Rattle.live_lines.proofs.input.LineReader.read_line.Given as goal
 
 abbrev pub invariant-loop-self : goal.invariant-loop-self
 invariant-loop-self g l = record {

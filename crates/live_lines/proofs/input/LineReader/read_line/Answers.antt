@@ -1,7 +1,7 @@
 use Rattle.std.proofs.Common.{◌≡◌, ◌≢◌, ◌∷◌, [], length, length-append, ◌∙◌, arith}
 use Rattle.std.proofs.lemmas.List.Elements.{All-push}
 use Rattle.live_lines.proofs.InputLaws.{taken_more, long_line}
-use Rattle.live_lines.proofs.input.Input.read_line.Goals as goal
+use Rattle.live_lines.proofs.input.LineReader.read_line.Goals as goal
 
 pub returns-then-byte-eq10-clause-read : goal.returns-then-byte-eq10-clause-read
 returns-then-byte-eq10-clause-read g c =

@@ -4,7 +4,7 @@ use Rattle.link_model.specs.Said.{said}
 use Rattle.rio_view.specs.declared.sums.Sums.{Sums}
 use Rattle.rio_view.specs.Sums.{PortCounts, noted_all, sent}
 use Rattle.rio_view.proofs.SumsLaws.{sums-front, stands-read, sums-end, counts}
-use Rattle.rio_view.proofs.tally.Tally.send.Goals as goal
+use Rattle.rio_view.proofs.tally.PortTally.send.Goals as goal
 
 pub loop-left-init : goal.loop-left-init
 loop-left-init c = (refl, refl)
