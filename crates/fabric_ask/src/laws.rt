@@ -89,3 +89,11 @@ pub fn without_edits_nothing_is_undetected()
         → s.undetected ≡ None → AreQuiet s.network.links s → IsAsk host request [] s lines
         → (seen s lines).undetected ≡ None }
 {}
+
+/// A request has one device from which its response comes back, whatever edits the wires meet.
+pub fn an_ask_has_one_trip()
+    ensures { (registers : List Registers) (links : List (PortRef × PortRef)) (host : ℕ)
+        (request : Request) (at other : PortRef)
+        → IsRoundTrip registers links host request at → IsRoundTrip registers links host request other
+        → at ≡ other }
+{}

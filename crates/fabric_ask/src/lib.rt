@@ -15,6 +15,6 @@
 mod laws;
 
 pub use laws::{
-    a_host_has_its_own_registers, a_round_carries_the_packet, asks_are_answered, asks_have_lines,
-    without_edits_nothing_is_undetected,
+    a_host_has_its_own_registers, a_round_carries_the_packet, an_ask_has_one_trip,
+    asks_are_answered, asks_have_lines, without_edits_nothing_is_undetected,
 };

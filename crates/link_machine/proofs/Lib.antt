@@ -5,5 +5,7 @@ pub mod Telling
 pub mod Turning
 pub mod Machine
 pub mod Serving
+pub mod Reversed
+pub mod InTime
 pub mod Ways
 pub mod Settling

@@ -13,3 +13,4 @@ pub mod Settling
 pub mod Rest
 pub mod Counts
 pub mod Calm
+pub mod InTime

@@ -1,5 +1,8 @@
 //! The law of a link, of its states alone. The calls do nothing: their clauses are the laws.
 ghost use Rattle.std.specs.Prelude.{◌≡◌, ◌≢◌, ◌<◌, ℕ, Bool, List, None};
+ghost use Rattle.link_sound.specs.InTime.{IsToldInTime};
+ghost use Rattle.link_machine.specs.InTime.{ends_of_link, RoomAhead, TellsTruly, NoRetries};
+ghost use Rattle.link_wires.specs.Deliveries.{told_of};
 ghost use Rattle.link_buffers.specs.Queues.{appended, popped};
 ghost use Rattle.link_model.specs.Output as out;
 ghost use Rattle.link_port.specs.Ports.{PortState, IsPort, AreAlike, new_port};
@@ -96,4 +99,19 @@ pub fn no_sender_fails()
 pub fn no_sender_fails_within_a_delivery()
     ensures { (from : Side) (count events : ℕ) (s : LinkState) → IsSoundLink s
         → (reached_within from count events s).output ≢ out.Output.Failed }
+{}
+
+/// If a port of a sound link tells its free buffers, and a report of it reached its peer before that
+/// started a packet, the packets of the peer find room, whatever calls and layers follow, up to the
+/// first event that was not sent. Nothing that comes to the port is answered with packet-retry then,
+/// also within a delivery that ends with such an event.
+pub fn told_in_time_means_no_retry()
+    ensures begins { (peer : Side) (s : LinkState) → IsToldInTime (ends_of_link (from_end peer s))
+        → RoomAhead (from_end peer s) }
+    ensures runs { (peer : Side) (s end : LinkState) (notes : List Note) → IsRun s notes end
+        → IsSoundLink s → RoomAhead (from_end peer s) → RoomAhead (from_end peer end) }
+    ensures told { (peer : Side) (s end : LinkState) (notes : List Note) → IsRun s notes end
+        → IsSoundLink s → TellsTruly (from_end peer s) → TellsTruly (from_end peer end) }
+    ensures answers { (peer : Side) (count : ℕ) (s : LinkState) → IsSoundLink s
+        → RoomAhead (from_end peer s) → NoRetries (told_of (delivery_from peer count s)).replies }
 {}

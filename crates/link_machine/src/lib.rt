@@ -44,7 +44,7 @@ mod rest_laws;
 pub use laws::{
     calls_keep_it, deliveries_hold_and_free_in_order, links_begin_sound, no_sender_fails,
     no_sender_fails_within_a_delivery, nothing_else_moves, puts_and_takes_serve, runs_keep_it,
-    the_layer_above_keeps_it,
+    the_layer_above_keeps_it, told_in_time_means_no_retry,
 };
 pub use rest_laws::{
     answers_have_no_answer, drains_end, each_side_fires_once, nothing_undetected_without_an_edit,

@@ -52,6 +52,14 @@ unstarted_room total least next (ForwardRequest ∷ kept) none =
 unstarted_room total least next (Forward.Other ∷ kept) none =
     unstarted_room total least next kept none.1
 
+-- wherever the receiver stands that waits for no restart-from-retry
+unstarted_at : (r : Receiver) (total held next : ℕ) (kept : List Forward)
+    → r ≢ ReceiverRetryStopped → Lacks is_packet kept → HaveRoomAt r total held next kept
+unstarted_at ReceiverOk total held next kept stands none =
+    unstarted_room total held next kept none
+unstarted_at ReceiverRetryStopped total held next kept stands none = absurd (stands refl)
+unstarted_at ReceiverErrorStopped total held next kept stands none = tt
+
 -- a port that was told in time
 pub room_in_time : (l : Link) → IsToldInTime l → FindsRoom l.a l.b l.kept_a l.kept_b
 room_in_time l is = record {
@@ -61,11 +69,9 @@ room_in_time l is = record {
   counted = is.told.counted;
   report = is.report;
   room =
-      subst (λ (r : Receiver). HaveRoomAt r (free_buffers l.b.received + is.told.held)
-      is.told.held (is.told.freed + length (prios_of l.a.output)) (map forward l.kept_a))
-      (sym is.takes)
-      (unstarted_room (free_buffers l.b.received + is.told.held) is.told.held
-      (is.told.freed + length (prios_of l.a.output)) (map forward l.kept_a) is.none_comes);
+      unstarted_at (receiver_of l.b.input) (free_buffers l.b.received + is.told.held) is.told.held
+      (is.told.freed + length (prios_of l.a.output)) (map forward l.kept_a) is.takes
+      is.none_comes;
 }
 
 end_in_time : (l end : Link) (history : IsHistory l end) → LeaveRoom history → IsToldInTime l
@@ -80,7 +86,7 @@ find_open ReceiverOk total held next kept find is = absurd cc
 find_open ReceiverRetryStopped total held next kept find is = find
 find_open ReceiverErrorStopped total held next kept find is = absurd cc
 
-known_open : (a b : PortState) (kept_a kept_b : List Event) → IsKnown true a b kept_a kept_b
+pub known_open : (a b : PortState) (kept_a kept_b : List Event) → IsKnown true a b kept_a kept_b
     → receiver_of b.input ≢ ReceiverRetryStopped
 known_open a b kept_a kept_b k =
     find_open (receiver_of b.input) _ k.held _ (map forward kept_a) k.in_time.1
@@ -124,7 +130,7 @@ no_retry OtherStype1 (InputOk e) stands = tt
 no_retry OtherStype1 (InputRetryStopped e) stands = tt
 no_retry OtherStype1 (InputErrorStopped e) stands = tt
 
-answer_no_retry : (q : PortState) (e : Event)
+pub answer_no_retry : (q : PortState) (e : Event)
     → (receiver_of (acts q e).port.input ≢ ReceiverRetryStopped)
     → IfSome (acts q e).reply (λ answer. answer.s0 ≢ PACKET_RETRY)
 answer_no_retry q (Ctl symbol) stands =

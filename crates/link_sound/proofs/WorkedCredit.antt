@@ -58,7 +58,7 @@ hearing_in_time = record {
   report = refl;
   none_outstanding = refl;
   none_comes = tt;
-  takes = refl;
+  takes = λ is. absurd cc;
 }
 
 -- of two packets of a port that was told of nothing the second finds no buffer

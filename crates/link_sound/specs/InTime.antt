@@ -1,8 +1,8 @@
 -- Histories in which the layer above only takes packets away, and links in which a port was told of
 -- free buffers before it started a packet.
-use Rattle.std.specs.Prelude.{◌≡◌, ◌<◌, ◌≤◌, [], map, All, IsSome}
+use Rattle.std.specs.Prelude.{◌≡◌, ◌≢◌, ◌<◌, ◌≤◌, [], map, All, IsSome}
 use Rattle.link_port.specs.Prelude.{Event, Ctl, Pkt, Bad, IsPort, prios_of}
-use Rattle.link_sound.specs.Receiver.{ReceiverOk}
+use Rattle.link_sound.specs.Receiver.{ReceiverRetryStopped}
 use Rattle.link_sound.specs.Meanings.{forward, receiver_of}
 use Rattle.link_sound.specs.Kept.{Lacks}
 use Rattle.link_sound.specs.Sound.{IsSound}
@@ -44,11 +44,12 @@ pub record IsLinked (l : Link) : Type 0 where
   pub acks_b : All HasAck l.kept_b
 
 -- The first port keeps a report of the second, and has started nothing yet: nothing is outstanding,
--- and no packet of its own is on its way. The second tells its free buffers, and takes packets.
+-- and no packet of its own is on its way. The second tells its free buffers, and waits for no
+-- restart-from-retry.
 pub record IsToldInTime (l : Link) : Type 0 where
   pub linked : IsLinked l
   pub told : HasTold l.a l.b l.kept_b
   pub report : IsSome (last_report l.a.output)
   pub none_outstanding : prios_of l.a.output ≡ []
   pub none_comes : Lacks is_packet (map forward l.kept_a)
-  pub takes : receiver_of l.b.input ≡ ReceiverOk
+  pub takes : receiver_of l.b.input ≢ ReceiverRetryStopped

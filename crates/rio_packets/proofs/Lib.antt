@@ -14,3 +14,4 @@ pub mod TableLaws
 pub mod LinearLaws
 pub mod LowerLaws
 pub mod PlaceLaws
+pub mod OneByteLaws

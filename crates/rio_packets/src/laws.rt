@@ -1,5 +1,5 @@
 //! Laws of link forms, for whoever states something of packets.
-ghost use Rattle.std.specs.Prelude.{◌≡◌, ◌<◌, ◌++◌, ◌↔◌, ℕ, Bool, List, Some, None, length, slice_index, replicate, false};
+ghost use Rattle.std.specs.Prelude.{◌≡◌, ◌<◌, ◌∷◌, ◌++◌, ◌↔◌, ℕ, Bool, List, Some, None, length, slice_index, replicate, false};
 ghost use Rattle.crc_division.specs.Bits.{bits};
 ghost use Rattle.crc_division.specs.Division.{remainder};
 ghost use Rattle.rio_packets.specs.Crc16.{crc16_divisor};
@@ -58,4 +58,10 @@ pub fn longest_rest()
     ensures beyond { (prio ftype dest source : ℕ) (large : Bool) (rest : List ℕ)
         → most_rest large < length rest
         → IsBadLength (body_of prio ftype large dest source rest) }
+{}
+
+/// A packet is not taken for another one if one of its bytes is another: the bytes then pass no CRC.
+pub fn one_byte_is_seen()
+    ensures { (front rest : List ℕ) (b d : ℕ) → Passes (front ++ b ∷ rest)
+        → Passes (front ++ d ∷ rest) → b ≡ d }
 {}

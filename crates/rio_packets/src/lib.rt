@@ -28,7 +28,7 @@ pub use building::Building;
 pub use cause::{Cause, cause_number};
 pub use laws::{
     body_has_one_form, built_fields_are_read_back, carried_is_exact, crc16_table_has_remainders,
-    longest_rest, lowered_is_one, register_tells_forms,
+    longest_rest, lowered_is_one, one_byte_is_seen, register_tells_forms,
 };
 pub use making::{BadLength, Header, build, max_rest};
 pub use packet::{MAX_BYTES, Packet};

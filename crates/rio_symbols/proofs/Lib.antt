@@ -1,3 +1,4 @@
 pub mod BitLaws
 pub mod CrcLaws
 pub mod SpellingLaws
+pub mod ChangeLaws

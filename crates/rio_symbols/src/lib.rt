@@ -1,9 +1,10 @@
 //! Control symbols of a RapidIO serial link: three bytes each, with a CRC of five bits.
 //!
 //! Promised: a symbol's bytes are its fields and its CRC, bit by bit; bytes are read as a symbol
-//! exactly where they spell one, and otherwise both CRCs are told; what was written is read back.
-//! Left out: characters and their order on a wire, what a port does with a symbol, and that a
-//! changed symbol is always refused (five bits of CRC cannot promise it).
+//! exactly where they spell one, and otherwise both CRCs are told; what was written is read back; a
+//! change within one sub-block of one byte is refused.
+//! Left out: characters and their order on a wire, what a port does with a symbol, and that any
+//! other change is refused (five bits of CRC cannot promise it).
 //!
 //! - `Symbol`: the five fields, each within its width.
 //! - `stype0`, `stype1`, `cmd`: the names of what these fields say;
@@ -12,7 +13,8 @@
 //!   entries are.
 //! - `to_bytes`, `from_bytes`, `BadCrc`: the spelling, in both directions.
 //! - `Delimiter`, `delimiter`: the special character that is sent before a symbol.
-//! - `spelling_laws`, `delimiter_laws`: facts about the spelling of any numbers, for proofs above.
+//! - `spelling_laws`, `delimiter_laws`, `one_block_is_seen`: facts about the spelling of any numbers,
+//!   for proofs above.
 //!
 //! No call takes memory.
 #![tactic(auto)]
@@ -33,5 +35,5 @@ pub use characters::Delimiter;
 pub use crc::{CRC5_TABLE, crc5, crc5_table_has_remainders};
 pub use delimiters::{delimiter, delimiter_laws};
 pub use laws::types_and_requests_have_their_numbers;
-pub use spelling::{BadCrc, from_bytes, spelling_laws, to_bytes};
+pub use spelling::{BadCrc, from_bytes, one_block_is_seen, spelling_laws, to_bytes};
 pub use symbol::Symbol;

@@ -1,11 +1,11 @@
 //! A symbol and its three bytes, in both directions.
-ghost use Rattle.std.specs.Prelude.{◌≡◌, ◌↔◌, ◌≢◌, ℕ, ◌%◌, List, [], ◌∷◌, ◌++◌, IsErr, IfErr, IfOk, Ok, Some, None};
+ghost use Rattle.std.specs.Prelude.{◌≡◌, ◌↔◌, ◌≢◌, ◌⊎◌, IsTrue, ℕ, ◌/◌, ◌%◌, List, [], ◌∷◌, ◌++◌, IsErr, IfErr, IfOk, Ok, Some, None};
 ghost use Rattle.std.specs.List.{flat_map};
 ghost use Rattle.std.specs.Result.{result_ok};
 ghost use Rattle.crc_division.specs.Bits.{bits};
 ghost use Rattle.rio_symbols.specs.Crc5.{field_bits};
 ghost use Rattle.rio_symbols.specs.Fields.{Fields, InRange};
-ghost use Rattle.rio_symbols.specs.Spelling.{SpellsSymbol, symbol_bytes, fields_at, found_crc, computed_crc, spelled, spelled_in};
+ghost use Rattle.rio_symbols.specs.Spelling.{SpellsSymbol, symbol_bytes, fields_at, found_crc, computed_crc, spelled, spelled_in, is_spelling};
 
 use crate::crc::crc5;
 use crate::symbol::Symbol;
@@ -85,4 +85,15 @@ pub fn spelling_laws()
     // number that was found in the last five.
     ensures places { (x y z : ℕ) → flat_map (bits 8) (x ∷ y ∷ z ∷ [])
         ≡ field_bits (fields_at x y z) ++ bits 5 (z % 32) }
+{}
+
+/// A symbol is not taken for another one if one of its three bytes has a change within its low five
+/// bits or within its high three: the bytes then spell none. For proofs above; the call does nothing.
+pub fn one_block_is_seen()
+    ensures first { (x y z p : ℕ) → IsTrue (is_spelling x y z) → IsTrue (is_spelling p y z)
+        → (x / 32 ≡ p / 32) ⊎ (x % 32 ≡ p % 32) → x ≡ p }
+    ensures second { (x y z q : ℕ) → IsTrue (is_spelling x y z) → IsTrue (is_spelling x q z)
+        → (y / 32 ≡ q / 32) ⊎ (y % 32 ≡ q % 32) → y ≡ q }
+    ensures third { (x y z r : ℕ) → IsTrue (is_spelling x y z) → IsTrue (is_spelling x y r)
+        → (z / 32 ≡ r / 32) ⊎ (z % 32 ≡ r % 32) → z ≡ r }
 {}

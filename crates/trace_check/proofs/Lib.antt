@@ -22,3 +22,5 @@ pub mod Once
 pub mod Telling
 pub mod ExpectLaws
 pub mod LackLaws
+pub mod Worked
+pub mod WorkedTexts

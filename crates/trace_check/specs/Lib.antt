@@ -11,3 +11,4 @@ pub mod Sending
 pub mod Starting
 pub mod Outcomes
 pub mod Verdicts
+pub mod Examples

@@ -10,6 +10,7 @@ ghost use Rattle.fabric_trace.specs.Runs.{bare, set_up_all, Runs};
 ghost use Rattle.fabric_trace.specs.SetUps.{IsSetUp, MaySetUpAll};
 ghost use Rattle.trace_check.specs.Checks.{PassAll, net_after};
 ghost use Rattle.trace_check.specs.Lawful.{IsLawful, IsUnlawful};
+ghost use Rattle.trace_check.specs.Outcomes.{HasLawful};
 
 /// No reason of wires, steps, holds, frees and packets sent hits a line of a trace of a script.
 pub fn every_trace_is_lawful()
@@ -29,4 +30,12 @@ pub fn lawful_or_unlawful()
     ensures { (known : Known) (net : Network) (texts : List (List ℕ)) (steps line reason : ℕ)
         → IsOrderly known → IsLawful known net texts steps
         → IsUnlawful known net texts line reason → ⊥ }
+{}
+
+/// The steps of an input that is lawful are legal in the network that its set-up lines make, and all
+/// laws of legal steps hold of them.
+pub fn lawful_inputs_are_legal()
+    ensures { (bytes : List ℕ) (steps : ℕ) (is : HasLawful bytes steps)
+        → Lawful (set_up_all bare is.set_up) (steps_of is.lawful.lines)
+        (net_after (set_up_all bare is.set_up) is.lawful.lines) }
 {}

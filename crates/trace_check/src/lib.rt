@@ -22,6 +22,7 @@
 mod building;
 mod checker;
 mod checking;
+mod examples;
 mod expecting;
 mod hearing;
 mod lanes;
@@ -35,5 +36,8 @@ mod sending;
 mod state;
 
 pub use checking::{CheckEnd, Unlawful, check_trace};
+pub use examples::{a_packet_can_be_lawful, a_packet_can_be_unlawful, reasons_can_hit};
 pub use expecting::{Expected, expect};
-pub use laws::{every_trace_is_lawful, lawful_or_unlawful, lawful_traces_are_legal};
+pub use laws::{
+    every_trace_is_lawful, lawful_inputs_are_legal, lawful_or_unlawful, lawful_traces_are_legal,
+};

@@ -1,0 +1,381 @@
+-- The texts of a trace of one packet without event lines are lawful.
+use Rattle.std.proofs.Common.{◌≡◌, ◌≢◌, ◌<◌, ℕ, true, false, codes, take, List, [], ◌∷◌, ◌++◌, refl, sym, ap, ◌∙◌, subst, arith, inl, inr, append-nil, append_assoc}
+use Rattle.std.specs.List.{AllByRecursion}
+use Rattle.std.specs.Fmt.{digits}
+use Rattle.std.proofs.lemmas.List.Elements.{All-from_recursion}
+use Rattle.crc_division.specs.Bits.{bits, number}
+use Rattle.crc_division.specs.Division.{division_steps, complemented}
+use Rattle.rio_chars.specs.declared.chars.Char.{Char}
+use Rattle.rio_chars.specs.CharText.{HasByte}
+use Rattle.rio_symbols.specs.Crc5.{field_bits, crc5_message, crc5_of, crc5_value}
+use Rattle.rio_symbols.specs.Spelling.{spelled, is_spelling}
+use Rattle.link_model.specs.Events.{packet_event}
+use Rattle.link_model.specs.Places.{run, place_after}
+use Rattle.link_model.specs.ReadingKinds.{kind}
+use Rattle.rio_packets.specs.Carries.{carried}
+use Rattle.rio_packets.specs.Register.{fed, shifted, shifted_times}
+use Rattle.rio_packets.specs.LinkForm.{Passes}
+use Rattle.fabric_model.specs.Network.{Network}
+use Rattle.fabric_model.specs.Laws.Examples.{packet}
+use Rattle.fabric_trace.specs.Examples.{near, far, packet_chars, accepted_chars}
+use Rattle.trace_lines.specs.Lines.{TraceLine}
+use Rattle.trace_check.specs.Checks.{LinePasses, PassAll}
+use Rattle.trace_check.specs.Lawful.{SpellAll, IsLawful, SpellFront, PassFront, as_behind, Fault, fault_number, OffWire, NoSuchStep, NotCome, NotAllowed, NotThere, Spares, SpellsNone, HitsLine, IsUnlawful}
+use Rattle.trace_lines.specs.Words.{SpellsLine}
+use Rattle.trace_check.specs.Examples.{packet_network, packet_known, packet_texts, packet_lines, frees, freed_early}
+
+-- none of the reasons hits a line of these, behind others
+PassFrom : Network → List TraceLine → List TraceLine → Type 0
+PassFrom net done [] = Unit {0}
+PassFrom net done (line ∷ lines) =
+    LinePasses net done line lines × PassFrom net (done ++ line ∷ []) lines
+
+pass_all : (net : Network) (done lines : List TraceLine) → PassFrom net done lines
+    → (before : List TraceLine) (line : TraceLine) (behind : List TraceLine)
+    → lines ≡ before ++ line ∷ behind → LinePasses net (done ++ before) line behind
+unfolding PassFrom
+pass_all net done [] pass [] line behind is = absurd cc
+pass_all net done [] pass (b ∷ before) line behind is = absurd cc
+pass_all net done (l ∷ lines) pass [] line behind is =
+    let one : l ≡ line = cc in
+    let rest : lines ≡ behind = cc in
+    subst (λ (x : List TraceLine). LinePasses net x line behind) (sym (append-nil done))
+    (subst (λ (x : TraceLine). LinePasses net done x behind) one
+    (subst (λ (x : List TraceLine). LinePasses net done l x) rest pass.0))
+pass_all net done (l ∷ lines) pass (b ∷ before) line behind is =
+    let one : l ≡ b = cc in
+    let rest : lines ≡ before ++ line ∷ behind = cc in
+    subst (λ (x : TraceLine). LinePasses net (done ++ x ∷ before) line behind) one
+    (subst (λ (x : List TraceLine). LinePasses net x line behind)
+    (append_assoc done (l ∷ []) before)
+    (pass_all net (done ++ l ∷ []) lines pass.1 before line behind rest))
+
+passes : Passes packet
+unfolding packet_event carried fed shifted shifted_times
+passes = record {
+  fours = refl;
+  least = omega arith;
+  most = omega arith;
+  range = All-from_recursion (λ b. b < 256) packet (omega arith, (omega arith, (omega arith, (omega arith, (omega arith, (omega arith, (omega arith, (omega arith, (omega arith, (omega arith, (omega arith, (omega arith, tt))))))))))));
+  origin = omega arith;
+  ends = refl;
+  middle = λ far. omega (arith, far);
+}
+
+lines_pass : PassFrom packet_network [] packet_lines
+unfolding run place_after kind spelled is_spelling crc5_value crc5_of crc5_message field_bits bits
+    number division_steps complemented packet_event carried fed shifted shifted_times
+    PassFrom
+lines_pass = (
+  record { wires = tt; step = (refl, passes, refl); came = tt; allowed = tt; sends = tt },
+  (
+    record { wires = tt; step = tt; came = tt; allowed = tt; sends = (tt, (inl (0, omega arith, refl), (tt, tt))) },
+    (
+      record {
+        wires = record { peer = near; behind = []; peer_is = refl; stands = refl };
+        step = tt;
+        came = tt;
+        allowed = tt;
+        sends = tt;
+      },
+      (
+        record { wires = tt; step = (near, refl, refl, refl); came = refl; allowed = tt; sends = tt },
+        (
+          record { wires = tt; step = tt; came = tt; allowed = tt; sends = (tt, tt) },
+          (
+            record {
+              wires = record { peer = far; behind = []; peer_is = refl; stands = refl };
+              step = tt;
+              came = tt;
+              allowed = tt;
+              sends = tt;
+            },
+            (
+              record { wires = tt; step = refl; came = tt; allowed = omega arith; sends = tt },
+              (
+                record { wires = tt; step = (refl, refl, refl); came = tt; allowed = tt; sends = tt },
+                (record { wires = tt; step = tt; came = tt; allowed = tt; sends = tt }, tt),
+              ),
+            ),
+          ),
+        ),
+      ),
+    ),
+  ),
+)
+
+packet_bytes : AllByRecursion HasByte packet_chars
+packet_bytes = (omega arith, (omega arith, (omega arith, (omega arith, (omega arith, (omega arith, (omega arith, (omega arith, (omega arith, (omega arith, (omega arith, (omega arith, (omega arith, (omega arith, (omega arith, (omega arith, (omega arith, (omega arith, (omega arith, (omega arith, tt))))))))))))))))))))
+
+accepted_bytes : AllByRecursion HasByte accepted_chars
+accepted_bytes = (omega arith, (omega arith, (omega arith, (omega arith, tt))))
+
+texts_spell : SpellAll packet_known packet_texts packet_lines
+unfolding digits
+texts_spell = (
+  _,
+  _,
+  refl,
+  record { words = refl; fits = (omega arith, passes) },
+  refl,
+  (
+    _,
+    _,
+    refl,
+    record { words = refl; fits = (((omega arith, omega arith, omega arith), refl), (λ is. absurd (cc is)), packet_bytes) },
+    refl,
+    (
+      _,
+      _,
+      refl,
+      record { words = refl; fits = (((omega arith, omega arith, omega arith), refl), (λ is. absurd (cc is)), packet_bytes) },
+      refl,
+      (
+        _,
+        _,
+        refl,
+        record { words = refl; fits = (((omega arith, omega arith, omega arith), refl), passes) },
+        refl,
+        (
+          _,
+          _,
+          refl,
+          record { words = refl; fits = (((omega arith, omega arith, omega arith), refl), (λ is. absurd (cc is)), accepted_bytes) },
+          refl,
+          (
+            _,
+            _,
+            refl,
+            record { words = refl; fits = (((omega arith, omega arith, omega arith), refl), (λ is. absurd (cc is)), accepted_bytes) },
+            refl,
+            (
+              _,
+              _,
+              refl,
+              record { words = refl; fits = (((omega arith, omega arith, omega arith), refl), passes) },
+              refl,
+              (
+                _,
+                _,
+                refl,
+                record { words = refl; fits = (omega arith, passes) },
+                refl,
+                (_, refl, record { words = refl; fits = tt }, refl),
+              ),
+            ),
+          ),
+        ),
+      ),
+    ),
+  ),
+)
+
+pub texts_lawful : IsLawful packet_known packet_network packet_texts 4
+texts_lawful = record {
+  lines = packet_lines;
+  spelled = texts_spell;
+  pass = pass_all packet_network [] packet_lines lines_pass;
+  count = refl;
+}
+
+-- ---- where a reason hits
+
+front_pass : (lines : List TraceLine) (texts : List (List ℕ)) → as_behind texts ≡ []
+    → PassFrom packet_network [] lines → PassFront packet_network lines texts
+front_pass lines texts none pass before line behind is =
+    subst (λ (x : List TraceLine). LinePasses packet_network before line x)
+    (sym (ap (λ (x : List TraceLine). behind ++ x) none ∙ append-nil behind))
+    (pass_all packet_network [] lines pass before line behind is)
+
+eight_pass : PassFrom packet_network [] (take 8 packet_lines)
+unfolding run place_after kind spelled is_spelling crc5_value crc5_of crc5_message field_bits bits
+    number division_steps complemented packet_event carried fed shifted shifted_times
+    PassFrom
+eight_pass = (
+  record { wires = tt; step = (refl, passes, refl); came = tt; allowed = tt; sends = tt },
+  (
+    record { wires = tt; step = tt; came = tt; allowed = tt; sends = (tt, (inl (0, omega arith, refl), (tt, tt))) },
+    (
+      record { wires = record { peer = near; behind = []; peer_is = refl; stands = refl }; step = tt; came = tt; allowed = tt; sends = tt },
+      (
+        record { wires = tt; step = (near, refl, refl, refl); came = refl; allowed = tt; sends = tt },
+        (
+          record { wires = tt; step = tt; came = tt; allowed = tt; sends = (tt, tt) },
+          (
+            record { wires = record { peer = far; behind = []; peer_is = refl; stands = refl }; step = tt; came = tt; allowed = tt; sends = tt },
+            (
+              record { wires = tt; step = refl; came = tt; allowed = omega arith; sends = tt },
+              (
+                record { wires = tt; step = (refl, refl, refl); came = tt; allowed = tt; sends = tt },
+                tt,
+              ),
+            ),
+          ),
+        ),
+      ),
+    ),
+  ),
+)
+
+five_pass : PassFrom packet_network [] (take 5 packet_lines)
+unfolding run place_after kind spelled is_spelling crc5_value crc5_of crc5_message field_bits bits
+    number division_steps complemented packet_event carried fed shifted shifted_times
+    PassFrom
+five_pass = (
+  record { wires = tt; step = (refl, passes, refl); came = tt; allowed = tt; sends = tt },
+  (
+    record { wires = tt; step = tt; came = tt; allowed = tt; sends = (tt, (inl (0, omega arith, refl), (tt, tt))) },
+    (
+      record { wires = record { peer = near; behind = []; peer_is = refl; stands = refl }; step = tt; came = tt; allowed = tt; sends = tt },
+      (
+        record { wires = tt; step = (near, refl, refl, refl); came = refl; allowed = tt; sends = tt },
+        (
+          record { wires = tt; step = tt; came = tt; allowed = tt; sends = (tt, tt) },
+          tt,
+        ),
+      ),
+    ),
+  ),
+)
+
+eight_spell : SpellFront packet_known (take 8 packet_texts) (take 8 packet_lines)
+unfolding digits
+eight_spell = (
+  _,
+  _,
+  refl,
+  record { words = refl; fits = (omega arith, passes) },
+  refl,
+  (
+    _,
+    _,
+    refl,
+    record { words = refl; fits = (((omega arith, omega arith, omega arith), refl), (λ is. absurd (cc is)), packet_bytes) },
+    refl,
+    (
+      _,
+      _,
+      refl,
+      record { words = refl; fits = (((omega arith, omega arith, omega arith), refl), (λ is. absurd (cc is)), packet_bytes) },
+      refl,
+      (
+        _,
+        _,
+        refl,
+        record { words = refl; fits = (((omega arith, omega arith, omega arith), refl), passes) },
+        refl,
+        (
+          _,
+          _,
+          refl,
+          record { words = refl; fits = (((omega arith, omega arith, omega arith), refl), (λ is. absurd (cc is)), accepted_bytes) },
+          refl,
+          (
+            _,
+            _,
+            refl,
+            record { words = refl; fits = (((omega arith, omega arith, omega arith), refl), (λ is. absurd (cc is)), accepted_bytes) },
+            refl,
+            (
+              _,
+              _,
+              refl,
+              record { words = refl; fits = (((omega arith, omega arith, omega arith), refl), passes) },
+              refl,
+              (
+                _,
+                _,
+                refl,
+                record { words = refl; fits = (omega arith, passes) },
+                refl,
+                refl,
+              ),
+            ),
+          ),
+        ),
+      ),
+    ),
+  ),
+)
+
+five_spell : SpellFront packet_known (take 5 packet_texts) (take 5 packet_lines)
+unfolding digits
+five_spell = (
+  _,
+  _,
+  refl,
+  record { words = refl; fits = (omega arith, passes) },
+  refl,
+  (
+    _,
+    _,
+    refl,
+    record { words = refl; fits = (((omega arith, omega arith, omega arith), refl), (λ is. absurd (cc is)), packet_bytes) },
+    refl,
+    (
+      _,
+      _,
+      refl,
+      record { words = refl; fits = (((omega arith, omega arith, omega arith), refl), (λ is. absurd (cc is)), packet_bytes) },
+      refl,
+      (
+        _,
+        _,
+        refl,
+        record { words = refl; fits = (((omega arith, omega arith, omega arith), refl), passes) },
+        refl,
+        (
+          _,
+          _,
+          refl,
+          record { words = refl; fits = (((omega arith, omega arith, omega arith), refl), (λ is. absurd (cc is)), accepted_bytes) },
+          refl,
+          refl,
+        ),
+      ),
+    ),
+  ),
+)
+
+pub no_end_unlawful : IsUnlawful packet_known packet_network (take 8 packet_texts) 8 21
+no_end_unlawful = record {
+  front = take 8 packet_texts;
+  rest = [];
+  lines = take 8 packet_lines;
+  place = 0;
+  split = refl;
+  spelled = eight_spell;
+  pass = front_pass (take 8 packet_lines) [] refl eight_pass;
+  hits = SpellsNone tt;
+  at = refl;
+}
+
+free_spells : SpellsLine packet_known (codes "free A.0 000f0201cafe0001a9bb0000") frees
+unfolding digits
+free_spells =
+    record { words = refl; fits = (((omega arith, omega arith, omega arith), refl), passes) }
+
+not_allowed : Spares packet_network (take 5 packet_lines) frees [] NotAllowed → ⊥
+unfolding run
+not_allowed is = omega (arith, is)
+
+not_before : (other : Fault) → fault_number other < 25
+    → Spares packet_network (take 5 packet_lines) frees [] other
+not_before OffWire low = tt
+not_before NoSuchStep low = refl
+not_before NotCome low = tt
+not_before NotAllowed low = omega (arith, low)
+not_before NotThere low = omega (arith, low)
+
+pub freed_early_unlawful : IsUnlawful packet_known packet_network freed_early 5 25
+freed_early_unlawful = record {
+  front = take 5 packet_texts;
+  rest = codes "free A.0 000f0201cafe0001a9bb0000" ∷ codes "end" ∷ [];
+  lines = take 5 packet_lines;
+  place = 0;
+  split = refl;
+  spelled = five_spell;
+  pass = front_pass (take 5 packet_lines) (codes "free A.0 000f0201cafe0001a9bb0000" ∷ codes "end" ∷ []) refl five_pass;
+  hits = HitsLine frees NotAllowed free_spells not_allowed not_before;
+  at = refl;
+}
