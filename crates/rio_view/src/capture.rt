@@ -1,13 +1,10 @@
 //! The packets of a trace as a file that Wireshark reads (pcapng).
 
-use crate::fabric::{Ports, port_of, put_node, put_port};
-use crate::reading::ViewEnd;
-use crate::text::Text;
-use crate::view::{Seen, View};
 use fabric_script::{Line, PortRef, SetUp};
 use rio_packets::Packet;
 use std::alloc::Global;
 use trace_lines::{NetworkStep, TraceLine};
+use view_words::{Ports, Seen, Text, View, ViewEnd, port_of, put_node, put_port};
 
 /// The head of a section: its bytes are in the order of this number, the version is 1.0, and its
 /// length is not told.
@@ -110,10 +107,10 @@ impl Capture {
         self.block.clear();
         put_long(&mut self.block, USER0);
         put_long(&mut self.block, 0);
-        put_option(&mut self.block, NAME, self.word.as_slice());
+        put_words(&mut self.block, NAME, &self.word);
         put_option(&mut self.block, UNIT, &[0]);
         put_long(&mut self.block, 0);
-        put_block(out, INTERFACE, self.block.as_slice());
+        put_block(out, INTERFACE, &self.block);
     }
 
     /// The packets of a step.
@@ -196,19 +193,25 @@ impl Capture {
             put_long(&mut self.block, word);
         }
         self.block.put(bytes);
-        put_option(&mut self.block, COMMENT, self.word.as_slice());
+        put_words(&mut self.block, COMMENT, &self.word);
         put_long(&mut self.block, 0);
-        put_block(out, PACKET, self.block.as_slice());
+        put_block(out, PACKET, &self.block);
     }
 }
 
 /// A block of this kind.
-fn put_block(out: &mut Text, kind: u32, body: &[u8]) {
+fn put_block(out: &mut Text, kind: u32, body: &Text) {
     let length = (body.len().min(1_000_000) + 12) as u32;
     put_long(out, kind);
     put_long(out, length);
-    out.put(body);
+    out.put_text(body);
     put_long(out, length);
+}
+
+/// An option that is words.
+fn put_words(out: &mut Text, kind: u16, words: &Text) {
+    put_option(out, kind, words.as_slice());
+    out.lack(words);
 }
 
 /// An option, with zeros up to a multiple of four bytes.

@@ -2,18 +2,13 @@
 ghost use Rattle.std.specs.Prelude.{◌≤◌};
 
 use crate::entries::{COUNT, entries};
-use crate::fabric::{Ports, port_of};
-use crate::heard::Ear;
-use crate::reading::ViewEnd;
 use crate::shadow::{Came, EntriesMet, Shadow};
-use crate::status::ViewStatus;
-use crate::text::Text;
-use crate::view::{Seen, View};
 use fabric_script::{Line, PortRef, SetUp};
 use link_port::Port;
 use rio_chars::NoMemory;
 use std::alloc::{AllocError, Global};
 use trace_lines::{NetworkStep, TraceLine};
+use view_words::{Ear, Ports, Seen, Text, View, ViewEnd, ViewStatus, port_of};
 
 /// The receive buffers of a port of which no line says another number.
 const BUFFERS: u8 = 8;

@@ -4,20 +4,17 @@
 use crate::cells::Cells;
 use crate::command::Range;
 use crate::drawing::{Draws, Takes};
-use crate::fabric::{Ports, links_of, peer_of, port_of, put_port};
-use crate::heard::{Ear, listen};
-use crate::packets::{AskedRegisters, put_packet};
 use crate::picture::{Arrow, ArrowKind, GAP, MARGIN, Mark, Picture, PictureRow, WIDE};
-use crate::reading::ViewEnd;
-use crate::text::Text;
-use crate::view::{Seen, View};
-use crate::words::put_event;
 use fabric_script::{Line, PortRef, SetUp};
 use link_model::Event;
 use rio_chars::Char;
 use rio_packets::Packet;
 use std::alloc::{AllocError, Global};
 use trace_lines::{Lack, NetworkStep, TraceLine};
+use view_words::{
+    AskedRegisters, Ear, Ports, Seen, Text, View, ViewEnd, links_of, listen, peer_of, port_of,
+    put_event, put_packet, put_port,
+};
 
 /// The lifeline of a port, and what stands on its wire.
 #[derive(Drop)]
@@ -224,7 +221,7 @@ impl Ladder {
         let mut notes = Vec::new(self.alloc);
         self.take_chars(port, chars, &mut notes)?;
         for (label, alarm) in &notes {
-            self.mark(port, label.as_slice(), *alarm, None)?;
+            self.mark_text(port, label, *alarm)?;
         }
         Ok(())
     }
@@ -285,7 +282,7 @@ impl Ladder {
         let mut label = Text::new(self.alloc);
         label.put(b"undetected: ");
         put_event(&mut label, &mut self.asked, event);
-        self.mark(port, label.as_slice(), true, None)
+        self.mark_text(port, &label, true)
     }
 
     /// A step of a packet.
@@ -343,7 +340,7 @@ impl Ladder {
         }
     }
 
-    /// A mark at a port, if it has a lifeline.
+    /// A mark of a port with a label in words, if it has a lifeline.
     fn mark(
         &mut self,
         port: PortRef,
@@ -351,21 +348,8 @@ impl Ladder {
         alarm: bool,
         packet: Option<&Packet>,
     ) -> Result<(), AllocError> {
-        if !self.is_shown() {
+        let Some(mut mark) = self.new_mark(port, alarm) else {
             return Ok(());
-        }
-        let Some(lane) = self.lanes.get(port) else {
-            return Ok(());
-        };
-        let Some((at, left)) = lane.life else {
-            return Ok(());
-        };
-        let mut mark = Mark {
-            at,
-            left,
-            alarm,
-            label: Text::new(self.alloc),
-            tip: Text::new(self.alloc),
         };
         mark.label.put(label);
         if let Some(packet) = packet {
@@ -373,6 +357,27 @@ impl Ladder {
         }
         self.picture.add(PictureRow::Mark(mark))?;
         Ok(())
+    }
+
+    /// The same, with a label that was made.
+    fn mark_text(&mut self, port: PortRef, label: &Text, alarm: bool) -> Result<(), AllocError> {
+        if let Some(mut mark) = self.new_mark(port, alarm) {
+            mark.label.put_text(label);
+            self.picture.add(PictureRow::Mark(mark))?;
+        }
+        Ok(())
+    }
+
+    /// A mark at the lifeline of a port, if it has one and marks are drawn now.
+    fn new_mark(&self, port: PortRef, alarm: bool) -> Option<Mark> {
+        let (at, left) = self.lanes.get(port)?.life?;
+        self.is_shown().then_some(Mark {
+            at,
+            left,
+            alarm,
+            label: Text::new(self.alloc),
+            tip: Text::new(self.alloc),
+        })
     }
 
     /// The words and the bytes of a packet.

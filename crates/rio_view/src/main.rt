@@ -7,8 +7,7 @@
 //!
 //! - `run`: the whole program, over any source, sink and sink of messages; `main` gives it the
 //!   arguments and the standard streams, and does nothing more.
-//! - [`ViewCommand`]: what the words ask for; [`ViewStatus`]: how it ended.
-//! - [`Tallies`]: what each port did, as [`Sums`] over the lines of a trace.
+//! - [`ViewCommand`]: what the words ask for.
 //!
 //! If the system does not give the arguments, the status is 1 and nothing is written.
 #![tactic(auto)]
@@ -16,40 +15,23 @@
 mod capture;
 mod cells;
 mod command;
-mod counts;
 mod coverage;
 mod drawing;
 mod entries;
-mod fabric;
-mod heard;
 mod ladder;
-mod lines;
 mod messages;
-mod packets;
 mod pen;
 mod picture;
 mod probes;
 mod program;
-mod reading;
-mod registers;
 mod shadow;
-mod status;
-mod sums;
-mod symbols;
-mod tally;
-mod text;
-mod view;
 mod wave;
-mod words;
 
 pub use command::ViewCommand;
 pub use program::run;
 use rio_chars::{StdSink, StdSource};
-pub use status::{ViewStatus, status_number};
 use std::process::ExitCode;
 use std::{env, io};
-pub use sums::{LineCounts, LineKind, Sums, TooMany};
-pub use tally::{PortTally, Tallies};
 
 fn main(rt: HostRuntime) -> ExitCode {
     let Ok(arguments) = arguments(&rt) else {

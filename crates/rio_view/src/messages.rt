@@ -1,8 +1,7 @@
 //! What the program says of its end in words.
 
-use crate::reading::{LineFault, RefusedLine, ViewEnd};
-use crate::status::ViewStatus;
 use rio_chars::{Sink, write_decimal, write_unless};
+use view_words::{LineFault, RefusedLine, ViewEnd, ViewStatus};
 
 /// How the program is used, on one line.
 const USAGE: &[u8] = b"usage: rio_view words [--flow], counts, ladder [--from N] [--to N], wave, \

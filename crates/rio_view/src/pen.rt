@@ -1,6 +1,6 @@
 //! The lines of a value change dump: signals that are declared, and changes of their values.
 
-use crate::text::Text;
+use view_words::Text;
 
 /// Writes changes at a moment. The moment is written before the first of them.
 #[derive(Drop)]

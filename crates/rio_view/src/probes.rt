@@ -1,15 +1,13 @@
 //! The signals of a port in a wave.
 
-use crate::heard::{Ear, Hear, Heard, listen};
 use crate::pen::{Pen, declare};
-use crate::symbols::{stype0_name, stype1_name};
-use crate::text::Text;
 use link_model::{Kind, char_kind};
 use rio_chars::Char;
 use rio_symbols::Symbol;
 use rio_symbols::stype0::{LINK_RESPONSE, STATUS};
 use rio_symbols::stype1::{LINK_REQUEST, NOP, RESTART_FROM_RETRY};
 use std::alloc::AllocError;
+use view_words::{Ear, Hear, Heard, Text, listen, stype0_name, stype1_name};
 
 /// What is read at one end of a wire.
 #[derive(Clone, Copy, PartialEq)]
@@ -138,7 +136,7 @@ impl Probe {
             self.left -= 1;
             return Reads::Symbol;
         }
-        if self.ear.0.at_rest() {
+        if self.ear.at_rest() {
             Reads::Idle
         } else {
             Reads::Packet

@@ -2,16 +2,13 @@
 
 use crate::capture::Capture;
 use crate::command::{Range, ViewCommand, command_of};
-use crate::counts::CountsView;
 use crate::coverage::Coverage;
 use crate::ladder::Ladder;
 use crate::messages::{HELP, say};
-use crate::reading::{ViewEnd, show};
-use crate::status::{ViewStatus, status_number};
 use crate::wave::Wave;
-use crate::words::WordsView;
 use rio_chars::{Sink, Source, write_all};
 use std::alloc::Global;
+use view_words::{CountsView, ViewEnd, ViewStatus, WordsView, show, status_number};
 
 /// Writes the view that the words behind the program's name ask for, and answers the exit status.
 /// What there is to say of the end is said to `messages`. A message that cannot be said changes

@@ -1,16 +1,13 @@
 //! A trace as a wave, in the form of a value change dump (VCD): what is on each wire, a character a
 //! unit of time.
 
-use crate::fabric::{Ports, links_of, port_of, put_port};
 use crate::pen::Pen;
 use crate::probes::{Change, PortSignals};
-use crate::reading::ViewEnd;
-use crate::text::Text;
-use crate::view::{Seen, View};
 use fabric_script::{PortRef, SetUp};
 use rio_chars::Char;
 use std::alloc::Global;
 use trace_lines::{NetworkStep, TraceLine};
+use view_words::{Ports, Seen, Text, View, ViewEnd, links_of, port_of, put_port};
 
 /// What stands before the signals.
 const HEAD: &[u8] = b"$comment a unit of time is a character $end\n$timescale 1 ns $end\n\
