@@ -14,8 +14,12 @@ SYNOPSES = {
         "rio_view counts",
         "rio_view ladder [--from N] [--to N]",
         "rio_view wave",
+        "rio_view save",
         "rio_view packets",
+        "rio_view page",
+        "rio_view map [--tables] [--dot]",
         "rio_view coverage",
+        "rio_view VIEW [--lines N-M] [--link PORT | --port PORT]",
         "rio_view --help",
     ),
 }
