@@ -1,0 +1,4 @@
+pub mod AmongLaws
+pub mod MistakeLaws
+pub mod ReaderLaws
+pub mod WrongBitLaws
