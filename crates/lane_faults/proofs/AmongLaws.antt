@@ -51,3 +51,8 @@ pub good_parts : (at : ℕ) (events : List Event) (more : List (ℕ × Event))
 good_parts at [] more h = (tt, h)
 good_parts at (event ∷ events) more h =
     let rest = good_parts at events more h.1 in ((h.0, rest.0), rest.1)
+
+-- a good event stands in no empty list
+pub none_in_none : (at : ℕ) (event : Event) → IsGoodEvent event
+    → GoodStandIn ((at, event) ∷ []) [] → ⊥
+none_in_none at event good (bad_is_passed _ cause h) = good

@@ -1,11 +1,15 @@
 //! The laws of wrong bits. The calls do nothing: their clauses are the laws.
-ghost use Rattle.std.specs.Prelude.{◌≡◌, ◌<◌, ℕ, true, false, List, [], ◌∷◌, ◌++◌, length, Option};
+ghost use Rattle.std.specs.Prelude.{◌≡◌, ◌<◌, ℕ, true, false, List, [], ◌∷◌, ◌++◌, length, Option, None};
 ghost use Rattle.rio_chars.specs.declared.chars.Char.{Char};
 ghost use Rattle.code_groups.specs.declared.disparity.Disparity.{Disparity};
 ghost use Rattle.code_groups.specs.Changes.{with_wrong_bit_at};
 ghost use Rattle.code_groups.specs.Streams.{groups_from, AreHeardAs};
 ghost use Rattle.link_model.specs.Places.{Place, run};
-ghost use Rattle.lane_faults.specs.Among.{GoodStandIn, AreGood};
+ghost use Rattle.link_model.specs.Said.{said};
+ghost use Rattle.link_model.specs.declared.event.Event.{Event};
+ghost use Rattle.link_port.specs.Prelude.{PortState};
+ghost use Rattle.link_wires.specs.Deliveries.{delivered, undetected};
+ghost use Rattle.lane_faults.specs.Among.{GoodStandIn, AreGood, IsGoodEvent};
 ghost use Rattle.lane_faults.specs.Mistakes.{HeardWithMistakes};
 ghost use Rattle.lane_faults.specs.WrongBits.{AreUsed, with_wrong_bits, AreApart};
 
@@ -40,4 +44,19 @@ pub fn one_wrong_bit_makes_no_event()
         → AreUsed chars → bit < 10
         → AreHeardAs before (with_wrong_bit_at place bit (groups_from before chars)) heard
         → AreGood (run from at chars) → GoodStandIn (run from at heard) (run from at chars) }
+{}
+
+/// A good event stands in no empty list.
+pub fn good_events_need_a_place()
+    ensures { (at : ℕ) (event : Event) → IsGoodEvent event
+        → GoodStandIn ((at, event) ∷ []) [] → ⊥ }
+{}
+
+/// A delivery over a lane with such wrong bits, to any port, finds no event that was not sent.
+pub fn no_delivery_is_undetected()
+    ensures { (before : Disparity) (port : PortState) (chars heard : List Char)
+        (wrong : List (Option ℕ)) → AreUsed chars → AreApart true chars wrong
+        → AreHeardAs before (with_wrong_bits wrong (groups_from before chars)) heard
+        → AreGood (run port.place 0 chars)
+        → undetected (delivered port (said port.place chars) heard) ≡ None }
 {}
