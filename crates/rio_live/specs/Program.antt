@@ -5,29 +5,39 @@ use Rattle.rio_chars.specs.Unless.{WritesUnless}
 use Rattle.fabric_trace.specs.Known.{UndetectedAt}
 use Rattle.live_lines.specs.declared.status.LiveStatus.{LiveStatus}
 use Rattle.live_lines.specs.declared.status.LiveStatus.TheVariants.{Done, Words, ReadFault, WriteFault, NoMemory, Undetected, TooLong}
+use Rattle.live_lines.specs.Lines.{IsLine, with_feed}
 use Rattle.live_lines.specs.Serving.{ServesLines}
 use Rattle.live_lines.specs.Statuses.{status_value, message_of}
 use Rattle.live_fabric.specs.Lines.{Taken, nothing_taken, seen_so_far, IsSent, AnswersLines, IsAnswerFront}
 use Rattle.live_fabric.specs.Holding.{IsTrace}
 
--- the text is a front of the answer of a further line, which has this number, or nothing
-abbrev pub IsFurtherFront : Taken → ℕ → List ℕ → Type 0
-IsFurtherFront taken number text =
-    IsSent taken × ((line : List ℕ) × IsAnswerFront taken number line text)
+-- the bytes that were read begin with this line, and the text is a front of its answer
+pub record CutAt (taken : Taken) (number : ℕ) (behind text : List ℕ) : Type 0 where
+  pub line : List ℕ
+  pub rest : List ℕ
+  pub is_line : IsLine line
+  pub first : behind ≡ with_feed line ++ rest
+  pub front : IsAnswerFront taken number line text
+
+-- The text is a front of the answer of the line that was read next, which has this number, or
+-- nothing. These are the bytes that were read behind the last line that is answered.
+abbrev pub IsFurtherFront : Taken → ℕ → List ℕ → List ℕ → Type 0
+IsFurtherFront taken number behind text =
+    IsSent taken × ((text ≡ []) ⊎ CutAt taken number behind text)
 
 -- What is written behind the answers, by how it ended: `end` if the input ended, and if memory ran
 -- out within an event, a front of its answer. It ends with `Undetected` exactly behind an event
 -- that was acted on and not sent.
-abbrev pub Closes : LiveStatus → Taken → ℕ → List ℕ → Type 0
-Closes Done taken number text = IsSent taken × (text ≡ codes "end\n")
-Closes Words taken number text = ⊥
-Closes ReadFault taken number text = IsSent taken × (text ≡ [])
-Closes TooLong taken number text = IsSent taken × (text ≡ [])
-Closes Undetected taken number text =
+abbrev pub Closes : LiveStatus → Taken → ℕ → List ℕ → List ℕ → Type 0
+Closes Done taken number behind text = IsSent taken × (text ≡ codes "end\n")
+Closes Words taken number behind text = ⊥
+Closes ReadFault taken number behind text = IsSent taken × (text ≡ [])
+Closes TooLong taken number behind text = IsSent taken × (text ≡ [])
+Closes Undetected taken number behind text =
     ((found : UndetectedAt) × ((seen_so_far taken).undetected ≡ Some found)) × (text ≡ [])
-Closes NoMemory taken number text = IsFurtherFront taken number text
-Closes WriteFault taken number text =
-    (text ≡ []) ⊎ ((text ≡ codes "end\n") ⊎ IsFurtherFront taken number text)
+Closes NoMemory taken number behind text = IsFurtherFront taken number behind text
+Closes WriteFault taken number behind text =
+    (text ≡ []) ⊎ ((text ≡ codes "end\n") ⊎ IsFurtherFront taken number behind text)
 
 -- Lines were served: those that were read, each behind the one before it, up to where it ended.
 -- What was written is their answers, and what is written behind them. The blocks in the answers are
@@ -41,9 +51,9 @@ pub record LiveServes (status : LiveStatus) (left left_after : Option (List ℕ)
   pub last : List ℕ
   pub answers : AnswersLines nothing_taken 1 lines text taken
   pub trace : IsTrace taken
-  pub closes : Closes status taken (length lines + 1) last
   pub serves : ServesLines (2 ^ 32 - 1) status left left_after read_faults read_faults_after
       written written_after write_faults write_faults_after lines (text ++ last)
+  pub closes : Closes status taken (length lines + 1) serves.behind last
 
 -- there are no words behind the name of the program
 abbrev pub AskNothing : List (List ℕ) → Type 0
