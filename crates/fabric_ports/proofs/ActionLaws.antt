@@ -26,7 +26,8 @@ use Rattle.fabric_ports.specs.declared.actions.Acted.{Acted}
 use Rattle.fabric_ports.specs.declared.ends.LinkPlace.{LinkPlace}
 use Rattle.fabric_ports.specs.declared.fabric.Cable.{Cable}
 use Rattle.fabric_ports.specs.declared.fabric.Fabric.{Fabric}
-use Rattle.fabric_ports.proofs.Cables.{IsChanged, with_wires}
+use Rattle.fabric_ports.specs.declared.idle.Idle.{Idle}
+use Rattle.fabric_ports.proofs.Cables.{WokeLink, IsChanged, with_wires}
 use Rattle.fabric_ports.proofs.EndLaws.{cable_is}
 use Rattle.fabric_ports.proofs.LinkLaws.{IsKnown, known, known_sound, IsLent, back, link_blocked, link_exposed, link_cut}
 
@@ -67,22 +68,25 @@ pub met_sound : {from : Seen} {lines : List TraceLine} {fabric : Fabric} {port :
 met_sound x y m at_x at_y stands = known_sound (met_known x y m at_x at_y stands)
 
 -- the fabric with this link and these ports
-abbrev pub fabric_with : Fabric → ℕ → Cable → Wires → List PortState → Fabric
-fabric_with fabric k cable wires ports = record {
+abbrev pub fabric_with : Fabric → ℕ → Cable → Wires → List PortState → Idle → Fabric
+fabric_with fabric k cable wires ports idle = record {
   devices = fabric.devices;
   firsts = fabric.firsts;
   ports = with_items fabric.ports ports;
   cables = with_item fabric.cables k (with_wires cable wires);
   cable_at = fabric.cable_at;
+  idle = idle;
 }
 
 changed_with : (fabric : Fabric) (place : LinkPlace) (cable : Cable) (wires : Wires)
     (ports next : List PortState) (x y : PortState) → ports ≡ fabric.ports.items
     → place.a ≡ place_of fabric.firsts.items cable.a
     → place.b ≡ place_of fabric.firsts.items cable.b
-    → next ≡ slice_set (slice_set ports place.a x) place.b y
-    → IsChanged fabric (fabric_with fabric place.cable cable wires next) place.cable cable wires x y
-changed_with fabric place cable wires ports next x y same first second becomes =
+    → next ≡ slice_set (slice_set ports place.a x) place.b y → {idle : Idle}
+    → WokeLink fabric place.cable cable idle
+    → IsChanged fabric (fabric_with fabric place.cable cable wires next idle) place.cable cable
+    wires x y
+changed_with fabric place cable wires ports next x y same first second becomes woke =
     let counted : length next ≡ fabric.ports.len =
     ap (λ (l : List PortState). length l) becomes ∙ length-set (slice_set ports place.a x) place.b y
     ∙ length-set ports place.a x ∙ ap (λ (l : List PortState). length l) same
@@ -94,6 +98,7 @@ changed_with fabric place cable wires ports next x y same first second becomes =
           ∙ (λ i. slice_set (slice_set (same i) (first i) x) (second i) y);
       cables = refl;
       cable_at = refl;
+      idle = woke;
     }
 
 -- ---- what the call between two ports says
@@ -113,7 +118,8 @@ module _ {K : Type 0} {S : Ghosts K} {fabric : Fabric} {port : PortRef} {place :
     (m : IsMet fabric port place cable ports)
     (two : AtTwo place.a place.b ports next
     (Says place action cable before result wires after))
-    {writer : TraceWriter K} (lent : IsLent writer before cable.a cable.b) where
+    {writer : TraceWriter K} (lent : IsLent writer before cable.a cable.b)
+    {idle : Idle} (woke : WokeLink fabric place.cable cable idle) where
   says : (r : Result Acted LinkEnd) → result ≡ r
       → Says place action cable before r wires after two.first two.second
       two.next_first two.next_second
@@ -129,12 +135,12 @@ module _ {K : Type 0} {S : Ghosts K} {fabric : Fabric} {port : PortRef} {place :
       → Adds (back writer after.outbox.now) last (lack_lines answer)
       → (from : Seen) (lines : List TraceLine) → Stands from lines fabric
       → Ran (Blocks (line_for port action)) writer last from lines
-      (Ok (fabric_with fabric place.cable cable wires next))
+      (Ok (fabric_with fabric place.cable cable wires next idle))
   act_done answer is last lacks from lines stands =
       let does = says (Ok answer) is in
       let k = is_known stands in
       let changed = changed_with fabric place cable wires ports next two.next_first two.next_second
-      m.ports_are k.first k.second two.becomes in
+      m.ports_are k.first k.second two.becomes woke in
       link_blocked action after answer k does.0 does.1 lent lacks changed
 
   pub act_ended : (end : LinkEnd) → result ≡ Err end → (from : Seen) (lines : List TraceLine)

@@ -19,6 +19,36 @@ use Rattle.fabric_ports.proofs.SettlingLaws.{devices_stay, devices_within, cable
 pub shown_by : {fabric : Fabric} → StandsForLines fabric → (s : Seen) × ShowsFabric fabric s
 shown_by known = (seen known.0 known.1, known.2.shows)
 
+-- a fabric that shows what another shows
+module _ {old new : Fabric} (shows : (s : Seen) → ShowsFabric old s → ShowsFabric new s) where
+  pub still_stands : {from : Seen} {lines : List TraceLine} → Stands from lines old
+      → Stands from lines new
+  still_stands {from} {lines} stands = record {
+    ready = stands.ready;
+    made = stands.made;
+    sent = stands.sent;
+    shows = shows (seen from lines) stands.shows;
+  }
+
+  pub still_ran : {Is : Kind} {K : Type 0} {a b : TraceWriter K} {from : Seen}
+      {lines : List TraceLine} → Ran Is a b from lines (Ok old) → Ran Is a b from lines (Ok new)
+  still_ran ran = record {
+    block = ran.block;
+    is = ran.is;
+    ends = (ran.ends.0, still_stands ran.ends.1);
+  }
+
+  pub still_linked : {ends : PortRef × PortRef} → AreLinked old ends → AreLinked new ends
+  still_linked {ends} is =
+      let now = still_stands is.stands in
+      record {
+        from = is.from;
+        lines = is.lines;
+        stands = now;
+        found = ap (λ l. link_in l ends.0) (links_stand now ∙ sym (links_stand is.stands))
+            ∙ is.found;
+      }
+
 -- the lines by which two ports are known to be linked
 pub linked_lines : {fabric : Fabric} {ends : PortRef × PortRef} → AreLinked fabric ends
     → StandsForLines fabric

@@ -1,5 +1,5 @@
 -- A fabric of which one link and its ports have changed shows what is known then.
-use Rattle.std.proofs.Common.{◌≡◌, ◌≢◌, ℕ, zero, suc, ◌<◌, ◌==◌, ◌++◌, filter, Bool, true, false, List, [], ◌∷◌, All, map, length, Option, Some, None, slice_get, slice_set, slice_index_or, refl, sym, ap, ◌∙◌, subst, cond, arith, option_map}
+use Rattle.std.proofs.Common.{◌≡◌, ◌≢◌, ◌⊎◌, inl, inr, ℕ, zero, suc, ◌<◌, ◌==◌, ◌++◌, filter, Bool, true, false, List, [], ◌∷◌, All, map, length, Option, Some, None, slice_get, slice_set, slice_index_or, refl, sym, ap, ◌∙◌, subst, cond, arith, option_map}
 use Rattle.std.proofs.Math.Seq.{map-set_same}
 use Rattle.std.proofs.lemmas.Bool.{eqb-true, eq-eqb}
 use Rattle.rio_packets.specs.Fields.{prio_of}
@@ -24,8 +24,12 @@ use Rattle.fabric_trace.proofs.Parts.Making.{AreOthers}
 use Rattle.fabric_trace.proofs.Links.Serving.{Untouched}
 use Rattle.fabric_ports.specs.Places.{AreFirsts, IsEndpointAt, port_count, place_of}
 use Rattle.fabric_ports.specs.Showing.{ends_of, wires_of, ShowsCable, AreRegisters, ShowsFabric}
+use Rattle.fabric_ports.specs.Idling.{KnowsIdle, Wakes}
 use Rattle.fabric_ports.specs.declared.fabric.Cable.{Cable}
 use Rattle.fabric_ports.specs.declared.fabric.Fabric.{Fabric}
+use Rattle.fabric_ports.specs.declared.idle.Idle.{Idle}
+use Rattle.fabric_ports.proofs.FaceLaws.{nodes_differ, port}
+use Rattle.fabric_ports.proofs.IdleLaws.{idle_stays, move_stays, face_stays, cable_for, link_stays}
 use Rattle.fabric_ports.proofs.ShowLaws.{get_set, lead_same, ArePorts, two_set}
 
 -- ---- ends of two links
@@ -101,6 +105,11 @@ own_apart (c ∷ cables) (suc k) d proper is = own_apart cables k d proper.3 is
 abbrev pub with_wires : Cable → Wires → Cable
 with_wires cable wires = record { a = cable.a; b = cable.b; link = wires }
 
+-- the link at this place was woken, and the switches at its ends
+abbrev pub WokeLink : Fabric → ℕ → Cable → Idle → Type 0
+WokeLink fabric k cable idle =
+    Wakes (λ n. n ≡ k) (λ n. (n ≡ cable.a.node) ⊎ (n ≡ cable.b.node)) fabric.idle idle
+
 -- The link at this place, and the two ports at its ends, became these. All else is as it was.
 pub record IsChanged (old new : Fabric) (k : ℕ) (cable : Cable) (wires : Wires) (x y : PortState) :
     Type 0 where
@@ -111,6 +120,7 @@ pub record IsChanged (old new : Fabric) (k : ℕ) (cable : Cable) (wires : Wires
       (place_of old.firsts.items cable.b) y
   pub cables : new.cables.items ≡ slice_set old.cables.items k (with_wires cable wires)
   pub cable_at : new.cable_at.items ≡ old.cable_at.items
+  pub idle : WokeLink old k cable new.idle
 
 wires_stay : {s t : Seen} {a b : PortRef} (c d : Cable) → d.a ≡ a → d.b ≡ b → AreApart c d
     → AreOthers s t a b → wires_of t c.a c.b ≡ wires_of s c.a c.b
@@ -219,6 +229,32 @@ port_stays {s} {t} c un =
       tells = un.lists.tells i;
     }
 
+-- what is known to have nothing to do, but the link and the switches at its ends
+idle_changed : (old new : Fabric) (s t : Seen) (k : ℕ) (d : Cable) → ShowsFabric old s
+    → slice_get old.cables.items k ≡ Some d → AreProper (map ends_of old.cables.items)
+    → AreOthers s t d.a d.b → t.network.registers ≡ s.network.registers
+    → WokeLink old k d new.idle
+    → KnowsIdle new.idle t
+idle_changed old new s t k d shows at proper others registers woke =
+    idle_stays old.idle new.idle s t shows.idle woke others.links
+    (ap (λ (l : List Registers). length l) registers) stays
+    (λ n marked none. move_stays (ap (λ (l : List Registers). slice_get l n) registers)
+    (λ j. face_stays s t (port n j) (port_stays (port n j) (others.untouched (port n j)
+    (nodes_differ d.a (port n j) (λ same. none (inl same)))
+    (nodes_differ d.b (port n j) (λ same. none (inr same)))))))
+  where
+    stays : (j : ℕ) (link : PortRef × PortRef) → slice_get s.network.links j ≡ Some link → j ≢ k
+        → link_at t link.0 link.1 ≡ link_at s link.0 link.1
+    stays j link there other =
+        let own = cable_for old s j link shows there in
+        let c = own.cable in
+        let apart = cables_apart old.cables.items j k c d proper own.at at other in
+        let first = others.untouched c.a apart.aa apart.ab in
+        let second = others.untouched c.b apart.ba apart.bb in
+        subst (λ (l : PortRef × PortRef). link_at t l.0 l.1 ≡ link_at s l.0 l.1) own.ends
+        (link_stays s t c.a c.b (port_stays c.a first) (port_stays c.b second) first.wire
+        second.wire)
+
 pub changed_shows : (old new : Fabric) (s t : Seen) (k : ℕ) (d : Cable) (wires : Wires)
     (x y : PortState) → ShowsFabric old s → slice_get old.cables.items k ≡ Some d
     → IsChanged old new k d wires x y → AreProper s.network.links → AreOthers s t d.a d.b
@@ -266,6 +302,7 @@ changed_shows old new s t k d wires x y shows at changed proper others registers
           shows.lead;
       registers = subst (AreRegisters t.network) (sym changed.devices)
           (registers ∙ shows.registers);
+      idle = idle_changed old new s t k d shows at links others registers changed.idle;
       endpoints = λ n is.
           let before : IsEndpoint s.network n =
           subst (λ (l : List Registers). option_map is_switch (slice_get l n) ≡ Some false)

@@ -40,7 +40,8 @@ use Rattle.fabric_ports.specs.declared.actions.Acted.TheVariants.{Done, Short, E
 use Rattle.fabric_ports.specs.declared.ends.LinkPlace.{LinkPlace}
 use Rattle.fabric_ports.specs.declared.fabric.Cable.{Cable}
 use Rattle.fabric_ports.specs.declared.fabric.Fabric.{Fabric}
-use Rattle.fabric_ports.proofs.Cables.{IsChanged, changed_shows, with_wires}
+use Rattle.fabric_ports.specs.declared.idle.Idle.{Idle}
+use Rattle.fabric_ports.proofs.Cables.{WokeLink, IsChanged, changed_shows, with_wires}
 use Rattle.fabric_ports.proofs.EndLaws.{cable_shown, cable_is}
 use Rattle.fabric_ports.proofs.LinkLaws.{IsKnown, known}
 
@@ -125,13 +126,14 @@ wire_chars s a b B wires x y is = ap (λ (l : LinkState). l.wire_b.chars) is
 -- ---- the fabric
 
 -- the fabric with this link
-abbrev pub fabric_edited : Fabric → ℕ → Cable → Wires → Fabric
-fabric_edited fabric k cable wires = record {
+abbrev pub fabric_edited : Fabric → ℕ → Cable → Wires → Idle → Fabric
+fabric_edited fabric k cable wires idle = record {
   devices = fabric.devices;
   firsts = fabric.firsts;
   ports = fabric.ports;
   cables = with_item fabric.cables k (with_wires cable wires);
   cable_at = fabric.cable_at;
+  idle = idle;
 }
 
 set_same : {X : Type 0} (xs : List X) (i : ℕ) (x : X) → slice_get xs i ≡ Some x
@@ -141,9 +143,10 @@ set_same xs i x is = ap (slice_set xs i) (sym (get_or_from_slice_get xs i x x is
 
 links_changed : (fabric : Fabric) (k : ℕ) (cable : Cable) (wires : Wires) (x y : PortState)
     → slice_get fabric.ports.items (place_of fabric.firsts.items cable.a) ≡ Some x
-    → slice_get fabric.ports.items (place_of fabric.firsts.items cable.b) ≡ Some y
-    → IsChanged fabric (fabric_edited fabric k cable wires) k cable wires x y
-links_changed fabric k cable wires x y at_x at_y = record {
+    → slice_get fabric.ports.items (place_of fabric.firsts.items cable.b) ≡ Some y → {idle : Idle}
+    → WokeLink fabric k cable idle
+    → IsChanged fabric (fabric_edited fabric k cable wires idle) k cable wires x y
+links_changed fabric k cable wires x y at_x at_y woke = record {
   devices = refl;
   firsts = refl;
   ports =
@@ -153,6 +156,7 @@ links_changed fabric k cable wires x y at_x at_y = record {
       ∙ set_same fabric.ports.items py y at_y);
   cables = refl;
   cable_at = refl;
+  idle = woke;
 }
 
 -- what is known of a link whose ports stand where they are shown
@@ -171,53 +175,57 @@ edit_known {from} {lines} {fabric} {port} {place} stands p =
 
 -- the link is the one that stands at the place
 module _ (fabric : Fabric) (port : PortRef) (place : LinkPlace) (p : IsPlaceOf fabric port place)
-    (cable : Cable) (met : cable ≡ slice_index_or fabric.cables.items place.cable cable) where
-  -- its wire has the characters that are known
-  pub edit_chars : {from : Seen} {lines : List TraceLine} → Stands from lines fabric
-      → (wire_at place.side cable.link).chars ≡ ((seen from lines).wires port).chars
-  edit_chars {from = from} {lines = lines} stands =
-      let s = seen from lines in
-      let d = p.is.cable in
-      let same = cable_is fabric.cables.items port place.cable place.side p.is cable met in
-      let k = edit_known stands p in
-      let x = port_seen s d.a in
-      let y = port_seen s d.b in
-      wire_chars s d.a d.b place.side cable.link x y
-      (ap (λ (c : Cable). link c.link x y) same ∙ k.shown)
-      ∙ ap (λ (q : PortRef). (s.wires q).chars) (sym k.end)
+    (cable : Cable) (met : cable ≡ slice_index_or fabric.cables.items place.cable cable)
+  where
+    -- its wire has the characters that are known
+    pub edit_chars : {from : Seen} {lines : List TraceLine} → Stands from lines fabric
+        → (wire_at place.side cable.link).chars ≡ ((seen from lines).wires port).chars
+    edit_chars {from = from} {lines = lines} stands =
+        let s = seen from lines in
+        let d = p.is.cable in
+        let same = cable_is fabric.cables.items port place.cable place.side p.is cable met in
+        let k = edit_known stands p in
+        let x = port_seen s d.a in
+        let y = port_seen s d.b in
+        wire_chars s d.a d.b place.side cable.link x y
+        (ap (λ (c : Cable). link c.link x y) same ∙ k.shown)
+        ∙ ap (λ (q : PortRef). (s.wires q).chars) (sym k.end)
 
-  -- the fabric shows what is known after the edit
-  pub edit_shows : (edit : Edit) (wires : Wires)
-      → ((x y : PortState) → link wires x y ≡ edited_from place.side edit (link cable.link x y))
-      → (from : Seen) (lines : List TraceLine) → Stands from lines fabric
-      → ShowsFabric (fabric_edited fabric place.cable cable wires)
-      (edited_by (seen from lines) (Some (port, edit)))
-  edit_shows edit wires becomes from lines stands =
-      let s = seen from lines in
-      let d = p.is.cable in
-      let same : cable ≡ d = cable_is fabric.cables.items port place.cable place.side p.is cable
-      met in
-      let k = edit_known stands p in
-      let x = port_seen s d.a in
-      let y = port_seen s d.b in
-      let t = edited_by s (Some (port, edit)) in
-      let shown : link cable.link x y ≡ link_at s d.a d.b = ap (λ (c : Cable). link c.link x y) same
-      ∙ k.shown in
-      let there : link_at t d.a d.b ≡ link wires x y =
-      ap (λ (q : PortRef). link_at (edited_by s (Some (q, edit))) d.a d.b) k.end
-      ∙ edited_at s d.a d.b place.side edit k.peers.apart
-      ∙ ap (edited_from place.side edit) (sym shown) ∙ sym (becomes x y) in
-      let others : AreOthers s t d.a d.b =
-      subst (λ (q : PortRef). AreOthers s (edited_by s (Some (q, edit))) d.a d.b) (sym k.end)
-      (edit_others s d.a d.b place.side edit) in
-      let in_place = cable_shown place.cable d stands p.is.at in
-      let changes =
-      links_changed fabric place.cable d wires x y (stands.shows.ports d.a in_place.port_a)
-      (stands.shows.ports d.b in_place.port_b) in
-      let new_fabric = fabric_edited fabric place.cable d wires in
-      subst (λ (c : Cable). ShowsFabric (fabric_edited fabric place.cable c wires) t) (sym same)
-      (changed_shows fabric new_fabric s t place.cable d wires x y stands.shows k.at changes
-      k.good.proper others refl there)
+    -- the fabric shows what is known after the edit
+    pub edit_shows : (edit : Edit) (wires : Wires) (idle : Idle)
+        → WokeLink fabric place.cable cable idle
+        → ((x y : PortState) → link wires x y ≡ edited_from place.side edit (link cable.link x y))
+        → (from : Seen) (lines : List TraceLine) → Stands from lines fabric
+        → ShowsFabric (fabric_edited fabric place.cable cable wires idle)
+        (edited_by (seen from lines) (Some (port, edit)))
+    edit_shows edit wires idle woke becomes from lines stands =
+        let s = seen from lines in
+        let d = p.is.cable in
+        let same : cable ≡ d = cable_is fabric.cables.items port place.cable place.side p.is cable
+        met in
+        let k = edit_known stands p in
+        let x = port_seen s d.a in
+        let y = port_seen s d.b in
+        let t = edited_by s (Some (port, edit)) in
+        let shown : link cable.link x y ≡ link_at s d.a d.b = ap (λ (c : Cable). link c.link x y)
+        same ∙ k.shown in
+        let there : link_at t d.a d.b ≡ link wires x y =
+        ap (λ (q : PortRef). link_at (edited_by s (Some (q, edit))) d.a d.b) k.end
+        ∙ edited_at s d.a d.b place.side edit k.peers.apart
+        ∙ ap (edited_from place.side edit) (sym shown) ∙ sym (becomes x y) in
+        let others : AreOthers s t d.a d.b =
+        subst (λ (q : PortRef). AreOthers s (edited_by s (Some (q, edit))) d.a d.b) (sym k.end)
+        (edit_others s d.a d.b place.side edit) in
+        let in_place = cable_shown place.cable d stands p.is.at in
+        let changes =
+        links_changed fabric place.cable d wires x y (stands.shows.ports d.a in_place.port_a)
+        (stands.shows.ports d.b in_place.port_b)
+        (subst (λ (c : Cable). WokeLink fabric place.cable c idle) same woke) in
+        let new_fabric = fabric_edited fabric place.cable d wires idle in
+        subst (λ (c : Cable). ShowsFabric (fabric_edited fabric place.cable c wires idle) t)
+        (sym same)
+        (changed_shows fabric new_fabric s t place.cable d wires x y stands.shows k.at changes
+        k.good.proper others refl there)
 
 -- the block is written, and the fabric shows what is known after it
 pub edit_did : {K : Type 0} {fabric : Fabric}
@@ -225,18 +233,19 @@ pub edit_did : {K : Type 0} {fabric : Fabric}
     → cable ≡ slice_index_or fabric.cables.items place.cable cable → (asked : WireEdit)
     (edit : Edit) → edit ≡ edit_asked asked → (wires : Wires)
     → ((x y : PortState) → link wires x y ≡ edited_from place.side edit (link cable.link x y))
+    → {idle : Idle} → WokeLink fabric place.cable cable idle
     → (answer : Edited) → answer ≡ edit_answered (fits edit (wire_at place.side cable.link).chars)
     → (old new : TraceWriter K) → Adds old new (lack_lines (edit_acted answer))
     → (from : Seen) (lines : List TraceLine) → Stands from lines fabric
     → Did (Blocks (line_editing port asked) (seen from lines)) old new
     (edited_by (seen from lines) (Some (port, edit_asked asked)))
-    (fabric_edited fabric place.cable cable wires)
+    (fabric_edited fabric place.cable cable wires idle)
 edit_did {fabric = fabric} {port = port} {place = place} p {cable = cable} met asked edit same wires
-    becomes
+    becomes {idle = idle} woke
     answer answers old new adds
     from lines stands =
     let s = seen from lines in
-    let new_fabric = fabric_edited fabric place.cable cable wires in
+    let new_fabric = fabric_edited fabric place.cable cable wires idle in
     let t = edited_by s (Some (port, edit_asked asked)) in
     let block = lack_lines (edit_acted answer) in
     let block_is : block ≡ edits s (Some (port, edit_asked asked)) =
@@ -247,7 +256,7 @@ edit_did {fabric = fabric} {port = port} {place = place} p {cable = cable} met a
     let still = lack_same t (edit_acted answer) in
     let shows : ShowsFabric new_fabric t = subst (λ e. ShowsFabric new_fabric
     (edited_by s (Some (port, e)))) same
-    (edit_shows fabric port place p cable met edit wires becomes from lines stands) in
+    (edit_shows fabric port place p cable met edit wires idle woke becomes from lines stands) in
     record {
       block = block;
       adds = adds;

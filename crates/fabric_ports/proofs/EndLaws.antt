@@ -1,6 +1,8 @@
 -- The link that a port has.
 use Rattle.std.proofs.Common.{◌≡◌, ◌≢◌, ℕ, suc, ◌<◌, Bool, true, false, List, [], ◌∷◌, map, length, Option, Some, IsSome, slice_get, slice_index_or, option_map, refl, sym, ap, ◌∙◌, subst, if◌then◌else◌}
-use Rattle.std.proofs.lemmas.Option.{slice_get-map, slice_get_within, get_or_from_slice_get}
+use Rattle.std.proofs.lemmas.Option.{same_Some, slice_get-map, slice_get_within, slice_get-get_or, get_or_from_slice_get}
+use Rattle.link_port.specs.Ports.{PortState}
+use Rattle.link_machine.specs.States.{link}
 use Rattle.link_watch.specs.declared.side.Side.{Side}
 use Rattle.link_watch.specs.declared.side.Side.TheVariants.{A, B}
 use Rattle.fabric_script.specs.declared.ports.PortRef.{PortRef}
@@ -10,7 +12,7 @@ use Rattle.fabric_model.specs.Laws.Proper.{AreProper}
 use Rattle.fabric_model.proofs.Peers.{port_is}
 use Rattle.fabric_ports.specs.Ends.{PortIsLinked, side_in, IsEndOf, IsPlaceOf}
 use Rattle.fabric_ports.specs.Places.{IsPortOf, place_of}
-use Rattle.fabric_ports.specs.Showing.{ends_of, ShowsCable}
+use Rattle.fabric_ports.specs.Showing.{ends_of, ShowsCable, ShowsFabric}
 use Rattle.fabric_ports.specs.Standing.{Stands}
 use Rattle.fabric_ports.specs.declared.ends.LinkPlace.{LinkPlace}
 use Rattle.fabric_ports.specs.declared.fabric.Cable.{Cable}
@@ -19,7 +21,7 @@ use Rattle.fabric_ports.proofs.Cables.{own_apart}
 use Rattle.fabric_ports.proofs.PlaceLaws.{places_apart}
 use Rattle.fabric_trace.proofs.Shown.Wiring.{seen_links}
 use Rattle.fabric_trace.specs.Fold.{seen}
-use Rattle.fabric_trace.specs.Known.{Seen}
+use Rattle.fabric_trace.specs.Known.{Seen, port_seen, link_at}
 use Rattle.trace_lines.specs.Lines.{TraceLine}
 
 link_first : (a b : Bool) (ends : PortRef × PortRef) (later : Option (PortRef × PortRef)) → a ≡ true
@@ -126,6 +128,34 @@ ends_apart {from} {lines} {fabric} k cable stands at =
     let shown = cable_shown k cable stands at in
     places_apart fabric.devices.items fabric.firsts.items cable.a cable.b stands.shows.firsts
     shown.port_a shown.port_b (own_apart fabric.cables.items k cable (links_proper stands) at)
+
+-- the link at a place, by the two ports that were read at its ends, is the one that is known
+pub link_there : {fabric : Fabric} {s : Seen} (k : ℕ) (cable : Cable) {i j : ℕ} {x y : PortState}
+    → ShowsFabric fabric s → k < length fabric.cables.items
+    → cable ≡ slice_index_or fabric.cables.items k cable
+    → i ≡ place_of fabric.firsts.items cable.a → j ≡ place_of fabric.firsts.items cable.b
+    → x ≡ slice_index_or fabric.ports.items i x → y ≡ slice_index_or fabric.ports.items j y
+    → (a b : PortRef) → slice_get (map ends_of fabric.cables.items) k ≡ Some (a, b)
+    → link cable.link x y ≡ link_at s a b
+link_there {fabric = fabric} {s = s} k cable {x = x} {y = y} shows within is first second value
+    other a b ends =
+    let at : slice_get fabric.cables.items k ≡ Some cable =
+    slice_get-get_or fabric.cables.items k cable within ∙ ap Some (sym is) in
+    let shown = subst (ShowsCable fabric.devices.items s)
+    (get_or_from_slice_get fabric.cables.items k cable cable at) (shows.cables k cable within) in
+    let own : x ≡ port_seen s cable.a =
+    value ∙ ap (λ n. slice_index_or fabric.ports.items n x) first
+    ∙ get_or_from_slice_get fabric.ports.items (place_of fabric.firsts.items cable.a)
+    (port_seen s cable.a) x (shows.ports cable.a shown.port_a) in
+    let far : y ≡ port_seen s cable.b =
+    other ∙ ap (λ n. slice_index_or fabric.ports.items n y) second
+    ∙ get_or_from_slice_get fabric.ports.items (place_of fabric.firsts.items cable.b)
+    (port_seen s cable.b) y (shows.ports cable.b shown.port_b) in
+    let same : ends_of cable ≡ (a, b) =
+    same_Some (ends_of cable) (a, b)
+    (sym (slice_get-map ends_of fabric.cables.items k ∙ ap (option_map ends_of) at) ∙ ends) in
+    subst (λ (l : PortRef × PortRef). link cable.link x y ≡ link_at s l.0 l.1) same
+    (λ n. link (shown.wires n) (own n) (far n))
 
 -- what holds of both ends of a link holds of one of them
 at_side : (P : PortRef → Type 0) (a b : PortRef) (side : Side) → P a → P b

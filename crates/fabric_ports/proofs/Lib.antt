@@ -7,6 +7,7 @@ pub mod BlockLaws
 pub mod Cables
 pub mod CarriedLaws
 pub mod CarryAllLaws
+pub mod IdleLaws
 pub mod IdleLinks
 pub mod CarryLaws
 pub mod Changes
@@ -40,4 +41,5 @@ pub mod SettlingLaws
 pub mod ShowLaws
 pub mod StandLaws
 pub mod StepLaws
+pub mod StepEnds
 pub mod StirLaws

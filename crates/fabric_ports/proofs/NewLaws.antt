@@ -1,6 +1,6 @@
 -- What a new fabric shows, and what a plan is for after more lines.
-use Rattle.std.proofs.Common.{◌≡◌, ℕ, zero, suc, ◌+◌, ◌<◌, List, [], ◌∷◌, ◌++◌, All, Some, None, false, map, get_or, take, drop, length, length-append, option_map, refl, sym, ap, ◌∙◌, subst, filter, ◌==◌, arith}
-use Rattle.std.proofs.lemmas.List.{take_more, length-map}
+use Rattle.std.proofs.Common.{◌≡◌, ℕ, zero, suc, ◌+◌, ◌<◌, List, [], ◌∷◌, ◌++◌, All, Some, None, false, map, get_or, take, drop, length, replicate, length-append, option_map, refl, sym, ap, ◌∙◌, subst, filter, ◌==◌, arith}
+use Rattle.std.proofs.lemmas.List.{take_more, length-map, length-replicate}
 use Rattle.std.proofs.lemmas.List.Elements.{All-head, All-tail, All-weaker}
 use Rattle.std.proofs.lemmas.Option.{same_Some, slice_get-map}
 use Rattle.std.specs.List.{slice_get}
@@ -22,7 +22,7 @@ use Rattle.fabric_model.specs.Laws.History.{IsEmptyNetwork}
 use Rattle.fabric_model.specs.Laws.Proper.{AreProper}
 use Rattle.fabric_trace.proofs.SetUps.SettingUp.{set_up_all-append, lines_at}
 use Rattle.fabric_trace.specs.Events.{ArePorts, counts_after, counts_after_all, port_counts}
-use Rattle.fabric_trace.specs.Known.{port_seen}
+use Rattle.fabric_trace.specs.Known.{Seen, port_seen}
 use Rattle.fabric_trace.specs.Parts.{Done}
 use Rattle.fabric_trace.specs.Runs.{bare, set_up, set_up_all, begins}
 use Rattle.fabric_trace.specs.SetUps.{MaySetUp, MaySetUpAll}
@@ -30,13 +30,16 @@ use Rattle.fabric_trace.specs.Views.{packets_in}
 use Rattle.fabric_trace.proofs.Traces.Existing.{ready_begun}
 use Rattle.fabric_trace.proofs.SetUps.Happening.{may_set_up, ports_there}
 use Rattle.fabric_trace.proofs.SetUps.Starting.{set_up_bare}
+use Rattle.fabric_ports.specs.Idling.{IsMarkedAt, KnowsIdle}
 use Rattle.fabric_ports.specs.Places.{IsEndpointAt, place_of}
 use Rattle.fabric_ports.specs.Showing.{ends_of, ShowsCable, LeadToLinks, ShowsFabric}
 use Rattle.fabric_ports.specs.Standing.{Stands}
 use Rattle.fabric_ports.specs.Plans.{counts_of, HasPorts, IsNewCable, PlansFor, MayAdd, port_plan, planned_port}
+use Rattle.fabric_ports.proofs.IdleLaws.{none_marked}
 use Rattle.fabric_ports.proofs.PlanLaws.{Lists, lists_of, lists_same}
 use Rattle.fabric_ports.proofs.ShowLaws.{lead_same}
 use Rattle.fabric_ports.specs.declared.fabric.Fabric.{Fabric}
+use Rattle.fabric_ports.specs.declared.idle.Idle.{Idle}
 use Rattle.fabric_ports.specs.declared.plans.Plan.{Plan}
 use Rattle.fabric_ports.specs.declared.plans.PortPlan.{PortPlan}
 
@@ -82,8 +85,8 @@ new_shows : (fabric : Fabric) (plans : List PortPlan) (net : Network) → IsEmpt
     → Lists fabric.devices.items fabric.firsts.items plans fabric.cables.items net
     → fabric.ports.items ≡ map planned_port plans
     → LeadToLinks (map ends_of fabric.cables.items) fabric.firsts.items fabric.cable_at.items
-    → ShowsFabric fabric (begins net)
-new_shows fabric plans net empty l ports lead = record {
+    → KnowsIdle fabric.idle (begins net) → ShowsFabric fabric (begins net)
+new_shows fabric plans net empty l ports lead idle = record {
   firsts = l.rows;
   count = ap length ports ∙ length-map plans planned_port ∙ l.count;
   ports = λ p here.
@@ -98,10 +101,33 @@ new_shows fabric plans net empty l ports lead = record {
   lead = subst (λ (links : List (PortRef × PortRef)). LeadToLinks links fabric.firsts.items
       fabric.cable_at.items) l.links lead;
   registers = l.registers;
+  idle = idle;
   endpoints = λ n is. endpoint_at fabric.devices.items n l.have_ports
       (subst (λ (registers : List Registers). option_map is_switch (slice_get registers n) ≡ Some
       false) l.registers is);
 }
+
+-- nothing is known to have nothing to do
+new_idle : (idle : Idle) (s : Seen) (links devices : ℕ) → idle.links.items ≡ replicate links false
+    → idle.switches.items ≡ replicate devices false → links ≡ length s.network.links
+    → devices ≡ length s.network.registers → KnowsIdle idle s
+new_idle idle s links devices first second many_links many_devices = record {
+  links = λ k link marked at.
+      absurd (none_marked links k (subst (λ l. IsMarkedAt l k) first marked));
+  switches = λ n marked.
+      absurd (none_marked devices n (subst (λ l. IsMarkedAt l n) second marked));
+  as_many_links = ap (λ l. length l) first ∙ length-replicate links false ∙ many_links;
+  as_many_devices = ap (λ l. length l) second ∙ length-replicate devices false ∙ many_devices;
+}
+
+-- the marks are made for the links and the devices of a plan
+pub record AreUnmarked (plan : Plan) (idle : Idle) : Type 0 where
+  pub links : ℕ
+  pub devices : ℕ
+  pub links_are : idle.links.items ≡ replicate links false
+  pub devices_are : idle.switches.items ≡ replicate devices false
+  pub as_many_links : links ≡ length plan.cables.items
+  pub as_many_devices : devices ≡ length plan.devices.items
 
 pub new_stands : (names : List (List ℕ)) (lines : List Numbered) (plan : Plan) (fabric : Fabric)
     → ScriptPasses names lines → PlansFor plan (set_up_all bare lines)
@@ -109,8 +135,8 @@ pub new_stands : (names : List (List ℕ)) (lines : List Numbered) (plan : Plan)
     → fabric.cables.items ≡ plan.cables.items
     → fabric.ports.items ≡ map planned_port plan.ports.items
     → LeadToLinks (map ends_of plan.cables.items) plan.firsts.items fabric.cable_at.items
-    → Stands (begins (set_up_all bare lines)) [] fabric
-new_stands names lines plan fabric passes is d f c ports lead =
+    → AreUnmarked plan fabric.idle → Stands (begins (set_up_all bare lines)) [] fabric
+new_stands names lines plan fabric passes is d f c ports lead idle =
     let set_up = set_up_bare lines (may_set_up names lines passes) in
     record {
       ready = ready_begun (set_up_all bare lines) set_up;
@@ -122,7 +148,12 @@ new_stands names lines plan fabric passes is d f c ports lead =
           (set_up_all bare lines) d f refl c (lists_of plan (set_up_all bare lines) is)) ports
           (lead_same (map ends_of plan.cables.items) (map ends_of fabric.cables.items)
           plan.firsts.items fabric.firsts.items fabric.cable_at.items fabric.cable_at.items
-          (ap (map ends_of) c) f refl lead);
+          (ap (map ends_of) c) f refl lead)
+          (new_idle fabric.idle (begins (set_up_all bare lines)) idle.links idle.devices
+          idle.links_are idle.devices_are
+          (idle.as_many_links ∙ sym (length-map plan.cables.items ends_of)
+          ∙ ap (λ (l : List (PortRef × PortRef)). length l) is.links)
+          (idle.as_many_devices ∙ ap (λ (l : List Registers). length l) (sym is.registers)));
     }
 
 -- the links of a plan for a script that passes

@@ -1,5 +1,6 @@
 -- What a fabric shows after a call that changed ports and registers of one node.
-use Rattle.std.proofs.Common.{◌≡◌, ℕ, zero, suc, false, List, [], ◌∷◌, length, map, Some, slice_get, slice_set, get_or, option_map, refl, sym, ap, ◌∙◌, subst, length-set}
+use Rattle.std.proofs.Common.{◌≡◌, ◌≢◌, ℕ, zero, suc, true, false, arith, List, [], ◌∷◌, length, map, Some, slice_get, slice_set, get_or, option_map, refl, sym, ap, ◌∙◌, subst, length-set}
+use Rattle.std.proofs.lemmas.Bool.{false_from_ne_true}
 use Rattle.std.proofs.lemmas.List.Elements.{All-weaker}
 use Rattle.std.proofs.lemmas.Option.{get_or_from_slice_get, slice_get_within, slice_get-get_or}
 use Rattle.std.specs.Vec.{with_item, with_items}
@@ -7,12 +8,19 @@ use Rattle.link_port.specs.Ports.{PortState}
 use Rattle.maint_registers.specs.Devices.{Registers, IsSameDevice, is_switch}
 use Rattle.fabric_script.specs.declared.ports.PortRef.{PortRef}
 use Rattle.fabric_model.specs.Network.{IsEndpoint, same_port, port_of}
+use Rattle.fabric_model.proofs.Peers.{port_is}
 use Rattle.fabric_trace.specs.Known.{Wire, Seen, port_seen, wire_state}
+use Rattle.fabric_trace.specs.Served.{IsMove}
+use Rattle.trace_lines.specs.Lines.{NoStep, Lacked}
 use Rattle.fabric_ports.specs.declared.fabric.Fabric.{Fabric}
+use Rattle.fabric_ports.specs.declared.idle.Idle.{Idle}
+use Rattle.fabric_ports.specs.Idling.{KnowsIdle, Wakes, HasNumber}
 use Rattle.fabric_ports.specs.Places.{AreFirsts, IsPortOf, IsEndpointAt, place_of}
 use Rattle.fabric_ports.specs.Showing.{ends_of, ShowsCable, ShowsFabric}
 use Rattle.fabric_ports.proofs.DeviceLaws.{AreSameDevices, one_written, kinds_stay, firsts_stay, count_stays, has_port_still, had_port, endpoint_stays}
-use Rattle.fabric_ports.proofs.ShowLaws.{lead_same, ArePorts, one_set}
+use Rattle.fabric_ports.proofs.FaceLaws.{nodes_differ, port}
+use Rattle.fabric_ports.proofs.IdleLaws.{move_stays, face_stays, idle_ports}
+use Rattle.fabric_ports.proofs.ShowLaws.{lead_same, get_other, ArePorts, one_set}
 
 -- ---- registers
 
@@ -44,8 +52,8 @@ pub record IsServed (old new : Fabric) : Type 0 where
 pub served_shows : (old new : Fabric) (s t : Seen) → ShowsFabric old s → IsServed old new
     → ArePorts old.devices.items old.firsts.items new.ports.items t
     → t.wires ≡ s.wires → t.network.links ≡ s.network.links
-    → t.network.registers ≡ new.devices.items → ShowsFabric new t
-served_shows old new s t shows served ports wires links registers =
+    → t.network.registers ≡ new.devices.items → KnowsIdle new.idle t → ShowsFabric new t
+served_shows old new s t shows served ports wires links registers idle =
     let before = old.devices.items in
     let after = new.devices.items in
     let cables = All-weaker (ShowsCable before s) (ShowsCable after t)
@@ -55,8 +63,7 @@ served_shows old new s t shows served ports wires links registers =
       wires = is.wires
           ∙ ap (λ (w : PortRef → Wire).
           record { a = wire_state (w cable.a); b = wire_state (w cable.b) }) (sym wires);
-    })
-    old.cables.items shows.cables in
+    }) old.cables.items shows.cables in
     record {
       firsts = subst (λ (l : List ℕ). AreFirsts 0 after l) (sym served.firsts)
           (firsts_stay 0 before after old.firsts.items served.devices shows.firsts);
@@ -69,6 +76,7 @@ served_shows old new s t shows served ports wires links registers =
       lead = lead_same s.network.links t.network.links old.firsts.items new.firsts.items
           old.cable_at.items new.cable_at.items links served.firsts served.cable_at shows.lead;
       registers = registers;
+      idle = idle;
       endpoints = λ n is.
           let kind : IsEndpoint s.network n =
           ap (λ (l : List Registers). option_map is_switch (slice_get l n)) shows.registers
@@ -88,10 +96,40 @@ pub record HasBoth (old new : Fabric) (n : ℕ) (next : Registers) (p : PortRef)
   pub ports : new.ports.items ≡ slice_set old.ports.items (place_of old.firsts.items p) y
   pub cables : new.cables.items ≡ old.cables.items
   pub cable_at : new.cable_at.items ≡ old.cable_at.items
+  pub idle : Wakes (HasNumber old.cable_at.items (place_of old.firsts.items p) 1) (λ k. ⊥) old.idle
+      new.idle
 
 pub endpoint_port : (devices : List Registers) (n : ℕ) → IsEndpointAt devices n
     → IsPortOf devices (port_of n)
 endpoint_port devices n at = rw at.stands at.has_port
+
+-- what is known to have nothing to do, but the link of the port
+one_idle : (old new : Fabric) (s t : Seen) (n : ℕ) (next : Registers) → ShowsFabric old s
+    → IsEndpointAt old.devices.items n
+    → Wakes (HasNumber old.cable_at.items (place_of old.firsts.items (port_of n)) 1) (λ k. ⊥) old.idle
+    new.idle
+    → ((q : PortRef) → same_port q (port_of n) ≡ false → port_seen t q ≡ port_seen s q)
+    → t.wires ≡ s.wires → t.network.links ≡ s.network.links
+    → t.network.registers ≡ slice_set s.network.registers n next → KnowsIdle new.idle t
+one_idle old new s t n next shows at woke others wires links registers =
+    idle_ports old new.idle s t (place_of old.firsts.items (port_of n)) 1 shows woke wires links
+    (ap (λ (l : List Registers). length l) registers
+    ∙ length-set s.network.registers n next)
+    (λ q has away. others q (false_from_ne_true (same_port q (port_of n)) (λ same. away 0
+    (omega arith) (ap (place_of old.firsts.items) (port_is q (port_of n) same) ∙ omega arith))))
+    (λ m marked rests. move_stays
+    (ap (λ (l : List Registers). slice_get l m) registers
+    ∙ get_other s.network.registers n m next (other m rests))
+    (λ j. face_stays s t (port m j) (others (port m j) (nodes_differ (port_of n) (port m j)
+    (other m rests)))) rests)
+  where
+    other : (m : ℕ) → IsMove s.network m (Lacked NoStep ∷ []) → m ≢ n
+    other m rests same =
+        let kind : Some true ≡ Some false = sym rests.switch
+        ∙ ap (λ k. option_map is_switch (slice_get s.network.registers k)) same
+        ∙ ap (λ (l : List Registers). option_map is_switch (slice_get l n)) shows.registers
+        ∙ ap (option_map is_switch) at.stands ∙ ap Some at.kind in
+        absurd (cc kind)
 
 pub port_shows : (old new : Fabric) (s t : Seen) (n : ℕ) (device next : Registers) (y : PortState)
     → ShowsFabric old s → IsEndpointAt old.devices.items n
@@ -115,6 +153,7 @@ port_shows old new s t n device next y shows at stands same has becomes others w
     })
     (rw has.ports ports) wires links
     (registers ∙ ap (λ (l : List Registers). slice_set l n next) shows.registers ∙ sym has.devices)
+    (one_idle old new s t n next shows at has.idle others wires links registers)
 
 -- the port that was read at the place of an endpoint is the one that is known
 pub port_read : {fabric : Fabric} {s : Seen} {n place : ℕ} {x : PortState} → ShowsFabric fabric s
@@ -128,54 +167,75 @@ port_read {fabric = fabric} {s = s} {n = n} {x = x} shows at is value =
     ∙ ap (λ i. get_or fabric.ports.items i x) (sym is) ∙ sym value
 
 -- the fabric with this port at a place, and this device at another
-abbrev pub with_both : Fabric → ℕ → Registers → ℕ → PortState → Fabric
-with_both fabric n device place port = record {
+abbrev pub with_both : Fabric → ℕ → Registers → ℕ → PortState → Idle → Fabric
+with_both fabric n device place port idle = record {
   devices = with_item fabric.devices n device;
   firsts = fabric.firsts;
   ports = with_item fabric.ports place port;
   cables = fabric.cables;
   cable_at = fabric.cable_at;
+  idle = idle;
 }
 
+-- the numbers of links were read, and those of one place were woken
+abbrev pub WokeOne : Fabric → List ℕ → ℕ → Idle → Type 0
+WokeOne fabric numbers place idle =
+    (numbers ≡ fabric.cable_at.items)
+    × Wakes (HasNumber numbers place 1) (λ k. ⊥) fabric.idle idle
+
+woke_one : (fabric : Fabric) (p : PortRef) {numbers : List ℕ} {place : ℕ} {idle : Idle}
+    → place ≡ place_of fabric.firsts.items p → WokeOne fabric numbers place idle
+    → Wakes (HasNumber fabric.cable_at.items (place_of fabric.firsts.items p) 1) (λ k. ⊥) fabric.idle
+    idle
+woke_one fabric p {place = place} {idle = idle} is woke =
+    subst (λ i. Wakes (HasNumber fabric.cable_at.items i 1) (λ k. ⊥) fabric.idle idle) is
+    (subst (λ l. Wakes (HasNumber l place 1) (λ k. ⊥) fabric.idle idle) woke.0 woke.1)
+
 pub has_both : (fabric : Fabric) (p : PortRef) {node n place : ℕ} (next : Registers) (y : PortState)
-    → place ≡ place_of fabric.firsts.items p → node ≡ n
-    → HasBoth fabric (with_both fabric node next place y) n next p y
-has_both fabric p next y is same = record {
+    {numbers : List ℕ} {idle : Idle} → place ≡ place_of fabric.firsts.items p → node ≡ n
+    → WokeOne fabric numbers place idle
+    → HasBoth fabric (with_both fabric node next place y idle) n next p y
+has_both fabric p next y is same woke = record {
   devices = ap (λ k. slice_set fabric.devices.items k next) same;
   firsts = refl;
   ports = ap (λ i. slice_set fabric.ports.items i y) is;
   cables = refl;
   cable_at = refl;
+  idle = woke_one fabric p is woke;
 }
 
 -- the fabric with this port at a place
-abbrev pub with_port : Fabric → ℕ → PortState → Fabric
-with_port fabric place port = record {
+abbrev pub with_port : Fabric → ℕ → PortState → Idle → Fabric
+with_port fabric place port idle = record {
   devices = fabric.devices;
   firsts = fabric.firsts;
   ports = with_item fabric.ports place port;
   cables = fabric.cables;
   cable_at = fabric.cable_at;
+  idle = idle;
 }
 
 pub has_port : (fabric : Fabric) (p : PortRef) (n : ℕ) {place : ℕ} {device : Registers}
-    (y : PortState)
+    (y : PortState) {numbers : List ℕ} {idle : Idle}
     → place ≡ place_of fabric.firsts.items p → slice_get fabric.devices.items n ≡ Some device
-    → HasBoth fabric (with_port fabric place y) n device p y
-has_port fabric p n {device = device} y is stands = record {
+    → WokeOne fabric numbers place idle
+    → HasBoth fabric (with_port fabric place y idle) n device p y
+has_port fabric p n {device = device} y is stands woke = record {
   devices = sym (set_same fabric.devices.items n device stands);
   firsts = refl;
   ports = ap (λ i. slice_set fabric.ports.items i y) is;
   cables = refl;
   cable_at = refl;
+  idle = woke_one fabric p is woke;
 }
 
 -- the fabric with these ports, and this device at a place
-abbrev pub with_ports : Fabric → ℕ → Registers → List PortState → Fabric
-with_ports fabric n device ports = record {
+abbrev pub with_ports : Fabric → ℕ → Registers → List PortState → Idle → Fabric
+with_ports fabric n device ports idle = record {
   devices = with_item fabric.devices n device;
   firsts = fabric.firsts;
   ports = with_items fabric.ports ports;
   cables = fabric.cables;
   cable_at = fabric.cable_at;
+  idle = idle;
 }

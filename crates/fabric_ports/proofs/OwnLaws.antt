@@ -1,26 +1,31 @@
 -- An endpoint reads and writes its own registers.
-use Rattle.std.proofs.Common.{◌≡◌, ◌↔◌, ℕ, ◌<◌, Bool, List, [], Option, Some, None, IsTrue, IsSome, slice_get, slice_set, get_or, refl, sym, ap, ◌∙◌, subst}
+use Rattle.std.proofs.Common.{◌≡◌, ◌≢◌, ◌↔◌, ℕ, ◌<◌, Bool, true, false, List, [], ◌∷◌, length, option_map, Option, Some, None, IsTrue, IsSome, slice_get, slice_set, get_or, refl, sym, ap, ◌∙◌, subst}
 use Rattle.std.specs.Vec.{with_item}
+use Rattle.std.proofs.lemmas.List.{length-set}
 use Rattle.std.proofs.lemmas.Option.{same_Some}
 use Rattle.maint_registers.proofs.ChangeLaws.{set-change}
 use Rattle.maint_registers.specs.Access.{written_at}
-use Rattle.maint_registers.specs.Devices.{Registers, IsSameDevice}
+use Rattle.maint_registers.specs.Devices.{Registers, IsSameDevice, is_switch}
 use Rattle.maint_registers.proofs.WithinLaws.{write_within}
 use Rattle.fabric_script.specs.declared.ports.PortRef.{PortRef}
 use Rattle.fabric_model.proofs.Forms.{device_at}
 use Rattle.fabric_trace.specs.Fold.{seen}
 use Rattle.fabric_trace.specs.Known.{Seen}
-use Rattle.trace_lines.specs.Lines.{TraceLine}
+use Rattle.trace_lines.specs.Lines.{TraceLine, NoStep, Lacked}
+use Rattle.fabric_trace.specs.Served.{IsMove}
 use Rattle.fabric_trace.specs.Parts.{Done}
 use Rattle.fabric_trace.proofs.Traces.Existing.{ready_on}
 use Rattle.fabric_ask.specs.Course.{IsDevicePort, IsLaid}
 use Rattle.fabric_ask.proofs.Owning.{own_ready}
+use Rattle.fabric_ports.specs.Idling.{KnowsIdle}
 use Rattle.fabric_ports.specs.OwnRegisters.{HasEndpoint, device_with, seen_with, OwnWritten}
 use Rattle.fabric_ports.specs.Places.{HasPort, IsEndpointAt}
 use Rattle.fabric_ports.specs.Standing.{Stands}
 use Rattle.fabric_ports.specs.declared.fabric.Fabric.{Fabric}
 use Rattle.fabric_ports.proofs.DeviceLaws.{AreSameDevices, one_written, kinds_stay, has_port_still}
+use Rattle.fabric_ports.proofs.IdleLaws.{nothing_woken, idle_stays, move_stays}
 use Rattle.fabric_ports.proofs.NodeLaws.{device_read, served_shows}
+use Rattle.fabric_ports.proofs.ShowLaws.{get_other}
 
 -- it is one of the devices of the fabric
 pub endpoint_at : {fabric : Fabric} {node : ℕ} → HasEndpoint fabric node
@@ -75,13 +80,15 @@ with_registers fabric place device = record {
   ports = fabric.ports;
   cables = fabric.cables;
   cable_at = fabric.cable_at;
+  idle = fabric.idle;
 }
 
 module _ (from : Seen) (lines : List TraceLine) (fabric : Fabric) (node place : ℕ)
     (device next : Registers) (offset value : ℕ) (stands : Stands from lines fabric)
     (known : slice_get (seen from lines).network.registers node ≡ Some device)
     (here : place ≡ node) (range : value < 0x100000000)
-    (becomes : next ≡ device_with device offset value) (same : IsSameDevice device next) where
+    (becomes : next ≡ device_with device offset value) (same : IsSameDevice device next)
+    (end : IsEndpointAt fabric.devices.items node) where
   abbrev s : Seen
   s = seen from lines
 
@@ -105,6 +112,28 @@ module _ (from : Seen) (lines : List TraceLine) (fabric : Fabric) (node place : 
       (slice_set fabric.devices.items n next)) (sym here)
       (one_written fabric.devices.items node device next at same)
 
+  -- it is an endpoint, and so no switch that is known to have nothing to do
+  other : (n : ℕ) → IsMove s.network n (Lacked NoStep ∷ []) → n ≢ node
+  other n rests one =
+      let kind = ap is_switch (same_Some device end.device (sym at ∙ end.stands)) ∙ end.kind in
+      let switch : Some true ≡ Some false = sym rests.switch
+      ∙ ap (λ k. option_map is_switch (slice_get s.network.registers k)) one
+      ∙ ap (option_map is_switch) known ∙ ap Some kind in
+      absurd (cc switch)
+
+  idle : KnowsIdle fabric.idle t
+  idle =
+      idle_stays fabric.idle fabric.idle s t stands.shows.idle (nothing_woken fabric.idle) refl
+      (ap (λ (l : List Registers). length l) registers
+      ∙ length-set fabric.devices.items place next
+      ∙ sym (ap (λ (l : List Registers). length l) stands.shows.registers))
+      (λ k link there none. refl)
+      (λ n marked none rests. move_stays
+      (ap (λ (l : List Registers). slice_get l n) registers
+      ∙ get_other fabric.devices.items place n next
+      (λ one. other n rests (one ∙ here))
+      ∙ ap (λ (l : List Registers). slice_get l n) (sym stands.shows.registers)) (λ j. refl) rests)
+
   pub stands_own : Stands t [] (with_registers fabric place next)
   stands_own =
       let ready = ready_on stands.ready stands.made in
@@ -122,7 +151,7 @@ module _ (from : Seen) (lines : List TraceLine) (fabric : Fabric) (node place : 
               cables = refl;
               cable_at = refl;
             })
-            stands.shows.ports refl refl registers;
+            stands.shows.ports refl refl registers idle;
       }
 
   laid_on : (host : ℕ) → IsLaid s.network.registers s.network.links host

@@ -1,10 +1,7 @@
 -- What a call did that makes a step of a switch.
 use Rattle.std.proofs.Common.{◌≡◌, ◌≢◌, ℕ, zero, suc, ◌+◌, ◌<◌, ◌≤◌, Bool, true, false, List, [], ◌∷◌, length, map, slice_get, slice_set, slice_index_or, Option, Some, None, option_map, refl, sym, ap, ◌∙◌, subst, arith}
-use Rattle.std.proofs.lemmas.List.{with_items_is}
+use Rattle.std.proofs.lemmas.List.{length-set, with_items_is}
 use Rattle.std.specs.Vec.{with_items}
-use Rattle.trace_lines.specs.Writing.{Adds}
-use Rattle.trace_lines.specs.declared.writer.TraceWriter.{TraceWriter}
-use Rattle.trace_lines.specs.AddsLaws.{Adds-then}
 use Rattle.rio_packets.specs.Fields.{prio_of}
 use Rattle.rio_packets.specs.LinkForm.{Passes}
 use Rattle.link_port.specs.Ports.{PortState, AreAlike}
@@ -33,13 +30,17 @@ use Rattle.fabric_trace.specs.Served.{face_in, faces_from, faces_in, step_lines,
 use Rattle.fabric_trace.proofs.Network.Faces.{face_is, StepNeeds, step_needs}
 use Rattle.fabric_trace.proofs.Parts.Keeping.{few_prio}
 use Rattle.fabric_ports.specs.declared.fabric.Fabric.{Fabric}
-use Rattle.fabric_ports.specs.Events.{Did, IsSwitchStep}
+use Rattle.fabric_ports.specs.declared.idle.Idle.{Idle}
+use Rattle.fabric_ports.specs.Idling.{IsMarkedAt, KnowsIdle, Wakes, HasNumber}
+use Rattle.fabric_ports.specs.Places.{HasPort, IsPortOf, place_of}
 use Rattle.fabric_ports.specs.Showing.{ShowsFabric}
 use Rattle.fabric_ports.specs.Switching.{faces_at, own_ports, AreForms, MadeStep, is_step, written_lines}
 use Rattle.fabric_ports.proofs.DeviceLaws.{one_written}
 use Rattle.fabric_ports.proofs.FaceLaws.{without_other, more_other, nodes_differ, port, AreFacesOf, taken_faces, put_faces, face_of_port, SamePlans, port_faced, port_stays}
+use Rattle.fabric_ports.proofs.IdleLaws.{with_switch_mark, switch_marked, move_stays, IsAway, idle_ports}
 use Rattle.fabric_ports.proofs.NodeLaws.{set_same, served_shows}
 use Rattle.fabric_ports.proofs.RowLaws.{row_within, row_set, replaced, length-replaced, get-own, own-length}
+use Rattle.fabric_ports.proofs.ShowLaws.{get_other}
 
 has_form : (step : switch.Step) → AreForms step → ResponseHasForm step
 has_form (Moved from to packet) forms = tt
@@ -49,7 +50,7 @@ has_form Nothing forms = tt
 
 -- ---- the network afterwards
 
-after_step : Network → ℕ → switch.Step → Network
+pub after_step : Network → ℕ → switch.Step → Network
 after_step net node (Moved from to packet) =
     after net (ByDevice (Move (port node from) (port node to) packet))
 after_step net node (Dropped from packet) = after net (ByDevice (Drop (port node from) packet))
@@ -57,7 +58,7 @@ after_step net node (Answered at request response) =
     after net (ByDevice (Answer (port node at) request response))
 after_step net node Nothing = net
 
-seen_after : (s : Seen) (node : ℕ) (step : switch.Step)
+pub seen_after : (s : Seen) (node : ℕ) (step : switch.Step)
     → seen s (written_lines node step) ≡ record s { network = after_step s.network node step }
 unfolding after_step
 seen_after s node (Moved from to packet) = refl
@@ -221,6 +222,14 @@ ports_are fabric {first = first} {device = device} {ports = ports} within made =
     ∙ length-replaced fabric.ports.items made.own first device.ports within many
     ∙ sym fabric.ports.ok.0)
 
+-- A switch that made a step was not marked, and the links of its ports were woken. One that had
+-- none to make was marked.
+abbrev pub IdleSteps : Fabric → ℕ → ℕ → ℕ → Idle → Bool → Type 0
+IdleSteps old node first count idle true =
+    (¬ IsMarkedAt old.idle.switches.items node)
+    × Wakes (HasNumber old.cable_at.items first count) (λ n. ⊥) old.idle idle
+IdleSteps old node first count idle false = idle ≡ with_switch_mark old.idle node
+
 -- the registers and the ports that a call returned
 pub record HasStepped (old new : Fabric) (node first : ℕ) (device next : Registers)
     (step : switch.Step) : Type 0 where
@@ -231,6 +240,7 @@ pub record HasStepped (old new : Fabric) (node first : ℕ) (device next : Regis
   pub firsts : new.firsts.items ≡ old.firsts.items
   pub cables : new.cables.items ≡ old.cables.items
   pub cable_at : new.cable_at.items ≡ old.cable_at.items
+  pub idle : IdleSteps old node first device.ports new.idle (is_step step)
 
 module _ (s : Seen) (old new : Fabric) (node first : ℕ) (device next : Registers)
     (step : switch.Step)
@@ -291,7 +301,74 @@ module _ (s : Seen) (old new : Fabric) (node first : ℕ) (device next : Registe
       ∙ ap Some (sym (port_faced s (after_step s.network node step) (port node j) like.y
       (plans_stay s.network node step) like.alike (sym like.face ∙ sym (later.1 j below))))
 
-  shows_later : ShowsFabric new (record s { network = after_step s.network node step })
+  pub is_move : (block : List TraceLine) → block ≡ step_lines node step
+      → IsMove s.network node block
+  is_move block is = record {
+    switch = is_one;
+    device = device;
+    stands = known;
+    form = subst ResponseHasForm step_is (has_form step forms);
+    lines = is ∙ ap (step_lines node) step_is;
+  }
+
+  -- a port that stands elsewhere is none of this switch
+  elsewhere : (q : PortRef) → IsPortOf old.devices.items q
+      → IsAway first device.ports (place_of old.firsts.items q) → q.node ≢ node
+  elsewhere q has_q away same =
+      let own : q.port < device.ports =
+      subst (λ o. HasPort o q.port)
+      (ap (slice_get old.devices.items) same ∙ has.stands) has_q in
+      away q.port own (ap (λ n. slice_index_or old.firsts.items n 0 + q.port) same
+      ∙ ap (λ n. n + q.port) (sym has.place))
+
+  registers_later : (after_step s.network node step).registers ≡ slice_set s.network.registers node
+      (switch_after device step)
+  registers_later = step_registers s.network node device step known
+
+  -- what stays idle where a step is made
+  idle_goes : ¬ IsMarkedAt old.idle.switches.items node
+      → Wakes (HasNumber old.cable_at.items first device.ports) (λ n. ⊥) old.idle new.idle
+      → KnowsIdle new.idle (record s { network = after_step s.network node step })
+  idle_goes unmarked woke =
+      let next = after_step s.network node step in
+      idle_ports old new.idle s (record s { network = next }) first device.ports shows woke refl
+      (links_stay s.network node step)
+      (ap (λ (l : List Registers). length l) registers_later
+      ∙ length-set s.network.registers node (switch_after device step))
+      (λ q has_q away. port_stays s next q (plans_stay s.network node step)
+      (step_others s.network node step q (elsewhere q has_q away)))
+      (λ n marked rests.
+      let other : n ≢ node = λ same. unmarked
+      (subst (IsMarkedAt old.idle.switches.items) same marked) in
+      move_stays (ap (λ (l : List Registers). slice_get l n) registers_later
+      ∙ get_other s.network.registers node n (switch_after device step) other)
+      (λ j. step_others s.network node step (port n j) other) rests)
+
+  -- and where none is made
+  idle_rests : (other : switch.Step) → is_step other ≡ false → other ≡ step
+      → new.idle ≡ with_switch_mark old.idle node
+      → KnowsIdle new.idle (record s { network = after_step s.network node step })
+  unfolding after_step
+  idle_rests (Moved from to packet) none same idle = absurd (cc none)
+  idle_rests (Dropped from packet) none same idle = absurd (cc none)
+  idle_rests (Answered at request response) none same idle = absurd (cc none)
+  idle_rests Nothing none same idle =
+      subst (λ (x : switch.Step). KnowsIdle new.idle
+      (record s { network = after_step s.network node x })) same
+      (subst (λ i. KnowsIdle i s) (sym idle)
+      (switch_marked old.idle node s shows.idle
+      (is_move (Lacked NoStep ∷ []) (ap (step_lines node) same))))
+
+  idle_later : KnowsIdle new.idle (record s { network = after_step s.network node step })
+  idle_later = by_step (is_step step) refl has.idle
+    where
+      by_step : (told : Bool) → is_step step ≡ told
+          → IdleSteps old node first device.ports new.idle told
+          → KnowsIdle new.idle (record s { network = after_step s.network node step })
+      by_step true is idle = idle_goes idle.0 idle.1
+      by_step false is idle = idle_rests step is refl idle
+
+  pub shows_later : ShowsFabric new (record s { network = after_step s.network node step })
   shows_later =
       let t : Seen = record s { network = after_step s.network node step } in
       let many = like_many (own_ports old.ports.items first device.ports) has.made.own
@@ -317,56 +394,4 @@ module _ (s : Seen) (old new : Fabric) (node first : ℕ) (device next : Registe
       (step_registers s.network node device step known
       ∙ ap (slice_set s.network.registers node) (sym has.made.registers)
       ∙ ap (λ (l : List Registers). slice_set l node next) shows.registers ∙ sym has.devices)
-
-  is_move : (block : List TraceLine) → block ≡ step_lines node step → IsMove s.network node block
-  is_move block is = record {
-    switch = is_one;
-    device = device;
-    stands = known;
-    form = subst ResponseHasForm step_is (has_form step forms);
-    lines = is ∙ ap (step_lines node) step_is;
-  }
-
-is_step_by : (net : Network) (node : ℕ) (step : switch.Step)
-    → ((block : List TraceLine) → block ≡ step_lines node step → IsMove net node block)
-    → IsSwitchStep net node (is_step step) (written_lines node step)
-is_step_by net node (Moved from to packet) move = (move _ refl, λ same. absurd cc)
-is_step_by net node (Dropped from packet) move = (move _ refl, λ same. absurd cc)
-is_step_by net node (Answered at request response) move = (move _ refl, λ same. absurd cc)
-is_step_by net node Nothing move = (move _ refl, refl)
-
-pub did_step : {K : Type 0} {b b2 : TraceWriter K} {s : Seen} {old : Fabric} (new : Fabric)
-    (node first : ℕ)
-    (device next : Registers) (step : switch.Step) {result : Bool}
-    → ShowsFabric old s → s.undetected ≡ None → ByPriority s.network → is_switch device ≡ true
-    → HasStepped old new node first device next step → AreForms step → result ≡ is_step step
-    → Adds b b2 (written_lines node step)
-    → Did (IsSwitchStep s.network node result) b b2 s new
-did_step {s = s} {old = old} new node first device next step shows sent by switches has forms told
-    adds =
-    let seen_is = seen_after s node step in
-    record {
-      block = written_lines node step;
-      adds = adds;
-      is = subst (λ r. IsSwitchStep s.network node r (written_lines node step)) (sym told)
-          (is_step_by s.network node step
-          (is_move s old new node first device next step shows by switches has forms));
-      sent = ap (λ (u : Seen). u.undetected) seen_is ∙ sent;
-      shows = subst (ShowsFabric new) (sym seen_is)
-          (shows_later s old new node first device next step shows by switches has forms);
-    }
-
--- no step was made, and that is written
-pub did_none : {K : Type 0} {b b2 b3 : TraceWriter K} {s : Seen} {new : Fabric} (node : ℕ)
-    {result : Bool} → Did (IsSwitchStep s.network node result) b b2 s new → result ≡ false
-    → Adds b2 b3 (Lacked NoStep ∷ [])
-    → Did (IsMove s.network node) b b3 s new
-did_none {b = b} {b2 = b2} {s = s} {new = new} node did told adds =
-    let is = subst (λ r. IsSwitchStep s.network node r did.block) told did.is in
-    record {
-      block = Lacked NoStep ∷ [];
-      adds = Adds-then (subst (λ l. Adds b b2 l) is.1 did.adds) adds;
-      is = is.0;
-      sent = subst (λ l. (seen s l).undetected ≡ None) is.1 did.sent;
-      shows = subst (λ l. ShowsFabric new (seen s l)) is.1 did.shows;
-    }
+      idle_later

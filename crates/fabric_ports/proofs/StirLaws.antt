@@ -32,6 +32,8 @@ use Rattle.fabric_ports.specs.declared.answers.FabricEnd.TheVariants.{NoMemory}
 use Rattle.fabric_ports.specs.declared.ends.LinkPlace.{LinkPlace}
 use Rattle.fabric_ports.specs.declared.fabric.Cable.{Cable}
 use Rattle.fabric_ports.specs.declared.fabric.Fabric.{Fabric}
+use Rattle.fabric_ports.specs.declared.idle.Idle.{Idle}
+use Rattle.fabric_ports.proofs.Cables.{WokeLink}
 use Rattle.fabric_ports.proofs.EditLaws.{fabric_edited, edit_chars, edit_shows}
 use Rattle.fabric_ports.proofs.RanLaws.{ran_nothing, ran_as}
 use Rattle.fabric_ports.proofs.StandLaws.{stands_with}
@@ -100,13 +102,13 @@ pub edit_ran : {K : Type 0} {fabric : Fabric} {port : PortRef} {place : LinkPlac
     → (met : cable ≡ slice_index_or fabric.cables.items place.cable cable) → (edit : Edit)
     → (wires : Wires)
     → ((x y : PortState) → link wires x y ≡ edited_from place.side edit (link cable.link x y))
-    → (old new : TraceWriter K)
+    → {idle : Idle} → WokeLink fabric place.cable cable idle → (old new : TraceWriter K)
     → Adds old new (edit_lines port edit (wire_at place.side cable.link).chars)
     → (from : Seen) (lines : List TraceLine) → Stands from lines fabric
     → Ran (EditsWire port edit) old new from lines
-    (Ok (fabric_edited fabric place.cable cable wires))
+    (Ok (fabric_edited fabric place.cable cable wires idle))
 edit_ran {fabric = fabric} {port = port} {place = place} p {cable = cable} met edit wires becomes
-    old new adds
+    {idle = idle} woke old new adds
     from lines stands =
     let s = seen from lines in
     let chars = edit_chars fabric port place p cable met stands in
@@ -116,7 +118,8 @@ edit_ran {fabric = fabric} {port = port} {place = place} p {cable = cable} met e
       ends = (
         subst (λ l. Adds old new (edit_lines port edit l)) chars adds,
         edit_stands port edit (fits edit (s.wires port).chars && not (is_idle edit)) refl stands
-            (edit_shows fabric port place p cable met edit wires becomes from lines stands),
+            (edit_shows fabric port place p cable met edit wires idle woke becomes from lines
+            stands),
       );
     }
 

@@ -1,4 +1,5 @@
 pub mod Places
+pub mod Idling
 pub mod Showing
 pub mod Standing
 pub mod Ran

@@ -6,6 +6,7 @@ use Rattle.fabric_model.specs.Network.{Network, IsEndpoint}
 use Rattle.maint_registers.specs.Devices.{Registers}
 use Rattle.fabric_trace.specs.Known.{Seen, port_seen, wire_state}
 use Rattle.fabric_ports.specs.Places.{AreFirsts, port_count, IsPortOf, IsEndpointAt, place_of}
+use Rattle.fabric_ports.specs.Idling.{KnowsIdle}
 use Rattle.fabric_ports.specs.declared.fabric.Cable.{Cable}
 use Rattle.fabric_ports.specs.declared.fabric.Fabric.{Fabric}
 
@@ -34,7 +35,8 @@ LeadToLinks links firsts numbers = (k : ℕ) (link : PortRef × PortRef)
     × (slice_get numbers (place_of firsts link.1) ≡ Some k)
 
 -- Each port of the fabric is what the step tables see there; its links, wires and registers are
--- those that are known. The numbers that it keeps lead from the ports to their links.
+-- those that are known. The numbers that it keeps lead from the ports to their links. What it has
+-- marked has nothing to do.
 pub record ShowsFabric (fabric : Fabric) (s : Seen) : Type 0 where
   pub firsts : AreFirsts 0 fabric.devices.items fabric.firsts.items
   pub count : length fabric.ports.items ≡ port_count fabric.devices.items
@@ -44,4 +46,5 @@ pub record ShowsFabric (fabric : Fabric) (s : Seen) : Type 0 where
   pub links : map ends_of fabric.cables.items ≡ s.network.links
   pub lead : LeadToLinks s.network.links fabric.firsts.items fabric.cable_at.items
   pub registers : AreRegisters s.network fabric.devices.items
+  pub idle : KnowsIdle fabric.idle s
   pub endpoints : (n : ℕ) → IsEndpoint s.network n → IsEndpointAt fabric.devices.items n

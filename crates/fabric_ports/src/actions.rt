@@ -49,6 +49,7 @@ impl Fabric {
         let place = self.link_of(port);
         let cable = &mut self.cables[place.cable];
         let (a, b) = (cable.a, cable.b);
+        self.idle.wake_link(place.cable, a.node, b.node);
         let mut lines = LinkLines {
             outbox: writer.outbox,
             names: writer.names,

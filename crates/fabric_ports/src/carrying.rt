@@ -59,7 +59,7 @@ impl Fabric {
             (LeftBy result (LinkCarries ends (N.edits noise.old)) (N.edits noise.new))
             self.old writer.old writer.new (end_with self.new result) }
     {
-        if self.is_idle(place) {
+        if self.is_still(place) {
             return Ok(());
         }
         self.carry(alloc, ends, noise, writer)
@@ -167,6 +167,7 @@ impl Fabric {
     {
         let place = self.link_of(port);
         let cable = &mut self.cables[place.cable];
+        self.idle.wake_link(place.cable, cable.a.node, cable.b.node);
         match cable.link.edit(alloc, place.side, edit) {
             Ok(edited) => {
                 write_edit(writer, port, edit, edited);

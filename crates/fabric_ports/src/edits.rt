@@ -40,6 +40,7 @@ impl Fabric {
     {
         let place = self.link_of(port);
         let cable = &mut self.cables[place.cable];
+        self.idle.wake_link(place.cable, cable.a.node, cable.b.node);
         match cable.link.edit(alloc, place.side, &edit_asked(edit)) {
             Ok(edited) => {
                 write_lack(writer, as_acted(edited));

@@ -38,8 +38,27 @@ impl Fabric {
         }
     }
 
-    /// Whether the link at a place has nothing to do.
-    pub(crate) fn is_idle(&self, place: usize) -> bool
+    /// Whether the link at a place has nothing to do. If so, it is marked, and is not looked at
+    /// again until something is done at it.
+    pub(crate) fn is_still(&mut self, place: usize) -> bool
+        requires shown { (s : Seen) × ShowsFabric self.old s }
+        requires within { place < length self.old.cables.items }
+        ensures shows { (s : Seen) → ShowsFabric self.old s → ShowsFabric self.new s }
+        ensures still { (s : Seen) (a b : PortRef) → ShowsFabric self.old s
+            → slice_get (map ends_of self.old.cables.items) place ≡ Some (a, b)
+            → result ≡ has_no_work (link_at s a b) }
+        ensures rest { self.new ≡ record self.old { idle = self.new.idle } }
+    {
+        if self.idle.links[place] {
+            return true;
+        }
+        let idle = self.is_idle(place);
+        self.idle.links[place] = idle;
+        idle
+    }
+
+    /// Whether the link at a place has nothing to do, by its ports and wires.
+    fn is_idle(&self, place: usize) -> bool
         requires shown { (s : Seen) × ShowsFabric self.now s }
         requires within { place < length self.now.cables.items }
         ensures { (s : Seen) (a b : PortRef) → ShowsFabric self.now s

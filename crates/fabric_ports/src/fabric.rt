@@ -4,6 +4,7 @@ ghost use Rattle.fabric_trace.specs.Known.{Seen};
 ghost use Rattle.fabric_ports.specs.Places.{IsPortOf, place_of};
 ghost use Rattle.fabric_ports.specs.Showing.{ShowsFabric};
 
+use crate::idle::Idle;
 use fabric_script::{PortRef, Script};
 use link_law::Link;
 use link_port::Port;
@@ -31,6 +32,8 @@ pub struct Fabric {
     /// The number of each port's cable, by the place of the port. A port without one has a 0 there,
     /// which is never read.
     pub(crate) cable_at: Vec<usize>,
+    /// What has nothing to do. Whatever changes a port or a wire wakes what it may give work.
+    pub(crate) idle: Idle,
 }
 
 impl Fabric {
@@ -40,6 +43,7 @@ impl Fabric {
         requires port { IsPortOf self.now.devices.items port }
         ensures place { result ≡ place_of self.now.firsts.items port }
         ensures within { result < length self.now.ports.items }
+        ensures fits { result < 0xffffffffffffffff }
     {
         prove!(self.ports.len() <= usize::MAX);
         self.firsts[usize::from(port.node)] + usize::from(port.port)

@@ -23,6 +23,7 @@ mod ends;
 mod events;
 mod fabric;
 mod gathering;
+mod idle;
 mod nodes;
 mod noise;
 mod own_registers;

@@ -14,6 +14,7 @@ ghost use Rattle.fabric_ports.specs.Showing.{ends_of, LeadToLinks};
 ghost use Rattle.fabric_ports.specs.Standing.{Stands};
 
 use crate::fabric::{Cable, Fabric};
+use crate::idle::Idle;
 use fabric_script::{Line, PortRef, Script};
 use link_law::Link;
 use link_port::Port;
@@ -44,12 +45,14 @@ impl Fabric {
         }
         let ports = make_ports(alloc, &plan.ports)?;
         let cable_at = plan.number_cables(alloc)?;
+        let idle = Idle::new(alloc, plan.cables.len(), plan.devices.len())?;
         Ok(Fabric {
             devices: plan.devices,
             firsts: plan.firsts,
             ports,
             cables: plan.cables,
             cable_at,
+            idle,
         })
     }
 }

@@ -39,7 +39,7 @@ impl Fabric {
     }
 
     /// A switch makes the first step that it can make, which is written. Returns whether there was
-    /// one; if not, nothing is written and nothing changes.
+    /// one; if not, nothing is written, and the switch is marked.
     pub(crate) fn step<K: Sink>(&mut self, node: u8, writer: &mut TraceWriter<K>) -> bool
         requires named { node < length writer.old.names.now }
         requires shown { (s : Seen) × ShowsFabric self.old s }
@@ -47,9 +47,19 @@ impl Fabric {
         ensures { (s : Seen) → ShowsFabric self.old s → s.undetected ≡ None → ByPriority s.network
             → Did (IsSwitchStep s.network node result) writer.old writer.new s self.new }
     {
+        if self.idle.switches[usize::from(node)] {
+            return false;
+        }
         let first = self.firsts[usize::from(node)];
         let registers = &mut self.devices[usize::from(node)];
-        step_from(&mut self.ports, first, registers, node, writer)
+        let count = usize::from(registers.ports());
+        prove!(self.ports.len() <= usize::MAX);
+        if !step_from(&mut self.ports, first, registers, node, writer) {
+            self.idle.switches[usize::from(node)] = true;
+            return false;
+        }
+        self.idle.wake_ports(&self.cable_at, first, count);
+        true
     }
 }
 

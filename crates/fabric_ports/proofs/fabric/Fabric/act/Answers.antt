@@ -13,7 +13,8 @@ returns-in-Ok g c =
     act_done c.args.action c.act_between.new.wires c.act_between.new.watch c.act_between.result
     (met c.link_of-place.ensures c.index_mut-cable.ensures.value c.deref_mut.ensures.value)
     c.act_between.ensures
-    (record { outbox = refl; names = refl; first_end = refl; second_end = refl }) c.in-Ok.answer
+    (record { outbox = refl; names = refl; first_end = refl; second_end = refl })
+    c.wake_link.ensures c.in-Ok.answer
     c.in-Ok.is _ (written_by _ (search rules) c.write_lack.ensures)
 
 pub returns-in-Err : goal.returns-in-Err
@@ -22,5 +23,6 @@ returns-in-Err g c = λ from lines stands.
     (act_ended c.args.action c.act_between.new.wires c.act_between.new.watch c.act_between.result
     (met c.link_of-place.ensures c.index_mut-cable.ensures.value c.deref_mut.ensures.value)
     c.act_between.ensures
-    (record { outbox = refl; names = refl; first_end = refl; second_end = refl }) c.in-Err.end
+    (record { outbox = refl; names = refl; first_end = refl; second_end = refl })
+    c.wake_link.ensures c.in-Err.end
     c.in-Err.is from lines stands)

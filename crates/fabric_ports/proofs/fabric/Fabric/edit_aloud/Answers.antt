@@ -5,7 +5,7 @@ pub returns-in-Ok : goal.returns-in-Ok
 returns-in-Ok g c =
     edit_ran c.link_of-place.ensures
     c.index_mut-cable.ensures.value c.args.edit.now _ c.in-Ok.ensures.changed
-    _ _ (c.write_edit.ensures _ c.in-Ok.ensures.short)
+    c.wake_link.ensures _ _ (c.write_edit.ensures _ c.in-Ok.ensures.short)
 
 pub returns-in-Err : goal.returns-in-Err
 returns-in-Err g c = λ from lines stands.

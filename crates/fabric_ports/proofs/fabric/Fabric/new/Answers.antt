@@ -53,10 +53,19 @@ returns-clause-stands c =
           c.in_ok-ports.ports;
       cables = plan.cables;
       cable_at = c.in_ok-cable_at.cable_at;
+      idle = c.in_ok-idle.idle;
     }) c.requires.passes
     (subst (λ lines. PlansFor plan (set_up_all bare lines)) all c.loop-numbered.invariant.plans)
     refl refl refl
     (c.in_ok-ports.ensures ∙ ap (map planned_port) ports) c.in_ok-cable_at.ensures
+    (record {
+      links = _;
+      devices = _;
+      links_are = c.in_ok-idle.ensures.links;
+      devices_are = c.in_ok-idle.ensures.switches;
+      as_many_links = search rules;
+      as_many_devices = search rules;
+    })
 
 pub returns-clause-named : goal.returns-clause-named
 returns-clause-named c =

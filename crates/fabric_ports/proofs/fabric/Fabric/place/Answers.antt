@@ -35,3 +35,17 @@ returns-clause-within c =
     let read = place_read _ _ c.args.port c.requires.shown.1.firsts c.requires.port c.from.ensures
     c.index.ensures c.from-2.ensures in
     omega (arith, read.within, c.requires.shown.1.count)
+
+pub returns-clause-fits : goal.returns-clause-fits
+returns-clause-fits c =
+    let read = place_read _ _ c.args.port c.requires.shown.1.firsts c.requires.port c.from.ensures
+    c.index.ensures c.from-2.ensures in
+    omega (
+      arith,
+      read.is,
+      read.within,
+      c.requires.shown.1.count,
+      c.args.self.now.ports.ok.0,
+      c.len.ensures,
+      c.if-prove.false,
+    )

@@ -1,7 +1,7 @@
 use Rattle.std.proofs.Common.{Some, sym, subst, ap, ◌∙◌}
 use Rattle.maint_registers.specs.Devices.{Registers}
 use Rattle.fabric_ports.specs.OwnRegisters.{OwnWritten}
-use Rattle.fabric_ports.proofs.OwnLaws.{own_is, own_written, with_registers}
+use Rattle.fabric_ports.proofs.OwnLaws.{endpoint_at, own_is, own_written, with_registers}
 use Rattle.fabric_ports.proofs.fabric.Fabric.register_write.Goals as goal
 
 pub returns : goal.returns
@@ -13,5 +13,5 @@ returns c = λ from lines device stands known.
     same
     (own_written from lines c.args.self.now c.args.node c.from.result read c.write.new.self
     c.args.offset c.args.value stands (known ∙ ap Some (sym same)) c.from.ensures
-    c.ranges.value.fits c.write.ensures.becomes c.write.ensures.device c.write.result
-    c.write.ensures.exact)
+    c.ranges.value.fits c.write.ensures.becomes c.write.ensures.device
+    (endpoint_at c.requires.endpoint) c.write.result c.write.ensures.exact)

@@ -1,6 +1,6 @@
 use Rattle.std.proofs.Common.{◌++◌, rules, arith, sym, ◌∙◌}
 use Rattle.fabric_trace.specs.Fold.{seen}
-use Rattle.fabric_ports.proofs.AfterLaws.{cable_after, named_after, shown_by, stands_after}
+use Rattle.fabric_ports.proofs.AfterLaws.{cable_after, named_after, shown_by, stands_after, still_ran, still_stands}
 use Rattle.fabric_ports.proofs.RanLaws.{err_is}
 use Rattle.fabric_ports.proofs.SettlingLaws.{all_taken, cables_within, ends_at, next_link, is_linked, cable_there, settled_more, settled_idle, settled_short, settled_all}
 use Rattle.fabric_ports.proofs.fabric.Fabric.settle_all.Goals as goal
@@ -16,12 +16,13 @@ settle_link-requires-clause-linked g c =
     let ran = c.loop-place.invariant known.0 known.1 known.2 in
     let within = cables_within c.loop-place.place known.2 ran.ends.1
     (omega (arith, c.len-place-end.ensures, c.loop-place-test.true)) in
-    is_linked ran.ends.1 (next_link c.loop-place.place c.index.result.now ran.ends.1 c.index.ensures
-    within)
+    is_linked (still_stands c.is_still.ensures.shows ran.ends.1)
+    (next_link c.loop-place.place c.index.result.now ran.ends.1 c.index.ensures within)
 
 pub settle_link-requires-clause-named : goal.settle_link-requires-clause-named
 settle_link-requires-clause-named g c =
-    named_after c.loop-place.invariant c.requires.stands c.requires.named
+    named_after (λ from lines stands. still_ran c.is_still.ensures.shows
+    (c.loop-place.invariant from lines stands)) c.requires.stands c.requires.named
 
 pub returns-in_err-settle_link : goal.returns-in_err-settle_link
 returns-in_err-settle_link g c =
@@ -32,7 +33,8 @@ returns-in_err-settle_link g c =
     (omega (arith, c.len-place-end.ensures, c.loop-place-test.true)) in
     settled_short stands
     (next_link c.loop-place.place c.index.result.now ran.ends.1 c.index.ensures within) ran
-    (c.in_err-settle_link.ensures from (lines ++ ran.block) ran.ends.1)))
+    (c.in_err-settle_link.ensures from (lines ++ ran.block)
+    (still_stands c.is_still.ensures.shows ran.ends.1))))
 
 pub loop-place-preserved : goal.loop-place-preserved
 loop-place-preserved g c = λ from lines stands.
@@ -41,25 +43,28 @@ loop-place-preserved g c = λ from lines stands.
     (omega (arith, c.len-place-end.ensures, c.loop-place-test.true)) in
     settled_more stands
     (next_link c.loop-place.place c.index.result.now ran.ends.1 c.index.ensures within) ran
-    (c.in_ok-settle_link.ensures from (lines ++ ran.block) ran.ends.1)
+    (c.in_ok-settle_link.ensures from (lines ++ ran.block)
+    (still_stands c.is_still.ensures.shows ran.ends.1))
 
-pub loop-place-preserved-then-is_idle : goal.loop-place-preserved-then-is_idle
-loop-place-preserved-then-is_idle g c = λ from lines stands.
+pub loop-place-preserved-then-is_still : goal.loop-place-preserved-then-is_still
+loop-place-preserved-then-is_still g c = λ from lines stands.
     let ran = c.loop-place.invariant from lines stands in
     let within = cables_within c.loop-place.place stands ran.ends.1
     (omega (arith, c.len-place-end.ensures, c.loop-place-test.true)) in
     let cables = c.loop-place.self.cables.items in
     let cable = cable_there cables c.loop-place.place within in
-    settled_idle stands (next_link c.loop-place.place cable.0 ran.ends.1 cable.1 within) ran
-    (sym (c.is_idle.ensures (seen from (lines ++ ran.block)) cable.0.a cable.0.b ran.ends.1.shows
-    (ends_at cables c.loop-place.place cable.0 within cable.1))
-    ∙ c.if-is_idle.true)
+    still_ran c.is_still.ensures.shows
+    (settled_idle stands (next_link c.loop-place.place cable.0 ran.ends.1 cable.1 within) ran
+    (sym (c.is_still.ensures.still (seen from (lines ++ ran.block)) cable.0.a cable.0.b
+    ran.ends.1.shows (ends_at cables c.loop-place.place cable.0 within cable.1))
+    ∙ c.if-is_still.true))
 
-pub is_idle-requires-clause-shown : goal.is_idle-requires-clause-shown
-is_idle-requires-clause-shown g c = shown_by (stands_after c.loop-place.invariant c.requires.stands)
+pub is_still-requires-clause-shown : goal.is_still-requires-clause-shown
+is_still-requires-clause-shown g c =
+    shown_by (stands_after c.loop-place.invariant c.requires.stands)
 
-pub is_idle-requires-clause-within : goal.is_idle-requires-clause-within
-is_idle-requires-clause-within g c =
+pub is_still-requires-clause-within : goal.is_still-requires-clause-within
+is_still-requires-clause-within g c =
     cable_after c.loop-place.invariant c.requires.stands _
     (omega (arith, c.len-place-end.ensures, c.loop-place-test.true))
 

@@ -1,4 +1,4 @@
-use Rattle.fabric_ports.proofs.StepLaws.{did_none}
+use Rattle.fabric_ports.proofs.StepEnds.{did_none}
 use Rattle.fabric_ports.proofs.fabric.Fabric.step_or_none.Goals as goal
 
 pub returns-then-not-step : goal.returns-then-not-step
