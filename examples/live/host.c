@@ -96,6 +96,13 @@ static void write_at(unsigned dest, unsigned hop, unsigned offset, unsigned valu
     if (!ask(dest, hop, offset, &value, NULL)) fprintf(stderr, "hop %u: %06x was not written\n", hop, offset);
 }
 
+/* Ends the input, and reads what comes then. */
+static void finish(void) {
+    char line[64];
+    fclose(to_fabric);
+    while (fgets(line, sizeof line, from_fabric)) continue;
+}
+
 /* Sets the fabric up by the lines of standard input, and notes its endpoints. */
 static void set_up(void) {
     char line[256], name[16];
@@ -115,8 +122,8 @@ enum { ANY = 255, MOST = 64 };
 enum { FEATURES = 0x10, PORTS = 0x14, BASE_ID = 0x60, TAG = 0x6c, ENTRY = 0x70, ENTRY_PORT = 0x74, DEFAULT = 0x78 };
 enum { STATUS = 0x158, NEXT_STATUS = 0x20 };
 
-/* A device, and the ports of the switches on the way to it. */
-struct device { unsigned is_switch, ports, id, hops, path[MOST]; };
+/* A device, the ports of the switches on the way to it, and the port of a switch that leads back. */
+struct device { unsigned is_switch, ports, back, id, hops, path[MOST]; };
 static struct device devices[MOST];
 static unsigned device_count, next_id;
 
@@ -145,7 +152,8 @@ static void meet(const unsigned *path, unsigned hops) {
     if (device->is_switch) {
         read_at(ANY, hops, PORTS, &ports);
         device->ports = ports >> 8 & 255;
-        route(hops, host_id, ports & 255);
+        device->back = ports & 255;
+        route(hops, host_id, device->back);
         return;
     }
     if (next_id == host_id) next_id++;
@@ -154,11 +162,12 @@ static void meet(const unsigned *path, unsigned hops) {
     for (unsigned hop = 0; hop < hops; hop++) route(hop, device->id, path[hop]);
 }
 
-/* Meets what stands at the ports of a switch that have a link. */
+/* Meets what stands at the ports of a switch that have a link, but for the one that leads back to the host. */
 static void look_around(const struct device *from) {
     unsigned path[MOST], status;
     memcpy(path, from->path, sizeof path);
     for (unsigned port = 0; port < from->ports && from->hops + 1 < MOST; port++) {
+        if (port == from->back) continue;
         lead(from->path, from->hops);
         if (!read_at(ANY, from->hops, STATUS + NEXT_STATUS * port, &status) || !(status & 2)) continue;
         path[from->hops] = port;
@@ -183,5 +192,6 @@ int main(int argc, char **argv) {
         if (!device->is_switch && (!read_at(device->id, 255, TAG, &tag) || tag != at + 1)) printf(" is not reached");
         printf("\n");
     }
+    finish();
     return 0;
 }
