@@ -2,4 +2,10 @@ pub mod Machine
 pub mod Turns
 pub mod Contest
 pub mod Within
-pub mod Laws
+pub mod Locks
+pub mod Keeping
+pub mod Going
+pub mod Waiting
+pub mod Numbering
+pub mod Asking
+pub mod Examples

@@ -4,10 +4,10 @@ use Rattle.fabric_script.specs.declared.lines.Numbered.{Numbered}
 use Rattle.link_watch.specs.declared.side.Side.{Side}
 use Rattle.link_watch.specs.declared.side.Side.TheVariants.{A, B}
 use Rattle.link_watch.specs.Sides.{other_side}
-use Rattle.contest_machine.specs.Laws.{IsNew, HoldsOn}
+use Rattle.contest_machine.specs.Keeping.{IsNew, HoldsOn}
 use Rattle.contest_machine.specs.Turns.{Both, turn_of, after_turns}
-use Rattle.contest_machine.proofs.Apart.{turns_keep_apart}
-use Rattle.contest_machine.proofs.Greater.{greater_holds_on}
+use Rattle.contest_machine.proofs.Keeping.Apart.{turns_keep_apart}
+use Rattle.contest_machine.proofs.Keeping.Greater.{greater_holds_on}
 use Rattle.fabric_contest.specs.Contests.{new_host, new_both}
 use Rattle.fabric_contest.specs.Laws.{ContestsKeepApart, FirstHoldsOn, SecondHoldsOn}
 use Rattle.fabric_contest.specs.Orders.{seeded_turns}

@@ -17,10 +17,10 @@ use Rattle.host_enumerate.proofs.NewFabrics.{devised_fabric}
 use Rattle.link_watch.specs.declared.side.Side.{Side}
 use Rattle.link_watch.specs.declared.side.Side.TheVariants.{A, B}
 use Rattle.contest_machine.specs.Machine.{Walker}
-use Rattle.contest_machine.specs.Laws.{IsNew}
+use Rattle.contest_machine.specs.Keeping.{IsNew}
 use Rattle.contest_machine.specs.Turns.{Both}
-use Rattle.contest_law.specs.Going.{AreBegun}
-use Rattle.contest_law.specs.Locks.{walker_of}
+use Rattle.contest_machine.specs.Going.{AreBegun}
+use Rattle.contest_machine.specs.Locks.{walker_of}
 use Rattle.host_contest.specs.Machines.{new_walker}
 use Rattle.host_contest.specs.Reaching.{AreLow}
 use Rattle.host_contest.specs.Walkers.{machine_in, HasEntries}

@@ -8,12 +8,12 @@ use Rattle.link_watch.specs.declared.side.Side.TheVariants.{A, B}
 use Rattle.contest_machine.specs.declared.stages.Stage.TheVariants.{Ask}
 use Rattle.contest_machine.specs.Machine.{Walker}
 use Rattle.contest_machine.specs.Turns.{Both}
-use Rattle.contest_numbering.proofs.Begins.{starter}
-use Rattle.contest_numbering.proofs.Whole.{HasCome, IsReady}
-use Rattle.contest_asking.proofs.AllOpen.{IsOpeningFor, turns_open}
-use Rattle.contest_asking.proofs.Guided.{IsGuided}
-use Rattle.contest_asking.proofs.Opened.{IsOpening}
-use Rattle.contest_asking.proofs.Reached.{asked_reaches}
+use Rattle.contest_machine.proofs.Numbering.Begins.{starter}
+use Rattle.contest_machine.proofs.Numbering.Whole.{HasCome, IsReady}
+use Rattle.contest_machine.proofs.Asking.AllOpen.{IsOpeningFor, turns_open}
+use Rattle.contest_machine.proofs.Asking.Guided.{IsGuided}
+use Rattle.contest_machine.proofs.Asking.Opened.{IsOpening}
+use Rattle.contest_machine.proofs.Asking.Reached.{asked_reaches}
 use Rattle.host_contest.specs.declared.machine.Machine.{Machine}
 use Rattle.host_contest.specs.Machines.{machine_of}
 use Rattle.host_contest.specs.Reaching.{IsOfLock, IsAtHost, CanReachOn, AreLow}

@@ -14,7 +14,7 @@ use Rattle.host_contest.specs.declared.walker.Walker as walkers
 use Rattle.host_contest.specs.Reaching.{AreLow}
 use Rattle.host_contest.specs.Steps.{state_in}
 use Rattle.host_contest.specs.Walkers.{machine_in, HasEntries}
-use Rattle.contest_law.proofs.Steps.{after_one_more}
+use Rattle.contest_machine.proofs.Turns.Steps.{after_one_more}
 use Rattle.fabric_contest.specs.Contests.{view_of, contest_lines, both_of, CanTurn}
 use Rattle.fabric_contest.specs.declared.contest.Contest.{Contest}
 

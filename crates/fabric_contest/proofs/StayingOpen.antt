@@ -7,7 +7,7 @@ use Rattle.link_watch.specs.Sides.{other_side}
 use Rattle.contest_machine.specs.Machine.{Walker}
 use Rattle.contest_machine.specs.Contest.{IsContest}
 use Rattle.contest_machine.specs.Turns.{walker_turned, Both, turn_of, after_turns}
-use Rattle.contest_machine.proofs.Apart.{swap, turns_hold, begun_holds, turn_leaves_kept}
+use Rattle.contest_machine.proofs.Keeping.Apart.{swap, turns_hold, begun_holds, turn_leaves_kept}
 use Rattle.fabric_contest.specs.Laws.{StaysOpen, FirstStaysOpen, SecondStaysOpen}
 use Rattle.fabric_contest.proofs.AllTurns.{flip, flip_turns}
 

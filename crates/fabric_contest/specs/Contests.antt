@@ -9,8 +9,8 @@ use Rattle.link_watch.specs.declared.side.Side.{Side}
 use Rattle.fabric_maint.specs.Going.{StandsFor}
 use Rattle.contest_machine.specs.Machine.{Walker}
 use Rattle.contest_machine.specs.Turns.{Both, after_turns}
-use Rattle.contest_law.specs.Going.{AreBegun}
-use Rattle.contest_law.specs.Locks.{walker_of}
+use Rattle.contest_machine.specs.Going.{AreBegun}
+use Rattle.contest_machine.specs.Locks.{walker_of}
 use Rattle.host_contest.specs.Machines.{new_walker, has_ended}
 use Rattle.host_contest.specs.Reaching.{AreLow}
 use Rattle.host_contest.specs.Walkers.{machine_in, HasEntries}

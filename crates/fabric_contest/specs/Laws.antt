@@ -13,7 +13,7 @@ use Rattle.fabric_script.specs.declared.lines.Numbered.{Numbered}
 use Rattle.fabric_script.specs.Scripts.{ScriptPasses}
 use Rattle.fabric_map.specs.Plain.{registers_of}
 use Rattle.host_enumerate.specs.Devised.{IsHost, devices_of, links_of}
-use Rattle.contest_machine.specs.Laws.{IsNew, KeepsApart, HoldsOn}
+use Rattle.contest_machine.specs.Keeping.{IsNew, KeepsApart, HoldsOn}
 use Rattle.fabric_contest.specs.Contests.{contest_of}
 
 -- the ID of a node

@@ -14,9 +14,9 @@ use Rattle.contest_machine.specs.Contest.{IsMine}
 use Rattle.contest_machine.specs.declared.stages.Turn.{Turn}
 use Rattle.contest_machine.specs.Turns.{is_locking, locked_on, walker_turned, came_of}
 use Rattle.contest_machine.specs.Within.{WalkerIsWithin}
-use Rattle.contest_machine.proofs.Apart.{step_leaves}
-use Rattle.contest_machine.proofs.Bounding.{stepped_within}
-use Rattle.contest_machine.proofs.Few.{once_few}
+use Rattle.contest_machine.proofs.Keeping.Apart.{step_leaves}
+use Rattle.contest_machine.proofs.Keeping.Bounding.{stepped_within}
+use Rattle.contest_machine.proofs.Keeping.Few.{once_few}
 use Rattle.host_contest.specs.declared.machine.Machine.{Machine}
 use Rattle.host_contest.specs.Machines.{machine_of}
 use Rattle.host_contest.proofs.Machines.{choose, refuse}

@@ -7,7 +7,7 @@
 //! on if no lock was set at first. Whoever carries the accesses, as packets do, it is the same.
 //!
 //! Left out: that each access reaches a device and comes back. It is a condition, which
-//! `contest_asking` shows to hold.
+//! `contest_machine` shows to hold.
 //!
 //! - [`Walker`] is one of the hosts. It makes turns over a `Maint`, answers what came of each, and
 //!   has the map once it is done.

@@ -24,7 +24,7 @@ function placeOf(i) {
   return low;
 }
 
-// The record of a line number, or the one behind it.
+// The record of a line number, or the next one.
 function recordOf(number) {
   let low = 0;
   let high = view.trace.count;
@@ -236,7 +236,7 @@ function showRecord() {
   const rows = statesAt(trace, i).filter((it, port) => wanted.has(port) && trace.link[port] >= 0)
     .map((it) => `<tr><th scope='row'>${escaped(it.name)}</th>${stateHtml(it.output)}`
       + `${stateHtml(it.input)}<td>${it.outstanding}</td><td>${it.held}</td></tr>`);
-  at('states').innerHTML = `<h2>Ports behind line ${trace.number[i]}</h2><table id='ports'><tr>`
+  at('states').innerHTML = `<h2>Ports after line ${trace.number[i]}</h2><table id='ports'><tr>`
     + \"<th scope='col'>port</th><th scope='col'>output</th><th scope='col'>input</th>\"
     + `<th scope='col'>outstanding</th><th scope='col'>held</th></tr>${rows.join('')}</table>`;
   history.replaceState(null, '', '#' + trace.number[i]);

@@ -1,6 +1,6 @@
 use Rattle.contest_machine.specs.Machine.{kept}
-use Rattle.contest_machine.proofs.Few.{once_few}
-use Rattle.contest_machine.proofs.Bounding.{stepped_within}
+use Rattle.contest_machine.proofs.Keeping.Few.{once_few}
+use Rattle.contest_machine.proofs.Keeping.Bounding.{stepped_within}
 use Rattle.contest_machine.proofs.laws.a_walker_stays_within_bounds.Goals as goal
 
 pub returns-clause-within : goal.returns-clause-within

@@ -1,8 +1,0 @@
-use Rattle.std.proofs.Common.{refl}
-use Rattle.contest_law.proofs.examples.turns_that_go_on_are_counted.Goals as goal
-
-pub returns-clause-two : goal.returns-clause-two
-returns-clause-two c = refl
-
-pub returns-clause-none : goal.returns-clause-none
-returns-clause-none c = refl

@@ -1,4 +1,0 @@
-pub mod Locks
-pub mod Going
-pub mod Laws
-pub mod Examples
