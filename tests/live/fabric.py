@@ -122,11 +122,18 @@ def largest_set_up(program):
     ended(program, ("\n".join(lines) + "\nendpoint X 255\n").encode(), answers.encode(), 0)
 
 
+def comments(program):
+    """Comments and empty lines before the first event count for nothing, however long they are together."""
+    comment = b"#" + b"x" * (MOST_LINE - 1) + b"\n"
+    text = b"\nendpoint A 1\n" + comment * 4 + b"\ncollect A\n"
+    ended(program, text, b"ok\n" * 7 + b"> collect A\nempty\nok\nend\n", 0)
+
+
 def bytes_and_readers(program):
     byte_by_byte(program, b"collect A", b"refused 5\nok\n")
     gone(program, b"endpoint A 1\n")
 
 
 if __name__ == "__main__":
-    for case in (traces, refusals, forgotten, ends, long_lines, largest_set_up, bytes_and_readers):
+    for case in (traces, refusals, forgotten, ends, long_lines, largest_set_up, comments, bytes_and_readers):
         case(sys.argv[1])

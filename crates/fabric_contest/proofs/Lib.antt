@@ -2,6 +2,7 @@ mod Distinct
 mod Playing
 mod Stopping
 mod Begun
+mod Hosts
 mod Telling
 mod AllTurns
 mod StayingOpen

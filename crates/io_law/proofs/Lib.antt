@@ -21,3 +21,4 @@ pub mod Types
 pub mod Requests
 pub mod Dones
 pub mod Answering
+pub mod Asking

@@ -1,12 +1,11 @@
 -- An answer tells what became of its request at the memory.
-use Rattle.std.proofs.Common.{◌≡◌, ℕ, ◌+◌, Bool, true, false, ◌↔◌, List, length, Option, Some, None, refl, subst, if◌then◌else◌}
+use Rattle.std.proofs.Common.{◌≡◌, ℕ, ◌+◌, Bool, true, false, ◌↔◌, List, length, Some, None, refl, subst, if◌then◌else◌}
 use Rattle.std.specs.Prelude.{slice_range}
 use Rattle.rio_packets.specs.Fields.{ftype_of}
 use Rattle.io_packets.specs.declared.io.Io.{Io}
 use Rattle.io_packets.specs.declared.io.Io.TheVariants.{NRead, NWrite, NWriteR, SWrite, Reply, BadRead, BadWriteR, BadWrite, Other as NoIo}
 use Rattle.io_packets.specs.Reading.{io_of}
 use Rattle.io_packets.specs.Serving.{is_within, answer_to}
-use Rattle.io_memory.specs.declared.meeting.Met.{Met}
 use Rattle.io_memory.specs.declared.meeting.Met.TheVariants.{Read, Written, Failed}
 use Rattle.io_memory.specs.Meeting.{met_at}
 use Rattle.io_memory.specs.Laws.{io_number_of, IsToldBack, AnswersTellBack, OthersAreUnanswered}

@@ -12,5 +12,6 @@ mod DigitTables
 mod SpacedWords
 pub mod WordLaws
 pub mod DecodeLaws
+pub mod DecodeEach
 pub mod SoakLaws
 pub mod HintLaws

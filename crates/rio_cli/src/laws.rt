@@ -1,7 +1,7 @@
 //! What holds of every input. The call does nothing.
-ghost use Rattle.std.specs.Prelude.{◌≡◌, ℕ, List};
+ghost use Rattle.std.specs.Prelude.{◌≡◌, ◌⊎◌, ℕ, List};
 ghost use Rattle.rio_chars.specs.declared.chars.Char.{Char};
-ghost use Rattle.rio_cli.specs.Decoding.{SpellsChars};
+ghost use Rattle.rio_cli.specs.Decoding.{SpellsChars, BadWordAt};
 ghost use Rattle.rio_cli.specs.Outputs.{InputIsAccepted, InputIsRefused};
 ghost use Rattle.rio_cli.specs.declared.command.Command.{Command as Asked};
 
@@ -15,4 +15,11 @@ pub fn inputs_are_judged_once()
         → InputIsRefused command bytes line reason → ¬ InputIsAccepted command bytes }
     ensures one_spelling { (bytes : List ℕ) (chars others : List Char)
         → SpellsChars bytes chars → SpellsChars bytes others → others ≡ chars }
+{}
+
+/// Of each input of `decode` the words are characters, or one line is the first that has a word
+/// which is none.
+pub fn every_text_is_characters_or_refused()
+    ensures { (bytes : List ℕ) → ((chars : List Char) × SpellsChars bytes chars)
+        ⊎ ((line : ℕ) × BadWordAt bytes line) }
 {}

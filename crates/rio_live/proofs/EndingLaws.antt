@@ -36,7 +36,7 @@ module _ (begun : Outgoing) (left : Option (List ℕ)) (read_faults : ℕ) where
         last = [];
         answers = h.answers;
         trace = h.holds.trace;
-        closes = by_end end other;
+        closes = by_end end _ other;
         serves =
             with_nothing begun left read_faults out (end_status end) h.lines h.text
             (Going-stops begun left read_faults (2 ^ 32 - 1) pending taken
@@ -44,12 +44,12 @@ module _ (begun : Outgoing) (left : Option (List ℕ)) (read_faults : ℕ) where
             stops);
       }
     where
-      by_end : (e : LineEnd) → (e ≡ stops_at.End → ⊥)
-          → Closes (end_status e) h.taken (length h.lines + 1) []
-      by_end stops_at.End other = absurd (other refl)
-      by_end stops_at.Fault other = (is_sent live h.taken h.holds, refl)
-      by_end stops_at.TooLong other = (is_sent live h.taken h.holds, refl)
-      by_end stops_at.NoMemory other = (is_sent live h.taken h.holds, ([], inl refl))
+      by_end : (e : LineEnd) (behind : List ℕ) → (e ≡ stops_at.End → ⊥)
+          → Closes (end_status e) h.taken (length h.lines + 1) behind []
+      by_end stops_at.End behind other = absurd (other refl)
+      by_end stops_at.Fault behind other = (is_sent live h.taken h.holds, refl)
+      by_end stops_at.TooLong behind other = (is_sent live h.taken h.holds, refl)
+      by_end stops_at.NoMemory behind other = (is_sent live h.taken h.holds, inl refl)
 
   -- the last line of the trace was told
   closes_trace : {left_last : Option (List ℕ)} {read_faults_last : ℕ} (next : Outgoing)
@@ -67,7 +67,8 @@ module _ (begun : Outgoing) (left : Option (List ℕ)) (read_faults : ℕ) where
   closes_trace {left_last} {read_faults_last} next live status lines text taken answers holds
       fault done is = by_failed next.failed refl
     where
-      as_serves : (s : LiveStatus) → Closes s taken (length lines + 1) (codes "end\n")
+      as_serves : (s : LiveStatus)
+          → ((behind : List ℕ) → Closes s taken (length lines + 1) behind (codes "end\n"))
           → ServesLines (2 ^ 32 - 1) s left left_last read_faults read_faults_last
           begun.written next.written begun.faults next.faults lines (text ++ codes "end\n")
           → LiveServes s left left_last read_faults read_faults_last
@@ -79,7 +80,7 @@ module _ (begun : Outgoing) (left : Option (List ℕ)) (read_faults : ℕ) where
         last = codes "end\n";
         answers = answers;
         trace = holds.trace;
-        closes = closes;
+        closes = closes serves.behind;
         serves = serves;
       }
 
@@ -90,12 +91,12 @@ module _ (begun : Outgoing) (left : Option (List ℕ)) (read_faults : ℕ) where
           subst (λ s. LiveServes s left left_last read_faults read_faults_last
           begun.written next.written begun.faults next.faults)
           (sym (is ∙ ap (λ f. if f then ends_with.WriteFault else ends_with.Done) failed))
-          (as_serves ends_with.WriteFault (inr (inl refl)) (fault failed))
+          (as_serves ends_with.WriteFault (λ behind. inr (inl refl)) (fault failed))
       by_failed false fine =
           subst (λ s. LiveServes s left left_last read_faults read_faults_last
           begun.written next.written begun.faults next.faults)
           (sym (is ∙ ap (λ f. if f then ends_with.WriteFault else ends_with.Done) fine))
-          (as_serves ends_with.Done (is_sent live taken holds, refl) (done fine))
+          (as_serves ends_with.Done (λ behind. (is_sent live taken holds, refl)) (done fine))
 
   -- the input ended
   pub Course-ends : {out next : Outgoing} {live : Live} {left_now left_last : Option (List ℕ)}

@@ -98,13 +98,13 @@ module _ (begun : Outgoing) (left : Option (List ℕ)) (read_faults : ℕ) where
       (read_faults_now read_faults_next : ℕ)
       → (h : Course begun out live left left_now pending count read_faults read_faults_now)
       → (b : AnswersFront h.taken (count + 1) line out next)
-      → Closes status h.taken (length h.lines + 1) b.text
-      → ServesLines (2 ^ 32 - 1) status left left_next read_faults read_faults_next
-      begun.written next.written begun.faults next.faults h.lines (h.text ++ b.text)
+      → (serves : ServesLines (2 ^ 32 - 1) status left left_next read_faults read_faults_next
+      begun.written next.written begun.faults next.faults h.lines (h.text ++ b.text))
+      → Closes status h.taken (length h.lines + 1) serves.behind b.text
       → LiveServes status left left_next read_faults read_faults_next
       begun.written next.written begun.faults next.faults
-  breaks status pending pending_next line taken read_faults_now read_faults_next h b closes
-      serves = record {
+  breaks status pending pending_next line taken read_faults_now read_faults_next h b serves
+      closes = record {
         lines = h.lines;
         text = h.text;
         taken = h.taken;
@@ -133,18 +133,23 @@ module _ (begun : Outgoing) (left : Option (List ℕ)) (read_faults : ℕ) where
       read is same)
       b.told
 
-  -- the front of the answer has the number of the next line
+  -- the front is of the answer of the next line, and has its number
   cut_at : {out next : Outgoing} {live : Live} {left_now : Option (List ℕ)}
-      (pending line : List ℕ) {count : ℕ} (read_faults_now : ℕ)
+      (pending pending_next line : List ℕ) {count : ℕ} (read_faults_now : ℕ)
       → (h : Course begun out live left left_now pending count read_faults read_faults_now)
-      → (b : AnswersFront h.taken (count + 1) line out next)
-      → IsFurtherFront h.taken (length h.lines + 1) b.text
-  cut_at {out} {next} {live} pending line read_faults_now h b = (
+      → IsLine line → (b : AnswersFront h.taken (count + 1) line out next)
+      → IsFurtherFront h.taken (length h.lines + 1) (with_feed line ++ pending_next) b.text
+  cut_at {out} {next} {live} pending pending_next line read_faults_now h good b = (
     is_sent live h.taken h.holds,
-    (
-      line,
-      subst (λ n. IsAnswerFront h.taken n line b.text) (ap (λ n. n + 1) (sym h.going.counted)) b.is,
-    ),
+    inr (record {
+      line = line;
+      rest = pending_next;
+      is_line = good;
+      first = refl;
+      front =
+          subst (λ n. IsAnswerFront h.taken n line b.text)
+          (ap (λ n. n + 1) (sym h.going.counted)) b.is;
+    }),
   )
 
   pub Course-no_memory : {out next : Outgoing} {live : Live}
@@ -153,18 +158,28 @@ module _ (begun : Outgoing) (left : Option (List ℕ)) (read_faults : ℕ) where
       → (h : Course begun out live left left_now pending count read_faults read_faults_now)
       → begun.waiting ≡ [] → next.failed ≡ false → next.waiting ≡ []
       → Consumes left_now left_next taken → pending ++ taken ≡ with_feed line ++ pending_next
-      → read_faults_next ≡ read_faults_now
+      → IsLine line → read_faults_next ≡ read_faults_now
       → AnswersFront h.taken (count + 1) line out next
       → LiveServes ends_with.NoMemory left left_next read_faults read_faults_next
       begun.written next.written begun.faults next.faults
-  Course-no_memory pending pending_next line taken read_faults_now read_faults_next h clear fine
-      empty read is same b =
-      breaks ends_with.NoMemory pending pending_next line taken read_faults_now
-      read_faults_next h b (cut_at pending line read_faults_now h b)
-      (Going-no_memory begun left read_faults (2 ^ 32 - 1)
-      (with_feed line ++ pending_next) read_faults_next h.lines (h.text ++ b.text)
-      (broken pending pending_next line taken read_faults_now read_faults_next h read is same b)
-      clear fine empty)
+  Course-no_memory {out} {next} {live} {left_now} {left_next} pending pending_next line taken
+      read_faults_now read_faults_next h clear fine empty read is good same b =
+      let behind = with_feed line ++ pending_next in
+      let told =
+      broken pending pending_next line taken read_faults_now read_faults_next h read is same b in
+      let serves : ServesLines (2 ^ 32 - 1) ends_with.NoMemory left left_next read_faults
+      read_faults_next begun.written next.written begun.faults next.faults h.lines
+      (h.text ++ b.text) = record {
+        behind = behind;
+        are_lines = told.are_lines;
+        read = told.read;
+        ends = told.counts;
+        writes =
+            (Going-no_memory begun left read_faults (2 ^ 32 - 1) behind read_faults_next h.lines
+            (h.text ++ b.text) told clear fine empty).writes;
+      } in
+      breaks ends_with.NoMemory pending pending_next line taken read_faults_now read_faults_next h b
+      serves (cut_at pending pending_next line read_faults_now h good b)
 
   -- and a write failed in it
   pub Course-fault_within : {out next : Outgoing} {live : Live}
@@ -173,18 +188,28 @@ module _ (begun : Outgoing) (left : Option (List ℕ)) (read_faults : ℕ) where
       → (h : Course begun out live left left_now pending count read_faults read_faults_now)
       → begun.waiting ≡ [] → begun.failed ≡ false → next.failed ≡ true
       → Consumes left_now left_next taken → pending ++ taken ≡ with_feed line ++ pending_next
-      → read_faults_next ≡ read_faults_now
+      → IsLine line → read_faults_next ≡ read_faults_now
       → AnswersFront h.taken (count + 1) line out next
       → LiveServes ends_with.WriteFault left left_next read_faults read_faults_next
       begun.written next.written begun.faults next.faults
-  Course-fault_within pending pending_next line taken read_faults_now read_faults_next h clear
-      fresh failed read is same b =
-      breaks ends_with.WriteFault pending pending_next line taken read_faults_now
-      read_faults_next h b (inr (inr (cut_at pending line read_faults_now h b)))
-      (Going-fault begun left read_faults (2 ^ 32 - 1)
-      (with_feed line ++ pending_next) read_faults_next h.lines (h.text ++ b.text)
-      (broken pending pending_next line taken read_faults_now read_faults_next h read is same b)
-      clear fresh failed)
+  Course-fault_within {out} {next} {live} {left_now} {left_next} pending pending_next line taken
+      read_faults_now read_faults_next h clear fresh failed read is good same b =
+      let behind = with_feed line ++ pending_next in
+      let told =
+      broken pending pending_next line taken read_faults_now read_faults_next h read is same b in
+      let serves : ServesLines (2 ^ 32 - 1) ends_with.WriteFault left left_next read_faults
+      read_faults_next begun.written next.written begun.faults next.faults h.lines
+      (h.text ++ b.text) = record {
+        behind = behind;
+        are_lines = told.are_lines;
+        read = told.read;
+        ends = told.counts;
+        writes =
+            (Going-fault begun left read_faults (2 ^ 32 - 1) behind read_faults_next h.lines
+            (h.text ++ b.text) told clear fresh failed).writes;
+      } in
+      breaks ends_with.WriteFault pending pending_next line taken read_faults_now read_faults_next h
+      b serves (inr (inr (cut_at pending pending_next line read_faults_now h good b)))
 
   -- a write failed, whether the line was answered or not
   pub Course-failed : (next : Outgoing) (live_next : Live) {out : Outgoing} {live : Live}
@@ -207,4 +232,4 @@ module _ (begun : Outgoing) (left : Option (List ℕ)) (read_faults : ℕ) where
   Course-failed next live_next pending pending_next line taken read_faults_now read_faults_next
       (Err end) h clear fresh failed read is good same answered short =
       Course-fault_within pending pending_next line taken read_faults_now read_faults_next h
-      clear fresh failed read is same (short h.taken h.holds)
+      clear fresh failed read is good same (short h.taken h.holds)

@@ -41,7 +41,7 @@ serves_none left written read_faults write_faults = record {
   last = [];
   answers = (refl, refl);
   trace = nothing_is_trace;
-  closes = (refl, ([], inl refl));
+  closes = (refl, inl refl);
   serves = served_none (2 ^ 32 - 1) left written read_faults write_faults;
 }
 

@@ -1,33 +1,45 @@
 -- What the whole program does.
-use Rattle.std.specs.Prelude.{◌≡◌, ◌⊎◌, ◌+◌, ◌-◌, ◌^◌, ℕ, List, [], ◌∷◌, ◌++◌, length, Option, Some, Bool, false, codes}
+use Rattle.std.specs.Prelude.{◌≡◌, ◌≢◌, ◌⊎◌, ◌+◌, ◌-◌, ◌^◌, ℕ, List, [], ◌∷◌, ◌++◌, length, Option, Some, Bool, false, codes, if◌then◌else◌}
 use Rattle.std.specs.Io.KnownBytes.{Keeps}
 use Rattle.rio_chars.specs.Unless.{WritesUnless}
 use Rattle.fabric_trace.specs.Known.{UndetectedAt}
 use Rattle.live_lines.specs.declared.status.LiveStatus.{LiveStatus}
 use Rattle.live_lines.specs.declared.status.LiveStatus.TheVariants.{Done, Words, ReadFault, WriteFault, NoMemory, Undetected, TooLong}
+use Rattle.live_lines.specs.Lines.{IsLine, with_feed}
 use Rattle.live_lines.specs.Serving.{ServesLines}
 use Rattle.live_lines.specs.Statuses.{status_value, message_of}
 use Rattle.live_fabric.specs.Lines.{Taken, nothing_taken, seen_so_far, IsSent, AnswersLines, IsAnswerFront}
 use Rattle.live_fabric.specs.Holding.{IsTrace}
+use Rattle.program_start.specs.Questions.{AsksQuestion, AsksNoQuestion, question_text}
+use Rattle.program_start.specs.declared.questions.Question.{Question}
 
--- the text is a front of the answer of a further line, which has this number, or nothing
-abbrev pub IsFurtherFront : Taken → ℕ → List ℕ → Type 0
-IsFurtherFront taken number text =
-    IsSent taken × ((line : List ℕ) × IsAnswerFront taken number line text)
+-- the bytes that were read begin with this line, and the text is a front of its answer
+pub record CutAt (taken : Taken) (number : ℕ) (behind text : List ℕ) : Type 0 where
+  pub line : List ℕ
+  pub rest : List ℕ
+  pub is_line : IsLine line
+  pub first : behind ≡ with_feed line ++ rest
+  pub front : IsAnswerFront taken number line text
+
+-- The text is a front of the answer of the line that was read next, which has this number, or
+-- nothing. These are the bytes that were read behind the last line that is answered.
+abbrev pub IsFurtherFront : Taken → ℕ → List ℕ → List ℕ → Type 0
+IsFurtherFront taken number behind text =
+    IsSent taken × ((text ≡ []) ⊎ CutAt taken number behind text)
 
 -- What is written behind the answers, by how it ended: `end` if the input ended, and if memory ran
 -- out within an event, a front of its answer. It ends with `Undetected` exactly behind an event
 -- that was acted on and not sent.
-abbrev pub Closes : LiveStatus → Taken → ℕ → List ℕ → Type 0
-Closes Done taken number text = IsSent taken × (text ≡ codes "end\n")
-Closes Words taken number text = ⊥
-Closes ReadFault taken number text = IsSent taken × (text ≡ [])
-Closes TooLong taken number text = IsSent taken × (text ≡ [])
-Closes Undetected taken number text =
+abbrev pub Closes : LiveStatus → Taken → ℕ → List ℕ → List ℕ → Type 0
+Closes Done taken number behind text = IsSent taken × (text ≡ codes "end\n")
+Closes Words taken number behind text = ⊥
+Closes ReadFault taken number behind text = IsSent taken × (text ≡ [])
+Closes TooLong taken number behind text = IsSent taken × (text ≡ [])
+Closes Undetected taken number behind text =
     ((found : UndetectedAt) × ((seen_so_far taken).undetected ≡ Some found)) × (text ≡ [])
-Closes NoMemory taken number text = IsFurtherFront taken number text
-Closes WriteFault taken number text =
-    (text ≡ []) ⊎ ((text ≡ codes "end\n") ⊎ IsFurtherFront taken number text)
+Closes NoMemory taken number behind text = IsFurtherFront taken number behind text
+Closes WriteFault taken number behind text =
+    (text ≡ []) ⊎ ((text ≡ codes "end\n") ⊎ IsFurtherFront taken number behind text)
 
 -- Lines were served: those that were read, each behind the one before it, up to where it ended.
 -- What was written is their answers, and what is written behind them. The blocks in the answers are
@@ -41,39 +53,58 @@ pub record LiveServes (status : LiveStatus) (left left_after : Option (List ℕ)
   pub last : List ℕ
   pub answers : AnswersLines nothing_taken 1 lines text taken
   pub trace : IsTrace taken
-  pub closes : Closes status taken (length lines + 1) last
   pub serves : ServesLines (2 ^ 32 - 1) status left left_after read_faults read_faults_after
       written written_after write_faults write_faults_after lines (text ++ last)
+  pub closes : Closes status taken (length lines + 1) serves.behind last
 
--- there are no words behind the name of the program
-abbrev pub AskNothing : List (List ℕ) → Type 0
-AskNothing [] = Unit {0}
-AskNothing (name ∷ []) = Unit {0}
-AskNothing (name ∷ word ∷ words) = ⊥
-
--- how the program is used
+-- how the program is used, in a line and on several
 abbrev pub live_usage : List ℕ
 live_usage = codes "usage: rio_live, with no words\n"
 
--- There are words, and nothing is read or written; or lines were served.
+abbrev pub live_help : List ℕ
+live_help = codes "usage: rio_live < LINES\n\n"
+    ++ codes "Each line is answered before the next is read. An answer ends with the line ok.\n\n"
+    ++ codes "endpoint, switch, link and such   set a fabric up\n"
+    ++ codes "send, pump, settle and such       are events, told as rio replay tells them\n\n"
+    ++ codes "docs/live.md says what is answered, and man rio has the lines.\n"
+
+-- nothing was read
+abbrev pub ReadsNothing : Option (List ℕ) → Option (List ℕ) → ℕ → ℕ → Type 0
+ReadsNothing left left_after read_faults read_faults_after =
+    Keeps left left_after × (read_faults_after ≡ read_faults)
+
+-- A question was answered, or a front of the answer was written since a write failed.
+pub record LiveTold (words : List (List ℕ)) (status : LiveStatus)
+    (written written_after : Option (List ℕ)) (write_faults write_faults_after : ℕ) : Type 0 where
+  pub question : Question
+  pub asks : AsksQuestion question words
+  pub failed : Bool
+  pub told : WritesUnless false written write_faults failed written_after write_faults_after
+      (question_text (codes "rio_live") live_help question)
+  pub ends : status ≡ (if failed then WriteFault else Done)
+
+-- There are no words, and lines were served; or they ask a question, and it was answered; or they
+-- say nothing, and nothing was read or written.
 abbrev pub LiveDid : List (List ℕ) → LiveStatus → Option (List ℕ) → Option (List ℕ) → ℕ → ℕ
     → Option (List ℕ) → Option (List ℕ) → ℕ → ℕ → Type 0
-LiveDid arguments status left left_after read_faults read_faults_after written written_after
+LiveDid words status left left_after read_faults read_faults_after written written_after
     write_faults write_faults_after =
-    (AskNothing arguments × LiveServes status left left_after read_faults read_faults_after written
+    ((words ≡ []) × LiveServes status left left_after read_faults read_faults_after written
     written_after write_faults write_faults_after)
-    ⊎ ((¬ AskNothing arguments) × (status ≡ Words)
-    × Keeps left left_after × Keeps written written_after
-    × (read_faults_after ≡ read_faults) × (write_faults_after ≡ write_faults))
+    ⊎ ((LiveTold words status written written_after write_faults write_faults_after
+    × ReadsNothing left left_after read_faults read_faults_after)
+    ⊎ ((words ≢ []) × AsksNoQuestion words × (status ≡ Words)
+    × Keeps written written_after × (write_faults_after ≡ write_faults)
+    × ReadsNothing left left_after read_faults read_faults_after))
 
 -- It ends with the number of a status, and said of it what there is to say, or a front of that
 -- where a write of it failed.
-pub record LiveRan {S : Type 0} {K : Type 0} {M : Type 0} (arguments : List (List ℕ)) (number : ℕ)
+pub record LiveRan {S : Type 0} {K : Type 0} {M : Type 0} (words : List (List ℕ)) (number : ℕ)
     (left : S → Option (List ℕ)) (read_faults : S → ℕ) (source source_after : S)
     (written : K → Option (List ℕ)) (write_faults : K → ℕ) (sink sink_after : K)
     (said : M → Option (List ℕ)) (say_faults : M → ℕ) (messages messages_after : M) : Type 0 where
   pub status : LiveStatus
-  pub did : LiveDid arguments status (left source) (left source_after) (read_faults source)
+  pub did : LiveDid words status (left source) (left source_after) (read_faults source)
       (read_faults source_after) (written sink) (written sink_after) (write_faults sink)
       (write_faults sink_after)
   pub number_is : number ≡ status_value status

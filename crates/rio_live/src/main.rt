@@ -7,7 +7,7 @@
 //! number of them may come.
 //!
 //! - `run`: the whole program, over any source, sink and sink of messages; `main` gives it the
-//!   arguments and the standard streams, and does nothing more.
+//!   words and the standard streams by `start` of `program_start`, and does nothing more.
 //! - `serve`: the same without the words, and how it ended.
 //!
 //! If the system does not give the arguments, the status is 1 and nothing is written.
@@ -17,29 +17,35 @@ mod program;
 mod serving;
 
 pub use program::run;
-use rio_chars::{StdSink, StdSource};
+use program_start::{Program, start};
+use rio_chars::{Sink, Source};
 pub use serving::serve;
+use std::alloc::Global;
 use std::process::ExitCode;
-use std::{env, io};
 
-fn main(rt: HostRuntime) -> ExitCode {
-    let Ok(arguments) = arguments(&rt) else {
-        return ExitCode::from(1);
-    };
-    let mut source = StdSource::new(rt.reader());
-    let mut sink = StdSink::new(io::writer(&rt));
-    let mut messages = StdSink::new(rt.stderr());
-    let status = run(
-        rt.alloc(),
-        arguments.as_slice(),
-        &mut source,
-        &mut sink,
-        &mut messages,
-    );
-    ExitCode::from(status)
+/// The program, as it is started.
+struct RioLive;
+
+impl Program for RioLive {
+    fn waits_for(&self, words: &[String]) -> &'static [u8] {
+        match words {
+            [] => b"rio_live: waiting for the lines of a fabric; Ctrl-D ends them\n",
+            _ => b"",
+        }
+    }
+
+    fn run<S: Source, K: Sink, M: Sink>(
+        &self,
+        alloc: Global,
+        words: &[String],
+        source: &mut S,
+        sink: &mut K,
+        messages: &mut M,
+    ) -> u8 {
+        run(alloc, words, source, sink, messages)
+    }
 }
 
-/// The program's name and the words that follow it.
-fn arguments(rt: &HostRuntime) -> io::Result<Vec<String>> {
-    Ok(env::args(rt)?.collect(rt.alloc())?)
+fn main(rt: HostRuntime) -> ExitCode {
+    start(&rt, &RioLive)
 }

@@ -1,50 +1,77 @@
 //! The whole program, but for where its words and its streams come from.
-ghost use Rattle.std.specs.Prelude.{map};
+ghost use Rattle.std.specs.Prelude.{◌≡◌, map, if◌then◌else◌};
 ghost use Rattle.std.specs.String.{string_bytes};
+ghost use Rattle.live_lines.specs.declared.status.LiveStatus.TheVariants as ends_with;
 ghost use Rattle.rio_live.specs.Program.{LiveRan, LiveDid};
 
 use crate::serving::serve;
 use live_lines::{LiveStatus, say, status_number};
+use program_start::{answer_question, question_of};
 use rio_chars::{Sink, Source};
 use std::alloc::Global;
 
-/// How the program is used.
+/// How the program is used, in a line.
 const USAGE: &[u8] = b"usage: rio_live, with no words\n";
 
-/// Serves a fabric, if there are no words behind the program's name, and answers the exit status.
-/// What there is to say of the end is said in one line to `messages`. A line that cannot be said
-/// changes nothing.
+/// The same on several lines.
+const HELP: &[u8] = b"usage: rio_live < LINES
+
+Each line is answered before the next is read. An answer ends with the line ok.
+
+endpoint, switch, link and such   set a fabric up
+send, pump, settle and such       are events, told as rio replay tells them
+
+docs/live.md says what is answered, and man rio has the lines.
+";
+
+/// Serves a fabric if there are no words after the program's name, and answers the exit status.
+/// `--help` and `--version` are answered. What there is to say of the end is said in one line to
+/// `messages`. A line that cannot be said changes nothing.
 pub fn run<S: Source, K: Sink, M: Sink>(
     alloc: Global,
-    arguments: &[String],
+    words: &[String],
     source: &mut S,
     sink: &mut K,
     messages: &mut M,
 ) -> u8
-    ensures { LiveRan (map string_bytes arguments.now) result
+    ensures { LiveRan (map string_bytes words.now) result
         S.left S.faults source.old source.new
         K.written K.faults sink.old sink.new
         M.written M.faults messages.old messages.new }
 {
-    let status = serve_words(alloc, arguments, source, sink);
+    let status = serve_words(alloc, words, source, sink);
     say(messages, b"rio_live: ", USAGE, status);
     status_number(status)
 }
 
-/// Serves a fabric, if there are no words behind the program's name.
+/// Serves a fabric, or answers what else the words ask.
 fn serve_words<S: Source, K: Sink>(
     alloc: Global,
-    arguments: &[String],
+    words: &[String],
     source: &mut S,
     sink: &mut K,
 ) -> LiveStatus
-    ensures { LiveDid (map string_bytes arguments.now) result (S.left source.old)
+    ensures { LiveDid (map string_bytes words.now) result (S.left source.old)
         (S.left source.new)
         (S.faults source.old) (S.faults source.new) (K.written sink.old) (K.written sink.new)
         (K.faults sink.old) (K.faults sink.new) }
 {
-    match arguments {
-        [] | [_] => serve(alloc, source, sink),
+    if let Some(question) = question_of(words) {
+        return told(answer_question(sink, b"rio_live", HELP, question));
+    }
+    match words {
+        [] => serve(alloc, source, sink),
         _ => LiveStatus::Words,
+    }
+}
+
+/// How it ended, by whether a write failed.
+fn told(failed: bool) -> LiveStatus
+    ensures { result ≡ (if failed then ends_with.WriteFault else ends_with.Done) }
+{
+    if failed {
+        LiveStatus::WriteFault
+    } else {
+        LiveStatus::Done
     }
 }

@@ -4,7 +4,8 @@
 pub(crate) const REST: &[u8] = b"<script>
 'use strict';
 const ROW = 22;
-const view = { trace: null, shown: null, top: 0, chosen: 0, links: null, way: new Set(), rows: 0 };
+const view = { trace: null, times: null, shown: null, top: 0, chosen: 0, links: null,
+  way: new Set(), rows: 0 };
 const at = (id) => document.getElementById(id);
 const escaped = (text) => text.replace(/[&<>\"']/g, (c) => `&#${c.charCodeAt(0)};`);
 
@@ -224,11 +225,18 @@ function stateHtml(state) {
   return `<td class='${state === 'OK' ? '' : 'fault'}'>${state}</td>`;
 }
 
+// When a line happened, if a capture's times are in the page.
+function timeOf(number) {
+  const time = view.times && view.times.lines[number];
+  return time ? `, at ${escaped(String(time))} ${escaped(view.times.unit)}` : '';
+}
+
 function showRecord() {
   const trace = view.trace;
   const i = view.chosen;
   if (trace.count === 0) return;
-  at('detail').innerHTML = `<h2>Line ${trace.number[i]}</h2><p>${escaped(wordsOf(trace, i))}</p>`
+  at('detail').innerHTML = `<h2>Line ${trace.number[i]}${timeOf(trace.number[i])}</h2>`
+    + `<p>${escaped(wordsOf(trace, i))}</p>`
     + `<p><code>${escaped(lineText(trace, i))}</code></p>`;
   const links = shownLinks();
   const wanted = new Set(links.slice(0, 12).flatMap((link) => trace.fabric.links[link]));
@@ -379,6 +387,7 @@ function start() {
   const fabric = JSON.parse(at('fabric').textContent);
   view.trace = readTrace(at('trace').textContent, fabric);
   at('trace').remove();
+  view.times = at('times') && JSON.parse(at('times').textContent);
   at('links').innerHTML = fabric.links.map(([a, b], link) => `<option value='${link}'>`
     + `${escaped(fabric.ports[a])} - ${escaped(fabric.ports[b])}</option>`).join('');
   at('links').size = Math.min(3, Math.max(2, fabric.links.length));

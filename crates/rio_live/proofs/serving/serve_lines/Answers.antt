@@ -101,8 +101,8 @@ returns-in-Err-answered-clause-serves g c =
     c.loop-number.input c.read_line.new.self c.read_line.new.line.items read.0
     (g.S.Source.faults c.loop-number.source) (g.S.Source.faults c.read_line.new.source)
     h.course c.requires.empty (sym c.failed.ensures ∙ c.if-failed.false)
-    c.answer_line-answered.ensures.empty read.1 read.2 c.in_default.ensures.counts
-    (breaks h.course.taken h.course.holds)
+    c.answer_line-answered.ensures.empty read.1 read.2 c.in_default.ensures.line
+    c.in_default.ensures.counts (breaks h.course.taken h.course.holds)
 
 pub returns-clause-serves : goal.returns-clause-serves
 returns-clause-serves g c =

@@ -1,0 +1,8 @@
+pub mod Views
+pub mod Served
+pub mod Called
+pub mod Running
+pub mod Answered
+pub mod Retries
+pub mod ActedSent
+pub mod Failing

@@ -1,0 +1,4 @@
+pub mod LinksRun
+pub mod Retries
+pub mod ActedSent
+pub mod Examples

@@ -1,0 +1,187 @@
+/* A boot host: numbers a fabric of rio_live by an algorithm of its own, and prints what it found.
+ *
+ *     cc -o host host.c && ./host PROGRAM NODE < FABRIC
+ *
+ * PROGRAM is rio_live, NODE the endpoint that is the host, with a device ID below 255, and FABRIC are set-up lines,
+ * such as examples/ring.fabric. A host of your own takes over the first part. The second is one way to number a fabric:
+ * it goes from switch to switch, the nearest first, tells devices apart by their component tags, gives each endpoint
+ * the next ID, and sets its route in each switch on the way. */
+#include <stdio.h>
+#include <stdlib.h>
+#include <string.h>
+#include <unistd.h>
+
+/* ---- the fabric */
+
+static FILE *to_fabric, *from_fabric;
+static const char *host;
+static char others[64][16]; /* the other endpoints, which collect what they hold */
+static unsigned other_count, host_id;
+
+/* Starts the program with its standard streams on two pipes. */
+static void start(const char *program) {
+    int down[2], up[2];
+    if (pipe(down) || pipe(up)) exit(1);
+    if (fork() == 0) {
+        dup2(down[0], 0);
+        dup2(up[1], 1);
+        close(down[0]), close(down[1]), close(up[0]), close(up[1]);
+        execl(program, program, (char *)0);
+        _exit(127);
+    }
+    close(down[0]), close(up[1]);
+    to_fabric = fdopen(down[1], "w");
+    from_fabric = fdopen(up[0], "r");
+}
+
+/* Writes a line and reads its answer up to `ok`. Answers the last line before that. */
+static const char *say(const char *line) {
+    static char last[4096];
+    char next[4096];
+    fprintf(to_fabric, "%s\n", line);
+    fflush(to_fabric);
+    last[0] = 0;
+    while (fgets(next, sizeof next, from_fabric)) {
+        if (!strcmp(next, "ok\n")) return last;
+        strcpy(last, next);
+    }
+    fprintf(stderr, "the fabric has ended at: %s\n", line);
+    exit(1);
+}
+
+/* One round: links and switches carry what they can, the other endpoints answer, and the host collects. Answers whether
+ * it got a packet, and puts its bytes there. */
+static int go_round(unsigned char *packet) {
+    char line[64], name[16];
+    const char *came;
+    unsigned byte, count = 0;
+    say("run 1");
+    for (unsigned at = 0; at < other_count; at++) {
+        snprintf(line, sizeof line, "collect %s", others[at]);
+        say(line);
+    }
+    snprintf(line, sizeof line, "collect %s", host);
+    came = say(line);
+    if (sscanf(came, "leave %15s", name) != 1) return 0;
+    for (came += strlen("leave ") + strlen(name) + 1; sscanf(came, "%2x", &byte) == 1 && count < 276; came += 2)
+        packet[count++] = byte;
+    return 1;
+}
+
+/* Sends a request for a register, and waits for the response, which has its transaction number in byte 5, its status in
+ * the low half of byte 4, and two words from byte 10 on. False if none came, or the register could not be read or
+ * written. */
+static int ask(unsigned dest, unsigned hop, unsigned offset, const unsigned *write, unsigned *read) {
+    static unsigned tid;
+    unsigned char packet[276] = {0};
+    char line[96];
+    tid = (tid + 1) % 256;
+    if (write) snprintf(line, sizeof line, "write %s 0 %u %u %u %06x %08x", host, dest, hop, tid, offset, *write);
+    else snprintf(line, sizeof line, "read %s 0 %u %u %u %06x", host, dest, hop, tid, offset);
+    say(line);
+    for (unsigned rounds = 0; rounds < 140; rounds++) {
+        if (!go_round(packet) || packet[5] != tid) continue;
+        const unsigned char *word = packet + 10 + (offset & 4);
+        if (read) *read = (unsigned)word[0] << 24 | word[1] << 16 | word[2] << 8 | word[3];
+        return (packet[4] & 15) == 0;
+    }
+    return 0;
+}
+
+static int read_at(unsigned dest, unsigned hop, unsigned offset, unsigned *value) {
+    return ask(dest, hop, offset, NULL, value);
+}
+
+static void write_at(unsigned dest, unsigned hop, unsigned offset, unsigned value) {
+    if (!ask(dest, hop, offset, &value, NULL)) fprintf(stderr, "hop %u: %06x was not written\n", hop, offset);
+}
+
+/* Sets the fabric up by the lines of standard input, and notes its endpoints. */
+static void set_up(void) {
+    char line[256], name[16];
+    unsigned id;
+    while (fgets(line, sizeof line, stdin)) {
+        line[strcspn(line, "\n")] = 0;
+        say(line);
+        if (sscanf(line, "endpoint %15s %u", name, &id) != 2) continue;
+        if (!strcmp(name, host)) host_id = id;
+        else strcpy(others[other_count++], name);
+    }
+}
+
+/* ---- how it is numbered */
+
+enum { ANY = 255, MOST = 64 };
+enum { FEATURES = 0x10, PORTS = 0x14, BASE_ID = 0x60, TAG = 0x6c, ENTRY = 0x70, ENTRY_PORT = 0x74, DEFAULT = 0x78 };
+enum { STATUS = 0x158, NEXT_STATUS = 0x20 };
+
+/* A device, and the ports of the switches on the way to it. */
+struct device { unsigned is_switch, ports, id, hops, path[MOST]; };
+static struct device devices[MOST];
+static unsigned device_count, next_id;
+
+/* Has the switches on a way send packets for ANY along it. */
+static void lead(const unsigned *path, unsigned hops) {
+    for (unsigned hop = 0; hop < hops; hop++) write_at(ANY, hop, DEFAULT, path[hop]);
+}
+
+/* Sets the entry of a destination in the switch so many hops away, to which ANY leads. */
+static void route(unsigned hop, unsigned dest, unsigned port) {
+    write_at(ANY, hop, ENTRY, dest);
+    write_at(ANY, hop, ENTRY_PORT, port);
+}
+
+/* Meets the device at the end of a way, and numbers it if it is new: then it has no tag. */
+static void meet(const unsigned *path, unsigned hops) {
+    unsigned tag, features, ports;
+    lead(path, hops);
+    if (!read_at(ANY, hops, TAG, &tag) || tag != 0) return;
+    struct device *device = &devices[device_count++];
+    device->hops = hops;
+    memcpy(device->path, path, hops * sizeof *path);
+    write_at(ANY, hops, TAG, device_count);
+    read_at(ANY, hops, FEATURES, &features);
+    device->is_switch = features >> 28 & 1;
+    if (device->is_switch) {
+        read_at(ANY, hops, PORTS, &ports);
+        device->ports = ports >> 8 & 255;
+        route(hops, host_id, ports & 255);
+        return;
+    }
+    if (next_id == host_id) next_id++;
+    device->id = next_id++;
+    write_at(ANY, hops, BASE_ID, device->id << 16);
+    for (unsigned hop = 0; hop < hops; hop++) route(hop, device->id, path[hop]);
+}
+
+/* Meets what stands at the ports of a switch that have a link. */
+static void look_around(const struct device *from) {
+    unsigned path[MOST], status;
+    memcpy(path, from->path, sizeof path);
+    for (unsigned port = 0; port < from->ports && from->hops + 1 < MOST; port++) {
+        lead(from->path, from->hops);
+        if (!read_at(ANY, from->hops, STATUS + NEXT_STATUS * port, &status) || !(status & 2)) continue;
+        path[from->hops] = port;
+        meet(path, from->hops + 1);
+    }
+}
+
+int main(int argc, char **argv) {
+    unsigned none[MOST] = {0};
+    if (argc != 3) return fprintf(stderr, "usage: host PROGRAM NODE < FABRIC\n"), 2;
+    host = argv[2];
+    start(argv[1]);
+    set_up();
+    meet(none, 0);
+    for (unsigned at = 0; at < device_count; at++)
+        if (devices[at].is_switch) look_around(&devices[at]);
+    for (unsigned at = 0; at < device_count; at++) {
+        const struct device *device = &devices[at];
+        unsigned tag = 0;
+        printf(device->is_switch ? "switch %u" : "endpoint %u", device->is_switch ? device->ports : device->id);
+        for (unsigned hop = 0; hop < device->hops; hop++) printf("%c%u", hop ? '.' : ' ', device->path[hop]);
+        if (!device->is_switch && (!read_at(device->id, 255, TAG, &tag) || tag != at + 1)) printf(" is not reached");
+        printf("\n");
+    }
+    return 0;
+}
