@@ -25,7 +25,7 @@ function placeOf(i) {
   return low;
 }
 
-// The record of a line number, or the one behind it.
+// The record of a line number, or the next one.
 function recordOf(number) {
   let low = 0;
   let high = view.trace.count;

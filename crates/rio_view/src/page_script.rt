@@ -86,7 +86,7 @@ function changeStates(trace, i, ports) {
   }
 }
 
-// The states of all ports behind a record.
+// The states of all ports after a record.
 function statesAt(trace, i) {
   const from = trace.snapshots[Math.floor(i / EVERY)];
   const ports = { state: from.state.slice(), held: from.held.slice() };
@@ -106,7 +106,7 @@ function record(trace, i) {
   return trace.text.slice(trace.begin[i], trace.text.indexOf('\\n', trace.begin[i]));
 }
 
-// The fields of a record behind its head, with what stands for others in full.
+// The fields of a record after its head, with what stands for others in full.
 function fields(trace, i) {
   const all = record(trace, i).split('\\t').slice(1);
   const kind = kindOf(trace, i);
@@ -195,17 +195,17 @@ function queryOf(text) {
 function matches(trace, i, query) {
   const kind = kindOf(trace, i);
   const text = record(trace, i);
-  const behind = text.slice(text.indexOf('\\t') + 1);
+  const rest = text.slice(text.indexOf('\\t') + 1);
   const name = trace.fabric.ports[trace.port[i]];
   if (kind === 's' || kind === 'g') {
     const head = kind === 's' ? `sent ${name} sends ` : `got ${name} got `;
-    return behind.toLowerCase().includes(query.short || query.words)
+    return rest.toLowerCase().includes(query.short || query.words)
       || head.toLowerCase().includes(query.words);
   }
   if (!STEPS.includes(kind) || kind === 'm' || kind === 'a') {
     return (wordsOf(trace, i) + '\\n' + lineText(trace, i)).toLowerCase().includes(query.words);
   }
-  const [form, words] = behind === '=' ? fields(trace, i) : behind.split('\\t');
+  const [form, words] = rest === '=' ? fields(trace, i) : rest.split('\\t');
   const node = kind === 't' || kind === 'l' ? nodeOf(name) : name;
   return `${NAMES[kind]} ${node} ${form}\\n${NAMES[kind]} ${name}: ${words}`.toLowerCase()
     .includes(query.words);

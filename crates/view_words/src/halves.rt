@@ -85,6 +85,8 @@ impl Halves {
         match symbol.s0 {
             PACKET_RETRY => self.input = HalfState::RetryStopped,
             PACKET_NOT_ACCEPTED => self.input = HalfState::ErrorStopped,
+            // The link-request may have come before the refusal was sent.
+            LINK_RESPONSE => self.input = HalfState::Ok,
             _ => {}
         }
     }
