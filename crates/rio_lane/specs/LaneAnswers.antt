@@ -1,0 +1,75 @@
+-- What is answered of the characters or the groups of a line.
+use Rattle.std.specs.Prelude.{◌≡◌, ℕ, List, [], ◌∷◌, ◌++◌, Option, Some, None, MatchOption, map, codes}
+use Rattle.rio_chars.specs.CharText.{char_text_of, spaced_chars}
+use Rattle.rio_chars.specs.declared.chars.Char.{Char}
+use Rattle.rio_chars.specs.declared.chars.Char.TheVariants.{Special}
+use Rattle.code_groups.specs.Streams.{HaveGroups, HaveTenBits, groups_from, after_chars}
+use Rattle.group_text.specs.GroupTexts.{group_text_of, spaced_groups}
+use Rattle.fabric_script.specs.Lines.{words_of}
+use Rattle.lane_sync.specs.declared.lane.LaneState.{LaneState}
+use Rattle.lane_sync.specs.Syncing.{LaneHearsAll}
+use Rattle.rio_lane.specs.declared.ends.LaneEnds.{LaneEnds}
+
+-- the ends of a lane after a line, and the text that answers it
+pub record LaneAnswer : Type 0 where
+  pub ends : LaneEnds
+  pub text : List ℕ
+
+abbrev pub lane_says : LaneEnds → List ℕ → LaneAnswer
+lane_says ends text = record { ends = ends; text = text }
+
+-- the words of a text, which single spaces part; an empty text has none
+abbrev pub text_words : List ℕ → List (List ℕ)
+text_words [] = []
+text_words (byte ∷ bytes) = words_of (byte ∷ bytes)
+
+-- the words are characters that have groups
+pub record SpellSent (words : List (List ℕ)) (chars : List Char) : Type 0 where
+  pub have : HaveGroups chars
+  pub are : words ≡ map char_text_of chars
+
+-- the words are groups
+pub record SpellGroups (words : List (List ℕ)) (groups : List ℕ) : Type 0 where
+  pub tens : HaveTenBits groups
+  pub are : words ≡ map group_text_of groups
+
+-- texts with a space between any two
+abbrev pub joined_groups : List ℕ → List ℕ
+joined_groups [] = []
+joined_groups (group ∷ groups) = group_text_of group ++ spaced_groups groups
+
+abbrev pub joined_chars : List Char → List ℕ
+joined_chars [] = []
+joined_chars (c ∷ chars) = char_text_of c ++ spaced_chars chars
+
+-- what is sent for a burst: an idle K28.5, the burst, and an idle
+abbrev pub burst_chars : List Char → List Char
+burst_chars chars = Special 0xbc ∷ chars ++ Special 0xbc ∷ []
+
+-- A burst after this head, and the sender's disparity after it; or the line is refused.
+abbrev pub sent_answer : List ℕ → LaneEnds → Option (List Char) → LaneAnswer
+sent_answer head ends None = lane_says ends (codes "refused character\n")
+sent_answer head ends (Some chars) =
+    lane_says (record ends { sender = after_chars ends.sender (burst_chars chars) })
+    (head ++ joined_groups (groups_from ends.sender (burst_chars chars)) ++ codes "\n")
+
+pub record SendsText (head : List ℕ) (ends : LaneEnds) (text : List ℕ) (answer : LaneAnswer) :
+    Type 0 where
+  pub read : Option (List Char)
+  pub reads : MatchOption read ((chars : List Char) → ¬ SpellSent (text_words text) chars)
+      (λ chars. SpellSent (text_words text) chars)
+  pub is : answer ≡ sent_answer head ends read
+
+-- What is heard of the groups after this head, and the lane after it; or the line is refused.
+abbrev pub HeardAnswer : ℕ → List ℕ → LaneEnds → Option (List ℕ) → LaneAnswer → Type 0
+HeardAnswer commas head ends None answer = answer ≡ lane_says ends (codes "refused group\n")
+HeardAnswer commas head ends (Some groups) answer = (heard : List Char) × (to : LaneState)
+    × LaneHearsAll commas ends.receiver groups to heard
+    × (answer ≡ lane_says (record ends { receiver = to }) (head ++ joined_chars heard ++ codes "\n"))
+
+pub record HearsText (commas : ℕ) (head : List ℕ) (ends : LaneEnds) (text : List ℕ)
+    (answer : LaneAnswer) : Type 0 where
+  pub read : Option (List ℕ)
+  pub reads : MatchOption read ((groups : List ℕ) → ¬ SpellGroups (text_words text) groups)
+      (λ groups. SpellGroups (text_words text) groups)
+  pub is : HeardAnswer commas head ends read answer

@@ -1,0 +1,4 @@
+pub mod LaneAnswers
+pub mod LaneLines
+pub mod LaneProgram
+pub mod Tasks
