@@ -23,7 +23,8 @@ use Rattle.io_packets.specs.Reading.{io_of}
 use Rattle.io_law.specs.Telling.{IoTold, ToldCame, io_told, told_by, and_told}
 use Rattle.io_law.specs.Items.{io_asked, asked_by, network_at, came, IsSentBy}
 use Rattle.io_law.specs.Laws.{DonesAnswerRequests}
-use Rattle.io_law.specs.Replies.{io_number_of, IoArrival, Served, arrived_by, io_arrived, served_by, io_served_at, reply_to, IoSent, io_sent_by, sent_at, IsIoServed, IsReplyTo}
+use Rattle.io_memory.specs.Laws.{io_number_of}
+use Rattle.io_law.specs.Replies.{IoArrival, Served, arrived_by, io_arrived, served_by, io_served_at, reply_to, IoSent, io_sent_by, sent_at, IsIoServed, IsReplyTo}
 use Rattle.io_law.proofs.Arriving.{same_after}
 use Rattle.io_law.proofs.Dones.{IsAReply, all_replied, arrived_came, DoneBy, done_by}
 use Rattle.io_law.proofs.Fit.{fit_comes, first_fit}

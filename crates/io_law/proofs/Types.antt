@@ -15,7 +15,7 @@ use Rattle.io_packets.specs.Serving.{is_within, answer_to}
 use Rattle.io_rounds.specs.Stations.{met_by, answer_by}
 use Rattle.io_rounds.specs.Tasks.{reply_line}
 use Rattle.io_law.specs.Items.{IsSentBy}
-use Rattle.io_law.specs.Replies.{io_number_of}
+use Rattle.io_memory.specs.Laws.{io_number_of}
 use Rattle.io_law.proofs.Fit.{reply_prio}
 
 -- ---- what is met

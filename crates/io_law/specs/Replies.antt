@@ -15,6 +15,7 @@ use Rattle.io_packets.specs.declared.io.Io.{Io}
 use Rattle.io_packets.specs.declared.io.Io.TheVariants as Ios
 use Rattle.io_packets.specs.Reading.{io_of}
 use Rattle.io_memory.specs.declared.meeting.Met.TheVariants.{Done}
+use Rattle.io_memory.specs.Laws.{io_number_of}
 use Rattle.io_rounds.specs.Stations.{met_by, answer_by, answer_at_node}
 use Rattle.io_rounds.specs.Tasks.{IoTask, Reply, Fetch, reply_line}
 use Rattle.io_rounds.specs.Going.{IoState, IoGoes, IoActs, IoComes, Here, Further}
@@ -131,14 +132,6 @@ pub record RepliesToServed {names : List (List ℕ)} {script : List Numbered} {f
   pub in_turn : IsFront (map (λ (x : IoSent). x.line) (sent_at node comes))
       (map (reply_to node) (io_served_at node comes))
   pub all_but_one : length (io_served_at node comes) ≤ length (sent_at node comes) + 1
-
--- the number of a request that is answered
-abbrev pub io_number_of : Io → Option ℕ
-io_number_of (Ios.NRead tid addr size) = Some tid
-io_number_of (Ios.NWriteR tid addr load) = Some tid
-io_number_of (Ios.BadRead tid) = Some tid
-io_number_of (Ios.BadWriteR tid) = Some tid
-io_number_of _ = None
 
 -- The line of this place says that this came: it is the packet of the reply of a node to a packet
 -- that the node served before. Some node had asked with that packet. It has the number of the line,
