@@ -4,6 +4,6 @@
 # usage: sh examples/traced.sh SCRIPT | rio_view ladder > LADDER.svg
 #   rio must be on the path
 
-grep -E '^(endpoint|switch|link|buffers|route|default|lock|large) ' "$1"
+grep -E '^(endpoint|switch|link|buffers|route|default|lock|large|credits) ' "$1"
 echo ---
 rio replay < "$1"

@@ -5,6 +5,26 @@ from pathlib import Path
 TOP = Path(__file__).resolve().parent.parent
 
 
+# How each program is called; of rio the page has its commands.
+SYNOPSES = {
+    "rio_port": ("rio_port [BUFFERS]",),
+    "rio_live": ("rio_live",),
+    "rio_view": (
+        "rio_view words [--flow]",
+        "rio_view counts",
+        "rio_view ladder [--from N] [--to N]",
+        "rio_view wave",
+        "rio_view save",
+        "rio_view packets",
+        "rio_view page",
+        "rio_view map [--tables] [--dot]",
+        "rio_view coverage",
+        "rio_view VIEW [--lines N-M] [--link PORT | --port PORT]",
+        "rio_view --help",
+    ),
+}
+
+
 class Missing(Exception):
     """A page does not have what is taken from it."""
 
@@ -65,6 +85,20 @@ def commands():
     if not all(found):
         raise Missing("docs/running.md has a row of words that does not begin with a command of rio")
     return [words for row in found for words in row]
+
+
+def synopsis(program):
+    """The ways in which a program is called."""
+    if program == "rio":
+        return tuple(f"rio {words}" for words in commands())
+    return SYNOPSES[program]
+
+
+def words_of(program):
+    """What may follow the program's name, and what may follow the word after it."""
+    calls = [re.findall(r"[\w-]+", call)[1:] for call in synopsis(program)]
+    first = {words[0] for words in calls if words and words[0][:1].islower() or words and words[0].startswith("--")}
+    return sorted(first), sorted({word for words in calls for word in words[1:] if word.startswith("--")})
 
 
 def releases():

@@ -1,9 +1,9 @@
 #!/bin/sh
 # Builds the sender with Icarus Verilog and runs it against a port, over two named pipes.
 #
-# usage: sender.sh PROGRAM    PROGRAM: rio_port
+# usage: sender.sh [PROGRAM]    PROGRAM: rio_port, unless it is given
 
-program=$1
+program=${1:-rio_port}
 here=$(cd "$(dirname "$0")" && pwd)
 work=$(mktemp -d) || exit 1
 trap 'rm -rf "$work"' EXIT

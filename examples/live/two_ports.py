@@ -1,7 +1,7 @@
 #!/usr/bin/env python3
 """Joins two ports by a noisy wire, and checks that what left at the one is what was sent at the other.
 
-usage: two_ports.py PROGRAM [PACKETS [SEED]]     PROGRAM: rio_port
+usage: two_ports.py [PROGRAM [PACKETS [SEED]]]     PROGRAM: rio_port, unless it is given
 
 Each port is a process. A line is written to it, and its answer is read up to the line `ok`, before the next is written.
 The wire loses whole bursts, breaks single characters, and turns single bits of data characters over. Each of these is
@@ -132,7 +132,7 @@ class Link:
 def main(words):
     wanted = int(words[1]) if len(words) > 1 else 200
     chance = random.Random(int(words[2]) if len(words) > 2 else 1)
-    link = Link(words[0], 0.05, chance)
+    link = Link(words[0] if words else "rio_port", 0.05, chance)
     steps = 0
     while len(link.queued[0]) + len(link.queued[1]) < wanted:
         link.step(True)

@@ -1,5 +1,5 @@
 -- Bytes of a line, one after another.
-use Rattle.std.proofs.Common.{◌≡◌, ℕ, ◌<◌, Option, List, [], ◌∷◌, ◌++◌, length, length-append, take, sym, ap, ◌∙◌, subst, append_assoc, arith}
+use Rattle.std.proofs.Common.{◌≡◌, ◌≢◌, ℕ, ◌<◌, Option, List, [], ◌∷◌, ◌++◌, length, length-append, take, sym, ap, ◌∙◌, subst, append_assoc, arith}
 use Rattle.std.specs.Io.KnownBytes.{Consumes}
 use Rattle.std.proofs.KnownBytes.{Consumes-trans}
 use Rattle.std.proofs.lemmas.List.{take-append-le, take_all}
@@ -17,6 +17,15 @@ taken_more a b c pending line mid last byte h k = (
   sym (append_assoc pending h.0 k.0) ∙ ap (λ l. l ++ k.0) h.2 ∙ append_assoc line mid k.0
       ∙ ap (λ l. line ++ l) k.2 ∙ sym (append_assoc line (byte ∷ []) last),
 )
+
+-- bytes that have one among them
+pub some_byte : (bytes line rest : List ℕ) (byte : ℕ) → bytes ≡ (line ++ byte ∷ []) ++ rest
+    → bytes ≢ []
+some_byte bytes line rest byte is none =
+    let long = ap length is in
+    let short : length bytes ≡ 0 = ap length none in
+    omega (arith, long, short, length-append (line ++ byte ∷ []) rest,
+    length-append line (byte ∷ []))
 
 -- a line of 4,194,305 bytes is too long
 pub long_line : (pending taken line rest : List ℕ) → pending ++ taken ≡ line ++ rest

@@ -167,7 +167,7 @@ module _ (begun : Outgoing) (left : Option (List ℕ)) (read_faults : ℕ) where
           behind = pending ++ taken;
           are_lines = h.are_lines;
           read = read;
-          ends = s;
+          ends = s.0;
           writes = whole;
         }
       ] stopped

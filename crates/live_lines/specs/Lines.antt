@@ -1,5 +1,5 @@
 -- Lines, and why there is no further one.
-use Rattle.std.specs.Prelude.{◌≡◌, ◌≢◌, ℕ, ◌≤◌, ◌<◌, ◌+◌, List, ◌++◌, All, Option, codes, length, take}
+use Rattle.std.specs.Prelude.{◌≡◌, ◌≢◌, ℕ, ◌≤◌, ◌<◌, ◌+◌, List, [], ◌++◌, All, Option, codes, length, take}
 use Rattle.std.specs.Io.KnownBytes.{IsAtEnd}
 use Rattle.rio_chars.specs.Faults.{Rose}
 use Rattle.live_lines.specs.declared.input.LineEnd.{LineEnd}
@@ -27,4 +27,4 @@ LinesStop End left faults faults_after bytes =
 LinesStop Fault left faults faults_after bytes = Rose faults faults_after × HasNoFeed bytes
 LinesStop TooLong left faults faults_after bytes =
     (most_line < length bytes) × HasNoFeed (take (most_line + 1) bytes) × (faults_after ≡ faults)
-LinesStop NoMemory left faults faults_after bytes = faults_after ≡ faults
+LinesStop NoMemory left faults faults_after bytes = (faults_after ≡ faults) × (bytes ≢ [])

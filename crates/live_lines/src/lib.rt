@@ -7,11 +7,14 @@
 //! Left out: what a line asks for, and what is answered.
 //!
 //! - [`LineReader`] and [`LineEnd`]: the lines of a source, and why there is no further one
+//! - [`FeedAtEnd`]: a source whose last line has a line feed, whether it came with one or not
 //! - [`LiveStatus`], `status_number` and `say`: how a program ended
 #![tactic(auto)]
 
+mod feed_at_end;
 mod input;
 mod status;
 
+pub use feed_at_end::FeedAtEnd;
 pub use input::{LineEnd, LineReader, MOST_LINE};
 pub use status::{LiveStatus, say, status_number};

@@ -9,12 +9,12 @@ use Rattle.live_lines.specs.declared.status.LiveStatus.TheVariants as ends_with
 use Rattle.live_lines.specs.Lines.{LinesStop}
 use Rattle.live_lines.specs.Serving.{ServesLines, end_status}
 use Rattle.live_lines.proofs.ServingLaws.{Going-read, Going-told, Going-stops, Going-done, Going-fault}
-use Rattle.rio_live.specs.declared.live.Live.{Live}
-use Rattle.rio_live.specs.Lines.{Taken, nothing_taken, AnswersLines}
-use Rattle.rio_live.specs.Holding.{LiveHolds}
-use Rattle.rio_live.specs.Answers.{LinesStopped}
+use Rattle.live_fabric.specs.declared.live.Live.{Live}
+use Rattle.live_fabric.specs.Lines.{Taken, nothing_taken, AnswersLines}
+use Rattle.live_fabric.specs.Holding.{LiveHolds}
+use Rattle.rio_live.specs.Ending.{LinesStopped}
 use Rattle.rio_live.specs.Program.{Closes, LiveServes}
-use Rattle.rio_live.proofs.TakenLaws.{is_sent}
+use Rattle.live_fabric.proofs.TakenLaws.{is_sent}
 use Rattle.rio_live.proofs.ServingLaws.{Course, with_nothing}
 
 module _ (begun : Outgoing) (left : Option (List ℕ)) (read_faults : ℕ) where

@@ -7,15 +7,15 @@ use Rattle.live_lines.specs.declared.status.LiveStatus.TheVariants as ends_with
 use Rattle.live_lines.specs.Lines.{IsLine, with_feed}
 use Rattle.live_lines.specs.Serving.{ServesLines}
 use Rattle.live_lines.proofs.ServingLaws.{Going, Going-read, Going-told, Going-no_memory, Going-undetected, Going-fault}
-use Rattle.rio_live.specs.declared.answers.BrokenOff.{BrokenOff}
-use Rattle.rio_live.specs.declared.answers.AfterLine.{AfterLine}
-use Rattle.rio_live.specs.declared.answers.AfterLine.TheVariants as Goings
-use Rattle.rio_live.specs.declared.live.Live.{Live}
-use Rattle.rio_live.specs.Lines.{Taken, taken_after, answer_text, IsAnswerFront}
-use Rattle.rio_live.specs.Holding.{LiveHolds, IsTrace}
-use Rattle.rio_live.specs.Answers.{LiveGoes, LineAnswered, AnswersFront}
+use Rattle.live_fabric.specs.declared.answers.BrokenOff.{BrokenOff}
+use Rattle.live_fabric.specs.declared.answers.AfterLine.{AfterLine}
+use Rattle.live_fabric.specs.declared.answers.AfterLine.TheVariants as Goings
+use Rattle.live_fabric.specs.declared.live.Live.{Live}
+use Rattle.live_fabric.specs.Lines.{Taken, taken_after, answer_text, IsAnswerFront}
+use Rattle.live_fabric.specs.Holding.{LiveHolds, IsTrace}
+use Rattle.live_fabric.specs.Answers.{LiveGoes, LineAnswered, AnswersFront}
 use Rattle.rio_live.specs.Program.{IsFurtherFront, Closes, LiveServes}
-use Rattle.rio_live.proofs.TakenLaws.{is_sent}
+use Rattle.live_fabric.proofs.TakenLaws.{is_sent}
 use Rattle.rio_live.proofs.ServingLaws.{Course, with_nothing, line_told, with_answer}
 
 module _ (begun : Outgoing) (left : Option (List ℕ)) (read_faults : ℕ) where

@@ -7,13 +7,13 @@ use Rattle.live_lines.specs.declared.status.LiveStatus.TheVariants as ends_with
 use Rattle.live_lines.specs.Lines.{IsLine, with_feed}
 use Rattle.live_lines.specs.Serving.{ServesLines}
 use Rattle.live_lines.proofs.ServingLaws.{Going, Going-begin, Going-line, Going-told, served_none}
-use Rattle.rio_live.specs.declared.answers.AfterLine.TheVariants as Goings
-use Rattle.rio_live.specs.declared.live.Live.{Live}
-use Rattle.rio_live.specs.Lines.{Taken, nothing_taken, Outcome, ReadsAs, taken_after, answer_text, AnswersLines}
-use Rattle.rio_live.specs.Holding.{LiveHolds}
-use Rattle.rio_live.specs.Answers.{LineAnswered}
+use Rattle.live_fabric.specs.declared.answers.AfterLine.TheVariants as Goings
+use Rattle.live_fabric.specs.declared.live.Live.{Live}
+use Rattle.live_fabric.specs.Lines.{Taken, nothing_taken, Outcome, ReadsAs, taken_after, answer_text, AnswersLines}
+use Rattle.live_fabric.specs.Holding.{LiveHolds}
+use Rattle.live_fabric.specs.Answers.{LineAnswered}
 use Rattle.rio_live.specs.Program.{LiveServes}
-use Rattle.rio_live.proofs.TakenLaws.{nothing_is_trace, is_sent, answers_more}
+use Rattle.live_fabric.proofs.TakenLaws.{nothing_is_trace, is_sent, answers_more}
 
 -- Lines were served so far, and these bytes were read behind the last one.
 pub record Course (begun out : Outgoing) (live : Live) (left left_now : Option (List ℕ))

@@ -1,4 +1,2 @@
-pub mod Lines
-pub mod Holding
-pub mod Answers
+pub mod Ending
 pub mod Program

@@ -7,8 +7,8 @@ use Rattle.live_lines.specs.declared.status.LiveStatus.{LiveStatus}
 use Rattle.live_lines.specs.declared.status.LiveStatus.TheVariants.{Done, Words, ReadFault, WriteFault, NoMemory, Undetected, TooLong}
 use Rattle.live_lines.specs.Serving.{ServesLines}
 use Rattle.live_lines.specs.Statuses.{status_value, message_of}
-use Rattle.rio_live.specs.Lines.{Taken, nothing_taken, seen_so_far, IsSent, AnswersLines, IsAnswerFront}
-use Rattle.rio_live.specs.Holding.{IsTrace}
+use Rattle.live_fabric.specs.Lines.{Taken, nothing_taken, seen_so_far, IsSent, AnswersLines, IsAnswerFront}
+use Rattle.live_fabric.specs.Holding.{IsTrace}
 
 -- the text is a front of the answer of a further line, which has this number, or nothing
 abbrev pub IsFurtherFront : Taken → ℕ → List ℕ → Type 0

@@ -13,8 +13,6 @@
 //! If the system does not give the arguments, the status is 1 and nothing is written.
 #![tactic(auto)]
 
-mod answers;
-mod live;
 mod program;
 mod serving;
 

@@ -2,13 +2,13 @@
 ghost use Rattle.std.specs.Prelude.{◌≡◌, [], false, IfOk, OnErr, codes, if◌then◌else◌};
 ghost use Rattle.rio_chars.specs.Written.{Writes};
 ghost use Rattle.live_lines.specs.declared.status.LiveStatus.TheVariants as ends_with;
-ghost use Rattle.rio_live.specs.Lines.{Taken, nothing_taken};
-ghost use Rattle.rio_live.specs.Holding.{LiveHolds};
-ghost use Rattle.rio_live.specs.Answers.{LineAnswered, AnswersFront, LinesStopped};
+ghost use Rattle.live_fabric.specs.Lines.{Taken, nothing_taken};
+ghost use Rattle.live_fabric.specs.Holding.{LiveHolds};
+ghost use Rattle.live_fabric.specs.Answers.{LineAnswered, AnswersFront};
+ghost use Rattle.rio_live.specs.Ending.{LinesStopped};
 ghost use Rattle.rio_live.specs.Program.{LiveServes};
 
-use crate::answers::{AfterLine, BrokenOff, answer};
-use crate::live::Live;
+use live_fabric::{AfterLine, BrokenOff, Live, answer};
 use live_lines::{LineEnd, LineReader, LiveStatus};
 use rio_chars::{Outbox, Sink, Source, TextBuffer};
 use std::alloc::Global;

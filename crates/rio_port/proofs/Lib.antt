@@ -1,3 +1,1 @@
-pub mod AnsweringLaws
-pub mod RequestLaws
 pub mod ServingLaws

@@ -5,8 +5,8 @@ use Rattle.rio_chars.specs.Written.{Outgoing, Writes}
 use Rattle.link_port.specs.Ports.{PortState}
 use Rattle.live_lines.specs.Lines.{IsLine, with_feed}
 use Rattle.live_lines.proofs.ServingLaws.{Going, Going-begin, Going-line, Going-told, Going-read}
-use Rattle.rio_port.specs.Answers.{PortAnswer, saying, after_text}
-use Rattle.rio_port.specs.Lines.{AnswersLine, PortAnswersLines}
+use Rattle.port_lines.specs.Answers.{PortAnswer, saying, after_text}
+use Rattle.port_lines.specs.Lines.{AnswersLine, PortAnswersLines}
 
 -- a line more is answered
 pub AnswersLines-more : (port : PortState) (lines : List (List ℕ)) (line : List ℕ)

@@ -1,5 +1,1 @@
-pub mod Requests
-pub mod Texts
-pub mod Answers
-pub mod Lines
 pub mod Program

@@ -8,8 +8,8 @@ use Rattle.live_lines.specs.declared.status.LiveStatus.{LiveStatus}
 use Rattle.live_lines.specs.declared.status.LiveStatus.TheVariants.{Words}
 use Rattle.live_lines.specs.Serving.{ServesLines}
 use Rattle.live_lines.specs.Statuses.{status_value, message_of}
-use Rattle.rio_port.specs.Answers.{PortAnswer}
-use Rattle.rio_port.specs.Lines.{PortAnswersLines}
+use Rattle.port_lines.specs.Answers.{PortAnswer}
+use Rattle.port_lines.specs.Lines.{PortAnswersLines}
 
 -- the words after the program's name ask for a port of so many buffers
 abbrev pub AskBuffers : List (List ℕ) → ℕ → Type 0

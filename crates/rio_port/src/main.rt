@@ -8,21 +8,14 @@
 //! - `run`: the whole program, over any source, sink and sink of messages; `main` gives it the
 //!   arguments and the standard streams, and does nothing more.
 //! - `serve`: the same of a port with so many buffers, and how it ended.
-//! - [`PortRequest`] and [`RequestReason`]: what a line asks for, and why one is refused;
-//!   `read_request`.
 //!
 //! If the system does not give the arguments, the status is 1 and nothing is written.
 #![tactic(auto)]
 
-mod answers;
 mod program;
-mod requests;
 mod serving;
-mod texts;
-mod words;
 
 pub use program::run;
-pub use requests::{PortRequest, RequestReason, read_request};
 use rio_chars::{StdSink, StdSource};
 pub use serving::serve;
 use std::process::ExitCode;

@@ -2,14 +2,13 @@
 ghost use Rattle.std.specs.Prelude.{◌≡◌, ◌≤◌, [], false, OnOk, OnErr};
 ghost use Rattle.rio_chars.specs.Written.{Writes};
 ghost use Rattle.link_port.specs.Ports.{new_port};
-ghost use Rattle.rio_port.specs.Lines.{AnswersLine};
-ghost use Rattle.rio_port.specs.Answers.{PortAnswer};
+ghost use Rattle.port_lines.specs.Lines.{AnswersLine};
+ghost use Rattle.port_lines.specs.Answers.{PortAnswer};
 ghost use Rattle.rio_port.specs.Program.{ServesFrom};
 
-use crate::answers::answer;
-use crate::requests::read_request;
 use link_port::Port;
 use live_lines::{LineReader, LiveStatus};
+use port_lines::{answer, read_request};
 use rio_chars::{Outbox, Sink, Source, TextBuffer};
 use std::alloc::{AllocError, Global};
 

@@ -1,12 +1,8 @@
 //! What a ladder shows of the characters that a port sends and takes.
 
 use crate::cells::Cells;
-use crate::heard::{Hear, Heard};
 use crate::ladder::Lane;
-use crate::packets::{AskedRegisters, put_sent_packet};
 use crate::picture::{Arrow, ArrowKind, Picture, PictureRow};
-use crate::symbols::{bad_words, is_delimiter, put_brief_symbol};
-use crate::text::Text;
 use rio_chars::Char;
 use rio_packets::{Cause, Packet};
 use rio_symbols::Symbol;
@@ -15,6 +11,9 @@ use rio_symbols::stype1::{
     END_OF_PACKET, LINK_REQUEST, RESTART_FROM_RETRY, START_OF_PACKET, STOMP,
 };
 use std::alloc::{AllocError, Global};
+use view_words::{
+    AskedRegisters, Hear, Heard, Text, bad_words, is_delimiter, put_brief_symbol, put_sent_packet,
+};
 
 /// How many characters a symbol has.
 const SYMBOL: usize = 4;

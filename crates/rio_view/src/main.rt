@@ -1,14 +1,13 @@
 //! `rio_view`: what a trace of RapidIO links shows. It reads set-up lines, a line `---` and a trace
-//! from standard input, and writes one view of it: words, counts, a ladder, a wave, packets, or
-//! what it covers of the step tables. `docs/pictures.md` shows each of them.
+//! from standard input, and writes one view of it: words, counts, a ladder, a wave, packets, a
+//! page, a map, or what it covers of the step tables. `docs/pictures.md` shows each of them.
 //!
 //! Promised: each line of a trace is read by the reader of `trace_lines`. Left out: whether a trace
 //! is lawful, which that crate tells.
 //!
 //! - `run`: the whole program, over any source, sink and sink of messages; `main` gives it the
 //!   arguments and the standard streams, and does nothing more.
-//! - [`ViewCommand`]: what the words ask for; [`ViewStatus`]: how it ended.
-//! - [`Tallies`]: what each port did, as [`Sums`] over the lines of a trace.
+//! - [`ViewCommand`]: what the words ask for.
 //!
 //! If the system does not give the arguments, the status is 1 and nothing is written.
 #![tactic(auto)]
@@ -16,40 +15,34 @@
 mod capture;
 mod cells;
 mod command;
-mod counts;
 mod coverage;
 mod drawing;
 mod entries;
-mod fabric;
-mod heard;
 mod ladder;
-mod lines;
+mod map;
+mod map_answer;
+mod map_dot;
+mod map_layout;
+mod map_svg;
 mod messages;
-mod packets;
+mod page;
+mod page_head;
+mod page_rest;
+mod page_script;
 mod pen;
 mod picture;
 mod probes;
 mod program;
-mod reading;
-mod registers;
+mod save;
 mod shadow;
-mod status;
-mod sums;
-mod symbols;
-mod tally;
-mod text;
-mod view;
+mod telling;
 mod wave;
-mod words;
 
-pub use command::ViewCommand;
+pub use command::{Range, ViewCommand, ViewName};
 pub use program::run;
 use rio_chars::{StdSink, StdSource};
-pub use status::{ViewStatus, status_number};
 use std::process::ExitCode;
 use std::{env, io};
-pub use sums::{LineCounts, LineKind, Sums, TooMany};
-pub use tally::{PortTally, Tallies};
 
 fn main(rt: HostRuntime) -> ExitCode {
     let Ok(arguments) = arguments(&rt) else {

@@ -1,6 +1,6 @@
 //! The lines of a value change dump: signals that are declared, and changes of their values.
 
-use crate::text::Text;
+use view_words::Text;
 
 /// Writes changes at a moment. The moment is written before the first of them.
 #[derive(Drop)]
@@ -53,6 +53,19 @@ impl Pen<'_> {
                 }
             }
             None => self.out.put(b"z"),
+        }
+        self.out.put(b" ");
+        self.put_id(signal);
+    }
+
+    /// A signal of a number has this value.
+    pub(crate) fn put_number(&mut self, signal: u32, value: u32) {
+        self.put_time();
+        self.out.put(b"b");
+        let leading = value.leading_zeros().min(31);
+        for place in 0..32 - leading {
+            let bit = value >> (31 - leading - place) & 1;
+            self.out.put(if bit == 1 { b"1" } else { b"0" });
         }
         self.out.put(b" ");
         self.put_id(signal);

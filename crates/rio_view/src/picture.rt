@@ -1,14 +1,18 @@
 //! The rows of a ladder, and how they are drawn in SVG.
 
-use crate::text::Text;
 use rio_chars::{Char, char_text};
 use std::alloc::{AllocError, Global};
+use view_words::Text;
 
 /// How high a row is.
 const HIGH: u64 = 24;
 
 /// Where the first row begins.
 const TOP: u64 = 56;
+
+/// The most rows of a picture: it is at most 32,767 pixels high, which is the most that common
+/// programs open.
+pub(crate) const MOST_ROWS: usize = 1_361;
 
 /// How far the two lifelines of a link are apart.
 pub(crate) const WIDE: u32 = 480;
@@ -173,6 +177,11 @@ impl Picture {
         }
     }
 
+    /// How many rows there are.
+    pub(crate) fn height(&self) -> usize {
+        self.rows.len()
+    }
+
     /// The whole picture.
     pub(crate) fn draw(&self, out: &mut Text) {
         let wide = self.width();
@@ -231,7 +240,7 @@ fn draw_life(out: &mut Text, at: u64, name: &Text, high: u64) {
     put_attribute(out, b"x2", at);
     put_attribute(out, b"y2", high.saturating_sub(8));
     out.put(b"/>");
-    put_text(out, b"port", at, TOP - 24, name.as_slice());
+    put_text(out, b"port", at, TOP - 24, name);
     out.put(b"\n");
 }
 
@@ -246,7 +255,7 @@ fn draw_band(out: &mut Text, wide: u64, at: u64, text: &Text, edit: bool) {
     put_attribute(out, b"width", wide);
     put_attribute(out, b"height", HIGH - 6);
     out.put(b"/>");
-    put_text(out, b"event", 8, at.saturating_add(16), text.as_slice());
+    put_text(out, b"event", 8, at.saturating_add(16), text);
     out.put(b"\n");
 }
 
@@ -269,7 +278,7 @@ impl Arrow {
         put_attribute(out, b"y2", at);
         out.put(b"/>");
         let above = at.saturating_sub(4);
-        put_text(out, b"label", (from + to) / 2, above, self.label.as_slice());
+        put_text(out, b"label", (from + to) / 2, above, &self.label);
         out.put(b"</g>\n");
     }
 
@@ -316,10 +325,10 @@ impl Mark {
         let below = at.saturating_add(4);
         if self.left != is_within {
             let x = u64::from(self.at).saturating_sub(8);
-            put_text(out, b"left", x, below, self.label.as_slice());
+            put_text(out, b"left", x, below, &self.label);
         } else {
             let x = u64::from(self.at) + 8;
-            put_text(out, b"right", x, below, self.label.as_slice());
+            put_text(out, b"right", x, below, &self.label);
         }
         out.put(b"</g>\n");
     }
@@ -331,15 +340,17 @@ fn put_group(out: &mut Text, class: &[u8], label: &Text, tip: &Text) {
     out.put(class);
     out.put(b"\"><title>");
     put_escaped(out, label.as_slice());
+    out.lack(label);
     if tip.len() > 0 {
         out.put(b":");
         put_escaped(out, tip.as_slice());
     }
+    out.lack(tip);
     out.put(b"</title>");
 }
 
 /// An attribute that is a number.
-fn put_attribute(out: &mut Text, name: &[u8], number: u64) {
+pub(crate) fn put_attribute(out: &mut Text, name: &[u8], number: u64) {
     out.put(b" ");
     out.put(name);
     out.put(b"=\"");
@@ -348,7 +359,9 @@ fn put_attribute(out: &mut Text, name: &[u8], number: u64) {
 }
 
 /// A text at a place, cut if it is long.
-fn put_text(out: &mut Text, class: &[u8], x: u64, y: u64, text: &[u8]) {
+fn put_text(out: &mut Text, class: &[u8], x: u64, y: u64, words: &Text) {
+    let text = words.as_slice();
+    out.lack(words);
     out.put(b"<text class=\"");
     out.put(class);
     out.put(b"\"");

@@ -2,7 +2,6 @@
 //! meets.
 
 use crate::entries::{COUNT, of_bad, of_packet, of_receiver, of_sender, of_time_out, of_turn};
-use crate::heard::{Ear, Hear, Heard, listen};
 use arrayvec::ArrayVec;
 use link_model::Event;
 use link_port::{InKind, OutKind, Port, PortFace, Taken};
@@ -11,6 +10,7 @@ use rio_packets::Packet;
 use rio_symbols::Symbol;
 use rio_symbols::stype1::{LINK_REQUEST, RESTART_FROM_RETRY};
 use std::alloc::AllocError;
+use view_words::{Ear, Hear, Heard, listen};
 
 /// How often each entry was met.
 #[derive(Drop)]

@@ -13,16 +13,16 @@ use Rattle.fabric_trace.specs.Examples.{packet_script}
 use Rattle.fabric_trace.specs.Runs.{bare}
 use Rattle.fabric_trace.specs.SetUps.{MaySetUpAll}
 use Rattle.trace_check.specs.Lawful.{OffWire, NoSuchStep, NotCome, NotAllowed, NotThere, Spares}
-use Rattle.trace_check.specs.Examples.{packet_network, once_sent, half_got, once_got, once_held, once_accepted, once_freed, sends, gets, fires, holds, holds_other, frees, leaves, alters_behind, alters_last, says_short}
+use Rattle.trace_check.specs.Examples.{packet_network, once_sent, half_got, once_got, once_held, once_accepted, once_freed, sent_line, got_line, fire_line, hold_line, other_hold_line, free_line, leave_line, alters_behind, alters_last, says_short}
 
 pub may_set_up : MaySetUpAll bare packet_script
 may_set_up =
     (omega arith, (omega arith, ((refl, refl, refl), (tt, (tt, (tt, (tt, (tt, tt))))))))
 
-pub got_hits : Spares packet_network [] gets [] OffWire → ⊥
+pub got_hits : Spares packet_network [] got_line [] OffWire → ⊥
 got_hits is = absurd (cc is.stands)
 
-pub fired_hits : Spares packet_network once_sent fires [] OffWire → ⊥
+pub fired_hits : Spares packet_network once_sent fire_line [] OffWire → ⊥
 fired_hits is = absurd (cc is.near)
 
 pub altered_hits : Spares packet_network once_sent alters_behind [] OffWire → ⊥
@@ -34,29 +34,29 @@ altered_spares = refl
 pub short_spares : Spares packet_network once_sent alters_behind says_short OffWire
 short_spares = tt
 
-pub leaves_hits : Spares packet_network once_got leaves [] NoSuchStep → ⊥
+pub leaves_hits : Spares packet_network once_got leave_line [] NoSuchStep → ⊥
 leaves_hits is = absurd (cc is.1)
 
-pub early_hits : Spares packet_network half_got holds [] NotCome → ⊥
+pub early_hits : Spares packet_network half_got hold_line [] NotCome → ⊥
 unfolding run place_after kind spelled is_spelling crc5_value crc5_of crc5_message field_bits bits
     number division_steps complemented packet_event carried fed shifted shifted_times
 early_hits is = absurd (cc is)
 
-pub another_hits : Spares packet_network once_got holds_other [] NotCome → ⊥
+pub another_hits : Spares packet_network once_got other_hold_line [] NotCome → ⊥
 unfolding run place_after kind spelled is_spelling crc5_value crc5_of crc5_message field_bits bits
     number division_steps complemented packet_event carried fed shifted shifted_times
 another_hits is = absurd (cc is)
 
-pub twice_hits : Spares packet_network once_held holds [] NotCome → ⊥
+pub twice_hits : Spares packet_network once_held hold_line [] NotCome → ⊥
 unfolding run place_after kind spelled is_spelling crc5_value crc5_of crc5_message field_bits bits
     number division_steps complemented packet_event carried fed shifted shifted_times
 twice_hits is = absurd (cc is)
 
-pub freed_hits : Spares packet_network once_accepted frees [] NotAllowed → ⊥
+pub freed_hits : Spares packet_network once_accepted free_line [] NotAllowed → ⊥
 unfolding run
 freed_hits is = omega (arith, is)
 
-pub freed_again_hits : Spares packet_network once_freed frees [] NotAllowed → ⊥
+pub freed_again_hits : Spares packet_network once_freed free_line [] NotAllowed → ⊥
 unfolding run place_after kind spelled is_spelling crc5_value crc5_of crc5_message field_bits bits
     number division_steps complemented
 freed_again_hits is = omega (arith, is)
@@ -64,7 +64,7 @@ freed_again_hits is = omega (arith, is)
 nothing_there : (packet : List ℕ) → Contains [] packet → ⊥
 nothing_there packet there = let within = there.1 in omega (arith, within)
 
-pub sent_hits : Spares packet_network [] sends [] NotThere → ⊥
+pub sent_hits : Spares packet_network [] sent_line [] NotThere → ⊥
 unfolding run place_after kind spelled is_spelling crc5_value crc5_of crc5_message field_bits bits
     number division_steps complemented packet_event carried fed shifted shifted_times
 sent_hits is = elim is.1.0 [ inl own ↦ nothing_there _ own | inr own ↦ nothing_there _ own ]

@@ -22,7 +22,7 @@ use Rattle.trace_lines.specs.Lines.{TraceLine}
 use Rattle.trace_check.specs.Checks.{LinePasses, PassAll}
 use Rattle.trace_check.specs.Lawful.{SpellAll, IsLawful, SpellFront, PassFront, as_behind, Fault, fault_number, OffWire, NoSuchStep, NotCome, NotAllowed, NotThere, Spares, SpellsNone, HitsLine, IsUnlawful}
 use Rattle.trace_lines.specs.Words.{SpellsLine}
-use Rattle.trace_check.specs.Examples.{packet_network, packet_known, packet_texts, packet_lines, frees, freed_early}
+use Rattle.trace_check.specs.Examples.{packet_network, packet_known, packet_texts, packet_lines, free_line, freed_early}
 
 -- none of the reasons hits a line of these, behind others
 PassFrom : Network → List TraceLine → List TraceLine → Type 0
@@ -56,7 +56,9 @@ passes = record {
   fours = refl;
   least = omega arith;
   most = omega arith;
-  range = All-from_recursion (λ b. b < 256) packet (omega arith, (omega arith, (omega arith, (omega arith, (omega arith, (omega arith, (omega arith, (omega arith, (omega arith, (omega arith, (omega arith, (omega arith, tt))))))))))));
+  range = All-from_recursion (λ b. b < 256) packet (omega arith, (omega arith, (omega arith,
+      (omega arith, (omega arith, (omega arith, (omega arith, (omega arith, (omega arith,
+      (omega arith, (omega arith, (omega arith, tt))))))))))));
   origin = omega arith;
   ends = refl;
   middle = λ far. omega (arith, far);
@@ -69,7 +71,8 @@ unfolding run place_after kind spelled is_spelling crc5_value crc5_of crc5_messa
 lines_pass = (
   record { wires = tt; step = (refl, passes, refl); came = tt; allowed = tt; sends = tt },
   (
-    record { wires = tt; step = tt; came = tt; allowed = tt; sends = (tt, (inl (0, omega arith, refl), (tt, tt))) },
+    record { wires = tt; step = tt; came = tt; allowed = tt; sends = (tt, (inl (0, omega arith,
+        refl), (tt, tt))) },
     (
       record {
         wires = record { peer = near; behind = []; peer_is = refl; stands = refl };
@@ -79,7 +82,8 @@ lines_pass = (
         sends = tt;
       },
       (
-        record { wires = tt; step = (near, refl, refl, refl); came = refl; allowed = tt; sends = tt },
+        record { wires = tt; step = (near, refl, refl, refl); came = refl; allowed = tt;
+            sends = tt },
         (
           record { wires = tt; step = tt; came = tt; allowed = tt; sends = (tt, tt) },
           (
@@ -93,7 +97,8 @@ lines_pass = (
             (
               record { wires = tt; step = refl; came = tt; allowed = omega arith; sends = tt },
               (
-                record { wires = tt; step = (refl, refl, refl); came = tt; allowed = tt; sends = tt },
+                record { wires = tt; step = (refl, refl, refl); came = tt; allowed = tt;
+                    sends = tt },
                 (record { wires = tt; step = tt; came = tt; allowed = tt; sends = tt }, tt),
               ),
             ),
@@ -105,7 +110,10 @@ lines_pass = (
 )
 
 packet_bytes : AllByRecursion HasByte packet_chars
-packet_bytes = (omega arith, (omega arith, (omega arith, (omega arith, (omega arith, (omega arith, (omega arith, (omega arith, (omega arith, (omega arith, (omega arith, (omega arith, (omega arith, (omega arith, (omega arith, (omega arith, (omega arith, (omega arith, (omega arith, (omega arith, tt))))))))))))))))))))
+packet_bytes = (omega arith, (omega arith, (omega arith, (omega arith, (omega arith, (omega arith,
+    (omega arith, (omega arith, (omega arith, (omega arith, (omega arith, (omega arith,
+    (omega arith, (omega arith, (omega arith, (omega arith, (omega arith, (omega arith,
+    (omega arith, (omega arith, tt))))))))))))))))))))
 
 accepted_bytes : AllByRecursion HasByte accepted_chars
 accepted_bytes = (omega arith, (omega arith, (omega arith, (omega arith, tt))))
@@ -122,13 +130,15 @@ texts_spell = (
     _,
     _,
     refl,
-    record { words = refl; fits = (((omega arith, omega arith, omega arith), refl), (λ is. absurd (cc is)), packet_bytes) },
+    record { words = refl; fits = (((omega arith, omega arith, omega arith), refl),
+        (λ is. absurd (cc is)), packet_bytes) },
     refl,
     (
       _,
       _,
       refl,
-      record { words = refl; fits = (((omega arith, omega arith, omega arith), refl), (λ is. absurd (cc is)), packet_bytes) },
+      record { words = refl; fits = (((omega arith, omega arith, omega arith), refl),
+          (λ is. absurd (cc is)), packet_bytes) },
       refl,
       (
         _,
@@ -140,19 +150,22 @@ texts_spell = (
           _,
           _,
           refl,
-          record { words = refl; fits = (((omega arith, omega arith, omega arith), refl), (λ is. absurd (cc is)), accepted_bytes) },
+          record { words = refl; fits = (((omega arith, omega arith, omega arith), refl),
+              (λ is. absurd (cc is)), accepted_bytes) },
           refl,
           (
             _,
             _,
             refl,
-            record { words = refl; fits = (((omega arith, omega arith, omega arith), refl), (λ is. absurd (cc is)), accepted_bytes) },
+            record { words = refl; fits = (((omega arith, omega arith, omega arith), refl),
+                (λ is. absurd (cc is)), accepted_bytes) },
             refl,
             (
               _,
               _,
               refl,
-              record { words = refl; fits = (((omega arith, omega arith, omega arith), refl), passes) },
+              record { words = refl; fits = (((omega arith, omega arith, omega arith), refl),
+                  passes) },
               refl,
               (
                 _,
@@ -194,19 +207,24 @@ unfolding run place_after kind spelled is_spelling crc5_value crc5_of crc5_messa
 eight_pass = (
   record { wires = tt; step = (refl, passes, refl); came = tt; allowed = tt; sends = tt },
   (
-    record { wires = tt; step = tt; came = tt; allowed = tt; sends = (tt, (inl (0, omega arith, refl), (tt, tt))) },
+    record { wires = tt; step = tt; came = tt; allowed = tt; sends = (tt, (inl (0, omega arith,
+        refl), (tt, tt))) },
     (
-      record { wires = record { peer = near; behind = []; peer_is = refl; stands = refl }; step = tt; came = tt; allowed = tt; sends = tt },
+      record { wires = record { peer = near; behind = []; peer_is = refl; stands = refl };
+          step = tt; came = tt; allowed = tt; sends = tt },
       (
-        record { wires = tt; step = (near, refl, refl, refl); came = refl; allowed = tt; sends = tt },
+        record { wires = tt; step = (near, refl, refl, refl); came = refl; allowed = tt;
+            sends = tt },
         (
           record { wires = tt; step = tt; came = tt; allowed = tt; sends = (tt, tt) },
           (
-            record { wires = record { peer = far; behind = []; peer_is = refl; stands = refl }; step = tt; came = tt; allowed = tt; sends = tt },
+            record { wires = record { peer = far; behind = []; peer_is = refl; stands = refl };
+                step = tt; came = tt; allowed = tt; sends = tt },
             (
               record { wires = tt; step = refl; came = tt; allowed = omega arith; sends = tt },
               (
-                record { wires = tt; step = (refl, refl, refl); came = tt; allowed = tt; sends = tt },
+                record { wires = tt; step = (refl, refl, refl); came = tt; allowed = tt;
+                    sends = tt },
                 tt,
               ),
             ),
@@ -224,11 +242,14 @@ unfolding run place_after kind spelled is_spelling crc5_value crc5_of crc5_messa
 five_pass = (
   record { wires = tt; step = (refl, passes, refl); came = tt; allowed = tt; sends = tt },
   (
-    record { wires = tt; step = tt; came = tt; allowed = tt; sends = (tt, (inl (0, omega arith, refl), (tt, tt))) },
+    record { wires = tt; step = tt; came = tt; allowed = tt; sends = (tt, (inl (0, omega arith,
+        refl), (tt, tt))) },
     (
-      record { wires = record { peer = near; behind = []; peer_is = refl; stands = refl }; step = tt; came = tt; allowed = tt; sends = tt },
+      record { wires = record { peer = near; behind = []; peer_is = refl; stands = refl };
+          step = tt; came = tt; allowed = tt; sends = tt },
       (
-        record { wires = tt; step = (near, refl, refl, refl); came = refl; allowed = tt; sends = tt },
+        record { wires = tt; step = (near, refl, refl, refl); came = refl; allowed = tt;
+            sends = tt },
         (
           record { wires = tt; step = tt; came = tt; allowed = tt; sends = (tt, tt) },
           tt,
@@ -250,13 +271,15 @@ eight_spell = (
     _,
     _,
     refl,
-    record { words = refl; fits = (((omega arith, omega arith, omega arith), refl), (λ is. absurd (cc is)), packet_bytes) },
+    record { words = refl; fits = (((omega arith, omega arith, omega arith), refl),
+        (λ is. absurd (cc is)), packet_bytes) },
     refl,
     (
       _,
       _,
       refl,
-      record { words = refl; fits = (((omega arith, omega arith, omega arith), refl), (λ is. absurd (cc is)), packet_bytes) },
+      record { words = refl; fits = (((omega arith, omega arith, omega arith), refl),
+          (λ is. absurd (cc is)), packet_bytes) },
       refl,
       (
         _,
@@ -268,19 +291,22 @@ eight_spell = (
           _,
           _,
           refl,
-          record { words = refl; fits = (((omega arith, omega arith, omega arith), refl), (λ is. absurd (cc is)), accepted_bytes) },
+          record { words = refl; fits = (((omega arith, omega arith, omega arith), refl),
+              (λ is. absurd (cc is)), accepted_bytes) },
           refl,
           (
             _,
             _,
             refl,
-            record { words = refl; fits = (((omega arith, omega arith, omega arith), refl), (λ is. absurd (cc is)), accepted_bytes) },
+            record { words = refl; fits = (((omega arith, omega arith, omega arith), refl),
+                (λ is. absurd (cc is)), accepted_bytes) },
             refl,
             (
               _,
               _,
               refl,
-              record { words = refl; fits = (((omega arith, omega arith, omega arith), refl), passes) },
+              record { words = refl; fits = (((omega arith, omega arith, omega arith), refl),
+                  passes) },
               refl,
               (
                 _,
@@ -310,13 +336,15 @@ five_spell = (
     _,
     _,
     refl,
-    record { words = refl; fits = (((omega arith, omega arith, omega arith), refl), (λ is. absurd (cc is)), packet_bytes) },
+    record { words = refl; fits = (((omega arith, omega arith, omega arith), refl),
+        (λ is. absurd (cc is)), packet_bytes) },
     refl,
     (
       _,
       _,
       refl,
-      record { words = refl; fits = (((omega arith, omega arith, omega arith), refl), (λ is. absurd (cc is)), packet_bytes) },
+      record { words = refl; fits = (((omega arith, omega arith, omega arith), refl),
+          (λ is. absurd (cc is)), packet_bytes) },
       refl,
       (
         _,
@@ -328,7 +356,8 @@ five_spell = (
           _,
           _,
           refl,
-          record { words = refl; fits = (((omega arith, omega arith, omega arith), refl), (λ is. absurd (cc is)), accepted_bytes) },
+          record { words = refl; fits = (((omega arith, omega arith, omega arith), refl),
+              (λ is. absurd (cc is)), accepted_bytes) },
           refl,
           refl,
         ),
@@ -350,17 +379,17 @@ no_end_unlawful = record {
   at = refl;
 }
 
-free_spells : SpellsLine packet_known (codes "free A.0 000f0201cafe0001a9bb0000") frees
+free_spells : SpellsLine packet_known (codes "free A.0 000f0201cafe0001a9bb0000") free_line
 unfolding digits
 free_spells =
     record { words = refl; fits = (((omega arith, omega arith, omega arith), refl), passes) }
 
-not_allowed : Spares packet_network (take 5 packet_lines) frees [] NotAllowed → ⊥
+not_allowed : Spares packet_network (take 5 packet_lines) free_line [] NotAllowed → ⊥
 unfolding run
 not_allowed is = omega (arith, is)
 
 not_before : (other : Fault) → fault_number other < 25
-    → Spares packet_network (take 5 packet_lines) frees [] other
+    → Spares packet_network (take 5 packet_lines) free_line [] other
 not_before OffWire low = tt
 not_before NoSuchStep low = refl
 not_before NotCome low = tt
@@ -375,7 +404,8 @@ freed_early_unlawful = record {
   place = 0;
   split = refl;
   spelled = five_spell;
-  pass = front_pass (take 5 packet_lines) (codes "free A.0 000f0201cafe0001a9bb0000" ∷ codes "end" ∷ []) refl five_pass;
-  hits = HitsLine frees NotAllowed free_spells not_allowed not_before;
+  pass = front_pass (take 5 packet_lines)
+      (codes "free A.0 000f0201cafe0001a9bb0000" ∷ codes "end" ∷ []) refl five_pass;
+  hits = HitsLine free_line NotAllowed free_spells not_allowed not_before;
   at = refl;
 }

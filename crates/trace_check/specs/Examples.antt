@@ -39,26 +39,26 @@ once_accepted = take 8 packet_trace
 abbrev pub once_freed : List TraceLine
 once_freed = take 11 packet_trace
 
-abbrev pub sends : TraceLine
-sends = Signed (Sent near packet_chars)
+abbrev pub sent_line : TraceLine
+sent_line = Signed (Sent near packet_chars)
 
-abbrev pub gets : TraceLine
-gets = Signed (Got far packet_chars)
+abbrev pub got_line : TraceLine
+got_line = Signed (Got far packet_chars)
 
-abbrev pub fires : TraceLine
-fires = Signed (Fired near)
+abbrev pub fire_line : TraceLine
+fire_line = Signed (Fired near)
 
-abbrev pub holds : TraceLine
-holds = Stepped (Linked (Hold far packet))
+abbrev pub hold_line : TraceLine
+hold_line = Stepped (Linked (Hold far packet))
 
-abbrev pub holds_other : TraceLine
-holds_other = Stepped (Linked (Hold far other))
+abbrev pub other_hold_line : TraceLine
+other_hold_line = Stepped (Linked (Hold far other))
 
-abbrev pub frees : TraceLine
-frees = Stepped (Linked (Free near packet))
+abbrev pub free_line : TraceLine
+free_line = Stepped (Linked (Free near packet))
 
-abbrev pub leaves : TraceLine
-leaves = Stepped (AtNode (Leave 1 packet))
+abbrev pub leave_line : TraceLine
+leave_line = Stepped (AtNode (Leave 1 packet))
 
 -- the character behind the last of the packet, and the last
 abbrev pub alters_behind : TraceLine
@@ -81,8 +81,10 @@ packet_known = for_event (known_after (known_after (known_after (nothing_in of_s
 abbrev pub packet_texts : List (List ℕ)
 packet_texts =
     codes "take A 000f0201cafe0001a9bb0000"
-    ∷ codes "sent A.0 k7c d80 df8 d1f d00 d0f d02 d01 dca dfe d00 d01 da9 dbb d00 d00 k7c d80 dfa d18"
-    ∷ codes "got B.0 k7c d80 df8 d1f d00 d0f d02 d01 dca dfe d00 d01 da9 dbb d00 d00 k7c d80 dfa d18"
+    ∷ codes "sent A.0 k7c d80 df8 d1f d00 d0f d02 d01 dca dfe d00 d01 da9 dbb d00 d00 k7c d80 dfa
+        d18"
+    ∷ codes "got B.0 k7c d80 df8 d1f d00 d0f d02 d01 dca dfe d00 d01 da9 dbb d00 d00 k7c d80 dfa
+        d18"
     ∷ codes "hold B.0 000f0201cafe0001a9bb0000"
     ∷ codes "sent B.0 k1c d00 dff d16"
     ∷ codes "got A.0 k1c d00 dff d16"
@@ -93,8 +95,9 @@ packet_texts =
 
 abbrev pub packet_lines : List TraceLine
 packet_lines =
-    Stepped (AtNode (Take 0 packet)) ∷ sends ∷ gets ∷ holds ∷ Signed (Sent far accepted_chars)
-    ∷ Signed (Got near accepted_chars) ∷ frees ∷ leaves ∷ Ended ∷ []
+    Stepped (AtNode (Take 0 packet)) ∷ sent_line ∷ got_line ∷ hold_line ∷ Signed
+        (Sent far accepted_chars)
+    ∷ Signed (Got near accepted_chars) ∷ free_line ∷ leave_line ∷ Ended ∷ []
 
 -- the packet is freed before its acceptance came
 abbrev pub freed_early : List (List ℕ)

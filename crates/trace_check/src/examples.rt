@@ -3,7 +3,7 @@
 ghost use Rattle.std.specs.Prelude.{[], take};
 ghost use Rattle.trace_check.specs.Checks.{PassAll};
 ghost use Rattle.trace_check.specs.Lawful.{OffWire, NoSuchStep, NotCome, NotAllowed, NotThere, Spares, IsLawful, IsUnlawful};
-ghost use Rattle.trace_check.specs.Examples.{packet_network, once_sent, half_got, once_got, once_held, once_accepted, once_freed, sends, gets, fires, holds, holds_other, frees, leaves, alters_behind, alters_last, says_short, packet_known, packet_texts, freed_early};
+ghost use Rattle.trace_check.specs.Examples.{packet_network, once_sent, half_got, once_got, once_held, once_accepted, once_freed, sent_line, got_line, fire_line, hold_line, other_hold_line, free_line, leave_line, alters_behind, alters_last, says_short, packet_known, packet_texts, freed_early};
 ghost use Rattle.fabric_trace.specs.Examples.{packet_trace};
 
 /// The trace of one packet passes. Reasons hit these lines in its place: the packet is got, or
@@ -13,18 +13,18 @@ ghost use Rattle.fabric_trace.specs.Examples.{packet_trace};
 /// acceptance came, or a second time.
 pub fn reasons_can_hit()
     ensures passes { PassAll packet_network packet_trace }
-    ensures got { Spares packet_network [] gets [] OffWire → ⊥ }
-    ensures fired { Spares packet_network once_sent fires [] OffWire → ⊥ }
+    ensures got { Spares packet_network [] got_line [] OffWire → ⊥ }
+    ensures fired { Spares packet_network once_sent fire_line [] OffWire → ⊥ }
     ensures altered { Spares packet_network once_sent alters_behind [] OffWire → ⊥ }
     ensures altered_last { Spares packet_network once_sent alters_last [] OffWire }
     ensures short { Spares packet_network once_sent alters_behind says_short OffWire }
-    ensures left { Spares packet_network once_got leaves [] NoSuchStep → ⊥ }
-    ensures early { Spares packet_network half_got holds [] NotCome → ⊥ }
-    ensures another { Spares packet_network once_got holds_other [] NotCome → ⊥ }
-    ensures twice { Spares packet_network once_held holds [] NotCome → ⊥ }
-    ensures freed { Spares packet_network once_accepted frees [] NotAllowed → ⊥ }
-    ensures freed_again { Spares packet_network once_freed frees [] NotAllowed → ⊥ }
-    ensures sent { Spares packet_network [] sends [] NotThere → ⊥ }
+    ensures left { Spares packet_network once_got leave_line [] NoSuchStep → ⊥ }
+    ensures early { Spares packet_network half_got hold_line [] NotCome → ⊥ }
+    ensures another { Spares packet_network once_got other_hold_line [] NotCome → ⊥ }
+    ensures twice { Spares packet_network once_held hold_line [] NotCome → ⊥ }
+    ensures freed { Spares packet_network once_accepted free_line [] NotAllowed → ⊥ }
+    ensures freed_again { Spares packet_network once_freed free_line [] NotAllowed → ⊥ }
+    ensures sent { Spares packet_network [] sent_line [] NotThere → ⊥ }
 {}
 
 /// The texts of a trace of one packet, without event lines, are lawful, and have four steps.

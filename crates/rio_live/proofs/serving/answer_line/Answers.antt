@@ -1,7 +1,7 @@
-use Rattle.rio_live.specs.Answers.{LineAnswered}
-use Rattle.rio_live.specs.Holding.{LiveHolds}
-use Rattle.rio_live.specs.Lines.{Taken}
-use Rattle.rio_live.proofs.AnsweringLaws.{on_each, answered_whole}
+use Rattle.live_fabric.specs.Answers.{LineAnswered}
+use Rattle.live_fabric.specs.Holding.{LiveHolds}
+use Rattle.live_fabric.specs.Lines.{Taken}
+use Rattle.live_fabric.proofs.AnsweringLaws.{on_each, answered_whole}
 use Rattle.rio_live.proofs.serving.answer_line.Goals as goal
 
 pub returns-clause-answered : goal.returns-clause-answered

@@ -1,8 +1,8 @@
 use Rattle.std.proofs.Common.{◌≡◌, ◌+◌, ◌-◌, ◌^◌, refl, sym, ◌∙◌, arith}
-use Rattle.rio_live.specs.declared.answers.AfterLine.TheVariants as Goings
-use Rattle.rio_live.specs.Lines.{Taken}
-use Rattle.rio_live.specs.Holding.{LiveHolds}
-use Rattle.rio_live.specs.Answers.{LineAnswered}
+use Rattle.live_fabric.specs.declared.answers.AfterLine.TheVariants as Goings
+use Rattle.live_fabric.specs.Lines.{Taken}
+use Rattle.live_fabric.specs.Holding.{LiveHolds}
+use Rattle.live_fabric.specs.Answers.{LineAnswered}
 use Rattle.rio_live.proofs.ServingLaws.{as_ok, Course-begin, Course-line}
 use Rattle.rio_live.proofs.EndingLaws.{Course-closed, Course-done}
 use Rattle.rio_live.proofs.FailingLaws.{Course-undetected, Course-no_memory, Course-failed}

@@ -1,7 +1,7 @@
 use Rattle.std.proofs.Common.{[], ℕ, List, refl, subst, append-nil}
 use Rattle.rio_chars.specs.Written.{Writes}
 use Rattle.rio_chars.proofs.WrittenLaws.{Writes-then}
-use Rattle.rio_port.specs.Lines.{asked_answer}
+use Rattle.port_lines.specs.Lines.{asked_answer}
 use Rattle.rio_port.proofs.serving.answer_line.Goals as goal
 
 pub returns-clause-answer : goal.returns-clause-answer

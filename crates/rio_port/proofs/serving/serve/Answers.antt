@@ -1,7 +1,7 @@
 use Rattle.std.proofs.Common.{false, [], ◌-◌, ◌^◌, refl}
 use Rattle.link_port.specs.Ports.{new_port}
 use Rattle.live_lines.proofs.ServingLaws.{served_none}
-use Rattle.rio_port.specs.Answers.{saying}
+use Rattle.port_lines.specs.Answers.{saying}
 use Rattle.rio_port.proofs.serving.serve.Goals as goal
 
 pub returns-in_default : goal.returns-in_default

@@ -1,7 +1,7 @@
 use Rattle.std.proofs.Common.{◌≡◌, ◌-◌, ◌^◌, ◌++◌, refl, sym, ◌∙◌, subst, arith}
 use Rattle.live_lines.specs.Lines.{with_feed}
 use Rattle.live_lines.proofs.ServingLaws.{Going-stops, Going-done, Going-no_memory, Going-fault}
-use Rattle.rio_port.specs.Lines.{AnswersLine}
+use Rattle.port_lines.specs.Lines.{AnswersLine}
 use Rattle.rio_port.proofs.ServingLaws.{Served-begin, Served-line, Served-read}
 use Rattle.rio_port.proofs.serving.serve_lines.Goals as goal
 

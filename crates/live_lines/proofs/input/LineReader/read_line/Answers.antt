@@ -1,6 +1,6 @@
 use Rattle.std.proofs.Common.{◌≡◌, ◌≢◌, ◌∷◌, [], length, length-append, ◌∙◌, arith}
 use Rattle.std.proofs.lemmas.List.Elements.{All-push}
-use Rattle.live_lines.proofs.InputLaws.{taken_more, long_line}
+use Rattle.live_lines.proofs.InputLaws.{taken_more, long_line, some_byte}
 use Rattle.live_lines.proofs.input.LineReader.read_line.Goals as goal
 
 pub returns-then-byte-eq10-clause-read : goal.returns-then-byte-eq10-clause-read
@@ -43,4 +43,4 @@ returns-in_default-push-clause-stops g c =
     taken_more (g.S.Source.left c.args.source.now) (g.S.Source.left c.loop-self.source)
     (g.S.Source.left c.next.new.source) c.args.self.now c.loop-self.line.items c.loop-self.self
     c.next.new.self c.in-Some.byte h.read some in
-    (more.0, more.1, c.in_ok-byte.ensures.counts ∙ h.counts)
+    (more.0, more.1, (c.in_ok-byte.ensures.counts ∙ h.counts, some_byte _ _ _ _ more.2))

@@ -1,0 +1,5 @@
+pub mod AmongLaws
+pub mod DeliveryLaws
+pub mod MistakeLaws
+pub mod ReaderLaws
+pub mod WrongBitLaws

@@ -1,0 +1,3 @@
+pub mod Reasons
+pub mod Advising
+pub mod Citing

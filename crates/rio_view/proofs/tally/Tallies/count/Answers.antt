@@ -1,7 +1,0 @@
-use Rattle.rio_view.proofs.SumsLaws.{counts-more}
-use Rattle.rio_view.proofs.tally.Tallies.count.Goals as goal
-
-pub returns-clause-sums : goal.returns-clause-sums
-returns-clause-sums c = λ nodes lines before.
-    counts-more nodes lines c.args.line.now c.args.self.now c.add.new.self c.in_ok-add.ensures
-    before
