@@ -82,6 +82,15 @@ function is_of_four(hex, rest, type) {
     return byte(rest, 0) % 16 == 8 && length(hex) == 16 + 8 * width(hex) + 16 * type
 }
 
+# whether a response is of a known form: a read with status 0 and two words, or with status 7 and no data, or a write
+# with status 0 or 7 and no data
+function is_response(hex, rest, type,    status, short) {
+    status = byte(rest, 0) % 16
+    short = width(hex) == 2 ? 32 : 24
+    if (type == 2 && status == 0) return length(hex) == short + 16
+    return length(hex) == short && (status == 7 || type == 3 && status == 0)
+}
+
 function maintenance_words(hex,    rest, type, tid, key, offset) {
     rest = behind_ids(hex)
     type = int(byte(rest, 0) / 16)
@@ -94,6 +103,7 @@ function maintenance_words(hex,    rest, type, tid, key, offset) {
         return types[type + 1] " " tid " hop " byte(rest, 2) ", " register(offset) \
             (!is_of_four(hex, rest, type) ? ", not of four bytes" : type ? " = " word_at(rest, offset) : "")
     }
+    if (!is_response(hex, rest, type)) return types[type + 1] " of another form"
     if (byte(rest, 0) % 16) return types[type + 1] " " tid ", error " byte(rest, 0) % 16
     if (type == 3) return types[4] " " tid ", done"
     key = width(hex) " " dest_of(hex) " " tid

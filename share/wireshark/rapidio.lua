@@ -5,8 +5,11 @@
 -- usage: tshark -X lua_script:share/wireshark/rapidio.lua -r FILE.pcapng
 --        or a copy of this file in Wireshark's folder of plugins
 --
--- It takes frames of the link type USER0 (147): the bytes of a packet with its CRCs and its pad, as
--- 'rio_view packets' writes them. The ackID may be 0: the CRC does not cover it.
+-- It takes frames of the link type USER0 (147): the bytes of a packet with its CRCs and its pad. The
+-- ackID may be 0: the CRC does not cover it. Of the link type USER1 (148) it takes what 'rio_view
+-- packets' writes: a byte of the kind, one that says how long the words of what happened are, the
+-- words, and then such a packet (kind 0) or the bytes of the four characters of a control symbol
+-- (kind 1).
 
 local rapidio = Proto("rapidio", "RapidIO")
 
@@ -363,4 +366,55 @@ function rapidio.dissector(buffer, pinfo, root)
   return buffer:len()
 end
 
+-- What happened to a packet, or a control symbol by which a port asks for one again or refuses it.
+local event = Proto("rapidio_event", "RapidIO event")
+
+local stype0s = {
+  [0] = "packet-accepted", [1] = "packet-retry", [2] = "packet-not-accepted", [4] = "status",
+  [6] = "link-response",
+}
+local causes = {
+  [1] = "unexpected ackID", [2] = "bad symbol", [3] = "not accepting", [4] = "bad packet",
+  [5] = "bad character", [31] = "general error",
+}
+
+local event_fields = {
+  what = ProtoField.string("rapidio.event", "What happened"),
+  stype0 = ProtoField.uint8("rapidio.symbol.stype0", "stype0", base.DEC, stype0s, 0xe0),
+  parameter0 = ProtoField.uint8("rapidio.symbol.parameter0", "parameter0: the ackID", base.DEC, nil,
+    0x1f),
+  parameter1 = ProtoField.uint8("rapidio.symbol.parameter1", "parameter1", base.DEC, nil, 0xf8),
+}
+event.fields = event_fields
+
+local function symbol(buffer, tree)
+  tree:add(event_fields.stype0, buffer(1, 1))
+  tree:add(event_fields.parameter0, buffer(1, 1))
+  tree:add(event_fields.parameter1, buffer(2, 1))
+  local stype0, ack = buffer(1, 1):bitfield(0, 3), buffer(1, 1):bitfield(3, 5)
+  local words = stype0s[stype0] or ("reserved stype0 " .. stype0)
+  if stype0 ~= 2 then return string.format("%s %d", words, ack) end
+  local cause = buffer(2, 1):bitfield(0, 5)
+  return string.format("%s, %s, expects %d", words, causes[cause] or ("reserved " .. cause), ack)
+end
+
+function event.dissector(buffer, pinfo, root)
+  local count = buffer:len() >= 2 and buffer(1, 1):uint() or 0
+  pinfo.cols.protocol = "RapidIO"
+  if buffer:len() < 2 + count + 4 then return 0 end
+  local tree = root:add(event, buffer(0, 2 + count))
+  local what = buffer(2, count):string()
+  tree:add(event_fields.what, buffer(2, count))
+  tree:append_text(", " .. what)
+  local rest = buffer(2 + count):tvb()
+  if buffer(0, 1):uint() == 1 then
+    pinfo.cols.info = what .. ": " .. symbol(rest, tree)
+  else
+    rapidio.dissector(rest, pinfo, root)
+    pinfo.cols.info:prepend(what .. ": ")
+  end
+  return buffer:len()
+end
+
 DissectorTable.get("wtap_encap"):add(wtap.USER0, rapidio)
+DissectorTable.get("wtap_encap"):add(wtap.USER1, event)

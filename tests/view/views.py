@@ -41,6 +41,8 @@ class Run:
     """What a trace says, line by line."""
 
     def __init__(self, set_up, text):
+        self.first = len(set_up) + 2
+        self.text = text.splitlines()
         self.lines = [line.split(" ") for line in text.splitlines()]
         self.links = [line.split(" ")[1:] for line in set_up if line.startswith("link ")]
         self.peers = {a: b for a, b in [*self.links, *(link[::-1] for link in self.links)]}
@@ -64,6 +66,9 @@ def check_words(run, given, text):
     """The words are those of examples/names.awk, which reads each line by itself; of a line that was got, the names."""
     awk = subprocess.run(["awk", "-f", TOP / "examples/names.awk"], input=text, text=True, capture_output=True, check=True)
     mine = shown(given, "words").decode().splitlines()
+    if [line[:7] for line in mine] != [f"{run.first + at:6} " for at in range(len(mine))]:
+        yield "words: other numbers"
+    mine = [line[7:] for line in mine]
     if [line.split("  # ")[0] for line in mine] != text.splitlines():
         yield "words: the lines are not those of the trace"
     for one, other in zip(mine, awk.stdout.splitlines()):
@@ -81,7 +86,14 @@ def check_words(run, given, text):
 
 def check_flow(run, given):
     """There is a line for each transfer, and for each event of the script."""
-    lines = shown(given, "words", "--flow").decode().splitlines()
+    numbered = shown(given, "words", "--flow").decode().splitlines()
+    lines = [line[7:] for line in numbered]
+    for line in numbered:
+        said = run.lines[int(line[:6]) - run.first]
+        word = line[7:].split(" ")
+        if not (line[7:] == " ".join(said) or word[2].strip(":") in said or word[2:4] == said[:2]
+                or said[0] == "undetected"):
+            yield f"flow: {line} is of {said}"
     sent = [line for line in lines if re.match(r"  \w+\.\d+ > ", line)]
     wanted = [event for _, event in run.events("sent") if not is_delimiter(event)]
     if len(sent) != len(wanted):
@@ -96,38 +108,108 @@ def is_delimiter(event):
 
 def check_counts(run, given):
     parts = shown(given, "counts").decode().split("\n\n")
-    rows = {line.split()[0]: [int(it) for it in line.split()[1:]] for line in parts[0].splitlines()[1:]}
+    rows = rows_of(parts[0])
     counts = Counter()
     for port, chars in run.of("sent"):
         counts[port, 0] += len(chars)
     for port, event in run.events("sent"):
         counts[port, 1] += event[0] == "packet"
         if event[0] == "symbol":
-            for at, is_it in ((3, event[1][0] == 0), (4, event[1][0] == 1), (5, event[1][0] == 2), (6, event[1][3] == 4)):
+            for at, is_it in ((3, event[1][0] == 0), (5, event[1][0] == 1), (6, event[1][0] == 2), (7, event[1][3] == 4)):
                 counts[port, at] += is_it
     for words in run.lines:
-        if words[0] == "fire":
-            counts[words[1], 7] += 1
+        if words[0] in ("fire", "hold"):
+            counts[words[1], 8 if words[0] == "fire" else 4] += 1
         for port, at, more in left_by(words):
             counts[port, at] += more
     for port in run.ports:
-        mine, wanted = rows[port], [counts[port, at] for at in range(11)]
-        if any(mine[at] != wanted[at] for at in (0, 1, 3, 4, 5, 6, 7, 9, 10)):
+        mine, wanted = rows[port], [counts[port, at] for at in range(12)]
+        if any(mine[at] != wanted[at] for at in (0, 1, 3, 4, 5, 6, 7, 8, 10, 11)):
             yield f"counts: {port} has {mine}, not {wanted}"
     if mine_total(parts[-1]) != total_of(run):
         yield f"counts: {parts[-1]} is not {total_of(run)}"
+    yield from check_halves_of_counts(run, given, rows)
+
+
+def rows_of(table):
+    return {line.split()[0]: [int(it) for it in line.split()[1:]] for line in table.splitlines()[1:]}
+
+
+def check_halves_of_counts(run, given, rows):
+    """What two parts of a trace count is together what all of it counts; what is left is left at the end of a part."""
+    middle, last = run.first + len(run.lines) // 2, run.first + len(run.lines)
+    front, back = (rows_of(shown(given, "counts", "--lines", part).decode().split("\n\n")[0])
+                   for part in (f"1-{middle}", f"{middle + 1}-{last}"))
+    for port, row in rows.items():
+        if [a + b for a, b in zip(front[port][:9], back[port][:9])] != row[:9] or back[port][9:] != row[9:]:
+            yield f"counts: {port} has {front[port]} and {back[port]}, together {row}"
+    for port in run.ports[:2]:
+        if list(rows_of(shown(given, "counts", "--port", port).decode().split("\n\n")[0])) != [port]:
+            yield f"counts: other rows with --port {port}"
 
 
 def left_by(words):
-    """What a line changes of what is to be sent (9) and received (10)."""
+    """What a line changes of what is to be sent (10) and received (11)."""
     word = words[0]
     if word in ("take", "leave"):
-        return [(f"{words[1]}.0", 9, 1) if word == "take" else (f"{words[1]}.0", 10, -1)]
+        return [(f"{words[1]}.0", 10, 1) if word == "take" else (f"{words[1]}.0", 11, -1)]
     if word in ("hold", "free", "drop"):
-        return [(words[1], 10, 1) if word == "hold" else (words[1], 9 if word == "free" else 10, -1)]
+        return [(words[1], 11, 1) if word == "hold" else (words[1], 10 if word == "free" else 11, -1)]
     if word == "answer":
-        return [(words[1], 10, -1), (words[1], 9, 1)]
-    return [(words[1], 10, -1), (words[2], 9, 1)] if word == "move" else []
+        return [(words[1], 11, -1), (words[1], 10, 1)]
+    return [(words[1], 11, -1), (words[2], 10, 1)] if word == "move" else []
+
+
+def names_port(words, ports):
+    """Whether a line names one of these ports, or the endpoint of one."""
+    names = {*ports, *(port[:-2] for port in ports if port.endswith(".0"))}
+    if words[0] == ">":
+        return len(words) > 2 and words[2] in names and words[1] not in ("run", "move")
+    of_node = words[0] in ("take", "leave")
+    at = 2 if words[0] == "undetected" else 1
+    named = words[at : at + (2 if words[0] == "move" else 1)]
+    return words[0] == "end" or any((f"{name}.0" if of_node else name) in ports for name in named)
+
+
+def check_parts(run, given):
+    """A part of a trace is these lines of the whole, and no others."""
+    whole = shown(given, "words").decode().splitlines()
+    first, last = run.first + len(whole) // 3, run.first + len(whole) // 2
+    mine = shown(given, "words", "--lines", f"{first}-{last}").decode().splitlines()
+    if mine != whole[first - run.first : last - run.first + 1]:
+        yield "parts: other lines"
+    flow = shown(given, "words", "--flow").decode().splitlines()
+    mine = shown(given, "words", "--flow", "--lines", f"{first}-{last}").decode().splitlines()
+    if mine != [line for line in flow if first <= int(line[:6]) <= last]:
+        yield "parts: other lines of the flow"
+    for a, b in run.links[:2]:
+        for option, ports in (("--port", {a}), ("--port", {b}), ("--link", {a, b})):
+            mine = shown(given, "words", option, a if a in ports else b).decode().splitlines()
+            wanted = [line for line, words in zip(whole, run.lines) if names_port(words, ports)]
+            if mine != wanted:
+                yield f"parts: {option} {ports}: {len(mine)} lines, not {len(wanted)}"
+    if run.links:
+        yield from check_part_of_ladder(run, given, first, last)
+
+
+def check_part_of_ladder(run, given, first, last):
+    """A part of a ladder has the lifelines of its link, and the arrows of its lines."""
+    link = run.links[0]
+    root = xml.fromstring(shown(given, "ladder", "--lines", f"{first}-{last}", "--link", link[1]))
+    names = [text.text for text in root.findall(f"{SVG}text") if text.get("class") == "port"]
+    if names != link:
+        yield f"ladder: lifelines of {names}, not of {link}"
+    lines = run.lines[: last - run.first + 1]
+    ends = Counter()
+    readers = {port: trace.Reader() for port in run.ports}
+    for number, words in enumerate(lines, run.first):
+        for event in (event for char in words[2:] for event in readers[words[1]].take(char)) if words[0] == "sent" else ():
+            if words[1] in link and number >= first and not is_delimiter(event):
+                ends[name_of(event)] += 1
+    arrows = [group for group in root.findall(f"{SVG}g") if "arrow" in group.get("class").split(" ")]
+    mine = Counter(head_of(group.find(f"{SVG}text").text) for group in arrows)
+    if ends - mine:
+        yield f"ladder: {ends - mine} too little in a part"
 
 
 def mine_total(line):
@@ -142,7 +224,12 @@ def total_of(run):
 
 def check_ladder(run, given):
     """Each packet and each symbol that only begins or ends none is one arrow, in its order; each event is a band."""
-    root = xml.fromstring(shown(given, "ladder"))
+    try:
+        picture = shown(given, "ladder")
+    except ValueError as refusal:
+        yield from check_high(run, given, str(refusal))
+        return
+    root = xml.fromstring(picture)
     lives = {line.get("x1"): name.text for line, name in zip(root.findall(f"{SVG}line"), root.findall(f"{SVG}text"))}
     arrows = [group for group in root.findall(f"{SVG}g") if "arrow" in group.get("class").split(" ")]
     mine = Counter((lives[group.find(f"{SVG}line").get("x1")], head_of(group.find(f"{SVG}text").text)) for group in arrows)
@@ -158,8 +245,25 @@ def check_ladder(run, given):
     yield from check_marks(run, root)
 
 
+def check_high(run, given, refusal):
+    """A ladder that would be too high is refused with the lines that would do, which are as many as can be."""
+    told = re.fullmatch(r"status 2: rio_view: the ladder would be higher than 32767 pixels, and few programs open it; "
+                        r"--lines (\d+)-(\d+) would do\n", refusal)
+    if not told:
+        yield f"ladder: {refusal}"
+        return
+    first, last = map(int, told.groups())
+    high = int(xml.fromstring(shown(given, "ladder", "--lines", f"{first}-{last}")).get("height"))
+    more = subprocess.run([PROGRAM, "ladder", "--lines", f"{first}-{last + 1}"], input=given.encode(), capture_output=True,
+                          timeout=120, check=False)
+    if high > 32767 or more.returncode != 2:
+        yield f"ladder: {high} pixels, status {more.returncode} with a line more"
+
+
 def check_range(run, given):
     """A part of a ladder has the bands of these events, and the arrows of their lines."""
+    if "would do" in subprocess.run([PROGRAM, "ladder"], input=given.encode(), capture_output=True, check=False).stderr.decode():
+        return
     events = [" ".join(words[1:]) for words in run.lines if words[0] == ">"]
     last = min(3, len(events))
     root = xml.fromstring(shown(given, "ladder", "--from", "2", "--to", str(last)))
@@ -234,6 +338,40 @@ def close(begin, end, values, moments):
         moments.setdefault((key, side), []).extend([char] * (end - begin))
 
 
+def check_states(run, given):
+    """At each event the states of the halves of each port, and what is outstanding, are those of the step tables."""
+    ports = {port: trace.Port(run.buffers.get(port, 8)) for port in run.ports}
+    readers = {(word, port): trace.Reader() for word in ("sent", "got") for port in run.ports}
+    mine = states_of_wave(shown(given, "wave").decode())
+    for number, words in enumerate(run.lines, run.first):
+        port = ports.get(words[1]) if len(words) > 1 else None
+        if words[0] == ">":
+            for name, it in ports.items():
+                found = tuple(mine[number][name.replace(".", "_"), signal] for signal in ("output", "input", "outstanding"))
+                wanted = (it.output, it.input, f"{it.outstanding:08b}")
+                if "failed" not in wanted and found != wanted:
+                    yield f"wave: {name} is {found} before line {number}, not {wanted}"
+        follow(ports, readers, words)
+
+
+def states_of_wave(text):
+    """The values of the signals of each port at each line of the trace, before the line changes one."""
+    names, scope, values, found = {}, [], {}, {}
+    for line in text.splitlines():
+        words = line.split(" ")
+        if words[0] == "$scope":
+            scope.append(words[2])
+        elif words[0] == "$upscope":
+            scope.pop()
+        elif words[0] == "$var":
+            names[words[3]] = (*scope[1:], words[4])
+        elif line[0] in "bs" and len(words) == 2:
+            if names[words[1]] == ("line",):
+                found[int(words[0][1:], 2)] = dict(values)
+            values[names[words[1]]] = words[0][1:]
+    return found
+
+
 def check_packets(run, given):
     data, at, found, names = shown(given, "packets"), 0, [], []
     while at < len(data):
@@ -245,22 +383,46 @@ def check_packets(run, given):
         if kind == 1:
             names.append(body[12 : 12 + struct.unpack_from("<H", body, 10)[0]].decode())
         elif kind == 6:
-            place, _, when, count = struct.unpack_from("<IIII", body)
-            comment = body[20 + count + 4 :][: struct.unpack_from("<H", body, 20 + count + 2)[0]].decode()
-            found.append((when, names[place], comment.split(" ")[0].strip(","), body[20 : 20 + count].hex()))
+            found.append(frame_of(body, names))
         at += length
-    before = given.split("---\n")[0].count("\n") + 1
-    if found != [it for number, words in enumerate(run.lines, before + 1) for it in packets_of(number, words)]:
+    if found != [it for number, words in enumerate(run.lines, run.first) for it in packets_of(number, words)]:
         yield "packets: they are not those of the trace"
+    if run.ports:
+        some = shown(given, "packets", "--port", run.ports[0])
+        heads = data[: data.index(struct.pack("<I", 6))] if found else data
+        if not some.startswith(heads) or len(some) > len(data):
+            yield "packets: other interfaces with --port"
+
+
+def frame_of(body, names):
+    """The number of the line, the port, the word, and the bytes of the packet or symbol."""
+    place, _, when, count = struct.unpack_from("<IIII", body)
+    frame, behind = body[20 : 20 + count], 20 + count + -count % 4
+    comment = body[behind + 4 :][: struct.unpack_from("<H", body, behind + 2)[0]].decode()
+    words = frame[2 : 2 + frame[1]].decode()
+    is_symbol = words.startswith(("retry", "refuse"))
+    word = words.split(" ")[0].strip(",") if words == comment and frame[0] == is_symbol else f"{words} is not {comment}"
+    return when, names[place], word, frame[2 + frame[1] :].hex()
 
 
 def packets_of(number, words):
-    """The packets that a line shows: its number, the port, the word and the bytes."""
+    """The packets and symbols that a line shows: its number, the port, the word and the bytes."""
     if words[0] in ("take", "leave"):
         return [(number, f"{words[1]}.0", words[0], words[2])]
-    if words[0] in ("hold", "drop", "move"):
+    if words[0] in ("hold", "free", "drop", "move"):
         return [(number, words[1], words[0], words[-1])]
+    if words[0] == "sent":
+        return [(number, words[1], {1: "retry", 2: "refuse"}[s0], form) for s0, form in answers_of(words[2:])]
     return [(number, words[1], "answer", form) for form in words[2:]] if words[0] == "answer" else []
+
+
+def answers_of(chars):
+    """The packet-retry and packet-not-accepted symbols among whole symbols of a line, with their bytes."""
+    reader = trace.Reader()
+    for at, char in enumerate(chars):
+        for event in reader.take(char):
+            if event[0] == "symbol" and event[1][0] in (1, 2):
+                yield event[1][0], "".join(it[1:] for it in chars[at - 3 : at + 1])
 
 
 def check_coverage(run, given):
@@ -274,21 +436,25 @@ def check_coverage(run, given):
 def met_by(run):
     """The entries that the ports of a trace met."""
     ports = {port: trace.Port(run.buffers.get(port, 8)) for port in run.ports}
-    sending = {port: trace.Reader() for port in run.ports}
-    taking = {port: trace.Reader() for port in run.ports}
+    readers = {(word, port): trace.Reader() for word in ("sent", "got") for port in run.ports}
     for words in run.lines:
-        port = ports.get(words[1]) if len(words) > 1 else None
-        if words[0] in ("sent", "got"):
-            reader = (sending if words[0] == "sent" else taking)[words[1]]
-            for event in (event for char in words[2:] for event in reader.take(char)):
-                (sent if words[0] == "sent" else got)(port, event)
-        elif words[0] == "fire":
-            port.time_out()
-        elif words[0] == "leave" and f"{words[1]}.0" in ports:
-            ports[f"{words[1]}.0"].held -= 1
-        elif words[0] in ("move", "drop", "answer") and port is not None:
-            port.held -= 1
+        follow(ports, readers, words)
     return [entry for port in ports.values() for entry in port.met]
+
+
+def follow(ports, readers, words):
+    """The ports do what a line says."""
+    port = ports.get(words[1]) if len(words) > 1 else None
+    if words[0] in ("sent", "got"):
+        reader = readers[words[0], words[1]]
+        for event in (event for char in words[2:] for event in reader.take(char)):
+            (sent if words[0] == "sent" else got)(port, event)
+    elif words[0] == "fire":
+        port.time_out()
+    elif words[0] == "leave" and f"{words[1]}.0" in ports:
+        ports[f"{words[1]}.0"].held -= 1
+    elif words[0] in ("move", "drop", "answer") and port is not None:
+        port.held -= 1
 
 
 def sent(port, event):
@@ -307,6 +473,20 @@ def got(port, event):
         port.symbol(event[1])
 
 
+def check_map(set_up, given):
+    """A map has a box for each node and a line for each link, in both forms, with its names and ports."""
+    nodes = [line.split(" ")[1] for line in set_up if line.startswith(("endpoint ", "switch "))]
+    links = [line.split(" ")[1:] for line in set_up if line.startswith("link ")]
+    root = xml.fromstring(shown("".join(f"{line}\n" for line in set_up), "map", "--tables"))
+    boxes = [group for group in root.iter(f"{SVG}g") if group.get("class") in ("endpoint", "switch")]
+    names = [text.text for group in boxes for text in group.findall(f"{SVG}text") if text.get("class") == "name"]
+    if names != nodes or len(root.findall(f"{SVG}path")) != len(links):
+        yield f"map: boxes {names}, not {nodes}; {len(root.findall(f'{SVG}path'))} links, not {len(links)}"
+    edges = re.findall(r'"(\w+)" -- "(\w+)" \[taillabel="(\d+)", headlabel="(\d+)"\]', shown(given, "map", "--dot").decode())
+    if [[f"{a}.{p}", f"{b}.{q}"] for a, b, p, q in edges] != links:
+        yield f"map: edges {edges}, not {links}"
+
+
 def main():
     faults = 0
     for name, set_up, text in traces():
@@ -315,7 +495,8 @@ def main():
         for check in (lambda: check_words(run, given, text), lambda: check_flow(run, given),
                       lambda: check_counts(run, given), lambda: check_ladder(run, given),
                       lambda: check_range(run, given), lambda: check_wave(run, given), lambda: check_packets(run, given),
-                      lambda: check_coverage(run, given)):
+                      lambda: check_coverage(run, given), lambda: check_parts(run, given),
+                      lambda: check_states(run, given), lambda: check_map(set_up, given)):
             try:
                 told = list(check())
             except (ValueError, KeyError, xml.ParseError, subprocess.SubprocessError) as fault:

@@ -7,6 +7,7 @@ mod Staged
 mod Freed
 pub mod Apart
 pub mod Greater
+pub mod Owning
 pub mod Few
 pub mod Between
 pub mod Bounding

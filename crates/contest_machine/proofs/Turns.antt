@@ -1,6 +1,8 @@
 pub mod Steps
 pub mod Judging
 pub mod Lasting
+pub mod Staying
+pub mod Pair
 pub mod Telling
 pub mod Led
 pub mod Waiting

@@ -1,5 +1,6 @@
 -- What holds after each turn of two walkers.
-use Rattle.std.specs.Prelude.{◌≡◌, ◌≢◌, ℕ, ◌<◌, ◌≤◌, List, [], length}
+use Rattle.std.specs.Prelude.{◌≡◌, ◌≢◌, ℕ, ◌<◌, ◌≤◌, ◌⊎◌, List, [], length}
+use Rattle.maint_registers.specs.Devices.{Registers}
 use Rattle.fabric_map.specs.Routes.{AllRegisters}
 use Rattle.link_watch.specs.declared.side.Side.{Side}
 use Rattle.contest_machine.specs.declared.stages.Stage.{Stage}
@@ -8,6 +9,7 @@ use Rattle.contest_machine.specs.Machine.{Walker, kept, stepped}
 use Rattle.contest_machine.specs.Turns.{Both, after_turns}
 use Rattle.contest_machine.specs.Contest.{Keeps, AreOnce, IsLockOfNone}
 use Rattle.contest_machine.specs.Within.{WalkerIsWithin}
+use Rattle.contest_machine.specs.Locks.{walker_of}
 
 -- a walker at its start
 pub record IsNew (w : Walker) : Type 0 where
@@ -33,6 +35,31 @@ TurnsKeepApart = (both : Both) (turns : List Side)
     → IsNew both.first → IsNew both.second
     → both.first.id ≢ both.second.id → both.first.id < 0xff → both.second.id < 0xff
     → KeepsApart both.registers (after_turns both turns)
+
+-- What an access of a walker changes of a device: nothing; or other registers than the lock, of one
+-- that it keeps; or the lock alone, from FFFF to its ID, or of one that it keeps back to FFFF.
+abbrev pub IsOwnChange : Walker → ℕ → Registers → Registers → Type 0
+IsOwnChange w node old new =
+    (new ≡ old)
+    ⊎ (Keeps w node × (new.lock ≡ old.lock))
+    ⊎ ((old.lock ≡ 0xffff) × (new ≡ record old { lock = w.id }))
+    ⊎ (Keeps w node × (new ≡ record old { lock = 0xffff }))
+
+-- Whatever the turns were, so does the next access of either walker.
+abbrev pub AccessesChangeTheirOwn : Type 0
+AccessesChangeTheirOwn = (both : Both) (turns : List Side) (side : Side) (node : ℕ)
+    → IsNew both.first → IsNew both.second
+    → both.first.id ≢ both.second.id → both.first.id < 0xff → both.second.id < 0xff
+    → IsOwnChange (walker_of (after_turns both turns) side) node
+    ((after_turns both turns).registers node)
+    ((stepped (walker_of (after_turns both turns) side)
+    (after_turns both turns).registers).registers node)
+
+-- No turn changes how a walker sees the fabric, or its ID.
+abbrev pub WalkersStay : Type 0
+WalkersStay = (both : Both) (turns : List Side) (side : Side)
+    → ((walker_of (after_turns both turns) side).view ≡ (walker_of both side).view)
+    × ((walker_of (after_turns both turns) side).id ≡ (walker_of both side).id)
 
 -- it does not give up what it keeps
 abbrev pub HoldsOn : Stage → Type 0

@@ -2,8 +2,8 @@ pub mod Machine
 pub mod Turns
 pub mod Contest
 pub mod Within
-pub mod Keeping
 pub mod Locks
+pub mod Keeping
 pub mod Going
 pub mod Waiting
 pub mod Numbering

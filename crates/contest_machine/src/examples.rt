@@ -6,7 +6,7 @@ ghost use Rattle.contest_machine.specs.declared.stages.Turn.TheVariants.{Going, 
 ghost use Rattle.contest_machine.specs.declared.stages.Stage.TheVariants as stages;
 ghost use Rattle.contest_machine.specs.Turns.{after_turns};
 ghost use Rattle.contest_machine.specs.Locks.{side_answer, locks_in_turn, walker_of};
-ghost use Rattle.contest_machine.specs.Going.{going_over, HasNumbered};
+ghost use Rattle.contest_machine.specs.Going.{going_over, turns_of, AreBegun, IsUnlocked, IsLeftAlone, HasNumbered};
 ghost use Rattle.contest_machine.specs.Asking.{WantsAlong, IsCarried};
 ghost use Rattle.contest_machine.specs.Examples.{two_hosts, till_waiting, five_each, till_done, map_of_seven, host_waiting, waiting_host, lock_asked};
 
@@ -35,6 +35,16 @@ pub fn the_greater_of_a_pair_is_done()
     ensures waits { side_answer (after_turns (two_hosts 0xffff) till_waiting) B ≡ Waiting }
     ensures lost { (walker_of (after_turns (two_hosts 0xffff) five_each) A).stage ≡ stages.Lost }
     ensures done { HasNumbered (walker_of (after_turns (two_hosts 0xffff) till_done) B) }
+{}
+
+/// They begin, and the first has two of three turns. The host 7 is left alone once the host 5 is
+/// lost, and not before; nor is one, if a lock was set at first.
+pub fn one_of_a_pair_is_left_alone()
+    ensures begun { AreBegun (two_hosts 0xffff) }
+    ensures turns { turns_of A (A ∷ B ∷ A ∷ []) ≡ 2 }
+    ensures alone { IsLeftAlone (two_hosts 0xffff) five_each B }
+    ensures not_yet { ¬ IsLeftAlone (two_hosts 0xffff) till_waiting B }
+    ensures locked { ¬ IsUnlocked (two_hosts 3).registers }
 {}
 
 /// The host 7 keeps itself and the host 5, once that is lost.

@@ -1,7 +1,7 @@
 //! What two hosts keep, what their turns answer, what they number, and what packets carry for them.
-ghost use Rattle.contest_machine.specs.Keeping.{TurnsKeepApart, GreaterHoldsOn, StaysWithin, KeepsFew};
+ghost use Rattle.contest_machine.specs.Keeping.{TurnsKeepApart, AccessesChangeTheirOwn, WalkersStay, GreaterHoldsOn, StaysWithin, KeepsFew};
 ghost use Rattle.contest_machine.specs.Going.{GoingIsBounded, AloneIsNoWait, AloneIsDone};
-ghost use Rattle.contest_machine.specs.Waiting.{LostIsForAGreater, WaitingIsForALesser};
+ghost use Rattle.contest_machine.specs.Waiting.{LostHostsMetAGreater, LostIsForAGreater, WaitingIsForALesser};
 ghost use Rattle.contest_machine.specs.Numbering.{DoneKeepsItsMap, OneIsDone, TurnsLeaveOthers};
 ghost use Rattle.contest_machine.specs.Asking.{OpenPathsCarry, PathsAreOpened, AccessesAreCarried};
 
@@ -9,6 +9,19 @@ ghost use Rattle.contest_machine.specs.Asking.{OpenPathsCarry, PathsAreOpened, A
 /// lock. The lock of every other is free, or as it was at first, or was just written by a host.
 pub fn each_turn_keeps_apart()
     ensures { TurnsKeepApart }
+{}
+
+/// Whatever turns were made, the next access of a walker changes the lock only of a device whose lock
+/// is FFFF, to its ID, or of one that it keeps, back to FFFF, and then nothing else there. Other
+/// registers it changes only of a device that it keeps. A turn is one access, but in its first turn
+/// a walker makes all that lock its host.
+pub fn accesses_change_their_own()
+    ensures { AccessesChangeTheirOwn }
+{}
+
+/// No turn changes how a walker sees the fabric, or its ID.
+pub fn walkers_stay_the_same()
+    ensures { WalkersStay }
 {}
 
 /// The walker with the greater ID neither frees devices nor is lost, if nothing was locked at
@@ -30,6 +43,12 @@ pub fn a_walker_stays_within_bounds()
 /// that of a host with a greater ID, and it keeps nothing after this turn.
 pub fn lost_is_for_a_greater()
     ensures { LostIsForAGreater }
+{}
+
+/// After any turns a host is lost exactly if a lock that it has read is that of a host with a greater
+/// ID, and it keeps nothing.
+pub fn lost_hosts_met_a_greater()
+    ensures { LostHostsMetAGreater }
 {}
 
 /// A turn answers `Waiting` exactly where a lock that it reads is that of a host with a lesser ID.

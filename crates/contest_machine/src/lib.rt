@@ -29,11 +29,13 @@ mod stages;
 
 pub use examples::{
     a_first_turn_reads_its_own_lock, a_lock_is_read, a_pair_is_numbered,
-    the_greater_of_a_pair_is_done, turns_that_go_on_are_counted,
+    one_of_a_pair_is_left_alone, the_greater_of_a_pair_is_done, turns_that_go_on_are_counted,
 };
 pub use laws::{
-    a_walker_stays_within_bounds, accesses_are_carried, each_turn_keeps_apart, few_turns_go_on,
-    lost_is_for_a_greater, open_paths_carry, the_greater_is_never_lost, turns_leave_other_devices,
-    waiting_is_for_a_lesser, who_is_done_keeps_its_map, who_is_left_alone_is_done,
+    a_walker_stays_within_bounds, accesses_are_carried, accesses_change_their_own,
+    each_turn_keeps_apart, few_turns_go_on, lost_hosts_met_a_greater, lost_is_for_a_greater,
+    open_paths_carry, the_greater_is_never_lost, turns_leave_other_devices,
+    waiting_is_for_a_lesser, walkers_stay_the_same, who_is_done_keeps_its_map,
+    who_is_left_alone_is_done,
 };
 pub use stages::{Asked, PendingWrite, Stage, Tried, Turn};

@@ -2,13 +2,13 @@
 use Rattle.std.proofs.Common.{◌≡◌, ℕ, zero, suc, ◌<◌, ◌==◌, true, take, List, [], ◌∷◌, Option, Some, None, IsSome, Contains, arith, inl, inr, subst, sym, refl, ap, ◌∙◌, if◌then◌else◌}
 use Rattle.std.proofs.lemmas.List.Elements.{Contains-get_or}
 use Rattle.fabric_script.specs.Ports.{port_at}
-use Rattle.fabric_map.specs.Topology.{node_at}
+use Rattle.fabric_map.specs.Topology.{node_at, IsReached}
 use Rattle.fabric_map.specs.Walked.{IsNotAfter, onward, IsMet, Walked, after_all_paths}
 use Rattle.fabric_map.specs.Numbered.{is_given, AreDescribed, given_ids, IsMap}
 use Rattle.fabric_map.specs.Examples.{ring, ring_devices, ring_entries}
 use Rattle.fabric_map.proofs.Order.{front_of, front_of-onward}
 use Rattle.fabric_map.proofs.Lists.{AllPairs-rising}
-use Rattle.fabric_map.proofs.Leading.{leads_before_all, onward_is_followed}
+use Rattle.fabric_map.proofs.Leading.{leads_before_all, onward_is_followed, each_is_reached}
 
 abbrev later_paths : List (List ℕ)
 later_paths =
@@ -170,6 +170,18 @@ ring_walked = record {
       (Contains-get_or ring_paths k d within));
   done = λ path port listed leads before. behind_each path listed port leads;
 }
+
+-- no path leads to an endpoint without a link
+pub unlinked_is_not_reached : ¬ IsReached ring 7
+unlinked_is_not_reached reached =
+    let end = each_is_reached ring ring_paths 7 ring_walked reached in
+    apart end.0 end.1 end.2
+  where
+    apart : (path : List ℕ) → Contains ring_paths path → node_at ring path ≡ Some 7 → ⊥
+    apart = each (λ path. node_at ring path ≡ Some 7 → ⊥)
+        (λ same. absurd (cc same)) (λ same. absurd (cc same)) (λ same. absurd (cc same))
+        (λ same. absurd (cc same)) (λ same. absurd (cc same)) (λ same. absurd (cc same))
+        (λ same. absurd (cc same))
 
 below_one : (n : ℕ) → n < 1 → is_given (take 5 ring_devices) n ≡ true
 below_one zero less = refl

@@ -10,10 +10,11 @@ use Rattle.fabric_map.specs.Routes.{AllRegisters}
 use Rattle.fabric_map.specs.Numbered.{IsNumbered}
 
 -- The host 0, the endpoints 1 to 3, and a ring of the switches 4, 5 and 6, which have 4, 3 and 3
--- ports. The host is at switch 4, and each switch has one of the other endpoints.
+-- ports. The host is at switch 4, and each switch has one of the other endpoints. The endpoint 7
+-- has no link.
 abbrev pub ring : Topology
 ring = record {
-  nodes = 7;
+  nodes = 8;
   switch_ports = λ node.
       if node == 4 then Some 4 else (if (node == 5) || (node == 6) then Some 3 else None);
   peer = peer_in

@@ -1,7 +1,7 @@
 //! Small fabrics: that the definitions say what they should of known maps, and refuse wrong ones.
 ghost use Rattle.std.specs.Prelude.{◌≡◌, ◌≢◌, ◌<◌, ℕ, List, Some};
 ghost use Rattle.maint_registers.specs.Routes.{entry_of, next_port};
-ghost use Rattle.fabric_map.specs.Routes.{AllRegisters};
+ghost use Rattle.fabric_map.specs.Routes.{AllRegisters, PacketComes};
 ghost use Rattle.fabric_map.specs.declared.map.Entry.{Entry};
 ghost use Rattle.fabric_map.specs.Walked.{Walked, after_all_paths};
 ghost use Rattle.fabric_map.specs.Numbered.{IsMap};
@@ -23,7 +23,9 @@ pub fn wrong_maps_are_none()
 
 /// The registers of a numbered ring are those that a hand calculation gives: the tag and the lock
 /// of a switch, the ID of an endpoint, and the port of an entry. Its links stay, and so does each
-/// entry from that of 63 on but that of 255.
+/// entry from that of 63 on but that of 255. Packets for ID 0 come to its endpoint from a switch
+/// that is not its own, and would not if the entry there led to another endpoint. What the ring
+/// does not reach keeps all its registers.
 pub fn the_ring_has_its_registers()
     ensures tag { (before after : AllRegisters) → IsRing before after → (after 4).tag ≡ 2 }
     ensures lock { (before after : AllRegisters) → IsRing before after → (after 4).lock ≡ 5 }
@@ -34,4 +36,10 @@ pub fn the_ring_has_its_registers()
         → id ≢ 255 → entry_of (after 4) id ≡ entry_of (before 4) id }
     ensures links { (before after : AllRegisters) → IsRing before after
         → (after 4).linked ≡ (before 4).linked }
+    ensures routed { (before after : AllRegisters) → IsRing before after
+        → PacketComes ring after 0 5 3 }
+    ensures elsewhere { (registers : AllRegisters) → next_port (registers 5) 0 ≡ Some 2
+        → PacketComes ring registers 0 5 3 → ⊥ }
+    ensures outside { (before after : AllRegisters) → IsRing before after
+        → after 7 ≡ before 7 }
 {}

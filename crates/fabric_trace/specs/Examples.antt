@@ -1,9 +1,8 @@
 -- Small runs, and lines of which the laws do not hold.
-use Rattle.std.specs.Prelude.{ℕ, ◌+◌, ◌*◌, List, [], ◌∷◌, Some}
+use Rattle.std.specs.Prelude.{ℕ, ◌+◌, ◌*◌, List, [], ◌∷◌, ◌++◌, Some}
 use Rattle.rio_chars.specs.declared.chars.Char.{Char}
 use Rattle.rio_chars.specs.declared.chars.Char.TheVariants.{Data, Special, Invalid}
 use Rattle.link_model.specs.declared.event.Event.TheVariants.{Ctl, Pkt}
-use Rattle.link_model.specs.Output as out
 use Rattle.link_model.specs.Symbols.{packet_accepted}
 use Rattle.fabric_script.specs.declared.ports.PortRef.{PortRef}
 use Rattle.fabric_script.specs.declared.lines.Line.TheVariants.{Endpoint, Switch, Link, Credits, Send, Pump, Deliver, Alter, Insert, Timeout, Settle, Move, Collect}
@@ -13,7 +12,6 @@ use Rattle.fabric_model.specs.Network.{Item, Network, port_of, with_lane}
 use Rattle.fabric_model.specs.Laws.Examples.{packet}
 use Rattle.fabric_model.specs.Steps.{Hold, Free, Take, Leave, Move as MoveOn, Drop, Linked, AtNode, ByDevice}
 use Rattle.trace_lines.specs.Lines.{Empty, Short, Early, NoStep, Sent, Got, Fired, TraceLine, Begun, Stepped, Signed, Lacked, Ended, Undetected}
-use Rattle.fabric_trace.specs.Views.{new_half}
 use Rattle.fabric_trace.specs.Known.{Seen}
 use Rattle.fabric_trace.specs.Fold.{seen}
 use Rattle.fabric_trace.specs.Frees.{Gotten}
@@ -229,19 +227,32 @@ goes_on_with = Begun (Collect 1) ∷ []
 abbrev pub named_at : PortRef → List TraceLine
 named_at port = Undetected 1 port (Pkt 0 []) ∷ []
 
--- senders have failed
-abbrev pub near_failed : Seen
-near_failed =
-    record (begins pair_network) { halves = λ p. record new_half { output = out.Output.Failed } }
+-- link-request, and a link-response that names the ackID 5 as the next, where nothing is
+-- outstanding
+abbrev pub request_chars : List Char
+request_chars = Special 0x1c ∷ Data 0x80 ∷ Data 0xfc ∷ Data 0x87 ∷ []
+
+abbrev pub response_beyond_chars : List Char
+response_beyond_chars = Special 0x1c ∷ Data 0xc5 ∷ Data 0x87 ∷ Data 0x07 ∷ []
+
+-- A sender asks after a time-out, and the response names more packets than are outstanding.
+abbrev pub fails_in_a_delivery : List TraceLine
+fails_in_a_delivery =
+    Signed (Fired near) ∷ Signed (Sent near request_chars)
+    ∷ Signed (Sent far response_beyond_chars) ∷ Signed (Got near response_beyond_chars) ∷ []
+
+-- the sender has failed where the next event begins
+abbrev pub fails_in_a_run : List TraceLine
+fails_in_a_run = fails_in_a_delivery ++ Begun (Collect 1) ∷ []
 
 -- an event was found not to be sent
 abbrev pub found_before : Seen
 found_before =
     record (begins pair_network) { undetected = Some (record { port = far; event = Pkt 0 [] }) }
 
--- a port gets no character
-abbrev pub got_nothing : List TraceLine
-got_nothing = Signed (Got far []) ∷ []
+-- a port gets an acceptance that nobody sent, and then something more
+abbrev pub got_behind_a_find : List TraceLine
+got_behind_a_find = Signed (Got far accepted_chars) ∷ got_from_nowhere
 
 -- a packet is freed behind a delivery, but in another event
 abbrev pub freed_later : List TraceLine
@@ -253,6 +264,10 @@ accepted_in_pieces = record {
   before = Special 0x1c ∷ Data 0x00 ∷ [];
   last = Data 0xff ∷ Data 0x16 ∷ [];
 }
+
+-- the acceptance came one delivery earlier, and the last delivery completed nothing
+abbrev pub accepted_before : Gotten
+accepted_before = record { before = accepted_chars; last = Special 0x1c ∷ Data 0x00 ∷ [] }
 
 -- a port sends a packet that it does not have
 abbrev pub sent_from_nowhere : List TraceLine

@@ -12,7 +12,7 @@ ghost use Rattle.fabric_model.specs.Serving.{next_at};
 ghost use Rattle.fabric_model.specs.Steps.{LegalFrom};
 ghost use Rattle.fabric_trace.specs.Allowance.{FreesAllowed};
 ghost use Rattle.fabric_trace.specs.AtRest.{IsBlockAtRest};
-ghost use Rattle.fabric_trace.specs.Examples.{near, far, pair_network, idle_script, idle_trace, packet_script, packet_trace, telling_script, telling_trace, accepted_chars, switch_script, switch_trace, two_held, dropped_at, moved_to, joined_with_itself, held_from_nowhere, held_in_wrong_order, frees_once, freed_twice, freed_later, accepted_in_pieces, got_from_nowhere, got_another, got_nothing, sent_from_nowhere, fires_once, still_under_way, moving, acted_from_nowhere, named_though_sent, not_settled, not_settled_yet, goes_on_with, named_at, near_failed, found_before};
+ghost use Rattle.fabric_trace.specs.Examples.{near, far, pair_network, idle_script, idle_trace, packet_script, packet_trace, telling_script, telling_trace, accepted_chars, switch_script, switch_trace, two_held, dropped_at, moved_to, joined_with_itself, held_from_nowhere, held_in_wrong_order, frees_once, freed_twice, freed_later, accepted_in_pieces, accepted_before, got_from_nowhere, got_another, got_behind_a_find, sent_from_nowhere, fires_once, still_under_way, moving, acted_from_nowhere, named_though_sent, not_settled, not_settled_yet, goes_on_with, named_at, found_before, fails_in_a_delivery, fails_in_a_run};
 ghost use Rattle.fabric_trace.specs.Faithful.{Faithful};
 ghost use Rattle.fabric_trace.specs.Firsts.{FindsFirst};
 ghost use Rattle.fabric_trace.specs.Fold.{says, seen};
@@ -80,13 +80,15 @@ pub fn laws_can_fail()
     ensures fired { AreOwned moving fires_once → ⊥ }
 {}
 
-/// The laws of frees do not hold of these: a packet is freed before it was accepted, or two are by
-/// one acceptance; one is freed in another event than that of the delivery. An acceptance may come
-/// in two deliveries: the second completes it.
+/// The laws of frees do not hold of these: a packet is freed before it was accepted, or after a
+/// delivery that came later than its acceptance, or two are by one acceptance; one is freed in
+/// another event than that of the delivery. An acceptance may come in two deliveries: the second
+/// completes it.
 pub fn laws_of_frees_can_fail()
     ensures freed { FreesSaid near nothing_got 0 frees_once → ⊥ }
     ensures twice { (known : Gotten) → completed known ≡ Ctl (packet_accepted 0 31) ∷ []
         → FreesSaid near known 0 freed_twice → ⊥ }
+    ensures earlier { FreesSaid near accepted_before 0 frees_once → ⊥ }
     ensures pieces { FreesSaid near accepted_in_pieces 0 frees_once }
     ensures noted { FreesNoted near false frees_once → ⊥ }
     ensures later { FreesNoted near false freed_later → ⊥ }
@@ -99,7 +101,7 @@ pub fn laws_of_frees_can_fail()
 /// sent, or is named though it was sent; a character is still on its way; a link is not at rest
 /// behind its `settle`, where the trace ends or the next event begins; an event begins, or a port
 /// gets characters, behind an event that was found not to be sent; another event is named than was
-/// found, or one where none was; a sender has failed, or fails in a delivery.
+/// found, or one where none was; a sender has failed where an event begins, or fails in a delivery.
 pub fn laws_of_links_can_fail()
     ensures acted { Faithful (begins pair_network) acted_from_nowhere → ⊥ }
     ensures undetected { Faithful (begins pair_network) named_though_sent → ⊥ }
@@ -117,7 +119,7 @@ pub fn laws_of_links_can_fail()
     ensures found_before { Settled found_before None goes_on_with → ⊥ }
     ensures named { Settled (begins pair_network) None (named_at far) → ⊥ }
     ensures named_other { Settled found_before None (named_at near) → ⊥ }
-    ensures second { FindsFirst found_before got_from_nowhere → ⊥ }
-    ensures failed { NeverFail near_failed [] → ⊥ }
-    ensures failed_within { NeverFailWithin near_failed got_nothing → ⊥ }
+    ensures second { FindsFirst (begins pair_network) got_behind_a_find → ⊥ }
+    ensures failed { NeverFail (begins pair_network) fails_in_a_run → ⊥ }
+    ensures failed_within { NeverFailWithin (begins pair_network) fails_in_a_delivery → ⊥ }
 {}

@@ -1,2 +1,3 @@
 pub mod MeetLaws
 pub mod AnswerLaws
+mod ToldBack

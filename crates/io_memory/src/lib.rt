@@ -9,8 +9,8 @@
 //! - [`meet`] meets a packet at a memory: its [`Meeting`] says what became of it, as a [`Met`], and
 //!   what is answered. [`meet_without`] meets one where there is no memory.
 //! - [`write_met`] writes the line that says what became of a packet.
-//! - [`reads_are_what_was_written`] and [`answers_are_done_unchanged`] are laws: each states what
-//!   holds of all packets, and does nothing.
+//! - [`reads_are_what_was_written`], [`answers_are_done_unchanged`] and
+//!   [`answers_tell_what_became`] are laws: each states what holds of all packets, and does nothing.
 #![tactic(auto)]
 
 mod laws;
@@ -19,6 +19,6 @@ mod met_lines;
 #[cfg(test)]
 mod tests;
 
-pub use laws::{answers_are_done_unchanged, reads_are_what_was_written};
+pub use laws::{answers_are_done_unchanged, answers_tell_what_became, reads_are_what_was_written};
 pub use meeting::{Meeting, Met, meet, meet_without};
 pub use met_lines::write_met;

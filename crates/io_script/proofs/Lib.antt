@@ -7,3 +7,5 @@ pub mod IoFabric
 pub mod IoTakes
 pub mod IoWhole
 pub mod IoNamed
+mod IoLineWords
+mod IoEach

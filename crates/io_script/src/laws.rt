@@ -1,5 +1,5 @@
 //! Laws of scripts of reads and writes, for whoever states something of one.
-ghost use Rattle.std.specs.Prelude.{◌≡◌, ℕ, List};
+ghost use Rattle.std.specs.Prelude.{◌≡◌, ◌⊎◌, ℕ, List};
 ghost use Rattle.fabric_script.specs.declared.lines.Numbered.{Numbered};
 ghost use Rattle.fabric_script.specs.Known.{Known};
 ghost use Rattle.io_script.specs.declared.lines.IoLine.{IoLine};
@@ -35,4 +35,12 @@ pub fn io_script_or_refusal()
 pub fn io_lines_are_their_texts()
     ensures { (known : Known) (earlier : Earlier) (text : List ℕ) (line : IoLine)
         → SpellsIo known earlier text line → text ≡ io_line_text known.names line }
+{}
+
+/// Bytes, however many, spell a script of reads and writes, or are refused at a line for a reason.
+pub fn every_io_text_is_a_script_or_refused()
+    ensures { (bytes : List ℕ)
+        → ((names : List (List ℕ)) × (set_up : List Numbered) × (lines : List NumberedIo)
+        × IsIoScript bytes names set_up lines)
+        ⊎ ((line : ℕ) × (reason : ℕ) × IsIoRefused bytes line reason) }
 {}

@@ -11,8 +11,8 @@
 //! - `IoReading`, `IoScripts`: which lines and which bytes are spelled, and which are refused.
 //!
 //! The types are [`IoScript`], its [`NumberedIo`] lines and [`IoLine`]. The laws are functions with
-//! an empty body: bytes spell one script at most or are refused once, and a text that is a line is
-//! the text of the line.
+//! an empty body: bytes spell one script or are refused once, never both and never neither, and a
+//! text that is a line is the text of the line.
 //!
 //! It leaves out what a line does. Only the set-up lines, the lines and the data of a write take
 //! memory.
@@ -27,7 +27,10 @@ mod scripts;
 mod words;
 mod writing;
 
-pub use laws::{io_lines_are_their_texts, io_script_or_refusal, one_io_refusal, one_io_script};
+pub use laws::{
+    every_io_text_is_a_script_or_refused, io_lines_are_their_texts, io_script_or_refusal,
+    one_io_refusal, one_io_script,
+};
 pub use lines::{IoLine, IoScript, NumberedIo};
 pub use scripts::parse_io;
 pub use writing::write_io_line;

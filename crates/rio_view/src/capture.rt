@@ -1,10 +1,15 @@
 //! The packets of a trace as a file that Wireshark reads (pcapng).
 
 use fabric_script::{Line, PortRef, SetUp};
+use rio_chars::Char;
 use rio_packets::Packet;
-use std::alloc::Global;
+use rio_symbols::stype0::{PACKET_NOT_ACCEPTED, PACKET_RETRY};
+use std::alloc::{AllocError, Global};
 use trace_lines::{NetworkStep, TraceLine};
-use view_words::{Ports, Seen, Text, View, ViewEnd, port_of, put_node, put_port};
+use view_words::{
+    Ear, Hear, Heard, Ports, Seen, Setting, Text, View, ViewEnd, listen, port_of, put_node,
+    put_port,
+};
 
 /// The head of a section: its bytes are in the order of this number, the version is 1.0, and its
 /// length is not told.
@@ -24,8 +29,18 @@ const INTERFACE: u32 = 1;
 /// The kind of a block that has a packet.
 const PACKET: u32 = 6;
 
-/// The link type for private use, by which the dissector is found.
-const USER0: u32 = 147;
+/// The link type for private use, by which the dissector is found: a packet or a symbol, with what
+/// happened to it in front.
+const USER1: u32 = 148;
+
+/// What a frame has behind the words of what happened: a packet in its link form, or the bytes of
+/// the four characters of a control symbol.
+const FORM: u8 = 0;
+
+const CHARACTERS: u8 = 1;
+
+/// How many characters a symbol has.
+const SYMBOL: usize = 4;
 
 /// The kinds of options: a comment, the name of an interface, and the unit of its time.
 const COMMENT: u16 = 1;
@@ -38,9 +53,11 @@ const UNIT: u16 = 9;
 #[derive(Drop)]
 pub(crate) struct Capture {
     places: Ports<Option<u32>>,
+    ears: Ports<Ear>,
     count: u32,
     block: Text,
     word: Text,
+    alloc: Global,
 }
 
 impl Capture {
@@ -48,16 +65,20 @@ impl Capture {
     pub(crate) fn new(alloc: Global) -> Capture {
         Capture {
             places: Ports::new(alloc),
+            ears: Ports::new(alloc),
             count: 0,
             block: Text::new(alloc),
             word: Text::new(alloc),
+            alloc,
         }
     }
 }
 
 impl View for Capture {
-    fn begin(&mut self, set_up: &SetUp, out: &mut Text) -> Result<(), ViewEnd> {
+    fn begin(&mut self, setting: Setting<'_>, out: &mut Text) -> Result<(), ViewEnd> {
+        let set_up = setting.set_up;
         self.places.fill(set_up.names().len())?;
+        self.ears.fill(set_up.names().len())?;
         for number in SECTION {
             put_long(out, number);
         }
@@ -72,13 +93,15 @@ impl View for Capture {
     }
 
     fn take(&mut self, seen: &Seen<'_>, out: &mut Text) -> Result<(), ViewEnd> {
-        if let TraceLine::Stepped(step) = seen.line {
-            self.put_step(seen, step, out);
+        match seen.line {
+            TraceLine::Stepped(step) if seen.is_shown => self.put_step(seen, step, out),
+            TraceLine::Sent(port, chars) => self.put_answers(seen, *port, chars.as_slice(), out)?,
+            _ => {}
         }
         Ok(())
     }
 
-    fn end(&mut self, _: &SetUp, _: &mut Text) -> Result<(), ViewEnd> {
+    fn end(&mut self, _: Setting<'_>, _: &mut Text) -> Result<(), ViewEnd> {
         Ok(())
     }
 }
@@ -105,7 +128,7 @@ impl Capture {
     fn put_interface(&mut self, set_up: &SetUp, port: PortRef, out: &mut Text) {
         self.name(set_up, b"", port);
         self.block.clear();
-        put_long(&mut self.block, USER0);
+        put_long(&mut self.block, USER1);
         put_long(&mut self.block, 0);
         put_words(&mut self.block, NAME, &self.word);
         put_option(&mut self.block, UNIT, &[0]);
@@ -121,14 +144,38 @@ impl Capture {
                 seen, b"leave ", *node, packet, out,
             ),
             NetworkStep::Hold(port, packet) => self.put_at(seen, b"hold ", *port, packet, out),
+            NetworkStep::Free(port, packet) => self.put_at(seen, b"free ", *port, packet, out),
             NetworkStep::Drop(port, packet) => self.put_at(seen, b"drop ", *port, packet, out),
             NetworkStep::Answer(port, request, response) => {
                 self.put_at(seen, b"answer, the request, ", *port, request, out);
                 self.put_at(seen, b"answer, the response, ", *port, response, out);
             }
             NetworkStep::Move(from, to, packet) => self.put_move(seen, *from, *to, packet, out),
-            NetworkStep::Free(..) => {}
         }
+    }
+
+    /// The symbols by which a port asks for a packet again or refuses one.
+    fn put_answers(
+        &mut self,
+        seen: &Seen<'_>,
+        port: PortRef,
+        chars: &[Char],
+        out: &mut Text,
+    ) -> Result<(), AllocError> {
+        let Some(ear) = self.ears.get_mut(port) else {
+            return Ok(());
+        };
+        let mut answers = Answers {
+            symbols: Vec::new(self.alloc),
+        };
+        listen(ear, chars, &mut answers)?;
+        for (word, bytes) in &answers.symbols {
+            if seen.is_shown {
+                self.name(seen.set_up, word, port);
+                self.put_frame(seen.number, port, CHARACTERS, bytes, out);
+            }
+        }
+        Ok(())
     }
 
     /// A packet that goes from one port to another.
@@ -143,7 +190,7 @@ impl Capture {
         self.name(seen.set_up, b"move ", from);
         self.word.put(b" ");
         put_port(&mut self.word, seen.set_up, to);
-        self.put_packet(seen.number, from, packet, out);
+        self.put_frame(seen.number, from, FORM, packet.bytes(), out);
     }
 
     /// A packet at an endpoint.
@@ -158,7 +205,7 @@ impl Capture {
         self.word.clear();
         self.word.put(word);
         put_node(&mut self.word, seen.set_up, node);
-        self.put_packet(seen.number, port_of(node), packet, out);
+        self.put_frame(seen.number, port_of(node), FORM, packet.bytes(), out);
     }
 
     /// A packet at a port.
@@ -171,32 +218,71 @@ impl Capture {
         out: &mut Text,
     ) {
         self.name(seen.set_up, word, port);
-        self.put_packet(seen.number, port, packet, out);
+        self.put_frame(seen.number, port, FORM, packet.bytes(), out);
     }
 
-    /// The comment: a word and a port.
+    /// What happened: a word and a port.
     fn name(&mut self, set_up: &SetUp, word: &[u8], port: PortRef) {
         self.word.clear();
         self.word.put(word);
         put_port(&mut self.word, set_up, port);
     }
 
-    /// A packet at the moment of a line, with the comment.
-    fn put_packet(&mut self, number: u32, port: PortRef, packet: &Packet, out: &mut Text) {
+    /// A packet or a symbol at the moment of a line, with what happened in front and as a comment.
+    fn put_frame(&mut self, number: u32, port: PortRef, kind: u8, bytes: &[u8], out: &mut Text) {
         let Some(Some(place)) = self.places.get(port) else {
             return;
         };
-        let bytes = packet.bytes();
+        let count = self.word.len().min(255) as u8;
+        let length = bytes.len().min(1_000) as u32 + u32::from(count) + 2;
         self.block.clear();
-        let length = bytes.len() as u32;
         for word in [*place, 0, number, length, length] {
             put_long(&mut self.block, word);
         }
+        self.block.put(&[kind, count]);
+        self.block.put_text(&self.word);
         self.block.put(bytes);
+        put_pad(&mut self.block, length);
         put_words(&mut self.block, COMMENT, &self.word);
         put_long(&mut self.block, 0);
         put_block(out, PACKET, &self.block);
     }
+}
+
+/// The symbols by which a port asks for a packet again or refuses one, as they come.
+#[derive(Drop)]
+struct Answers {
+    symbols: Vec<(&'static [u8], [u8; SYMBOL])>,
+}
+
+impl Hear for Answers {
+    fn hear(&mut self, chars: &[Char], heard: &Heard) -> Result<(), AllocError> {
+        let symbol = match heard {
+            Heard::Symbol(symbol) | Heard::Packet(_, _, symbol) | Heard::Broken(_, symbol) =>
+                symbol,
+            Heard::Nothing | Heard::Bad(_) => return Ok(()),
+        };
+        let word: &'static [u8] = match symbol.s0 {
+            PACKET_RETRY => b"retry ",
+            PACKET_NOT_ACCEPTED => b"refuse ",
+            _ => return Ok(()),
+        };
+        self.symbols.push((word, last_bytes(chars)))?;
+        Ok(())
+    }
+}
+
+/// The bytes of the last four characters.
+fn last_bytes(chars: &[Char]) -> [u8; SYMBOL] {
+    let mut bytes = [0; SYMBOL];
+    let last = chars.split_at(chars.len().saturating_sub(SYMBOL)).1;
+    for (byte, c) in bytes.iter_mut().zip(last.iter()) {
+        *byte = match c {
+            Char::Data(value) | Char::Special(value) => *value,
+            Char::Invalid => 0,
+        };
+    }
+    bytes
 }
 
 /// A block of this kind.
@@ -220,6 +306,11 @@ fn put_option(out: &mut Text, kind: u16, value: &[u8]) {
     out.put(&kind.to_le_bytes());
     out.put(&(count as u16).to_le_bytes());
     out.put(value);
+    put_pad(out, count as u32);
+}
+
+/// Zeros behind so many bytes, up to a multiple of four.
+fn put_pad(out: &mut Text, count: u32) {
     for _ in 0..(4 - count % 4) % 4 {
         out.put(&[0]);
     }

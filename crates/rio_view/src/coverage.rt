@@ -3,12 +3,12 @@ ghost use Rattle.std.specs.Prelude.{◌≤◌};
 
 use crate::entries::{COUNT, entries};
 use crate::shadow::{Came, EntriesMet, Shadow};
-use fabric_script::{Line, PortRef, SetUp};
+use fabric_script::{Line, PortRef};
 use link_port::Port;
 use rio_chars::NoMemory;
 use std::alloc::{AllocError, Global};
 use trace_lines::{NetworkStep, TraceLine};
-use view_words::{Ear, Ports, Seen, Text, View, ViewEnd, ViewStatus, port_of};
+use view_words::{Ear, Ports, Seen, Setting, Text, View, ViewEnd, ViewStatus, port_of};
 
 /// The receive buffers of a port of which no line says another number.
 const BUFFERS: u8 = 8;
@@ -40,7 +40,8 @@ impl Coverage {
 }
 
 impl View for Coverage {
-    fn begin(&mut self, set_up: &SetUp, _: &mut Text) -> Result<(), ViewEnd> {
+    fn begin(&mut self, setting: Setting<'_>, _: &mut Text) -> Result<(), ViewEnd> {
+        let set_up = setting.set_up;
         self.fill(set_up.names().len())?;
         for line in set_up.lines() {
             self.set_up(&line.line);
@@ -60,7 +61,7 @@ impl View for Coverage {
         Ok(())
     }
 
-    fn end(&mut self, _: &SetUp, out: &mut Text) -> Result<(), ViewEnd> {
+    fn end(&mut self, _: Setting<'_>, out: &mut Text) -> Result<(), ViewEnd> {
         for (count, entry) in self.met.counts.iter().zip(entries().iter()) {
             put_entry(out, *count, entry);
         }

@@ -4,16 +4,16 @@
 use crate::cells::Cells;
 use crate::command::Range;
 use crate::drawing::{Draws, Takes};
-use crate::picture::{Arrow, ArrowKind, GAP, MARGIN, Mark, Picture, PictureRow, WIDE};
-use fabric_script::{Line, PortRef, SetUp};
+use crate::picture::{Arrow, ArrowKind, GAP, MARGIN, MOST_ROWS, Mark, Picture, PictureRow, WIDE};
+use fabric_script::{Line, PortRef};
 use link_model::Event;
 use rio_chars::Char;
 use rio_packets::Packet;
 use std::alloc::{AllocError, Global};
 use trace_lines::{Lack, NetworkStep, TraceLine};
 use view_words::{
-    AskedRegisters, Ear, Ports, Seen, Text, View, ViewEnd, links_of, listen, peer_of, port_of,
-    put_event, put_packet, put_port,
+    AskedRegisters, Ear, LineRange, Ports, Seen, Setting, Text, View, ViewEnd, links_of, listen,
+    peer_of, port_of, put_event, put_packet, put_port,
 };
 
 /// The lifeline of a port, and what stands on its wire.
@@ -53,6 +53,10 @@ enum WireChange {
 pub(crate) struct Ladder {
     range: Range,
     event: u32,
+    /// Whether the line is one of those that are shown.
+    has_line: bool,
+    /// The first and the last line with a row.
+    drawn: LineRange,
     links: Vec<(PortRef, PortRef)>,
     sending: Ports<Ear>,
     taking: Ports<Ear>,
@@ -70,6 +74,8 @@ impl Ladder {
         Ok(Ladder {
             range,
             event: 0,
+            has_line: false,
+            drawn: LineRange { first: 0, last: 0 },
             links: Vec::new(alloc),
             sending: Ports::new(alloc),
             taking: Ports::new(alloc),
@@ -83,34 +89,51 @@ impl Ladder {
 }
 
 impl View for Ladder {
-    fn begin(&mut self, set_up: &SetUp, _: &mut Text) -> Result<(), ViewEnd> {
-        let nodes = set_up.names().len();
+    fn begin(&mut self, setting: Setting<'_>, _: &mut Text) -> Result<(), ViewEnd> {
+        let nodes = setting.set_up.names().len();
         self.sending.fill(nodes)?;
         self.taking.fill(nodes)?;
         for _ in 0..nodes.saturating_mul(16) {
             self.lanes.push(Lane::new(self.alloc))?;
         }
-        self.links = links_of(self.alloc, set_up)?;
-        self.place_lives(set_up)?;
+        self.links = links_of(self.alloc, setting.set_up)?;
+        self.place_lives(setting)?;
         Ok(())
     }
 
     fn take(&mut self, seen: &Seen<'_>, _: &mut Text) -> Result<(), ViewEnd> {
+        self.has_line = seen.is_shown;
         self.make_edit(seen.line)?;
         self.draw_line(seen)?;
-        Ok(())
+        self.note_height(seen.number)
     }
 
-    fn end(&mut self, _: &SetUp, out: &mut Text) -> Result<(), ViewEnd> {
+    fn end(&mut self, _: Setting<'_>, out: &mut Text) -> Result<(), ViewEnd> {
         self.picture.draw(out);
         Ok(())
     }
 }
 
 impl Ladder {
-    /// Whether the event is drawn.
+    /// Whether what comes is drawn.
     fn is_shown(&self) -> bool {
-        self.range.from <= self.event && self.event <= self.range.to
+        self.has_line && self.range.from <= self.event && self.event <= self.range.to
+    }
+
+    /// Notes that the line of this number is drawn, unless the picture is too high with it.
+    fn note_height(&mut self, number: u32) -> Result<(), ViewEnd> {
+        let rows = self.picture.height();
+        if rows > MOST_ROWS {
+            return Err(ViewEnd::TooHigh(LineRange {
+                first: self.drawn.first,
+                last: self.drawn.last.max(self.drawn.first),
+            }));
+        }
+        if rows > 0 && self.drawn.first == 0 {
+            self.drawn.first = number;
+        }
+        self.drawn.last = number;
+        Ok(())
     }
 
     /// Draws what a line says.
@@ -130,16 +153,19 @@ impl Ladder {
         }
     }
 
-    /// A lifeline for each port of each link.
-    fn place_lives(&mut self, set_up: &SetUp) -> Result<(), AllocError> {
+    /// A lifeline for each port of each link that is shown.
+    fn place_lives(&mut self, setting: Setting<'_>) -> Result<(), AllocError> {
         let mut at = MARGIN;
         for (a, b) in &self.links {
+            if !setting.selection.has_link(*a, *b) {
+                continue;
+            }
             for (port, x, left) in [(*a, at, true), (*b, at.saturating_add(WIDE), false)] {
                 if let Some(lane) = self.lanes.get_mut(port) {
                     lane.life = Some((x, left));
                 }
                 let mut name = Text::new(self.alloc);
-                put_port(&mut name, set_up, port);
+                put_port(&mut name, setting.set_up, port);
                 self.picture.add_life(x, name)?;
             }
             at = at.saturating_add(WIDE + GAP);
@@ -317,7 +343,10 @@ impl Ladder {
         if !self.is_shown() {
             return Ok(());
         }
-        if ends.0 == 0 || ends.1 == 0 || ends.0 == ends.1 {
+        if ends.0 == 0 {
+            return self.mark(to, b"move", false, Some(packet));
+        }
+        if ends.1 == 0 || ends.0 == ends.1 {
             return self.mark(from, b"move", false, Some(packet));
         }
         let mut arrow = Arrow::new(self.alloc, ArrowKind::Inside, ends);

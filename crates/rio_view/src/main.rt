@@ -1,6 +1,6 @@
 //! `rio_view`: what a trace of RapidIO links shows. It reads set-up lines, a line `---` and a trace
-//! from standard input, and writes one view of it: words, counts, a ladder, a wave, packets, or
-//! what it covers of the step tables. `docs/pictures.md` shows each of them.
+//! from standard input, and writes one view of it: words, counts, a ladder, a wave, packets, a
+//! page, a map, or what it covers of the step tables. `docs/pictures.md` shows each of them.
 //!
 //! Promised: each line of a trace is read by the reader of `trace_lines`. Left out: whether a trace
 //! is lawful, which that crate tells.
@@ -19,15 +19,26 @@ mod coverage;
 mod drawing;
 mod entries;
 mod ladder;
+mod map;
+mod map_answer;
+mod map_dot;
+mod map_layout;
+mod map_svg;
 mod messages;
+mod page;
+mod page_head;
+mod page_rest;
+mod page_script;
 mod pen;
 mod picture;
 mod probes;
 mod program;
+mod save;
 mod shadow;
+mod telling;
 mod wave;
 
-pub use command::ViewCommand;
+pub use command::{Range, ViewCommand, ViewName};
 pub use program::run;
 use rio_chars::{StdSink, StdSource};
 use std::process::ExitCode;

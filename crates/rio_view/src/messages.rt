@@ -1,11 +1,11 @@
 //! What the program says of its end in words.
 
 use rio_chars::{Sink, write_decimal, write_unless};
-use view_words::{LineFault, RefusedLine, ViewEnd, ViewStatus};
+use view_words::{LineFault, LineRange, RefusedLine, ViewEnd, ViewStatus};
 
 /// How the program is used, on one line.
-const USAGE: &[u8] = b"usage: rio_view words [--flow], counts, ladder [--from N] [--to N], wave, \
-packets or coverage; rio_view --help says more\n";
+const USAGE: &[u8] = b"usage: rio_view words [--flow], counts, ladder, wave, save, packets, page, \
+map or coverage; rio_view --help says more\n";
 
 /// How the program is used.
 pub(crate) const HELP: &[u8] = b"usage: rio_view WORD, with one of these words:
@@ -14,10 +14,20 @@ words [--flow]             the trace with words behind each line, or one line fo
 counts                     what each port did, and what is left at the end
 ladder [--from N] [--to N] the links as a picture in SVG, from one event to another
 wave                       the characters of each wire in VCD, for GTKWave and others
+save                       what GTKWave is to show of that wave
 packets                    the packets in pcapng, for Wireshark
+page                       all of it as one page, for a browser
+map [--tables] [--dot]     the fabric as a picture in SVG, or for Graphviz
 coverage                   which entries of the step tables the ports met
 
-Standard input has the set-up lines of a script, a line ---, and a trace.
+All but map and coverage show a part of a trace by these options:
+
+--lines N-M                from one line of the input to another, as rio check numbers them
+--link PORT                what the two ports of one link do
+--port PORT                what one port does
+
+Standard input has the set-up lines of a script, a line ---, and a trace. A map needs the set-up
+lines alone, and takes what rio enumerate wrote behind the line ---.
 ";
 
 /// Says on one line what there is to say of an end.
@@ -25,11 +35,36 @@ pub(crate) fn say<M: Sink>(messages: &mut M, end: &Result<(), ViewEnd>) {
     match end {
         Ok(()) => {}
         Err(ViewEnd::Refused(refusal)) => say_refusal(messages, refusal),
+        Err(ViewEnd::NoPort) => {
+            write_unless(
+                false,
+                messages,
+                b"rio_view: no port of a link has this name\n",
+            );
+        }
+        Err(ViewEnd::TooHigh(lines)) => say_height(messages, *lines),
         Err(ViewEnd::Ended(status)) => {
             let failed = write_unless(false, messages, b"rio_view: ");
             write_unless(failed, messages, status_text(*status));
         }
     }
+}
+
+/// Says that a picture would be too high, and which lines would do.
+fn say_height<M: Sink>(messages: &mut M, lines: LineRange) {
+    let mut digits = [0; 10];
+    let failed = write_unless(
+        false,
+        messages,
+        b"rio_view: the ladder would be higher than 32767 pixels, and few programs open it; \
+--lines ",
+    );
+    let begin = write_decimal(lines.first, &mut digits);
+    let failed = write_unless(failed, messages, &digits[begin..]);
+    let failed = write_unless(failed, messages, b"-");
+    let begin = write_decimal(lines.last, &mut digits);
+    let failed = write_unless(failed, messages, &digits[begin..]);
+    write_unless(failed, messages, b" would do\n");
 }
 
 /// Says which line is refused, and why.

@@ -58,6 +58,19 @@ impl Pen<'_> {
         self.put_id(signal);
     }
 
+    /// A signal of a number has this value.
+    pub(crate) fn put_number(&mut self, signal: u32, value: u32) {
+        self.put_time();
+        self.out.put(b"b");
+        let leading = value.leading_zeros().min(31);
+        for place in 0..32 - leading {
+            let bit = value >> (31 - leading - place) & 1;
+            self.out.put(if bit == 1 { b"1" } else { b"0" });
+        }
+        self.out.put(b" ");
+        self.put_id(signal);
+    }
+
     /// A signal of words has this value.
     pub(crate) fn put_words(&mut self, signal: u32, first: &[u8], second: &[u8]) {
         self.put_time();

@@ -10,6 +10,10 @@ const HIGH: u64 = 24;
 /// Where the first row begins.
 const TOP: u64 = 56;
 
+/// The most rows of a picture: it is at most 32,767 pixels high, which is the most that common
+/// programs open.
+pub(crate) const MOST_ROWS: usize = 1_361;
+
 /// How far the two lifelines of a link are apart.
 pub(crate) const WIDE: u32 = 480;
 
@@ -171,6 +175,11 @@ impl Picture {
         if let Some(PictureRow::Band(text, _)) = self.rows.last_mut() {
             text.put(words);
         }
+    }
+
+    /// How many rows there are.
+    pub(crate) fn height(&self) -> usize {
+        self.rows.len()
     }
 
     /// The whole picture.
@@ -341,7 +350,7 @@ fn put_group(out: &mut Text, class: &[u8], label: &Text, tip: &Text) {
 }
 
 /// An attribute that is a number.
-fn put_attribute(out: &mut Text, name: &[u8], number: u64) {
+pub(crate) fn put_attribute(out: &mut Text, name: &[u8], number: u64) {
     out.put(b" ");
     out.put(name);
     out.put(b"=\"");

@@ -4,10 +4,10 @@ use crate::pen::{Pen, declare};
 use link_model::{Kind, char_kind};
 use rio_chars::Char;
 use rio_symbols::Symbol;
-use rio_symbols::stype0::{LINK_RESPONSE, STATUS};
-use rio_symbols::stype1::{LINK_REQUEST, NOP, RESTART_FROM_RETRY};
+use rio_symbols::stype0::STATUS;
+use rio_symbols::stype1::NOP;
 use std::alloc::AllocError;
-use view_words::{Ear, Hear, Heard, Text, listen, stype0_name, stype1_name};
+use view_words::{Ear, Halves, Hear, Heard, Text, listen, stype0_name, stype1_name};
 
 /// What is read at one end of a wire.
 #[derive(Clone, Copy, PartialEq)]
@@ -30,6 +30,8 @@ struct Probe {
     left: u8,
     c: Option<Char>,
     reads: Reads,
+    symbol: Option<Symbol>,
+    ack: Option<u8>,
 }
 
 impl Default for Probe {
@@ -40,6 +42,8 @@ impl Default for Probe {
             left: 0,
             c: None,
             reads: Reads::Idle,
+            symbol: None,
+            ack: None,
         }
     }
 }
@@ -59,12 +63,15 @@ impl Probe {
         out.put(b"$upscope $end\n");
     }
 
-    /// The values of all signals at first.
+    /// The values of all signals.
     fn put_all(&self, pen: &mut Pen<'_>) {
-        self.put_char(pen, None);
+        self.put_char(pen, self.c);
         self.put_reads(pen);
-        pen.put_words(self.first.saturating_add(3), b"none", b"");
-        pen.put_byte(self.first.saturating_add(4), None);
+        match &self.symbol {
+            Some(symbol) => self.put_symbol(pen, symbol),
+            None => pen.put_words(self.first.saturating_add(3), b"none", b""),
+        }
+        pen.put_byte(self.first.saturating_add(4), self.ack);
     }
 
     /// A character is on the wire, or none.
@@ -106,25 +113,33 @@ impl Probe {
         pen.put_words(self.first.saturating_add(2), word, b"");
     }
 
-    /// A character comes, and what it completes is answered.
-    fn take(&mut self, c: Char, pen: &mut Pen<'_>) -> Result<Completions, AllocError> {
+    /// A character comes, and changes the halves of the port that sends or takes it.
+    fn take(
+        &mut self,
+        c: Char,
+        way: Way,
+        halves: &mut Halves,
+        pen: &mut Pen<'_>,
+    ) -> Result<(), AllocError> {
         self.show(Some(c), pen);
-        let mut completed = Completions::default();
+        let mut completed = Completions::new(way, halves);
         listen(&mut self.ear, &[c], &mut completed)?;
-        let reads = self.reads_of(c, &completed);
+        let reads = self.reads_of(c, completed.is_bad);
         self.read(reads, pen);
-        if let Some(symbol) = &completed.symbol {
-            self.put_symbol(pen, symbol);
+        if let Some(symbol) = completed.symbol {
+            self.symbol = Some(symbol);
+            self.put_symbol(pen, &symbol);
         }
         if let Some(ack) = completed.ack {
+            self.ack = Some(ack);
             pen.put_byte(self.first.saturating_add(4), Some(ack));
         }
-        Ok(completed)
+        Ok(())
     }
 
     /// What is read at a character.
-    fn reads_of(&mut self, c: Char, completed: &Completions) -> Reads {
-        if completed.is_bad {
+    fn reads_of(&mut self, c: Char, is_bad: bool) -> Reads {
+        if is_bad {
             self.left = 0;
             return Reads::Bad;
         }
@@ -156,17 +171,42 @@ impl Probe {
     }
 }
 
+/// Which way characters go.
+#[derive(Clone, Copy)]
+enum Way {
+    Out,
+    In,
+}
+
 /// What a character completes.
-#[derive(Default, Drop)]
-struct Completions {
+#[derive(Drop)]
+struct Completions<'a> {
+    way: Way,
+    halves: &'a mut Halves,
     symbol: Option<Symbol>,
     ack: Option<u8>,
-    is_packet: bool,
     is_bad: bool,
 }
 
-impl Hear for Completions {
+impl<'a> Completions<'a> {
+    /// Nothing yet.
+    fn new(way: Way, halves: &'a mut Halves) -> Completions<'a> {
+        Completions {
+            way,
+            halves,
+            symbol: None,
+            ack: None,
+            is_bad: false,
+        }
+    }
+}
+
+impl Hear for Completions<'_> {
     fn hear(&mut self, _: &[Char], heard: &Heard) -> Result<(), AllocError> {
+        match self.way {
+            Way::Out => self.halves.send(heard),
+            Way::In => self.halves.take(heard),
+        }
         match heard {
             Heard::Nothing => {}
             Heard::Symbol(symbol) => {
@@ -176,7 +216,6 @@ impl Hear for Completions {
             Heard::Packet(ack, _, symbol) => {
                 self.symbol = Some(*symbol);
                 self.ack = Some(*ack);
-                self.is_packet = true;
             }
             Heard::Broken(_, symbol) => {
                 self.symbol = Some(*symbol);
@@ -195,8 +234,6 @@ pub(crate) enum Change {
     Hold,
     /// A packet that was held goes on.
     Give,
-    /// A packet is freed.
-    Free,
 }
 
 /// The signals of a port.
@@ -204,12 +241,9 @@ pub(crate) enum Change {
 pub(crate) struct PortSignals {
     sending: Probe,
     taking: Probe,
+    /// The number of the first signal of the port itself, or 0 if none is shown.
     first: u32,
-    /// The packets that it freed, and the number of the next one that it sends.
-    frees: u64,
-    next: u64,
-    /// Whether it asked which packet is expected, and has no answer yet.
-    asks: bool,
+    halves: Halves,
     held: u64,
     fires: u64,
 }
@@ -221,73 +255,61 @@ impl PortSignals {
         let second = first.saturating_add(OF_PROBE);
         self.taking.declare(second, b"got", out);
         self.first = second.saturating_add(OF_PROBE);
-        declare(out, b"wire 8", self.first, b"outstanding [7:0]");
-        declare(out, b"wire 8", self.first.saturating_add(1), b"held [7:0]");
-        declare(
-            out,
-            b"wire 8",
-            self.first.saturating_add(2),
-            b"time_outs [7:0]",
-        );
-        self.first.saturating_add(3)
+        declare(out, b"string 1", self.first, b"output");
+        declare(out, b"string 1", self.signal(1), b"input");
+        declare(out, b"wire 8", self.signal(2), b"outstanding [7:0]");
+        declare(out, b"wire 8", self.signal(3), b"held [7:0]");
+        declare(out, b"wire 8", self.signal(4), b"time_outs [7:0]");
+        self.signal(5)
     }
 
-    /// The values of all signals at first.
+    /// Whether the signals are shown.
+    pub(crate) fn is_shown(&self) -> bool {
+        self.first > 0
+    }
+
+    /// The number of a signal of the port itself.
+    fn signal(&self, place: u32) -> u32 {
+        self.first.saturating_add(place)
+    }
+
+    /// The values of all signals.
     pub(crate) fn put_all(&self, pen: &mut Pen<'_>) {
         self.sending.put_all(pen);
         self.taking.put_all(pen);
-        self.put_outstanding(pen);
-        self.put_held(pen);
-        pen.put_byte(self.first.saturating_add(2), Some(0));
+        pen.put_words(self.first, self.halves.output.words(), b"");
+        pen.put_words(self.signal(1), self.halves.input.words(), b"");
+        pen.put_byte(self.signal(2), Some(self.halves.outstanding));
+        pen.put_byte(self.signal(3), Some(self.held.min(255) as u8));
+        pen.put_byte(self.signal(4), Some(self.fires.min(255) as u8));
     }
 
-    /// How many packets are outstanding.
-    fn put_outstanding(&self, pen: &mut Pen<'_>) {
-        let count = self.next.saturating_sub(self.frees).min(255);
-        pen.put_byte(self.first, Some(count as u8));
-    }
-
-    /// How many packets the port holds.
-    fn put_held(&self, pen: &mut Pen<'_>) {
-        pen.put_byte(self.first.saturating_add(1), Some(self.held.min(255) as u8));
-    }
-
-    /// The number of the packet with an ackID, from the oldest that is not freed on.
-    fn number_of(&self, ack: u8) -> u64 {
-        let oldest = (self.frees % 32) as u8;
-        let behind = (ack % 32 + 32 - oldest) % 32;
-        self.frees.saturating_add(u64::from(behind))
+    /// Puts what is other than before of the halves.
+    fn put_halves(&self, before: Halves, pen: &mut Pen<'_>) {
+        if self.halves.output != before.output {
+            pen.put_words(self.first, self.halves.output.words(), b"");
+        }
+        if self.halves.input != before.input {
+            pen.put_words(self.signal(1), self.halves.input.words(), b"");
+        }
+        if self.halves.outstanding != before.outstanding {
+            pen.put_byte(self.signal(2), Some(self.halves.outstanding));
+        }
     }
 
     /// The port sends a character.
     pub(crate) fn send(&mut self, c: Char, pen: &mut Pen<'_>) -> Result<(), AllocError> {
-        let completed = self.sending.take(c, pen)?;
-        if let (true, Some(ack)) = (completed.is_packet, completed.ack) {
-            self.next = self.number_of(ack).saturating_add(1);
-            self.put_outstanding(pen);
-        }
-        match completed.symbol {
-            Some(symbol) if symbol.s1 == RESTART_FROM_RETRY => {
-                self.next = self.frees;
-                self.put_outstanding(pen);
-            }
-            Some(symbol) if symbol.s1 == LINK_REQUEST => self.asks = true,
-            _ => {}
-        }
+        let before = self.halves;
+        self.sending.take(c, Way::Out, &mut self.halves, pen)?;
+        self.put_halves(before, pen);
         Ok(())
     }
 
     /// The port takes a character.
     pub(crate) fn get(&mut self, c: Char, pen: &mut Pen<'_>) -> Result<(), AllocError> {
-        let completed = self.taking.take(c, pen)?;
-        match completed.symbol {
-            Some(symbol) if symbol.s0 == LINK_RESPONSE && self.asks => {
-                self.asks = false;
-                self.next = self.number_of(symbol.p0);
-                self.put_outstanding(pen);
-            }
-            _ => {}
-        }
+        let before = self.halves;
+        self.taking.take(c, Way::In, &mut self.halves, pen)?;
+        self.put_halves(before, pen);
         Ok(())
     }
 
@@ -303,23 +325,19 @@ impl PortSignals {
 
     /// A step changes what the port has.
     pub(crate) fn change(&mut self, change: Change, pen: &mut Pen<'_>) {
-        match change {
-            Change::Hold => self.held = self.held.saturating_add(1),
-            Change::Give => self.held = self.held.saturating_sub(1),
-            Change::Free => {
-                self.frees = self.frees.saturating_add(1);
-                return self.put_outstanding(pen);
-            }
-        }
-        self.put_held(pen);
+        self.held = match change {
+            Change::Hold => self.held.saturating_add(1),
+            Change::Give => self.held.saturating_sub(1),
+        };
+        pen.put_byte(self.signal(3), Some(self.held.min(255) as u8));
     }
 
     /// The time-out fires.
     pub(crate) fn fire(&mut self, pen: &mut Pen<'_>) {
+        let before = self.halves;
+        self.halves.fire();
+        self.put_halves(before, pen);
         self.fires = self.fires.saturating_add(1);
-        pen.put_byte(
-            self.first.saturating_add(2),
-            Some(self.fires.min(255) as u8),
-        );
+        pen.put_byte(self.signal(4), Some(self.fires.min(255) as u8));
     }
 }

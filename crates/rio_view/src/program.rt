@@ -1,14 +1,17 @@
 //! The whole program, but for where its words and its streams come from.
 
 use crate::capture::Capture;
-use crate::command::{Range, ViewCommand, command_of};
+use crate::command::{Range, ViewCommand, ViewName, command_of};
 use crate::coverage::Coverage;
 use crate::ladder::Ladder;
+use crate::map::show_map;
 use crate::messages::{HELP, say};
+use crate::page::PageView;
+use crate::save::SaveFile;
 use crate::wave::Wave;
 use rio_chars::{Sink, Source, write_all};
 use std::alloc::Global;
-use view_words::{CountsView, ViewEnd, ViewStatus, WordsView, show, status_number};
+use view_words::{CountsView, Part, ViewEnd, ViewStatus, WordsView, show, status_number};
 
 /// Writes the view that the words behind the program's name ask for, and answers the exit status.
 /// What there is to say of the end is said to `messages`. A message that cannot be said changes
@@ -48,18 +51,23 @@ fn view_words<S: Source, K: Sink>(
 /// Writes a view of what is read.
 fn view<S: Source, K: Sink>(
     alloc: Global,
-    command: ViewCommand,
+    command: ViewCommand<'_>,
     source: &mut S,
     sink: &mut K,
 ) -> Result<(), ViewEnd> {
-    match command {
-        ViewCommand::Words { flow } => show_words(alloc, flow, source, sink),
-        ViewCommand::Counts => show(alloc, CountsView::new(alloc), source, sink),
-        ViewCommand::Ladder(range) => show_ladder(alloc, range, source, sink),
-        ViewCommand::Wave => show(alloc, Wave::new(alloc), source, sink),
-        ViewCommand::Packets => show(alloc, Capture::new(alloc), source, sink),
-        ViewCommand::Coverage => show(alloc, Coverage::new(alloc), source, sink),
-        ViewCommand::Help => match write_all(sink, HELP) {
+    let part = command.part;
+    match command.view {
+        ViewName::Words => show_words(alloc, part, false, source, sink),
+        ViewName::Flow => show_words(alloc, part, true, source, sink),
+        ViewName::Counts => show(alloc, part, CountsView::new(alloc), source, sink),
+        ViewName::Ladder => show_ladder(alloc, part, command.events, source, sink),
+        ViewName::Wave => show(alloc, part, Wave::new(alloc), source, sink),
+        ViewName::Save => show(alloc, part, SaveFile::new(alloc), source, sink),
+        ViewName::Packets => show(alloc, part, Capture::new(alloc), source, sink),
+        ViewName::Coverage => show(alloc, part, Coverage::new(alloc), source, sink),
+        ViewName::Page => show_page(alloc, part, source, sink),
+        ViewName::Map => show_map(alloc, command, source, sink),
+        ViewName::Help => match write_all(sink, HELP) {
             Ok(()) => Ok(()),
             Err(_) => Err(ViewEnd::Ended(ViewStatus::WriteFault)),
         },
@@ -69,19 +77,31 @@ fn view<S: Source, K: Sink>(
 /// Writes what is read in words.
 fn show_words<S: Source, K: Sink>(
     alloc: Global,
+    part: Part<'_>,
     flow: bool,
     source: &mut S,
     sink: &mut K,
 ) -> Result<(), ViewEnd> {
-    show(alloc, WordsView::new(alloc, flow)?, source, sink)
+    show(alloc, part, WordsView::new(alloc, flow)?, source, sink)
 }
 
 /// Writes what is read as a ladder.
 fn show_ladder<S: Source, K: Sink>(
     alloc: Global,
-    range: Range,
+    part: Part<'_>,
+    events: Range,
     source: &mut S,
     sink: &mut K,
 ) -> Result<(), ViewEnd> {
-    show(alloc, Ladder::new(alloc, range)?, source, sink)
+    show(alloc, part, Ladder::new(alloc, events)?, source, sink)
+}
+
+/// Writes what is read as a page for a browser.
+fn show_page<S: Source, K: Sink>(
+    alloc: Global,
+    part: Part<'_>,
+    source: &mut S,
+    sink: &mut K,
+) -> Result<(), ViewEnd> {
+    show(alloc, part, PageView::new(alloc)?, source, sink)
 }

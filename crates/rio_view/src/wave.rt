@@ -1,17 +1,21 @@
 //! A trace as a wave, in the form of a value change dump (VCD): what is on each wire, a character a
 //! unit of time.
 
-use crate::pen::Pen;
+use crate::pen::{Pen, declare};
 use crate::probes::{Change, PortSignals};
+use crate::save::put_scope_name;
 use fabric_script::{PortRef, SetUp};
 use rio_chars::Char;
 use std::alloc::Global;
 use trace_lines::{NetworkStep, TraceLine};
-use view_words::{Ports, Seen, Text, View, ViewEnd, links_of, port_of, put_port};
+use view_words::{Ports, Seen, Setting, Text, View, ViewEnd, links_of, port_of};
 
 /// What stands before the signals.
 const HEAD: &[u8] = b"$comment a unit of time is a character $end\n$timescale 1 ns $end\n\
 $scope module links $end\n";
+
+/// The number of the signal that has the number of the line.
+const LINE: u32 = 0;
 
 /// A wave in the making.
 #[derive(Drop)]
@@ -21,6 +25,10 @@ pub(crate) struct Wave {
     time: u64,
     /// The moment of the last change.
     written: Option<u64>,
+    /// Whether a line that is shown has come.
+    is_begun: bool,
+    /// What changes before the first line that is shown, which is not written.
+    unseen: Text,
     alloc: Global,
 }
 
@@ -32,24 +40,88 @@ impl Wave {
             links: Vec::new(alloc),
             time: 0,
             written: None,
+            is_begun: false,
+            unseen: Text::new(alloc),
             alloc,
         }
     }
 }
 
 impl View for Wave {
-    fn begin(&mut self, set_up: &SetUp, out: &mut Text) -> Result<(), ViewEnd> {
-        self.stations.fill(set_up.names().len())?;
-        self.links = links_of(self.alloc, set_up)?;
+    fn begin(&mut self, setting: Setting<'_>, out: &mut Text) -> Result<(), ViewEnd> {
+        self.stations.fill(setting.set_up.names().len())?;
+        self.links = links_of(self.alloc, setting.set_up)?;
         out.put(HEAD);
-        self.declare(set_up, out);
+        declare(out, b"wire 32", LINE, b"line [31:0]");
+        self.declare(setting, out);
         out.put(b"$upscope $end\n$enddefinitions $end\n");
-        self.put_all(out);
         Ok(())
     }
 
     fn take(&mut self, seen: &Seen<'_>, out: &mut Text) -> Result<(), ViewEnd> {
-        match seen.line {
+        let lines = seen.selection.lines();
+        if seen.number > lines.last {
+            return Ok(());
+        }
+        if seen.number < lines.first {
+            return self.take_unseen(seen.line);
+        }
+        if !self.is_begun {
+            self.is_begun = true;
+            self.written = None;
+            self.put_all(out);
+        }
+        Pen::new(out, self.time, &mut self.written).put_number(LINE, seen.number);
+        self.follow(seen.line, out)
+    }
+
+    fn end(&mut self, _: Setting<'_>, out: &mut Text) -> Result<(), ViewEnd> {
+        out.lack(&self.unseen);
+        out.put(b"#");
+        out.put_number(self.time);
+        out.put(b"\n");
+        Ok(())
+    }
+}
+
+/// The scope of a port.
+fn put_scope(out: &mut Text, set_up: &SetUp, port: PortRef) {
+    out.put(b"$scope module ");
+    put_scope_name(out, set_up, port);
+    out.put(b" $end\n");
+}
+
+impl Wave {
+    /// Declares the signals of each port of a link that is shown.
+    fn declare(&mut self, setting: Setting<'_>, out: &mut Text) {
+        let mut first = LINE + 1;
+        for (a, b) in &self.links {
+            for port in [*a, *b] {
+                if let (true, Some(station)) = (
+                    setting.selection.has_port(port),
+                    self.stations.get_mut(port),
+                ) {
+                    put_scope(out, setting.set_up, port);
+                    first = station.declare(first, out);
+                    out.put(b"$upscope $end\n");
+                }
+            }
+        }
+    }
+
+    /// A line before those that are shown.
+    fn take_unseen(&mut self, line: &TraceLine) -> Result<(), ViewEnd> {
+        let mut unseen = Text::new(self.alloc);
+        std::mem::swap(&mut unseen, &mut self.unseen);
+        let end = self.follow(line, &mut unseen);
+        unseen.clear();
+        std::mem::swap(&mut unseen, &mut self.unseen);
+        end
+    }
+
+    /// What a line says is done.
+    fn follow(&mut self, line: &TraceLine, out: &mut Text) -> Result<(), ViewEnd> {
+        match line {
             TraceLine::Sent(port, chars) => self.send(*port, chars.as_slice(), out)?,
             TraceLine::Got(port, chars) => self.get(*port, chars.as_slice(), out)?,
             TraceLine::Stepped(step) => self.step(step, out),
@@ -62,46 +134,12 @@ impl View for Wave {
         Ok(())
     }
 
-    fn end(&mut self, _: &SetUp, out: &mut Text) -> Result<(), ViewEnd> {
-        out.put(b"#");
-        out.put_number(self.time);
-        out.put(b"\n");
-        Ok(())
-    }
-}
-
-/// The scope of a port: in a name a point would part scopes.
-fn put_scope(out: &mut Text, set_up: &SetUp, port: PortRef) {
-    out.put(b"$scope module ");
-    if let Some(name) = set_up.names().get(usize::from(port.node)) {
-        out.put(name.as_slice());
-    }
-    out.put(b"_");
-    out.put_number(u64::from(port.port));
-    out.put(b" $end\n");
-}
-
-impl Wave {
-    /// Declares the signals of each port of a link.
-    fn declare(&mut self, set_up: &SetUp, out: &mut Text) {
-        let mut first = 0;
-        for (a, b) in &self.links {
-            for port in [*a, *b] {
-                if let Some(station) = self.stations.get_mut(port) {
-                    put_scope(out, set_up, port);
-                    first = station.declare(first, out);
-                    out.put(b"$upscope $end\n");
-                }
-            }
-        }
-    }
-
-    /// Puts the first value of each signal.
+    /// Puts the value of each signal.
     fn put_all(&mut self, out: &mut Text) {
-        let mut pen = Pen::new(out, 0, &mut self.written);
+        let mut pen = Pen::new(out, self.time, &mut self.written);
         for (a, b) in &self.links {
             for port in [*a, *b] {
-                if let Some(station) = self.stations.get(port) {
+                if let Some(station) = self.stations.get(port).filter(|it| it.is_shown()) {
                     station.put_all(&mut pen);
                 }
             }
@@ -110,7 +148,8 @@ impl Wave {
 
     /// A port sends characters.
     fn send(&mut self, port: PortRef, chars: &[Char], out: &mut Text) -> Result<(), ViewEnd> {
-        let Some(station) = self.stations.get_mut(port) else {
+        let Some(station) = shown(&mut self.stations, port) else {
+            self.time = self.time.saturating_add(chars.len() as u64);
             return Ok(());
         };
         for c in chars {
@@ -123,7 +162,8 @@ impl Wave {
 
     /// A port takes characters.
     fn get(&mut self, port: PortRef, chars: &[Char], out: &mut Text) -> Result<(), ViewEnd> {
-        let Some(station) = self.stations.get_mut(port) else {
+        let Some(station) = shown(&mut self.stations, port) else {
+            self.time = self.time.saturating_add(chars.len() as u64);
             return Ok(());
         };
         for c in chars {
@@ -139,16 +179,26 @@ impl Wave {
         let Some((port, change)) = change_of(step) else {
             return;
         };
-        if let Some(station) = self.stations.get_mut(port) {
+        if let Some(station) = shown(&mut self.stations, port) {
             station.change(change, &mut Pen::new(out, self.time, &mut self.written));
         }
     }
 
     /// A time-out fires.
     fn fire(&mut self, port: PortRef, out: &mut Text) {
-        if let Some(station) = self.stations.get_mut(port) {
+        if let Some(station) = shown(&mut self.stations, port) {
             station.fire(&mut Pen::new(out, self.time, &mut self.written));
         }
+    }
+}
+
+/// The signals of a port, if they are shown.
+fn shown(stations: &mut Ports<PortSignals>, port: PortRef) -> Option<&mut PortSignals> {
+    let station = stations.get_mut(port)?;
+    if station.is_shown() {
+        Some(station)
+    } else {
+        None
     }
 }
 
@@ -156,11 +206,10 @@ impl Wave {
 fn change_of(step: &NetworkStep) -> Option<(PortRef, Change)> {
     match step {
         NetworkStep::Hold(port, _) => Some((*port, Change::Hold)),
-        NetworkStep::Free(port, _) => Some((*port, Change::Free)),
         NetworkStep::Leave(node, _) => Some((port_of(*node), Change::Give)),
         NetworkStep::Move(port, _, _)
         | NetworkStep::Drop(port, _)
         | NetworkStep::Answer(port, _, _) => { Some((*port, Change::Give)) }
-        NetworkStep::Take(..) => None,
+        NetworkStep::Free(..) | NetworkStep::Take(..) => None,
     }
 }

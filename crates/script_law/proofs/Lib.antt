@@ -9,3 +9,4 @@ pub mod FormChoice
 pub mod ReasonChoice
 pub mod LineChoice
 pub mod TextChoice
+pub mod Inputs

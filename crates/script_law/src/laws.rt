@@ -8,6 +8,7 @@ ghost use Rattle.fabric_script.specs.Known.{Known, IsOrderly};
 ghost use Rattle.fabric_script.specs.Reading.{Spells, LeastHit};
 ghost use Rattle.fabric_script.specs.Scripts.{IsScript, IsScriptIn, RefusedAt, RefusedIn};
 ghost use Rattle.fabric_script.specs.SetUps.{KnownIsReady, IsRefused};
+ghost use Rattle.script_input.specs.Inputs.{IsInput, IsRefusedInput};
 
 /// Bytes spell a script, or are refused at a line for a reason. So they do in each mode: also among
 /// set-up lines alone.
@@ -29,4 +30,13 @@ pub fn every_line_is_spelled_or_refused()
     ensures event { (known : Known) (text : List ℕ) → KnownIsReady known
         → ((line : Line) × Spells known text line)
         ⊎ ((number : ℕ) × IsRefused known text number) }
+{}
+
+/// An input, of however many bytes, is set-up lines that no reason hits, a line `---` and the lines
+/// behind it; or it is refused at a line for a reason.
+pub fn every_input_is_parted_or_refused()
+    ensures { (bytes : List ℕ)
+        → ((lines : List Numbered) × (known : Known) × (texts : List (List ℕ))
+        × IsInput bytes lines known texts)
+        ⊎ ((line : ℕ) × (reason : ℕ) × IsRefusedInput bytes line reason) }
 {}

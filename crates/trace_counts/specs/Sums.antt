@@ -1,5 +1,5 @@
 -- What a port did, as sums over the lines that name it and over what its characters say.
-use Rattle.std.specs.Prelude.{ℕ, ◌+◌, ◌-◌, ◌%◌, ◌==◌, nat_lt, List, [], ◌∷◌, length, slice_index_or, slice_set, replicate, if◌then◌else◌}
+use Rattle.std.specs.Prelude.{ℕ, min, ◌+◌, ◌-◌, ◌%◌, ◌==◌, nat_lt, List, [], ◌∷◌, length, slice_index_or, slice_set, replicate, if◌then◌else◌}
 use Rattle.rio_chars.specs.declared.chars.Char.{Char}
 use Rattle.rio_symbols.specs.declared.stype0.TheConstants.{PACKET_NOT_ACCEPTED}
 use Rattle.rio_symbols.specs.Fields.{Fields}
@@ -103,3 +103,26 @@ no_sums = record {
 
 abbrev pub nothing_done : PortCounts
 nothing_done = record { place = place_start; sums = no_sums }
+
+-- a number that fits into 64 bits, or the greatest that does
+abbrev pub capped : ℕ → ℕ
+capped n = min n 18446744073709551615
+
+-- how often a packet was sent with an ackID that was used already
+abbrev pub sent_again : Sums → ℕ
+sent_again c = c.packets - c.used
+
+-- How many packets are to be sent, or were sent and not freed. What came in is counted up to 2^64
+-- less 1.
+abbrev pub left_to_send : LineCounts → ℕ
+left_to_send c = capped (c.takes + c.moves_in + c.answers) - c.frees
+
+-- how many packets are held
+abbrev pub still_held : LineCounts → ℕ
+still_held c = c.holds - (c.moves_out + c.drops + c.answers + c.leaves)
+
+-- four totals with a port more: what was taken, answered, left and was dropped there
+abbrev pub totals_with : List ℕ → LineCounts → List ℕ
+totals_with total c =
+    capped (slice_index_or total 0 0 + c.takes) ∷ capped (slice_index_or total 1 0 + c.answers)
+    ∷ capped (slice_index_or total 2 0 + c.leaves) ∷ capped (slice_index_or total 3 0 + c.drops) ∷ []

@@ -3,7 +3,7 @@ ghost use Rattle.std.specs.Prelude.{◌≡◌, ◌+◌, ℕ, suc, IsSome, IfOk, 
 ghost use Rattle.rio_symbols.specs.Fields.{Fields};
 ghost use Rattle.link_model.specs.declared.event.Event.TheVariants.{Ctl, Pkt, Bad};
 ghost use Rattle.rio_framer.specs.Giving.{listed, events_by};
-ghost use Rattle.trace_counts.specs.Sums.{kind_raised, noted, noted_all, packet_counted, no_sums};
+ghost use Rattle.trace_counts.specs.Sums.{kind_raised, noted, noted_all, packet_counted, no_sums, sent_again, left_to_send, still_held, totals_with};
 
 use rio_framer::{Framer, Told};
 use rio_symbols::Symbol;
@@ -198,12 +198,16 @@ impl Sums {
     }
 
     /// The packets that were sent again.
-    pub fn again(&self) -> u64 {
+    pub fn again(&self) -> u64
+        ensures { result ≡ sent_again self.now }
+    {
         self.packets.saturating_sub(self.used)
     }
 
     /// The packets that are to be sent, or were sent and not freed.
-    pub fn to_send(&self) -> u64 {
+    pub fn to_send(&self) -> u64
+        ensures { result ≡ left_to_send self.now.lines }
+    {
         let lines = &self.lines;
         lines
             .takes
@@ -213,7 +217,9 @@ impl Sums {
     }
 
     /// The packets that the port holds.
-    pub fn received(&self) -> u64 {
+    pub fn received(&self) -> u64
+        ensures { result ≡ still_held self.now.lines }
+    {
         let lines = &self.lines;
         lines
             .holds
@@ -224,7 +230,9 @@ impl Sums {
     }
 
     /// Adds the packets that were taken, answered, left and were dropped here.
-    pub fn add_to(&self, total: &mut [u64; 4]) {
+    pub fn add_to(&self, total: &mut [u64; 4])
+        ensures { total.new ≡ totals_with total.old self.now.lines }
+    {
         let lines = &self.lines;
         let [taken, answered, gone, dropped] = *total;
         *total = [

@@ -3,7 +3,7 @@
 use crate::fabric::put_port;
 use crate::reading::ViewEnd;
 use crate::text::Text;
-use crate::view::{Seen, View};
+use crate::view::{Seen, Setting, View};
 use fabric_script::{PortRef, SetUp};
 use std::alloc::Global;
 use trace_counts::{Sums, Tallies};
@@ -16,11 +16,12 @@ const MOST_NODES: u8 = 64;
 const NAME: usize = 11;
 
 /// The heads of the table of what each port did.
-const DONE: [&[u8]; 11] = [
+const DONE: [&[u8]; 12] = [
     b"characters",
     b"packets",
     b"again",
     b"accepted",
+    b"held",
     b"retried",
     b"refused",
     b"requests",
@@ -63,10 +64,12 @@ const REFUSED: [&[u8]; 7] = [
 /// The causes below these heads.
 const CAUSES: [usize; 6] = [1, 2, 3, 4, 5, 31];
 
-/// What each port did, and how many packets went in and out.
+/// What each port did, and how many packets went in and out: up to the last line that is shown, and
+/// before the first.
 #[derive(Drop)]
 pub struct CountsView {
-    tallies: Option<Tallies>,
+    all: Option<Tallies>,
+    before: Option<Tallies>,
     last: &'static [u8],
     alloc: Global,
 }
@@ -75,7 +78,8 @@ impl CountsView {
     /// Nothing was done.
     pub fn new(alloc: Global) -> CountsView {
         CountsView {
-            tallies: None,
+            all: None,
+            before: None,
             last: b"",
             alloc,
         }
@@ -83,15 +87,20 @@ impl CountsView {
 }
 
 impl View for CountsView {
-    fn begin(&mut self, set_up: &SetUp, _: &mut Text) -> Result<(), ViewEnd> {
-        let nodes = set_up.names().len().min(64) as u8;
-        self.tallies = Some(Tallies::new(self.alloc, nodes)?);
+    fn begin(&mut self, setting: Setting<'_>, _: &mut Text) -> Result<(), ViewEnd> {
+        let nodes = setting.set_up.names().len().min(64) as u8;
+        self.all = Some(Tallies::new(self.alloc, nodes)?);
+        self.before = Some(Tallies::new(self.alloc, nodes)?);
         Ok(())
     }
 
     fn take(&mut self, seen: &Seen<'_>, _: &mut Text) -> Result<(), ViewEnd> {
-        if let Some(tallies) = &mut self.tallies {
-            tallies.count(seen.line)?;
+        let lines = seen.selection.lines();
+        if let (Some(before), true) = (&mut self.before, seen.number < lines.first) {
+            before.count(seen.line)?;
+        }
+        if let (Some(all), true) = (&mut self.all, seen.number <= lines.last) {
+            all.count(seen.line)?;
         }
         match seen.line {
             TraceLine::Ended => self.last = b"end",
@@ -101,15 +110,14 @@ impl View for CountsView {
         Ok(())
     }
 
-    fn end(&mut self, set_up: &SetUp, out: &mut Text) -> Result<(), ViewEnd> {
-        if let Some(tallies) = &self.tallies {
-            put_table(tallies, set_up, out, Table::Done);
-            out.put(b"\nsymbols that it sent\n");
-            put_table(tallies, set_up, out, Table::Symbols);
-            out.put(b"\npackets that it refused, by cause\n");
-            put_table(tallies, set_up, out, Table::Refused);
-            out.put(b"\n");
-            put_total(tallies, out);
+    fn end(&mut self, setting: Setting<'_>, out: &mut Text) -> Result<(), ViewEnd> {
+        if let (Some(all), Some(before)) = (&self.all, &self.before) {
+            let tables = Tables {
+                all,
+                before,
+                setting,
+            };
+            tables.put(out);
         }
         out.put(self.last);
         out.put(b"\n");
@@ -135,38 +143,69 @@ impl Table {
         }
     }
 
-    /// Puts a row.
-    fn put_row(self, sums: &Sums, row: &mut CountsRow<'_>) {
+    /// Puts a row, by what was done up to the last line, and before the first.
+    fn put_row(self, all: &Sums, before: &Sums, row: &mut CountsRow<'_>) {
         match self {
-            Table::Done => put_done(sums, row),
-            Table::Symbols => put_symbols(sums, row),
-            Table::Refused => put_causes(sums, row),
+            Table::Done => {
+                row.put_less(&done_of(all), &done_of(before));
+                row.put_all(&[all.most, all.to_send(), all.received()]);
+            }
+            Table::Symbols => row.put_less(&symbols_of(all), &symbols_of(before)),
+            Table::Refused => row.put_less(&causes_of(all), &causes_of(before)),
         }
     }
 }
 
-/// The sums of a port that has a link, or has packets to send.
-fn shown<'a>(tallies: &'a Tallies, set_up: &SetUp, port: PortRef) -> Option<&'a Sums> {
-    let sums = tallies.get(port)?.sums();
-    if set_up.is_linked(port) || sums.to_send() > 0 {
-        Some(sums)
-    } else {
-        None
-    }
+/// What the tables show.
+#[derive(Clone, Copy)]
+struct Tables<'a> {
+    all: &'a Tallies,
+    before: &'a Tallies,
+    setting: Setting<'a>,
 }
 
-/// A table with a row for each port.
-fn put_table(tallies: &Tallies, set_up: &SetUp, out: &mut Text, table: Table) {
-    put_heads(out, table.heads());
-    for node in 0..MOST_NODES {
-        for port in 0..16 {
-            let port = PortRef { node, port };
-            if let Some(sums) = shown(tallies, set_up, port) {
-                put_name(out, set_up, port);
-                let heads = table.heads();
-                table.put_row(sums, &mut CountsRow { out, heads });
-                out.put(b"\n");
+impl Tables<'_> {
+    /// All tables, and how many packets came in and went out.
+    fn put(&self, out: &mut Text) {
+        self.put_table(out, Table::Done);
+        out.put(b"\nsymbols that it sent\n");
+        self.put_table(out, Table::Symbols);
+        out.put(b"\npackets that it refused, by cause\n");
+        self.put_table(out, Table::Refused);
+        out.put(b"\n");
+        put_total(totals(self.all), totals(self.before), out);
+    }
+
+    /// Whether a port has a row: it is shown, and has a link or packets to send.
+    fn is_shown(&self, port: PortRef, sums: &Sums) -> bool {
+        let Setting {
+            set_up,
+            selection,
+            ..
+        } = self.setting;
+        selection.has_port(port) && (set_up.is_linked(port) || sums.to_send() > 0)
+    }
+
+    /// A table with a row for each port.
+    fn put_table(&self, out: &mut Text, table: Table) {
+        put_heads(out, table.heads());
+        for node in 0..MOST_NODES {
+            for port in 0..16 {
+                self.put_row(out, table, PortRef { node, port });
             }
+        }
+    }
+
+    /// The row of a port, if it has one.
+    fn put_row(&self, out: &mut Text, table: Table, port: PortRef) {
+        let (Some(all), Some(before)) = (self.all.get(port), self.before.get(port)) else {
+            return;
+        };
+        if self.is_shown(port, all.sums()) {
+            put_name(out, self.setting.set_up, port);
+            let heads = table.heads();
+            table.put_row(all.sums(), before.sums(), &mut CountsRow { out, heads });
+            out.put(b"\n");
         }
     }
 }
@@ -181,8 +220,8 @@ fn put_heads(out: &mut Text, heads: &[&[u8]]) {
     out.put(b"\n");
 }
 
-/// How many packets came in and went out, and how many are left.
-fn put_total(tallies: &Tallies, out: &mut Text) {
+/// How many packets were taken, answered, left and were dropped.
+fn totals(tallies: &Tallies) -> [u64; 4] {
     let mut total = [0u64; 4];
     for node in 0..MOST_NODES {
         for port in 0..16 {
@@ -191,11 +230,16 @@ fn put_total(tallies: &Tallies, out: &mut Text) {
             }
         }
     }
-    let [taken, answered, gone, dropped] = total;
-    put_named(out, taken, b" taken, ");
-    put_named(out, answered, b" answered, ");
-    put_named(out, gone, b" gone, ");
-    put_named(out, dropped, b" dropped, ");
+    total
+}
+
+/// How many packets came in and went out, and how many are left.
+fn put_total(all: [u64; 4], before: [u64; 4], out: &mut Text) {
+    let [taken, answered, gone, dropped] = all;
+    put_named(out, taken.saturating_sub(before[0]), b" taken, ");
+    put_named(out, answered.saturating_sub(before[1]), b" answered, ");
+    put_named(out, gone.saturating_sub(before[2]), b" gone, ");
+    put_named(out, dropped.saturating_sub(before[3]), b" dropped, ");
     let left = taken.saturating_sub(gone).saturating_sub(dropped);
     put_named(out, left, b" still there; ");
 }
@@ -240,62 +284,63 @@ impl CountsRow<'_> {
             self.put(*number);
         }
     }
+
+    /// Puts the next numbers, each less what was there before.
+    fn put_less(&mut self, numbers: &[u64], before: &[u64]) {
+        for (number, before) in numbers.iter().zip(before.iter()) {
+            self.put(number.saturating_sub(*before));
+        }
+    }
 }
 
 /// What a port did.
-fn put_done(sums: &Sums, row: &mut CountsRow<'_>) {
-    row.put(sums.characters);
-    row.put(sums.packets);
-    row.put(sums.again());
-    row.put(sums.senders[0]);
-    row.put(sums.senders[1]);
-    row.put(sums.senders[2]);
-    row.put(sums.receivers[4]);
-    row.put(sums.lines.fires);
-    row.put(sums.most);
-    row.put(sums.to_send());
-    row.put(sums.received());
+fn done_of(sums: &Sums) -> [u64; 9] {
+    [
+        sums.characters,
+        sums.packets,
+        sums.again(),
+        sums.senders[0],
+        sums.lines.holds,
+        sums.senders[1],
+        sums.senders[2],
+        sums.receivers[4],
+        sums.lines.fires,
+    ]
 }
 
 /// The symbols that a port sent, by what they tell the sender and the receiver of packets.
-fn put_symbols(sums: &Sums, row: &mut CountsRow<'_>) {
-    let [
-        accepted,
-        retry,
-        refused,
-        third,
-        status,
-        fifth,
-        response,
-        seventh,
-    ] = sums.senders;
-    row.put_all(&[accepted, retry, refused, status, response]);
-    row.put(sum(&[third, fifth, seventh]));
-    let [
-        start,
-        stomp,
-        end,
-        restart,
-        request,
-        multicast,
-        reserved,
-        nop,
-    ] = sums.receivers;
-    row.put_all(&[
-        start, stomp, end, restart, request, multicast, nop, reserved,
-    ]);
-    row.put(sums.bad);
+fn symbols_of(sums: &Sums) -> [u64; 15] {
+    let senders = &sums.senders;
+    let receivers = &sums.receivers;
+    [
+        senders[0],
+        senders[1],
+        senders[2],
+        senders[4],
+        senders[6],
+        sum(&[senders[3], senders[5], senders[7]]),
+        receivers[0],
+        receivers[1],
+        receivers[2],
+        receivers[3],
+        receivers[4],
+        receivers[5],
+        receivers[7],
+        receivers[6],
+        sums.bad,
+    ]
 }
 
 /// The refusals that a port sent, by their causes.
-fn put_causes(sums: &Sums, row: &mut CountsRow<'_>) {
+fn causes_of(sums: &Sums) -> [u64; 7] {
+    let mut counts = [0u64; 7];
     let mut other = sum(&sums.causes);
-    for cause in CAUSES {
-        let count = sums.causes.get(cause).copied().unwrap_or(0);
-        row.put(count);
-        other = other.saturating_sub(count);
+    for (place, cause) in counts.iter_mut().zip(CAUSES.iter()) {
+        *place = sums.causes.get(*cause).copied().unwrap_or(0);
+        other = other.saturating_sub(*place);
     }
-    row.put(other);
+    counts[6] = other;
+    counts
 }
 
 /// The sum of numbers.

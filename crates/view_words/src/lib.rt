@@ -6,18 +6,22 @@
 //!
 //! - [`show`]: reads set-up lines and a trace, and writes what a [`View`] makes of them, or ends
 //!   with a [`ViewEnd`]
+//! - [`Part`], [`Selection`]: which lines and ports of a trace are shown
 //! - [`Text`]: what is written, with the mark of memory that was not given
-//! - [`Ports`]: what a view keeps for each port; [`Ear`], [`Hear`], [`Heard`]: what characters say
+//! - [`Ports`]: what a view keeps for each port; [`Ear`], [`Hear`], [`Heard`]: what characters say;
+//!   [`Halves`]: the states of the halves of a port, as its wires tell them
 //! - [`WordsView`], [`CountsView`]: a trace in words, and its counts
 #![tactic(auto)]
 
 mod counts;
 mod fabric;
+mod halves;
 mod heard;
 mod lines;
 mod packets;
 mod reading;
 mod registers;
+mod selection;
 mod status;
 mod symbols;
 mod text;
@@ -26,13 +30,16 @@ mod words;
 
 pub use counts::CountsView;
 pub use fabric::{Ports, links_of, peer_of, port_of, put_node, put_port};
+pub use halves::{HalfState, Halves};
 pub use heard::{Ear, Hear, Heard, listen};
+pub use lines::Lines;
 pub use packets::{AskedRegisters, put_packet, put_sent_packet};
-pub use reading::{LineFault, RefusedLine, ViewEnd, show};
+pub use reading::{LineFault, RefusedLine, ViewEnd, read_front, refused, show, write_out};
+pub use selection::{ChosenPorts, LineRange, Part, Selection};
 pub use status::{ViewStatus, status_number};
 pub use symbols::{
-    bad_words, cause_name, is_delimiter, put_brief_symbol, put_symbol, stype0_name, stype1_name,
+    bad_words, is_delimiter, put_brief_symbol, put_symbol, stype0_name, stype1_name,
 };
 pub use text::Text;
-pub use view::{Seen, View};
+pub use view::{Seen, Setting, View};
 pub use words::{WordsView, put_event};

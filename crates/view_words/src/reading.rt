@@ -3,9 +3,10 @@ ghost use Rattle.std.specs.Prelude.{IfOk};
 ghost use Rattle.fabric_script.specs.SetUps.{KnownIsReady};
 
 use crate::lines::{Lines, MOST_LINE};
+use crate::selection::{LineRange, Part, Selection};
 use crate::status::ViewStatus;
 use crate::text::Text;
-use crate::view::{Seen, View};
+use crate::view::{Seen, Setting, View};
 use fabric_script::{ScriptEnd, SetUp, read_set_up};
 use rio_chars::{Failed, Sink, Source, write_all};
 use std::alloc::{AllocError, AllocFailed, Global};
@@ -45,6 +46,10 @@ pub struct RefusedLine {
 pub enum ViewEnd {
     /// A line of the input is refused.
     Refused(RefusedLine),
+    /// A word names no port that has a link.
+    NoPort,
+    /// A picture of these lines would be too high. These are as many as it can show.
+    TooHigh(LineRange),
     /// For another reason.
     Ended(ViewStatus),
 }
@@ -54,6 +59,7 @@ impl ViewEnd {
     pub fn status(self) -> ViewStatus {
         match self {
             ViewEnd::Refused(_) => ViewStatus::Refused,
+            ViewEnd::NoPort | ViewEnd::TooHigh(_) => ViewStatus::Words,
             ViewEnd::Ended(status) => status,
         }
     }
@@ -84,23 +90,29 @@ impl From<TooMany> for ViewEnd {
 }
 
 /// A line is refused.
-fn refused<T>(line: u32, reason: LineFault) -> Result<T, ViewEnd> {
+pub fn refused<T>(line: u32, reason: LineFault) -> Result<T, ViewEnd> {
     Err(ViewEnd::Refused(RefusedLine { line, reason }))
 }
 
-/// Reads set-up lines, a line `---` and a trace, and writes a view of it, in pieces of kilobytes.
-/// If a line is refused, what waits to be written is dropped.
+/// Reads set-up lines, a line `---` and a trace, and writes a view of a part of it, in pieces of
+/// kilobytes. If a line is refused, what waits to be written is dropped.
 pub fn show<S: Source, K: Sink, V: View + Drop>(
     alloc: Global,
+    part: Part<'_>,
     view: V,
     source: &mut S,
     sink: &mut K,
 ) -> Result<(), ViewEnd> {
     let mut lines = Lines::new(alloc)?;
-    let (set_up, first) = read_front(alloc, &mut lines, source)?;
+    let (set_up, first, has_trace) = read_front(alloc, &mut lines, source)?;
+    if !has_trace {
+        return refused(first, LineFault::NoTrace);
+    }
+    let selection = Selection::of(alloc, &set_up, part)?;
     let mut showing = Showing {
         alloc,
         set_up,
+        selection,
         view,
         out: Text::new(alloc),
     };
@@ -112,6 +124,7 @@ pub fn show<S: Source, K: Sink, V: View + Drop>(
 struct Showing<V> {
     alloc: Global,
     set_up: SetUp,
+    selection: Selection,
     view: V,
     out: Text,
     ghost ready: { KnownIsReady set_up.known },
@@ -126,9 +139,19 @@ impl<V: View> Showing<V> {
         source: &mut S,
         sink: &mut K,
     ) -> Result<(), ViewEnd> {
-        self.view.begin(&self.set_up, &mut self.out)?;
+        let setting = Setting {
+            set_up: &self.set_up,
+            selection: &self.selection,
+            first,
+        };
+        self.view.begin(setting, &mut self.out)?;
         self.show_lines(first, lines, source, sink)?;
-        self.view.end(&self.set_up, &mut self.out)?;
+        let setting = Setting {
+            set_up: &self.set_up,
+            selection: &self.selection,
+            first,
+        };
+        self.view.end(setting, &mut self.out)?;
         write_out(&mut self.out, sink)
     }
 
@@ -163,6 +186,8 @@ impl<V: View> Showing<V> {
         };
         let seen = Seen {
             set_up: &self.set_up,
+            selection: &self.selection,
+            is_shown: self.selection.has_line(number, &line),
             number,
             text,
             line: &line,
@@ -172,22 +197,19 @@ impl<V: View> Showing<V> {
     }
 }
 
-/// Reads the set-up lines and the line `---`, and answers the number of the line that follows.
-fn read_front<S: Source>(
+/// Reads the set-up lines and the line `---`, and answers the number of the line that follows, and
+/// whether the line `---` came.
+pub fn read_front<S: Source>(
     alloc: Global,
     lines: &mut Lines,
     source: &mut S,
-) -> Result<(SetUp, u32), ViewEnd>
+) -> Result<(SetUp, u32, bool), ViewEnd>
     ensures { IfOk result (λ front. KnownIsReady front.0.known) }
 {
     let mut script = Vec::new(alloc);
     let (number, is_between) = read_script(&mut script, lines, source)?;
     let set_up = set_up_of(alloc, script.as_slice())?;
-    if is_between {
-        Ok((set_up, number))
-    } else {
-        refused(number, LineFault::NoTrace)
-    }
+    Ok((set_up, number, is_between))
 }
 
 /// Reads the set-up lines, and answers the number of the line that follows, and whether the line
@@ -251,7 +273,7 @@ fn make_room<K: Sink>(out: &mut Text, sink: &mut K) -> Result<(), ViewEnd> {
 }
 
 /// Writes what waits.
-fn write_out<K: Sink>(out: &mut Text, sink: &mut K) -> Result<(), ViewEnd> {
+pub fn write_out<K: Sink>(out: &mut Text, sink: &mut K) -> Result<(), ViewEnd> {
     if out.failed() {
         return Err(ViewEnd::Ended(ViewStatus::NoMemory));
     }

@@ -6,8 +6,8 @@ use crate::packets::{AskedRegisters, put_packet, put_sent_packet};
 use crate::reading::ViewEnd;
 use crate::symbols::{bad_words, is_delimiter, put_brief_symbol, put_symbol};
 use crate::text::Text;
-use crate::view::{Seen, View};
-use fabric_script::{PortRef, SetUp};
+use crate::view::{Seen, Setting, View};
+use fabric_script::PortRef;
 use link_model::Event;
 use rio_chars::Char;
 use rio_packets::{Cause, Packet};
@@ -41,30 +41,45 @@ impl WordsView {
 }
 
 impl View for WordsView {
-    fn begin(&mut self, set_up: &SetUp, _: &mut Text) -> Result<(), ViewEnd> {
-        self.sending.fill(set_up.names().len())?;
-        self.taking.fill(set_up.names().len())?;
-        self.links = links_of(self.alloc, set_up)?;
+    fn begin(&mut self, setting: Setting<'_>, _: &mut Text) -> Result<(), ViewEnd> {
+        let nodes = setting.set_up.names().len();
+        self.sending.fill(nodes)?;
+        self.taking.fill(nodes)?;
+        self.links = links_of(self.alloc, setting.set_up)?;
         Ok(())
     }
 
     fn take(&mut self, seen: &Seen<'_>, out: &mut Text) -> Result<(), ViewEnd> {
+        let begin = out.len();
         if self.flow {
             self.put_flow(seen, out)?;
         } else {
             self.put_whole(seen, out)?;
         }
+        if !seen.is_shown {
+            out.truncate(begin);
+        }
         Ok(())
     }
 
-    fn end(&mut self, _: &SetUp, _: &mut Text) -> Result<(), ViewEnd> {
+    fn end(&mut self, _: Setting<'_>, _: &mut Text) -> Result<(), ViewEnd> {
         Ok(())
     }
+}
+
+/// How wide the numbers of lines are.
+const NUMBER: usize = 6;
+
+/// The number of a line, in front of it.
+fn put_line_number(out: &mut Text, number: u32) {
+    out.put_number_right(NUMBER, u64::from(number));
+    out.put(b" ");
 }
 
 impl WordsView {
     /// The line, and its words behind it if it has any.
     fn put_whole(&mut self, seen: &Seen<'_>, out: &mut Text) -> Result<(), AllocError> {
+        put_line_number(out, seen.number);
         out.put(seen.text);
         match seen.line {
             TraceLine::Sent(port, chars) => {
@@ -133,15 +148,19 @@ impl WordsView {
     /// The line of an event, and one line for what happens but on a wire.
     fn put_other(&mut self, out: &mut Text, seen: &Seen<'_>) {
         match seen.line {
-            TraceLine::Stepped(step) => self.put_end(out, seen.set_up, step),
-            TraceLine::Fired(port) => put_at(out, seen.set_up, *port, b": time-out\n"),
-            TraceLine::Lacked(lack) => put_lack(out, *lack),
+            TraceLine::Stepped(step) => self.put_end(out, seen, step),
+            TraceLine::Fired(port) => put_at(out, seen, *port, b": time-out\n"),
+            TraceLine::Lacked(lack) => {
+                put_line_number(out, seen.number);
+                put_lack(out, *lack);
+            }
             TraceLine::Undetected(_, port, event) => {
-                put_at(out, seen.set_up, *port, b": undetected: ");
+                put_at(out, seen, *port, b": undetected: ");
                 put_event(out, &mut self.asked, event);
                 out.put(b"\n");
             }
             TraceLine::Begun(_) | TraceLine::Ended => {
+                put_line_number(out, seen.number);
                 out.put(seen.text);
                 out.put(b"\n");
             }
@@ -163,7 +182,7 @@ impl WordsView {
         let mut transfers = Transfers {
             out,
             asked: &mut self.asked,
-            set_up: seen.set_up,
+            seen,
             port,
             peer: peer_of(self.links.as_slice(), port),
         };
@@ -181,31 +200,26 @@ impl WordsView {
         let Some(ear) = self.taking.get_mut(port) else {
             return Ok(());
         };
-        let mut faults = Faults {
-            out,
-            set_up: seen.set_up,
-            port,
-        };
+        let mut faults = Faults { out, seen, port };
         listen(ear, chars, &mut faults)
     }
 
     /// A line for a packet that leaves the fabric, or is answered or dropped; any other stays.
-    fn put_end(&mut self, out: &mut Text, set_up: &SetUp, step: &NetworkStep) {
+    fn put_end(&mut self, out: &mut Text, seen: &Seen<'_>, step: &NetworkStep) {
         match step {
             NetworkStep::Drop(port, packet) => {
-                out.put(b"  drop ");
-                put_port(out, set_up, *port);
+                put_step_at(out, seen, b"drop ", *port);
                 self.put_last(out, packet);
             }
             NetworkStep::Answer(port, request, response) => {
-                out.put(b"  answer ");
-                put_port(out, set_up, *port);
+                put_step_at(out, seen, b"answer ", *port);
                 self.asked.note(request);
                 self.put_last(out, response);
             }
             NetworkStep::Leave(node, packet) => {
+                put_line_number(out, seen.number);
                 out.put(b"  leave ");
-                put_node(out, set_up, *node);
+                put_node(out, seen.set_up, *node);
                 self.put_last(out, packet);
             }
             _ => {}
@@ -218,6 +232,14 @@ impl WordsView {
         put_packet(out, &mut self.asked, packet);
         out.put(b"\n");
     }
+}
+
+/// The beginning of a line of a step at a port.
+fn put_step_at(out: &mut Text, seen: &Seen<'_>, word: &[u8], port: PortRef) {
+    put_line_number(out, seen.number);
+    out.put(b"  ");
+    out.put(word);
+    put_port(out, seen.set_up, port);
 }
 
 /// What characters say, behind a line.
@@ -297,7 +319,7 @@ impl Hear for Behind<'_> {
 struct Transfers<'a> {
     out: &'a mut Text,
     asked: &'a mut AskedRegisters,
-    set_up: &'a SetUp,
+    seen: &'a Seen<'a>,
     port: PortRef,
     peer: Option<PortRef>,
 }
@@ -305,11 +327,9 @@ struct Transfers<'a> {
 impl Transfers<'_> {
     /// Who sends, and to whom.
     fn put_ends(&mut self) {
-        self.out.put(b"  ");
-        put_port(self.out, self.set_up, self.port);
-        self.out.put(b" > ");
+        put_at(self.out, self.seen, self.port, b" > ");
         if let Some(peer) = self.peer {
-            put_port(self.out, self.set_up, peer);
+            put_port(self.out, self.seen.set_up, peer);
         }
         self.out.put(b": ");
     }
@@ -356,14 +376,14 @@ impl Hear for Transfers<'_> {
 #[derive(Drop)]
 struct Faults<'a> {
     out: &'a mut Text,
-    set_up: &'a SetUp,
+    seen: &'a Seen<'a>,
     port: PortRef,
 }
 
 impl Hear for Faults<'_> {
     fn hear(&mut self, _: &[Char], heard: &Heard) -> Result<(), AllocError> {
         if let Heard::Broken(cause, _) | Heard::Bad(cause) = heard {
-            put_at(self.out, self.set_up, self.port, b": got ");
+            put_at(self.out, self.seen, self.port, b": got ");
             self.out.put(bad_words(*cause));
             self.out.put(b"\n");
         }
@@ -372,9 +392,10 @@ impl Hear for Faults<'_> {
 }
 
 /// The beginning of a line of a port.
-fn put_at(out: &mut Text, set_up: &SetUp, port: PortRef, words: &[u8]) {
+fn put_at(out: &mut Text, seen: &Seen<'_>, port: PortRef, words: &[u8]) {
+    put_line_number(out, seen.number);
     out.put(b"  ");
-    put_port(out, set_up, port);
+    put_port(out, seen.set_up, port);
     out.put(words);
 }
 

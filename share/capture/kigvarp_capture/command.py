@@ -73,6 +73,8 @@ def add_others(forms) -> None:
     parser = forms.add_parser("times", help="times beside what was read")
     parser.add_argument("places", help="the file of places, or of lines")
     parser.add_argument("file", nargs="?", default="-")
+    parser.add_argument("--page", action="store_true", help="the input is a page of rio_view")
+    parser.add_argument("--ladder", metavar="TRACE", help="the input is a ladder of this trace")
     parser = forms.add_parser("pair", help="two directions as one trace")
     parser.add_argument("ports", nargs=2, metavar="PORT", help="A.0 and B.0: who sends the first, the second")
     parser.add_argument("files", nargs=4, metavar="FILE", help="characters and places of the first, of the second")
@@ -144,7 +146,7 @@ def carry_out(said: argparse.Namespace, stack: contextlib.ExitStack) -> None:
     if said.form == "decode":
         sys.stdout.writelines(pieces.decoded(text_of(said.file, stack), said.rio))
     elif said.form == "times":
-        sys.stdout.writelines(times.beside(text_of(said.file, stack), text_of(said.places, stack)))
+        put_times(said, text_of(said.file, stack), text_of(said.places, stack), stack)
     elif said.form == "pair":
         write_trace(said, stack)
     else:
@@ -152,6 +154,16 @@ def carry_out(said: argparse.Namespace, stack: contextlib.ExitStack) -> None:
         places = open_for_writing(said.places)
         if write(samples, unit, sys.stdout, places and stack.enter_context(places)) == 0:
             note("no sample counts: nothing is written")
+
+
+def put_times(said: argparse.Namespace, text: TextIO, places: TextIO,
+              stack: contextlib.ExitStack) -> None:
+    if said.page:
+        sys.stdout.write(times.in_page(text.read(), places))
+    elif said.ladder:
+        sys.stdout.write(times.in_ladder(text.read(), text_of(said.ladder, stack), places))
+    else:
+        sys.stdout.writelines(times.beside(text, places))
 
 
 def write_trace(said: argparse.Namespace, stack: contextlib.ExitStack) -> None:

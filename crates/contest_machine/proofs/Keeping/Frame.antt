@@ -13,12 +13,15 @@ use Rattle.std.proofs.lemmas.List.Elements.{Contains-append_left, Contains-appen
 use Rattle.fabric_map.proofs.Lists.{Contains-first}
 
 -- What a turn of a walker does to one device: nothing; it writes another register than the lock of
--- a device that it keeps; it takes a free lock; it frees the lock of a device that it kept.
+-- a device that it keeps; it takes a free lock; it frees the lock of a device that it kept. If the
+-- lock changes, nothing else does.
 pub data Does (w after : Walker) (old new : AllRegisters) (node : ℕ) : Type 0 where
   Nothing : new node ≡ old node → Does w after old new node
   Writes : Keeps w node → (new node).lock ≡ (old node).lock → Does w after old new node
-  Takes : (old node).lock ≡ 0xffff → HasClaimed after new node → Does w after old new node
-  Frees : Keeps w node → (new node).lock ≡ 0xffff → Does w after old new node
+  Takes : (old node).lock ≡ 0xffff → HasClaimed after new node
+      → new node ≡ record (old node) { lock = after.id } → Does w after old new node
+  Frees : Keeps w node → (new node).lock ≡ 0xffff
+      → new node ≡ record (old node) { lock = 0xffff } → Does w after old new node
 
 -- what a turn does to all devices, and to what the walker keeps
 pub record IsTurn (w after : Walker) (old new : AllRegisters) : Type 0 where
@@ -48,8 +51,8 @@ turn_and_quiet w mid after old new turn id less more unclaimed = record {
     does : (node : ℕ) → Does w mid old new node → Does w after old new node
     does node (Nothing same) = Nothing same
     does node (Writes keeps same) = Writes keeps same
-    does node (Takes free claimed) = absurd (unclaimed node claimed)
-    does node (Frees keeps free) = Frees keeps free
+    does node (Takes free claimed whole) = absurd (unclaimed node claimed)
+    does node (Frees keeps free whole) = Frees keeps free whole
 
     still : (node : ℕ) → Keeps mid node ⊎ HasClaimed mid new node
         → Keeps after node ⊎ HasClaimed after new node
@@ -65,8 +68,8 @@ module _ (w after : Walker) (old new : AllRegisters) (turn : IsTurn w after old 
       go : Does w after old new node → new node ≡ old node
       go (Nothing same) = same
       go (Writes keeps same) = absurd (differ (sym (mine.locks node keeps) ∙ held))
-      go (Takes free claimed) = absurd (omega (arith, is_id, sym free ∙ held))
-      go (Frees keeps free) = absurd (differ (sym (mine.locks node keeps) ∙ held))
+      go (Takes free claimed whole) = absurd (omega (arith, is_id, sym free ∙ held))
+      go (Frees keeps free whole) = absurd (differ (sym (mine.locks node keeps) ∙ held))
 
   -- no lock becomes the other's ID
   pub never_given : (node : ℕ) → (new node).lock ≡ id → (old node).lock ≡ id
@@ -75,8 +78,8 @@ module _ (w after : Walker) (old new : AllRegisters) (turn : IsTurn w after old 
       go : Does w after old new node → (old node).lock ≡ id
       go (Nothing same) = ap (λ (d : Registers). d.lock) (sym same) ∙ held
       go (Writes keeps same) = sym same ∙ held
-      go (Takes free claimed) = absurd (differ (sym turn.id ∙ (sym claimed.2 ∙ held)))
-      go (Frees keeps free) = absurd (omega (arith, is_id, sym free ∙ held))
+      go (Takes free claimed whole) = absurd (differ (sym turn.id ∙ (sym claimed.2 ∙ held)))
+      go (Frees keeps free whole) = absurd (omega (arith, is_id, sym free ∙ held))
 
   pub unchanged : (node : ℕ) → (new node).lock ≡ id → new node ≡ old node
   unchanged node held = untouched node (never_given node held)
@@ -196,8 +199,8 @@ contest-stays w after o before old new contest turn mine = record {
     others node none not (Nothing same) (inr not_first) =
         same_lock node same none (contest.others node not_first not)
     others node none not (Writes keeps same) (inr not_first) = absurd (not_first keeps)
-    others node none not (Takes free claimed) (inr not_first) = inr (inr (inl claimed))
-    others node none not (Frees keeps free) (inr not_first) = absurd (not_first keeps)
+    others node none not (Takes free claimed whole) (inr not_first) = inr (inr (inl claimed))
+    others node none not (Frees keeps free whole) (inr not_first) = absurd (not_first keeps)
 
     not_free : (node : ℕ) → (new node).lock ≡ after.id → (new node).lock ≢ 0xffff
     not_free node held free =
@@ -217,5 +220,5 @@ contest-stays w after o before old new contest turn mine = record {
         go (inl keeps) = none keeps
         go (inr claims) = apart claims
     stale node none not held apart (Writes keeps same) (inr not_first) = absurd (not_first keeps)
-    stale node none not held apart (Takes free claimed) (inr not_first) = absurd (apart claimed)
-    stale node none not held apart (Frees keeps free) (inr not_first) = absurd (not_first keeps)
+    stale node none not held apart (Takes free claimed whole) (inr not_first) = absurd (apart claimed)
+    stale node none not held apart (Frees keeps free whole) (inr not_first) = absurd (not_first keeps)

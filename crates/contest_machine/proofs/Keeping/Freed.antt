@@ -39,11 +39,11 @@ module _ (w : Walker) (old : AllRegisters) (fits : w.id < 0xff) (at : PortRef)
     last_leads : node_at w.view (last_path w.devices) ≡ Some at.node
     last_leads = node_at-entered w.view (last_path w.devices) at enters
 
-    freed : (new at.node).lock ≡ 0xffff
-    freed =
-        ap (λ (d : Registers). d.lock)
-        (with_device-at old at.node _ ∙ lock_left (old at.node) at.port w.id)
-        ∙ locked-own (old at.node).lock w.id (mine.locks at.node last) fits
+    whole : new at.node ≡ record (old at.node) { lock = 0xffff }
+    whole =
+        with_device-at old at.node _ ∙ (lock_left (old at.node) at.port w.id
+        ∙ ap (λ n. record (old at.node) { lock = n })
+        (locked-own (old at.node).lock w.id (mine.locks at.node last) fits))
       where
         last : Keeps (at_stage w Free) at.node
         last = (
@@ -53,6 +53,9 @@ module _ (w : Walker) (old : AllRegisters) (fits : w.id < 0xff) (at : PortRef)
               (last_path w.devices) (Contains-first (last_path w.devices) [])),
           last_leads,
         )
+
+    freed : (new at.node).lock ≡ 0xffff
+    freed = ap (λ (d : Registers). d.lock) whole
 
     once : AreOnce w.view (paths_of (but_last w.devices) ++ last_path w.devices ∷ [])
     once = subst (AreOnce w.view) parts mine.once
@@ -121,6 +124,8 @@ module _ (w : Walker) (old : AllRegisters) (fits : w.id < 0xff) (at : PortRef)
           last_leads,
         ))
         (ap (λ n. (new n).lock) same ∙ freed)
+        (ap (λ n. new n) same ∙ (whole
+        ∙ ap (λ n. record (old n) { lock = 0xffff }) (sym same)))
     does after node (inr other) = Nothing (beside node other)
 
     lost : (after : Walker) → ((node : ℕ)

@@ -383,6 +383,10 @@ module _ (w : Walker) (old : AllRegisters) (fits : w.id < 0xff) (at : PortRef)
             ap (λ n. (new n).lock) same ∙ (ap (λ (d : Registers). d.lock) left
                 ∙ locked-free (old at.node).lock w.id free fits),
           )
+          (ap (λ n. new n) same ∙ (left
+          ∙ (ap (λ n. record (old at.node) { lock = n })
+          (locked-free (old at.node).lock w.id free fits)
+          ∙ ap (λ n. record (old n) { lock = w.id }) (sym same))))
       does node (inl same) (inr taken) =
           Nothing (ap (λ n. new n) same ∙ (left
           ∙ (ap (λ n. record (old at.node) { lock = n })

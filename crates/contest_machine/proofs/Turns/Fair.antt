@@ -141,8 +141,8 @@ module _ (w after o : Walker) (old new : AllRegisters) (turn : IsTurn w after ol
       go : Does w after old new at.node → claims_left after new + 1 ≤ claims_left w old
       go (Nothing same) = absurd (is (ap (λ (d : Registers). d.lock) same ∙ was))
       go (Writes keeps same) = absurd (is (same ∙ was))
-      go (Takes once claimed) = spends.takes at.node claimed was
-      go (Frees keeps freed) = absurd (is freed)
+      go (Takes once claimed whole) = spends.takes at.node claimed was
+      go (Frees keeps freed whole) = absurd (is freed)
 
   pub other_turns : turns_left o new + 2 * claims_left after new
       ≤ turns_left o old + 2 * claims_left w old

@@ -20,12 +20,12 @@ use Rattle.contest_machine.specs.declared.stages.Turn.TheVariants as Turns
 use Rattle.contest_machine.specs.declared.stages.Stage.{Stage}
 use Rattle.contest_machine.specs.declared.stages.Stage.TheVariants.{Ask, Claim, Check, Test, Features, Information, Status, Free, Done, Lost}
 use Rattle.contest_machine.specs.Machine.{Walker, asked, write, routes_to, fresh, kept, last_path, but_last, freeing, gone_on, taken, judged, numbered, outward, settled, walker_told, told_at, reached, stepped}
-use Rattle.contest_machine.specs.Turns.{waits_or_goes, ends, came_at, came_of, after_turns}
+use Rattle.contest_machine.specs.Turns.{waits_or_goes, ends, came_at, came_of, Both, after_turns}
 use Rattle.contest_machine.specs.Keeping.{IsNew}
 use Rattle.contest_machine.proofs.Keeping.Reading.{lock_told}
 use Rattle.contest_machine.proofs.Keeping.Stepped.{some_left}
 use Rattle.contest_machine.specs.Locks.{walker_of, lock_at, lock_next, state_of, locks_over}
-use Rattle.contest_machine.specs.Waiting.{HasGreater, LostIsForAGreater}
+use Rattle.contest_machine.specs.Waiting.{HasGreater, IsLostWalker, LostHostsMetAGreater, LostIsForAGreater}
 use Rattle.contest_machine.proofs.Turns.Steps.{gone_by, status_reads_none, turns_with, after_one_more}
 
 -- What a walker with this ID, which has read these locks, keeps: it frees it if one was greater,
@@ -372,15 +372,63 @@ begun_judged id locks w holds = (holds.0, go w.stage holds.1)
     go Done none = none
     go Lost some = some
 
+judged_after : (both : Both) (turns : List Side) (side : Side) → IsNew (walker_of both side)
+    → IsJudged (walker_of both side).id (locks_over both side turns)
+    (walker_of (after_turns both turns) side)
+judged_after both turns side new =
+    let id : ℕ = (walker_of both side).id in
+    turns_with (IsJudged id) (step_judged id) (begun_judged id) [] both side turns
+    (new_judged (walker_of both side) new)
+
 pub lost_exactly : LostIsForAGreater
 lost_exactly both turns side new =
     let id : ℕ = (walker_of both side).id in
     let all : List Side = turns ++ side ∷ [] in
-    let holds = turns_with (IsJudged id) (step_judged id) (begun_judged id) [] both side all
-    (new_judged (walker_of both side) new) in
+    let holds = judged_after both all side new in
     subst (λ b. (came_of (walker_of (after_turns both turns) side) (walker_of b side) ≡ Turns.Lost)
     ↔ (HasGreater id (locks_over both side all)
     × (kept (walker_of (after_turns both all) side) ≡ [])))
     (after_one_more both turns side)
     (is_lost id (locks_over both side all) (walker_of (after_turns both turns) side)
     (walker_of (after_turns both all) side) holds)
+
+-- ---- a host that is lost
+
+module _ (id : ℕ) (locks : List ℕ) (w : Walker) (judged : IsJudged id locks w) where
+  keeps_nothing : w.stage ≡ Lost → HasGreater id locks × (kept w ≡ [])
+  keeps_nothing stage =
+      let at = subst (IsJudgedAt id locks w) stage judged.1 in (
+        at.0,
+        ap (λ d. paths_of d ++ fresh w.stage w.path) at.1 ∙ ap (λ s. fresh s w.path) stage,
+      )
+
+  gave_up : (stage : Stage) → IsJudgedAt id locks w stage → HasGreater id locks
+      → paths_of w.devices ++ [] ≡ [] → stage ≡ Lost
+  gave_up Ask none some nothing = absurd (none some)
+  gave_up Claim none some nothing = absurd (none some)
+  gave_up Check none some nothing = absurd (none some)
+  gave_up Test none some nothing = absurd (none some)
+  gave_up Features none some nothing = absurd (none some)
+  gave_up Information none some nothing = absurd (none some)
+  gave_up Status none some nothing = absurd (none some)
+  gave_up Free holds some nothing =
+      absurd (no_device id locks w w w.devices holds.1 nothing)
+  gave_up Done none some nothing = absurd (none some)
+  gave_up Lost holds some nothing = refl
+
+  clear : w.stage ≡ Lost → w.todo ≡ []
+  clear stage = (subst (IsJudgedAt id locks w) stage judged.1).2
+
+  lost_stage_is : IsLostWalker w ↔ (HasGreater id locks × (kept w ≡ []))
+  lost_stage_is = (
+    λ lost. keeps_nothing lost.0,
+    λ found.
+        let stage = gave_up w.stage judged.1 found.0
+        (keeps_none id locks w w w.stage found.1 judged.1 found.0) in
+        (stage, clear stage),
+  )
+
+pub lost_hosts_met_a_greater : LostHostsMetAGreater
+lost_hosts_met_a_greater both turns side new =
+    lost_stage_is (walker_of both side).id (locks_over both side turns)
+    (walker_of (after_turns both turns) side) (judged_after both turns side new)

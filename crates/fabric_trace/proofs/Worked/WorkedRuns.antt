@@ -6,6 +6,7 @@ use Rattle.link_machine.specs.Rest.{IsSettled}
 use Rattle.link_buffers.specs.Priorities.{highest_below}
 use Rattle.link_wires.specs.Kept.{IsSubsequence}
 use Rattle.link_wires.specs.Kept.IsSubsequence.{EndsWithin, TakesWithin, SkipsWithin}
+use Rattle.link_wires.specs.Deliveries.{come}
 use Rattle.link_wires.specs.Wires.{port_turned, bursts}
 use Rattle.link_model.specs.ReadingKinds.{kind}
 use Rattle.link_model.specs.Window.{window}
@@ -26,7 +27,7 @@ use Rattle.fabric_model.specs.Serving.{next_at}
 use Rattle.fabric_model.specs.Steps.{LegalFrom}
 use Rattle.trace_lines.specs.Lines.{TraceLine, Empty, Short, Early, NoStep, Fired, Signed, Lacked, steps_of}
 use Rattle.fabric_trace.specs.Known.{UndetectedAt, Seen, link_at}
-use Rattle.fabric_trace.specs.Fold.{says, seen}
+use Rattle.fabric_trace.specs.Fold.{says, sends, seen}
 use Rattle.fabric_trace.specs.Runs.{bare, begins, Runs}
 use Rattle.fabric_trace.specs.Allowance.{FreesAllowed}
 use Rattle.fabric_trace.specs.AtRest.{IsBlockAtRest}
@@ -49,7 +50,7 @@ use Rattle.fabric_trace.specs.Holds.{HoldsCame}
 use Rattle.fabric_trace.specs.Served.{IsMove}
 use Rattle.fabric_trace.specs.SetUps.{MaySetUpAll}
 use Rattle.fabric_trace.specs.Wires.{WireFold}
-use Rattle.fabric_trace.specs.Examples.{near, far, pair_network, idle_script, idle_trace, accepted_chars, switch_script, switch_trace, two_held, dropped_at, moved_to, joined_with_itself, held_from_nowhere, held_in_wrong_order, frees_once, freed_twice, freed_later, accepted_in_pieces, got_from_nowhere, got_another, got_nothing, sent_from_nowhere, fires_once, still_under_way, moving, acted_from_nowhere, named_though_sent, not_settled, not_settled_yet, goes_on_with, named_at, near_failed, found_before}
+use Rattle.fabric_trace.specs.Examples.{near, far, pair_network, idle_script, idle_trace, accepted_chars, switch_script, switch_trace, two_held, dropped_at, moved_to, joined_with_itself, held_from_nowhere, held_in_wrong_order, frees_once, freed_twice, freed_later, accepted_in_pieces, accepted_before, got_from_nowhere, got_another, got_behind_a_find, sent_from_nowhere, fires_once, still_under_way, moving, acted_from_nowhere, named_though_sent, not_settled, not_settled_yet, goes_on_with, named_at, found_before, fails_in_a_delivery, fails_in_a_run}
 use Rattle.fabric_trace.proofs.Parts.Folding.{says_none}
 
 pub idle_runs : Runs idle_script idle_trace
@@ -239,6 +240,11 @@ twice_breaks known one said =
 
 -- ---- frees
 
+pub earlier_breaks : FreesSaid near accepted_before 0 frees_once → ⊥
+unfolding run place_after kind spelled is_spelling crc5_value crc5_of crc5_message field_bits bits
+    number division_steps complemented
+earlier_breaks said = no_more (said.0 refl).among refl refl
+
 pub pieces_said : FreesSaid near accepted_in_pieces 0 frees_once
 unfolding run place_after kind spelled is_spelling crc5_value crc5_of crc5_message field_bits bits
     number division_steps complemented
@@ -338,11 +344,17 @@ named_other_breaks settled =
     port_in None = near
     port_in (Some found) = found.port
 
-pub second_breaks : FindsFirst found_before got_from_nowhere → ⊥
-second_breaks first = absurd (cc first.0)
+pub second_breaks : FindsFirst (begins pair_network) got_behind_a_find → ⊥
+unfolding run place_after kind spelled is_spelling crc5_value crc5_of crc5_message field_bits bits
+    number division_steps complemented come
+second_breaks first = absurd (cc first.1.0)
 
-pub failed_breaks : NeverFail near_failed [] → ⊥
-failed_breaks never = never near refl
+pub failed_breaks : NeverFail (begins pair_network) fails_in_a_run → ⊥
+unfolding run place_after kind spelled is_spelling crc5_value crc5_of crc5_message field_bits bits
+    number division_steps complemented come sends
+failed_breaks never = never.1.1.1.1.0 near refl
 
-pub failed_within_breaks : NeverFailWithin near_failed got_nothing → ⊥
-failed_within_breaks never = never.0 near 0 refl refl
+pub failed_within_breaks : NeverFailWithin (begins pair_network) fails_in_a_delivery → ⊥
+unfolding run place_after kind spelled is_spelling crc5_value crc5_of crc5_message field_bits bits
+    number division_steps complemented come sends
+failed_within_breaks never = never.1.1.1.0 far 1 refl refl
