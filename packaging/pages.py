@@ -94,11 +94,20 @@ def synopsis(program):
     return SYNOPSES[program]
 
 
+def options(program):
+    """The options that the page of a program has in a table, which stand for PART."""
+    if not any("PART" in call for call in synopsis(program)):
+        return set()
+    _, _, rows = table("docs/pictures.md", "option")
+    return {word for row in rows[1:] for word in re.findall(r"--[a-z]+", row[0])}
+
+
 def words_of(program):
     """What may follow the program's name, and what may follow the word after it."""
     calls = [re.findall(r"[\w-]+", call)[1:] for call in synopsis(program)]
-    first = {words[0] for words in calls if words and words[0][:1].islower() or words and words[0].startswith("--")}
-    return sorted(first), sorted({word for words in calls for word in words[1:] if word.startswith("--")})
+    first = {words[0] for words in calls if words and re.match("[a-z]|--", words[0])}
+    further = {word for words in calls for word in words[1:] if word.startswith("--")}
+    return sorted(first), sorted(further | options(program))
 
 
 def releases():

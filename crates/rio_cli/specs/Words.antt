@@ -53,8 +53,3 @@ AsksInput (Soak seed) words = AsksSoak seed words
 abbrev pub AreUnknown : List (List ℕ) → Type 0
 AreUnknown words = ((command : Command) → ¬ AsksCommand command words)
     × ((seed : ℕ) → ¬ AsksSoak seed words)
-
--- the words that follow the program's name
-abbrev pub after_name : List (List ℕ) → List (List ℕ)
-after_name [] = []
-after_name (name ∷ words) = words

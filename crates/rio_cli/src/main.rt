@@ -7,8 +7,8 @@
 //! status is the number of what `answer` answers, and a line on standard error says in words what
 //! is to be said of it.
 //!
-//! - `run`: the whole program, over any source, sink and sink of messages; `main` gives it the
-//!   arguments and the standard streams, and does nothing more.
+//! - `run`: the whole program, over any source, sink and sink of messages; `main` gives it the words
+//!   and the standard streams by `start` of `program_start`, and does nothing more.
 //! - `answer` and `rio`: what the words ask for is done; `CommandAnswer`, `Status`, `Refusal` and
 //!   `Command`.
 //! - `inputs_are_judged_once`: a law of inputs.
@@ -18,6 +18,7 @@
 
 mod accessing;
 mod answer;
+mod awaiting;
 mod command;
 mod contesting;
 mod decode;
@@ -36,34 +37,38 @@ mod top;
 mod words;
 
 pub use answer::CommandAnswer;
+use awaiting::awaited;
 pub use command::Command;
 pub use laws::inputs_are_judged_once;
 pub use program::run;
+use program_start::{Program, start};
 pub use refusal::Refusal;
-use rio_chars::{StdSink, StdSource};
+use rio_chars::{Sink, Source};
 pub use status::{Status, status_number};
+use std::alloc::Global;
 use std::process::ExitCode;
-use std::{env, io};
 pub use top::{answer, rio};
 
-fn main(rt: HostRuntime) -> ExitCode {
-    let Ok(arguments) = arguments(&rt) else {
-        return ExitCode::from(1);
-    };
-    let mut source = StdSource::new(rt.reader());
-    let mut sink = StdSink::new(io::writer(&rt));
-    let mut messages = StdSink::new(rt.stderr());
-    let status = run(
-        rt.alloc(),
-        arguments.as_slice(),
-        &mut source,
-        &mut sink,
-        &mut messages,
-    );
-    ExitCode::from(status)
+/// The program, as it is started.
+struct Rio;
+
+impl Program for Rio {
+    fn waits_for(&self, words: &[String]) -> &'static [u8] {
+        awaited(words)
+    }
+
+    fn run<S: Source, K: Sink, M: Sink>(
+        &self,
+        alloc: Global,
+        words: &[String],
+        source: &mut S,
+        sink: &mut K,
+        messages: &mut M,
+    ) -> u8 {
+        run(alloc, words, source, sink, messages)
+    }
 }
 
-/// The program's name and the words that follow it.
-fn arguments(rt: &HostRuntime) -> io::Result<Vec<String>> {
-    Ok(env::args(rt)?.collect(rt.alloc())?)
+fn main(rt: HostRuntime) -> ExitCode {
+    start(&rt, &Rio)
 }

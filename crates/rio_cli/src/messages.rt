@@ -1,23 +1,40 @@
 //! What the program says of an answer in words.
-ghost use Rattle.std.specs.Prelude.{◌≡◌, false};
-ghost use Rattle.rio_chars.specs.Unless.{WritesUnless};
+ghost use Rattle.std.specs.Prelude.{◌≡◌, map};
+ghost use Rattle.std.specs.String.{string_bytes};
 ghost use Rattle.rio_cli.specs.Messages.{status_text as status_text_of, answer_message};
+ghost use Rattle.rio_cli.specs.Program.{SaysAll};
 
 use crate::answer::CommandAnswer;
 use crate::status::Status;
 use rio_chars::{Sink, write_unless};
+use rio_words::write_usage;
 
-/// Says of an answer what there is to say, on one line and in one piece, and answers whether a
-/// write failed. It takes no memory.
-pub(crate) fn write_message<M: Sink>(messages: &mut M, answer: &CommandAnswer) -> bool
-    ensures { WritesUnless false (M.written messages.old) (M.faults messages.old)
-        result (M.written messages.new) (M.faults messages.new) (answer_message answer.now) }
+/// Says what there is to say of an answer: how the program is used if the words ask for no command,
+/// and else how it ended. The answer is whether a write failed. It takes no memory.
+pub(crate) fn write_message<M: Sink>(
+    messages: &mut M,
+    words: &[String],
+    answer: &CommandAnswer,
+) -> bool
+    ensures { SaysAll (map string_bytes words.now) answer.now
+        (M.written messages.old) (M.faults messages.old)
+        result (M.written messages.new) (M.faults messages.new) }
 {
-    let text = match &answer.refusal {
+    if answer.status == Status::Words {
+        write_usage(messages, words)
+    } else {
+        write_unless(false, messages, text_of(answer))
+    }
+}
+
+/// What is said of an answer.
+fn text_of(answer: &CommandAnswer) -> &[u8]
+    ensures { result.now ≡ answer_message answer.now }
+{
+    match &answer.refusal {
         Some(refusal) => refusal.message.as_slice(),
         None => status_text(answer.status),
-    };
-    write_unless(false, messages, text)
+    }
 }
 
 /// What is said of a status.
@@ -26,9 +43,7 @@ fn status_text(status: Status) -> &'static [u8]
 {
     match status {
         Status::Done => b"",
-        Status::Words => {
-            b"rio: usage: rio replay < SCRIPT, rio decode < CHARACTERS, rio check < TRACE, rio enumerate NODE < SCRIPT, rio contest NODE NODE NUMBER < SCRIPT, rio io < ACCESSES, or rio soak NUMBER\n"
-        }
+        Status::Words => b"rio: the words ask for no command\n",
         Status::Script => b"rio: the input is refused\n",
         Status::Unlawful => b"rio: the trace is not lawful\n",
         Status::ReadFault => b"rio: standard input cannot be read\n",

@@ -1,17 +1,15 @@
 //! The line of an input that is refused or not lawful, and what is said of it.
-ghost use Rattle.std.specs.Prelude.{◌≡◌, ◌≤◌, ◌++◌, ℕ, List, IfOk, OnOk, length, map, take};
+ghost use Rattle.std.specs.Prelude.{◌≡◌, ◌≤◌, ◌++◌, ℕ, List, IfOk, OnOk, length};
 ghost use Rattle.rio_cli.specs.Inputs.{most_input};
-ghost use Rattle.rio_cli.specs.Messages.{input_line_text, excerpt_of, citation_of, shown_byte as shown_byte_of, IsExpectedBy, IsWhy, Explains};
+ghost use Rattle.rio_cli.specs.Messages.{input_line_text, citation_of, place_text, IsExpectedBy, IsWhyOf, Explains};
 
 use crate::command::Command;
 use crate::hints::push_hint;
-use crate::texts::{push_advice, push_number, reason_text};
-use fabric_script::{Advice, advise};
+use crate::texts::reason_text;
+use refusal_words::{push_excerpt, push_number, push_why};
+use rio_words::{push_bad_word, push_lines};
 use std::alloc::{AllocError, Global};
 use trace_check::{Expected, expect};
-
-/// How many bytes of a line are shown.
-const MOST_SHOWN: usize = 80;
 
 /// The line of an input that is refused or not lawful, counted from 1, and the number of the
 /// reason, by what was asked for; and what is said of it in words: one line of text.
@@ -45,16 +43,34 @@ impl Refusal {
         message.extend_from_slice(b"rio: line ")?;
         push_number(&mut message, line)?;
         message.extend_from_slice(b": ")?;
-        push_why(alloc, &mut message, &command, text, reason)?;
+        push_why_refused(alloc, &mut message, &command, text, reason)?;
         push_hint(alloc, &mut message, &expected)?;
         push_citation(&mut message, &command, text)?;
         message.extend_from_slice(b"\n")?;
+        push_place(alloc, &mut message, &command, line, reason)?;
         Ok(Refusal {
             command,
             line,
             reason,
             message,
         })
+    }
+}
+
+/// Adds how to see the place of a trace that is not lawful.
+fn push_place(
+    alloc: Global,
+    message: &mut Vec<u8>,
+    command: &Command,
+    line: u32,
+    reason: u8,
+) -> Result<(), AllocError>
+    ensures { OnOk result
+        (message.new.items ≡ message.old.items ++ place_text command.now line reason) }
+{
+    match command {
+        Command::Check if reason >= 21 => push_lines(alloc, message, line),
+        _ => Ok(()),
     }
 }
 
@@ -96,23 +112,23 @@ fn expected_in_trace(
 }
 
 /// Adds why a line is refused: what in it is to blame, if its text alone shows that.
-fn push_why(
+fn push_why_refused(
     alloc: Global,
     message: &mut Vec<u8>,
     command: &Command,
     text: &[u8],
     reason: u8,
 ) -> Result<(), AllocError>
-    ensures { OnOk result ((why : List ℕ) × IsWhy command.now text.now reason why
+    ensures { OnOk result ((why : List ℕ) × IsWhyOf command.now text.now reason why
         × (message.new.items ≡ message.old.items ++ why)) }
 {
-    let advice = match command {
+    match command {
+        Command::Decode => push_bad_word(message, text),
+        Command::Io => message.extend_from_slice(reason_text(command, reason)),
         Command::Replay | Command::Check | Command::Enumerate(_) | Command::Contest { .. } => {
-            advise(alloc, text, reason)
+            push_why(alloc, message, text, reason, reason_text(command, reason))
         }
-        Command::Decode | Command::Io => Advice::Nothing,
-    };
-    push_advice(message, advice, reason_text(command, reason))
+    }
 }
 
 /// The text of a line of the input, and nothing for a line behind the last.
@@ -152,52 +168,5 @@ fn push_citation(message: &mut Vec<u8>, command: &Command, text: &[u8]) -> Resul
             push_number(message, *seed)
         }
         _ => push_excerpt(message, text),
-    }
-}
-
-/// Adds what is shown of a line, behind a colon: its first bytes.
-fn push_excerpt(message: &mut Vec<u8>, text: &[u8]) -> Result<(), AllocError>
-    ensures { OnOk result (message.new.items ≡ message.old.items ++ excerpt_of text.now) }
-{
-    if text.is_empty() {
-        return Ok(());
-    }
-    message.extend_from_slice(b": ")?;
-    push_shown(message, front_of(text))?;
-    if text.len() > MOST_SHOWN {
-        message.extend_from_slice(b" ...")?;
-    }
-    Ok(())
-}
-
-/// The bytes of a line that are shown.
-fn front_of(text: &[u8]) -> &[u8]
-    ensures { result.now ≡ take 80 text.now }
-{
-    if text.len() <= MOST_SHOWN {
-        return text;
-    }
-    &text[..MOST_SHOWN]
-}
-
-/// Adds bytes as they are shown.
-fn push_shown(message: &mut Vec<u8>, bytes: &[u8]) -> Result<(), AllocError>
-    ensures { OnOk result
-        (message.new.items ≡ message.old.items ++ map shown_byte_of bytes.now) }
-{
-    for byte in bytes {
-        message.push(shown_byte(*byte))?;
-    }
-    Ok(())
-}
-
-/// A byte as it is shown: a question mark for one that a terminal would not print.
-fn shown_byte(byte: u8) -> u8
-    ensures { result ≡ shown_byte_of byte }
-{
-    if b' ' <= byte && byte <= b'~' {
-        byte
-    } else {
-        b'?'
     }
 }

@@ -3,7 +3,8 @@ use Rattle.std.proofs.lemmas.List.{map-append}
 use Rattle.std.proofs.lemmas.List.Elements.{filter-append}
 use Rattle.std.proofs.lemmas.Iterator.Consumers.{YieldsList-turn, YieldsList-end}
 use Rattle.rio_cli.specs.Decoding.{is_word, word_in, words_in_line, AreTexts}
-use Rattle.rio_cli.proofs.WordLaws.{AreTexts-append, bad_word, spelled_behind, words-road}
+use Rattle.rio_words.proofs.WordRoads.{words-road}
+use Rattle.rio_cli.proofs.WordLaws.{AreTexts-append, bad_word, spelled_behind}
 use Rattle.rio_cli.proofs.words.read_line.Goals as goal
 
 pub loop-word-init : goal.loop-word-init
