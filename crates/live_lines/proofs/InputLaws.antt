@@ -24,8 +24,13 @@ pub some_byte : (bytes line rest : List ℕ) (byte : ℕ) → bytes ≡ (line ++
 some_byte bytes line rest byte is none =
     let long = ap length is in
     let short : length bytes ≡ 0 = ap length none in
-    omega (arith, long, short, length-append (line ++ byte ∷ []) rest,
-    length-append line (byte ∷ []))
+    omega (
+      arith,
+      long,
+      short,
+      length-append (line ++ byte ∷ []) rest,
+      length-append line (byte ∷ []),
+    )
 
 -- a line of 4,194,305 bytes is too long
 pub long_line : (pending taken line rest : List ℕ) → pending ++ taken ≡ line ++ rest

@@ -56,9 +56,7 @@ passes = record {
   fours = refl;
   least = omega arith;
   most = omega arith;
-  range = All-from_recursion (λ b. b < 256) packet (omega arith, (omega arith, (omega arith,
-      (omega arith, (omega arith, (omega arith, (omega arith, (omega arith, (omega arith,
-      (omega arith, (omega arith, (omega arith, tt))))))))))));
+  range = All-from_recursion (λ b. b < 256) packet (omega arith, (omega arith, (omega arith, (omega arith, (omega arith, (omega arith, (omega arith, (omega arith, (omega arith, (omega arith, (omega arith, (omega arith, tt))))))))))));
   origin = omega arith;
   ends = refl;
   middle = λ far. omega (arith, far);
@@ -71,8 +69,7 @@ unfolding run place_after kind spelled is_spelling crc5_value crc5_of crc5_messa
 lines_pass = (
   record { wires = tt; step = (refl, passes, refl); came = tt; allowed = tt; sends = tt },
   (
-    record { wires = tt; step = tt; came = tt; allowed = tt; sends = (tt, (inl (0, omega arith,
-        refl), (tt, tt))) },
+    record { wires = tt; step = tt; came = tt; allowed = tt; sends = (tt, (inl (0, omega arith, refl), (tt, tt))) },
     (
       record {
         wires = record { peer = near; behind = []; peer_is = refl; stands = refl };
@@ -82,8 +79,7 @@ lines_pass = (
         sends = tt;
       },
       (
-        record { wires = tt; step = (near, refl, refl, refl); came = refl; allowed = tt;
-            sends = tt },
+        record { wires = tt; step = (near, refl, refl, refl); came = refl; allowed = tt; sends = tt },
         (
           record { wires = tt; step = tt; came = tt; allowed = tt; sends = (tt, tt) },
           (
@@ -97,8 +93,7 @@ lines_pass = (
             (
               record { wires = tt; step = refl; came = tt; allowed = omega arith; sends = tt },
               (
-                record { wires = tt; step = (refl, refl, refl); came = tt; allowed = tt;
-                    sends = tt },
+                record { wires = tt; step = (refl, refl, refl); came = tt; allowed = tt; sends = tt },
                 (record { wires = tt; step = tt; came = tt; allowed = tt; sends = tt }, tt),
               ),
             ),
@@ -110,10 +105,7 @@ lines_pass = (
 )
 
 packet_bytes : AllByRecursion HasByte packet_chars
-packet_bytes = (omega arith, (omega arith, (omega arith, (omega arith, (omega arith, (omega arith,
-    (omega arith, (omega arith, (omega arith, (omega arith, (omega arith, (omega arith,
-    (omega arith, (omega arith, (omega arith, (omega arith, (omega arith, (omega arith,
-    (omega arith, (omega arith, tt))))))))))))))))))))
+packet_bytes = (omega arith, (omega arith, (omega arith, (omega arith, (omega arith, (omega arith, (omega arith, (omega arith, (omega arith, (omega arith, (omega arith, (omega arith, (omega arith, (omega arith, (omega arith, (omega arith, (omega arith, (omega arith, (omega arith, (omega arith, tt))))))))))))))))))))
 
 accepted_bytes : AllByRecursion HasByte accepted_chars
 accepted_bytes = (omega arith, (omega arith, (omega arith, (omega arith, tt))))
@@ -130,15 +122,13 @@ texts_spell = (
     _,
     _,
     refl,
-    record { words = refl; fits = (((omega arith, omega arith, omega arith), refl),
-        (λ is. absurd (cc is)), packet_bytes) },
+    record { words = refl; fits = (((omega arith, omega arith, omega arith), refl), (λ is. absurd (cc is)), packet_bytes) },
     refl,
     (
       _,
       _,
       refl,
-      record { words = refl; fits = (((omega arith, omega arith, omega arith), refl),
-          (λ is. absurd (cc is)), packet_bytes) },
+      record { words = refl; fits = (((omega arith, omega arith, omega arith), refl), (λ is. absurd (cc is)), packet_bytes) },
       refl,
       (
         _,
@@ -150,22 +140,19 @@ texts_spell = (
           _,
           _,
           refl,
-          record { words = refl; fits = (((omega arith, omega arith, omega arith), refl),
-              (λ is. absurd (cc is)), accepted_bytes) },
+          record { words = refl; fits = (((omega arith, omega arith, omega arith), refl), (λ is. absurd (cc is)), accepted_bytes) },
           refl,
           (
             _,
             _,
             refl,
-            record { words = refl; fits = (((omega arith, omega arith, omega arith), refl),
-                (λ is. absurd (cc is)), accepted_bytes) },
+            record { words = refl; fits = (((omega arith, omega arith, omega arith), refl), (λ is. absurd (cc is)), accepted_bytes) },
             refl,
             (
               _,
               _,
               refl,
-              record { words = refl; fits = (((omega arith, omega arith, omega arith), refl),
-                  passes) },
+              record { words = refl; fits = (((omega arith, omega arith, omega arith), refl), passes) },
               refl,
               (
                 _,
@@ -207,24 +194,19 @@ unfolding run place_after kind spelled is_spelling crc5_value crc5_of crc5_messa
 eight_pass = (
   record { wires = tt; step = (refl, passes, refl); came = tt; allowed = tt; sends = tt },
   (
-    record { wires = tt; step = tt; came = tt; allowed = tt; sends = (tt, (inl (0, omega arith,
-        refl), (tt, tt))) },
+    record { wires = tt; step = tt; came = tt; allowed = tt; sends = (tt, (inl (0, omega arith, refl), (tt, tt))) },
     (
-      record { wires = record { peer = near; behind = []; peer_is = refl; stands = refl };
-          step = tt; came = tt; allowed = tt; sends = tt },
+      record { wires = record { peer = near; behind = []; peer_is = refl; stands = refl }; step = tt; came = tt; allowed = tt; sends = tt },
       (
-        record { wires = tt; step = (near, refl, refl, refl); came = refl; allowed = tt;
-            sends = tt },
+        record { wires = tt; step = (near, refl, refl, refl); came = refl; allowed = tt; sends = tt },
         (
           record { wires = tt; step = tt; came = tt; allowed = tt; sends = (tt, tt) },
           (
-            record { wires = record { peer = far; behind = []; peer_is = refl; stands = refl };
-                step = tt; came = tt; allowed = tt; sends = tt },
+            record { wires = record { peer = far; behind = []; peer_is = refl; stands = refl }; step = tt; came = tt; allowed = tt; sends = tt },
             (
               record { wires = tt; step = refl; came = tt; allowed = omega arith; sends = tt },
               (
-                record { wires = tt; step = (refl, refl, refl); came = tt; allowed = tt;
-                    sends = tt },
+                record { wires = tt; step = (refl, refl, refl); came = tt; allowed = tt; sends = tt },
                 tt,
               ),
             ),
@@ -242,14 +224,11 @@ unfolding run place_after kind spelled is_spelling crc5_value crc5_of crc5_messa
 five_pass = (
   record { wires = tt; step = (refl, passes, refl); came = tt; allowed = tt; sends = tt },
   (
-    record { wires = tt; step = tt; came = tt; allowed = tt; sends = (tt, (inl (0, omega arith,
-        refl), (tt, tt))) },
+    record { wires = tt; step = tt; came = tt; allowed = tt; sends = (tt, (inl (0, omega arith, refl), (tt, tt))) },
     (
-      record { wires = record { peer = near; behind = []; peer_is = refl; stands = refl };
-          step = tt; came = tt; allowed = tt; sends = tt },
+      record { wires = record { peer = near; behind = []; peer_is = refl; stands = refl }; step = tt; came = tt; allowed = tt; sends = tt },
       (
-        record { wires = tt; step = (near, refl, refl, refl); came = refl; allowed = tt;
-            sends = tt },
+        record { wires = tt; step = (near, refl, refl, refl); came = refl; allowed = tt; sends = tt },
         (
           record { wires = tt; step = tt; came = tt; allowed = tt; sends = (tt, tt) },
           tt,
@@ -271,15 +250,13 @@ eight_spell = (
     _,
     _,
     refl,
-    record { words = refl; fits = (((omega arith, omega arith, omega arith), refl),
-        (λ is. absurd (cc is)), packet_bytes) },
+    record { words = refl; fits = (((omega arith, omega arith, omega arith), refl), (λ is. absurd (cc is)), packet_bytes) },
     refl,
     (
       _,
       _,
       refl,
-      record { words = refl; fits = (((omega arith, omega arith, omega arith), refl),
-          (λ is. absurd (cc is)), packet_bytes) },
+      record { words = refl; fits = (((omega arith, omega arith, omega arith), refl), (λ is. absurd (cc is)), packet_bytes) },
       refl,
       (
         _,
@@ -291,22 +268,19 @@ eight_spell = (
           _,
           _,
           refl,
-          record { words = refl; fits = (((omega arith, omega arith, omega arith), refl),
-              (λ is. absurd (cc is)), accepted_bytes) },
+          record { words = refl; fits = (((omega arith, omega arith, omega arith), refl), (λ is. absurd (cc is)), accepted_bytes) },
           refl,
           (
             _,
             _,
             refl,
-            record { words = refl; fits = (((omega arith, omega arith, omega arith), refl),
-                (λ is. absurd (cc is)), accepted_bytes) },
+            record { words = refl; fits = (((omega arith, omega arith, omega arith), refl), (λ is. absurd (cc is)), accepted_bytes) },
             refl,
             (
               _,
               _,
               refl,
-              record { words = refl; fits = (((omega arith, omega arith, omega arith), refl),
-                  passes) },
+              record { words = refl; fits = (((omega arith, omega arith, omega arith), refl), passes) },
               refl,
               (
                 _,
@@ -336,15 +310,13 @@ five_spell = (
     _,
     _,
     refl,
-    record { words = refl; fits = (((omega arith, omega arith, omega arith), refl),
-        (λ is. absurd (cc is)), packet_bytes) },
+    record { words = refl; fits = (((omega arith, omega arith, omega arith), refl), (λ is. absurd (cc is)), packet_bytes) },
     refl,
     (
       _,
       _,
       refl,
-      record { words = refl; fits = (((omega arith, omega arith, omega arith), refl),
-          (λ is. absurd (cc is)), packet_bytes) },
+      record { words = refl; fits = (((omega arith, omega arith, omega arith), refl), (λ is. absurd (cc is)), packet_bytes) },
       refl,
       (
         _,
@@ -356,8 +328,7 @@ five_spell = (
           _,
           _,
           refl,
-          record { words = refl; fits = (((omega arith, omega arith, omega arith), refl),
-              (λ is. absurd (cc is)), accepted_bytes) },
+          record { words = refl; fits = (((omega arith, omega arith, omega arith), refl), (λ is. absurd (cc is)), accepted_bytes) },
           refl,
           refl,
         ),
@@ -404,8 +375,7 @@ freed_early_unlawful = record {
   place = 0;
   split = refl;
   spelled = five_spell;
-  pass = front_pass (take 5 packet_lines)
-      (codes "free A.0 000f0201cafe0001a9bb0000" ∷ codes "end" ∷ []) refl five_pass;
+  pass = front_pass (take 5 packet_lines) (codes "free A.0 000f0201cafe0001a9bb0000" ∷ codes "end" ∷ []) refl five_pass;
   hits = HitsLine free_line NotAllowed free_spells not_allowed not_before;
   at = refl;
 }
