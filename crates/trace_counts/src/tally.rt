@@ -102,7 +102,8 @@ impl Tallies {
         self.items.get(place_of(port))
     }
 
-    /// Counts a line of a trace. `TooMany` comes only if a sum would be 2^64 or more.
+    /// Counts a line of a trace. `TooMany` is meant for a sum that would be 2^64 or more; no clause
+    /// says so.
     pub fn count(&mut self, line: &TraceLine) -> Result<(), TooMany>
         ensures line { OnOk result (self.new ≡ line_counted self.old line.now) }
         ensures sums { (nodes : ℕ) (lines : List ALine) → self.old ≡ counts_of_lines nodes lines
