@@ -26,7 +26,8 @@ def add_vcd(forms) -> None:
     parser = forms.add_parser("vcd", help="a waveform of a simulation")
     parser.add_argument("file", nargs="?", default="-")
     parser.add_argument("--data", type=names, required=True, help="the signal of the bytes, or of each lane")
-    parser.add_argument("--flag", type=names, required=True, help="which bytes are special")
+    parser.add_argument("--flag", type=names, required=True,
+                        help="which bytes are special; 'above' if that is told by the bits above the data")
     parser.add_argument("--invalid", type=names, default=[], help="which bytes are no characters")
     parser.add_argument("--valid", help="whether a sample counts")
     parser.add_argument("--clock", help="the clock; without it a sample is taken after each change")
@@ -125,8 +126,8 @@ def samples_of(said: argparse.Namespace, stack: contextlib.ExitStack):
     """The samples of the form that was asked for, and what their times count."""
     if said.form == "vcd":
         reader = vcd.Reader(bytes_of(said.file, stack), vcd.Wanted(
-            data=said.data, flag=said.flag, invalid=said.invalid, valid=said.valid,
-            clock=said.clock, edge=said.edge, low_first=said.first == "low"))
+            data=said.data, flag=[] if said.flag == ["above"] else said.flag, invalid=said.invalid,
+            valid=said.valid, clock=said.clock, edge=said.edge, low_first=said.first == "low"))
         return reader.samples(), reader.head.unit
     if said.form == "columns":
         reader = columns.Reader(text_of(said.file, stack), wanted_columns(said))

@@ -49,6 +49,7 @@ class Wanted:
     """Which signals a capture is read from. Several of data are lanes, the first one first."""
 
     data: list[str]
+    # none if the flags are the bits above the data
     flag: list[str]
     invalid: list[str]
     valid: str | None
@@ -155,9 +156,12 @@ class Reader:
         self.head = read_head(self.lines)
         self.wanted = wanted
         data = [self.head.find(name) for name in wanted.data]
-        self.width, self.lanes = data[0].width, len(data)
-        if self.width % 8 or any(it.width != self.width for it in data):
+        self.is_packed = not wanted.flag
+        self.width, self.lanes = data[0].width * 8 // (9 if self.is_packed else 8), len(data)
+        if any(it.width * 8 != self.width * (9 if self.is_packed else 8) for it in data) or self.width % 8:
             raise Refused("the signals of the data have no whole bytes, or not all as many")
+        if self.is_packed and self.lanes > 1:
+            raise Refused("flags above the data are read from one signal")
         self.layout = Layout(self.width // 8 * self.lanes, wanted.low_first)
         flags, invalid = self._flags(wanted.flag), self._flags(wanted.invalid)
         others = [self.head.find(name) for name in (wanted.valid, wanted.clock) if name]
@@ -236,6 +240,9 @@ class Reader:
     def _words(self, used: list[int]) -> list[str]:
         lanes, flags, count = self.lanes, self.flags, self.layout.count
         invalid = used[lanes + flags:]
+        if self.is_packed:
+            return self.layout.words(used[0] & (1 << self.width) - 1, used[0] >> self.width,
+                                     joined(invalid, count // len(invalid)) if invalid else 0)
         return self.layout.words(
             joined(used[:lanes], self.width),
             joined(used[lanes:lanes + flags], count // flags),
