@@ -2,7 +2,6 @@ mod Distinct
 mod Playing
 mod Stopping
 mod Begun
-mod Hosts
 mod Telling
 mod AllTurns
 mod StayingOpen

@@ -1,11 +1,9 @@
--- What came of the last turn of each of two hosts, and how many turns of each went on.
-use Rattle.std.specs.Prelude.{ℕ, ◌+◌, List, [], ◌∷◌}
+-- What came of the last turn of each of two hosts.
+use Rattle.std.specs.Prelude.{List, [], ◌∷◌}
 use Rattle.link_watch.specs.declared.side.Side.{Side}
 use Rattle.link_watch.specs.declared.side.Side.TheVariants.{A, B}
 use Rattle.contest_machine.specs.declared.stages.Turn.{Turn}
 use Rattle.contest_machine.specs.Turns.{walker_turned, came_of, Both, turn_of}
-use Rattle.contest_machine.specs.Locks.{side_answer}
-use Rattle.contest_machine.specs.Going.{going_one}
 use Rattle.fabric_contest.specs.declared.contest.Contest.{Contest}
 
 -- with one more turn
@@ -24,20 +22,3 @@ lasts_after_turns both lasts (side ∷ turns) =
 -- of the code
 abbrev pub lasts_of : Contest → Turn × Turn
 lasts_of contest = (contest.first.last, contest.second.last)
-
--- ---- how many turns answered Going
-
--- with one more turn
-abbrev pub goings_after : Both → ℕ × ℕ → Side → ℕ × ℕ
-goings_after both goings A = (goings.0 + going_one (side_answer both A), goings.1)
-goings_after both goings B = (goings.0, goings.1 + going_one (side_answer both B))
-
--- with all these
-abbrev pub goings_after_turns : Both → ℕ × ℕ → List Side → ℕ × ℕ
-goings_after_turns both goings [] = goings
-goings_after_turns both goings (side ∷ turns) =
-    goings_after_turns (turn_of both side) (goings_after both goings side) turns
-
--- of the code
-abbrev pub goings_of : Contest → ℕ × ℕ
-goings_of contest = (contest.first.going, contest.second.going)

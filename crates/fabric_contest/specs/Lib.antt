@@ -3,4 +3,3 @@ pub mod Contests
 pub mod LastTurns
 pub mod ContestTexts
 pub mod Laws
-pub mod Hosts

@@ -12,9 +12,7 @@
 //!   the [`ContestEnd`].
 //! - [`Contest`] has the fabric and both walkers, and makes single turns, those of a list, and
 //!   those of a number. `over` makes a turn over the links.
-//! - [`contests_keep_apart`], [`the_greater_host_holds_on`], [`kept_ways_stay_open`],
-//!   [`hosts_begin`], [`done_hosts_have_numbered`], [`hosts_wait_and_are_lost`] and
-//!   [`hosts_go_on_few_times`] are laws.
+//! - [`contests_keep_apart`], [`the_greater_host_holds_on`] and [`kept_ways_stay_open`] are laws.
 #![tactic(auto)]
 
 mod contest;
@@ -24,8 +22,5 @@ mod orders;
 mod over;
 
 pub use contest::Contest;
-pub use laws::{
-    contests_keep_apart, done_hosts_have_numbered, hosts_begin, hosts_go_on_few_times,
-    hosts_wait_and_are_lost, kept_ways_stay_open, the_greater_host_holds_on,
-};
+pub use laws::{contests_keep_apart, kept_ways_stay_open, the_greater_host_holds_on};
 pub use lines::{ContestEnd, write_contest};

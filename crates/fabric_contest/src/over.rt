@@ -5,7 +5,7 @@ ghost use Rattle.contest_machine.specs.Turns.{walker_turned, came_of};
 ghost use Rattle.fabric_maint.specs.Going.{topology_in, registers_in, StandsFor, StandsWhole, MaintIsSame};
 ghost use Rattle.host_contest.specs.Reaching.{CanReachOn};
 ghost use Rattle.host_contest.specs.Steps.{state_in, CanStep};
-ghost use Rattle.host_contest.specs.Walkers.{machine_in, HasEntries, going_after};
+ghost use Rattle.host_contest.specs.Walkers.{machine_in, HasEntries};
 ghost use Rattle.fabric_contest.specs.Contests.{view_of};
 
 use fabric_maint::FabricMaint;
@@ -52,7 +52,6 @@ pub(crate) fn turn_over(
     ensures last { OnOk result (walker.new.last
         ≡ came_of (machine_in (view_of script.now.lines.items host) walker.old)
         (machine_in (view_of script.now.lines.items host) walker.new)) }
-    ensures going { OnOk result (walker.new.going ≡ going_after walker.old.going walker.new.last) }
     ensures entries { OnOk result (HasEntries walker.new) }
 {
     let mut noise = Quiet;
@@ -82,7 +81,6 @@ fn make_turn(
     ensures last { OnOk result (walker.new.last
         ≡ came_of (machine_in (topology_in maint.old) walker.old)
         (machine_in (topology_in maint.old) walker.new)) }
-    ensures going { OnOk result (walker.new.going ≡ going_after walker.old.going walker.new.last) }
     ensures entries { OnOk result (HasEntries walker.new) }
 {
     match walker.turn(alloc, maint) {

@@ -274,7 +274,7 @@ came_goes_each (IoEnds rest is to) set_up own = refl
 
 -- ---- all tasks
 
-pub asked_comes_each : {names : List (List ℕ)} {script : List Numbered} {first s : IoState}
+asked_comes_each : {names : List (List ℕ)} {script : List Numbered} {first s : IoState}
     (comes : IoComes names script first s)
     → length (io_asked comes) ≡ lines_in asked_line (io_told comes)
 asked_comes_each (Here is) = refl

@@ -21,4 +21,3 @@ pub mod Types
 pub mod Requests
 pub mod Dones
 pub mod Answering
-pub mod Asking

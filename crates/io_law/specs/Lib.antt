@@ -2,4 +2,3 @@ pub mod Telling
 pub mod Items
 pub mod Replies
 pub mod Laws
-pub mod Asking

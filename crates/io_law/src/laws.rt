@@ -1,5 +1,4 @@
 //! Laws of whole runs of a script of reads and writes.
-ghost use Rattle.io_law.specs.Asking.{AsksAreOfLines};
 ghost use Rattle.io_law.specs.Laws.{
   DonesAnswerRequests,
   MemoriesAreTold,
@@ -35,13 +34,6 @@ pub fn output_is_what_was_told()
 /// asked with gives at most one line when it comes.
 pub fn packets_have_one_line()
     ensures { PacketsHaveOneLine }
-{}
-
-/// In every run of a script that may be carried out, each line that says that a node asked comes
-/// after the one of a request of the script, which it is of: the node and the number are those of
-/// the packet that was sent for it. The k-th such line is of the k-th packet.
-pub fn asks_are_of_their_lines()
-    ensures { AsksAreOfLines }
 {}
 
 /// In every run of a script that may be carried out, the packets that came to nodes, as the lines

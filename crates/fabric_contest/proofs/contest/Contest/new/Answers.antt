@@ -48,6 +48,5 @@ returns c =
     (c.id_of-second_id.ensures.id
     ∙ ap (λ (f : Fabric). (registers_of f.devices.items c.args.second).base_id)
     (one ∙ sym same)) c.new-2.ensures.machine c.new-3.ensures.machine c.new-2.ensures.low
-    c.new-3.ensures.low c.new-2.ensures.entries c.new-3.ensures.entries c.new-2.ensures.none
-    c.new-3.ensures.none in
-    record { both = new.both; can = new.can; lasts = search rules; goings = search rules }
+    c.new-3.ensures.low c.new-2.ensures.entries c.new-3.ensures.entries in
+    record { both = new.both; can = new.can; lasts = search rules }

@@ -1,5 +1,0 @@
-use Rattle.fabric_contest.proofs.Hosts.{hosts_begin}
-use Rattle.fabric_contest.proofs.laws.hosts_begin.Goals as goal
-
-pub returns : goal.returns
-returns c = hosts_begin
