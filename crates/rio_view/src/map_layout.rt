@@ -104,7 +104,7 @@ fn place_level(map: &mut FabricMap, order: &[u8], level: u32) -> u32 {
 /// How wide the box of a node is.
 fn width_of(node: &MapNode) -> u32 {
     let letters = node.notes.len().max(node.name.len()).min(1_000) * LETTER + 20;
-    let ports = u32::from(node.ports) * PORT + 8;
+    let ports = u32::from(node.ports).saturating_mul(PORT).saturating_add(8);
     LEAST.max(ports).max(letters as u32)
 }
 

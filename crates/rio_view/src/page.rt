@@ -263,21 +263,20 @@ impl PageView {
             return Ok(());
         };
         let before = place.halves;
-        let PagePort {
-            sending,
-            taking,
-            halves,
-            ..
-        } = place;
-        let (kind, ear): (&[u8], &mut Ear) = match way {
-            Way::Out => (b"s", sending),
-            Way::In => (b"g", taking),
-        };
-        out.put(kind);
-        let mut telling = Telling::new(&mut self.words, &mut self.asked, halves, way);
-        listen(ear, chars, &mut telling)?;
-        telling.end(ear.at_rest());
-        out.put(telling.mark());
+        match way {
+            Way::Out => {
+                out.put(b"s");
+                let halves = &mut place.halves;
+                let telling = Telling::new(&mut self.words, &mut self.asked, halves, way);
+                tell(&mut place.sending, chars, telling, out)?;
+            }
+            Way::In => {
+                out.put(b"g");
+                let halves = &mut place.halves;
+                let telling = Telling::new(&mut self.words, &mut self.asked, halves, way);
+                tell(&mut place.taking, chars, telling, out)?;
+            }
+        }
         out.put_number(u64::from(place.number));
         put_states(out, before, place.halves);
         Ok(())
@@ -390,4 +389,17 @@ fn lack_words(lack: Lack) -> &'static [u8] {
         Lack::Early => b"k early",
         Lack::NoStep => b"k none",
     }
+}
+
+/// Tells what is heard of these characters, and puts the mark of it.
+fn tell(
+    ear: &mut Ear,
+    chars: &[Char],
+    mut telling: Telling,
+    out: &mut Text,
+) -> Result<(), AllocError> {
+    listen(ear, chars, &mut telling)?;
+    telling.end(ear.at_rest());
+    out.put(telling.mark());
+    Ok(())
 }
