@@ -1,4 +1,5 @@
 """Times of a capture beside what was read in it."""
+import itertools
 import json
 import re
 from collections.abc import Iterable, Iterator
@@ -32,7 +33,9 @@ def beside(lines: Iterable[str], places: Iterable[str]) -> Iterator[str]:
     """Each line with the time of the place, or of the line of a trace, that it begins with. A line
     that begins with none, or with one that has no time, has none. Neither file is kept: both go on
     in the order of places."""
-    unit, pairs = read_places(places)
+    places = iter(places)
+    head = next(places, "")
+    unit, pairs = read_places(itertools.chain([head], places))
     at, time = next(pairs, (None, ""))
     last = -1
     for number, line in enumerate(lines, 1):
@@ -46,7 +49,7 @@ def beside(lines: Iterable[str], places: Iterable[str]) -> Iterator[str]:
         last = place
         while at is not None and at < place:
             at, time = next(pairs, (None, ""))
-        if at is None:
+        if at is None and not head.startswith("# LINE"):
             raise Refused(f"the file of places ends before place {place}", number)
         yield f"{time} {unit}: {line}" if at == place else line
 
