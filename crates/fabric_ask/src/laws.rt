@@ -94,6 +94,6 @@ pub fn without_edits_nothing_is_undetected()
 pub fn an_ask_has_one_trip()
     ensures { (registers : List Registers) (links : List (PortRef × PortRef)) (host : ℕ)
         (request : Request) (at other : PortRef)
-        → IsRoundTrip registers links host request at → IsRoundTrip registers links host request other
-        → at ≡ other }
+        → IsRoundTrip registers links host request at
+        → IsRoundTrip registers links host request other → at ≡ other }
 {}

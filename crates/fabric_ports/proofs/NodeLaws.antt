@@ -106,8 +106,8 @@ endpoint_port devices n at = rw at.stands at.has_port
 -- what is known to have nothing to do, but the link of the port
 one_idle : (old new : Fabric) (s t : Seen) (n : ℕ) (next : Registers) → ShowsFabric old s
     → IsEndpointAt old.devices.items n
-    → Wakes (HasNumber old.cable_at.items (place_of old.firsts.items (port_of n)) 1) (λ k. ⊥) old.idle
-    new.idle
+    → Wakes (HasNumber old.cable_at.items (place_of old.firsts.items (port_of n)) 1) (λ k. ⊥)
+    old.idle new.idle
     → ((q : PortRef) → same_port q (port_of n) ≡ false → port_seen t q ≡ port_seen s q)
     → t.wires ≡ s.wires → t.network.links ≡ s.network.links
     → t.network.registers ≡ slice_set s.network.registers n next → KnowsIdle new.idle t
@@ -185,8 +185,8 @@ WokeOne fabric numbers place idle =
 
 woke_one : (fabric : Fabric) (p : PortRef) {numbers : List ℕ} {place : ℕ} {idle : Idle}
     → place ≡ place_of fabric.firsts.items p → WokeOne fabric numbers place idle
-    → Wakes (HasNumber fabric.cable_at.items (place_of fabric.firsts.items p) 1) (λ k. ⊥) fabric.idle
-    idle
+    → Wakes (HasNumber fabric.cable_at.items (place_of fabric.firsts.items p) 1) (λ k. ⊥)
+    fabric.idle idle
 woke_one fabric p {place = place} {idle = idle} is woke =
     subst (λ i. Wakes (HasNumber fabric.cable_at.items i 1) (λ k. ⊥) fabric.idle idle) is
     (subst (λ l. Wakes (HasNumber l place 1) (λ k. ⊥) fabric.idle idle) woke.0 woke.1)

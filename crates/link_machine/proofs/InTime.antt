@@ -163,8 +163,8 @@ module _ (timely : Bool) where
   ended_hears b kept_a place count (WentUndetected told e) t = tt
 
   -- the two ports at the start of a delivery
-  begun_flowing : (a b : PortState) (kept_a kept_b : List Event) → IsPort a → IsSound a b kept_a kept_b
-      → IsFlowing b kept_a (queues_between a b) (begun a kept_b)
+  begun_flowing : (a b : PortState) (kept_a kept_b : List Event) → IsPort a
+      → IsSound a b kept_a kept_b → IsFlowing b kept_a (queues_between a b) (begun a kept_b)
   begun_flowing a b kept_a kept_b near sound = record {
     port = near;
     sound = subst (λ (l : List Event). IsSound a b l kept_b) (sym (append-nil kept_a)) sound;

@@ -101,10 +101,10 @@ pub fn no_sender_fails_within_a_delivery()
         → (reached_within from count events s).output ≢ out.Output.Failed }
 {}
 
-/// If a port of a sound link tells its free buffers, and a report of it reached its peer before that
-/// started a packet, the packets of the peer find room, whatever calls and layers follow, up to the
-/// first event that was not sent. Nothing that comes to the port is answered with packet-retry then,
-/// also within a delivery that ends with such an event.
+/// If a port of a sound link tells its free buffers, and a report of it reached its peer before
+/// that started a packet, the packets of the peer find room, whatever calls and layers follow, up
+/// to the first event that was not sent. Nothing that comes to the port is answered with
+/// packet-retry then, also within a delivery that ends with such an event.
 pub fn told_in_time_means_no_retry()
     ensures begins { (peer : Side) (s : LinkState) → IsToldInTime (ends_of_link (from_end peer s))
         → RoomAhead (from_end peer s) }

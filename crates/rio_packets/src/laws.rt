@@ -60,7 +60,8 @@ pub fn longest_rest()
         → IsBadLength (body_of prio ftype large dest source rest) }
 {}
 
-/// A packet is not taken for another one if one of its bytes is another: the bytes then pass no CRC.
+/// A packet is not taken for another one if one of its bytes is another: the bytes then pass no
+/// CRC.
 pub fn one_byte_is_seen()
     ensures { (front rest : List ℕ) (b d : ℕ) → Passes (front ++ b ∷ rest)
         → Passes (front ++ d ∷ rest) → b ≡ d }

@@ -13,8 +13,8 @@
 //!   entries are.
 //! - `to_bytes`, `from_bytes`, `BadCrc`: the spelling, in both directions.
 //! - `Delimiter`, `delimiter`: the special character that is sent before a symbol.
-//! - `spelling_laws`, `delimiter_laws`, `one_block_is_seen`: facts about the spelling of any numbers,
-//!   for proofs above.
+//! - `spelling_laws`, `delimiter_laws`, `one_block_is_seen`: facts about the spelling of any
+//!   numbers, for proofs above.
 //!
 //! No call takes memory.
 #![tactic(auto)]

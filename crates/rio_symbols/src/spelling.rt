@@ -88,7 +88,8 @@ pub fn spelling_laws()
 {}
 
 /// A symbol is not taken for another one if one of its three bytes has a change within its low five
-/// bits or within its high three: the bytes then spell none. For proofs above; the call does nothing.
+/// bits or within its high three: the bytes then spell none. For proofs above; the call does
+/// nothing.
 pub fn one_block_is_seen()
     ensures first { (x y z p : ℕ) → IsTrue (is_spelling x y z) → IsTrue (is_spelling p y z)
         → (x / 32 ≡ p / 32) ⊎ (x % 32 ≡ p % 32) → x ≡ p }
