@@ -16,8 +16,6 @@ pub struct Node {
 pub struct Cable {
     pub ends: [usize; 2],
     pub wires: [Wire; 2],
-    /// Whether it may have work.
-    pub stirs: bool,
 }
 
 /// A port acted on an event that its peer had not sent.
@@ -29,6 +27,8 @@ pub struct Lost {
 pub struct Fabric {
     pub nodes: Vec<Node>,
     pub cables: Vec<Cable>,
+    /// Whether each cable may have work.
+    pub stirs: Vec<bool>,
     pub ports: Vec<Port>,
     pub names: Vec<String>,
     pub node_of: Vec<usize>,
@@ -47,6 +47,7 @@ impl Fabric {
         Fabric {
             nodes: Vec::new(),
             cables: Vec::new(),
+            stirs: Vec::new(),
             ports: Vec::new(),
             names: Vec::new(),
             node_of: Vec::new(),
@@ -80,10 +81,10 @@ impl Fabric {
             let node = &mut self.nodes[self.node_of[end]];
             node.device.linked |= 1 << (end - node.first);
         }
+        self.stirs.push(true);
         self.cables.push(Cable {
             ends,
             wires: Default::default(),
-            stirs: true,
         });
     }
 
@@ -92,7 +93,7 @@ impl Fabric {
     }
 
     pub fn stir(&mut self, cable: usize) {
-        self.cables[cable].stirs = true;
+        self.stirs[cable] = true;
     }
 
     /// Writes the output if it has at least so many bytes.
@@ -129,7 +130,7 @@ impl Fabric {
 
     /// Whether a link has nothing to do.
     fn is_still(&mut self, cable: usize) -> bool {
-        if !self.cables[cable].stirs {
+        if !self.stirs[cable] {
             return true;
         }
         let [a, b] = [self.at(cable, 0), self.at(cable, 1)];
@@ -139,7 +140,7 @@ impl Fabric {
             .iter()
             .all(|wire| wire.chars.is_empty());
         let still = rests && is_empty;
-        self.cables[cable].stirs = !still;
+        self.stirs[cable] = !still;
         still
     }
 
@@ -191,7 +192,7 @@ impl Fabric {
     pub fn put(&mut self, port: usize, packet: Packet) {
         self.ports[port].put(packet);
         if let Some((cable, _)) = self.cable_of[port] {
-            self.cables[cable].stirs = true;
+            self.stirs[cable] = true;
         }
     }
 

@@ -30,7 +30,7 @@ impl Fabric {
                 break;
             }
         }
-        place.stirs = true;
+        self.stirs[cable] = true;
         self.sent_line(cable, side, from);
     }
 
@@ -44,7 +44,7 @@ impl Fabric {
     /// Delivers what this side has sent, `count` characters of it.
     pub fn deliver(&mut self, cable: usize, side: usize, count: usize) -> Result<(), Lost> {
         let place = &mut self.cables[cable];
-        place.stirs = true;
+        self.stirs[cable] = true;
         let from = place.wires[1 - side].chars.len();
         let port = place.ends[1 - side];
         place.wires[side].take(count, &mut self.came);
@@ -110,7 +110,7 @@ impl Fabric {
         }
         let port = place.ends[side];
         self.ports[port].time_out();
-        place.stirs = true;
+        self.stirs[cable] = true;
         self.begin("fire ", port);
         self.out.push(b'\n');
         true
@@ -168,7 +168,7 @@ impl Fabric {
     }
 
     pub fn settle(&mut self, cable: usize) -> Result<(), Lost> {
-        self.cables[cable].stirs = true;
+        self.stirs[cable] = true;
         self.drain(cable)?;
         for side in [0, 1] {
             self.recover(cable, side)?;
