@@ -1,0 +1,9 @@
+mod Ports
+mod Bytes
+mod Events
+mod Gots
+mod Ending
+mod Sending
+mod Stepping
+mod Wiring
+mod Spelling
