@@ -13,11 +13,11 @@ use Rattle.fabric_trace.specs.Fold.{seen}
 use Rattle.fabric_trace.specs.Known.{UndetectedAt, Seen}
 use Rattle.fabric_trace.specs.Rounds.{Follows}
 use Rattle.fabric_trace.specs.Runs.{EventThen, Names, RunsFrom}
-use Rattle.fabric_trace.proofs.Rounds.WithinBlocks.{IsWithinBlock, block_within}
 use Rattle.trace_check.specs.Lawful.{is_last}
 use Rattle.lawful_traces.specs.Knowing.{nodes_all, links_all, LinesAreNumbered}
 use Rattle.lawful_traces.proofs.Events.{event_fits, begun_by, names_stay, nodes_stay, links_stay, stays_all}
-use Rattle.lawful_traces.proofs.Gots.{AllGotSome, block_some}
+use Rattle.lawful_traces.proofs.Gots.{AllGotSome}
+use Rattle.lawful_traces.proofs.GotsInBlocks.{block_some}
 
 -- An event may stand alone, what a port got is not empty, and the number of a script's line fits 32
 -- bits.
@@ -41,28 +41,27 @@ pub cons_closes : (known : Known) (line : TraceLine) (rest : List TraceLine)
 cons_closes known line [] from more closes = absurd closes
 cons_closes known line (next ∷ rest) from more closes = (from, more, closes)
 
-pub within_closes : (known : Known) (xs ys : List TraceLine) → IsWithinBlock xs → AllGotSome xs
-    → Closes known ys → Closes known (xs ++ ys)
-unfolding IsWithinBlock
-within_closes known [] ys within some closes = closes
-within_closes known (Begun line ∷ xs) ys within some closes = absurd within
-within_closes known (Stepped step ∷ xs) ys within some closes =
+pub within_closes : (known : Known) (xs ys : List TraceLine) → AllGotSome xs → Closes known ys
+    → Closes known (xs ++ ys)
+within_closes known [] ys some closes = closes
+within_closes known (Begun line ∷ xs) ys some closes = absurd some.0
+within_closes known (Stepped step ∷ xs) ys some closes =
     cons_closes known (Stepped step) (xs ++ ys) tt refl
-    (within_closes known xs ys within some.1 closes)
-within_closes known (Signed (Sent p chars) ∷ xs) ys within some closes =
+    (within_closes known xs ys some.1 closes)
+within_closes known (Signed (Sent p chars) ∷ xs) ys some closes =
     cons_closes known (Signed (Sent p chars)) (xs ++ ys) tt refl
-    (within_closes known xs ys within some.1 closes)
-within_closes known (Signed (Got q chars) ∷ xs) ys within some closes =
+    (within_closes known xs ys some.1 closes)
+within_closes known (Signed (Got q chars) ∷ xs) ys some closes =
     cons_closes known (Signed (Got q chars)) (xs ++ ys) some.0 refl
-    (within_closes known xs ys within some.1 closes)
-within_closes known (Signed (Fired p) ∷ xs) ys within some closes =
+    (within_closes known xs ys some.1 closes)
+within_closes known (Signed (Fired p) ∷ xs) ys some closes =
     cons_closes known (Signed (Fired p)) (xs ++ ys) tt refl
-    (within_closes known xs ys within some.1 closes)
-within_closes known (Lacked lack ∷ xs) ys within some closes =
+    (within_closes known xs ys some.1 closes)
+within_closes known (Lacked lack ∷ xs) ys some closes =
     cons_closes known (Lacked lack) (xs ++ ys) tt refl
-    (within_closes known xs ys within some.1 closes)
-within_closes known (Ended ∷ xs) ys within some closes = absurd within
-within_closes known (Undetected number q e ∷ xs) ys within some closes = absurd within
+    (within_closes known xs ys some.1 closes)
+within_closes known (Ended ∷ xs) ys some closes = absurd some.0
+within_closes known (Undetected number q e ∷ xs) ys some closes = absurd some.0
 
 pub closes_all : (known : Known) (lines : List TraceLine) → Closes known lines
     → AllByRecursion (IsFromScript known) lines
@@ -102,7 +101,7 @@ module _ (known : Known) (names : List (List ℕ)) (names_are : known.names ≡ 
       event is may free) in
       subst (Closes known) (sym run.2)
       (cons_closes known (Begun line.line) (block ++ rest) fits refl
-      (within_closes known block rest (block_within s line.line block run.3)
+      (within_closes known block rest
       (block_some old (new_name names line.line) s line.line block may run.3)
       (follows_close t.undetected script line.number t rest low (more t rest) run.4)))
 

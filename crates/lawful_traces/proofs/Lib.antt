@@ -1,9 +1,11 @@
-mod Ports
-mod Bytes
-mod Events
-mod Gots
-mod Ending
-mod Sending
-mod Stepping
-mod Wiring
-mod Spelling
+pub mod Ports
+pub mod Bytes
+pub mod Events
+pub mod Gots
+pub mod GotsInBlocks
+pub mod Ending
+pub mod Sending
+pub mod Stepping
+pub mod Wiring
+pub mod Spelling
+mod Inputs
