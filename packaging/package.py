@@ -117,8 +117,18 @@ def overrides():
     return "".join(f"{line}\n" for line in told)
 
 
+def pkgconfig(made):
+    """What pkg-config is told of the library, with paths from where it stands."""
+    text = (TOP / "share/library/kigvarp.pc.in").read_text(encoding="utf-8")
+    for mark, value in (("prefix", "${pcfiledir}/../../.."), ("libdir", "${pcfiledir}/.."),
+                        ("includedir", "${prefix}/include"), ("version", made.version)):
+        text = text.replace(f"@{mark}@", value)
+    return text
+
+
 def written(made):
     """What the programs of this folder write: of the pages, of the license and of the gate."""
+    yield "usr/lib/x86_64-linux-gnu/pkgconfig/kigvarp.pc", pkgconfig(made).encode()
     for name in ("rio", *pages.SYNOPSES):
         yield f"{COMPLETIONS}/{name}", said_by(str(TOP / "packaging/completion"), name).encode()
         page = said_by(str(TOP / "packaging/manual"), name, made.version, f"{made.date:%Y-%m-%d}")
@@ -183,12 +193,21 @@ def lay_out(top, made, files):
         os.utime(top / path, (made.date.timestamp(), made.date.timestamp()), follow_symlinks=False)
 
 
+def of_libraries(files):
+    """What dpkg is told of shared libraries: to note them anew, and which package has them."""
+    names = [found for path in files for found in re.findall(r"^usr/lib/[^/]+/(lib\w+)\.so\.(\d+)$", path)]
+    if not names:
+        return {}
+    shared = "".join(f"{name} {number} kigvarp\n" for name, number in names)
+    return {"DEBIAN/triggers": b"activate-noawait ldconfig\n", "DEBIAN/shlibs": shared.encode()}
+
+
 def write_package(to, made, files):
     """The Debian package."""
     about = control(made, files)
     whole_files = {path: data for path, data in files.items() if not isinstance(data, Link)}
     sums = "".join(f"{hashlib.md5(data).hexdigest()}  {path}\n" for path, data in whole_files.items())
-    whole = {**files, "DEBIAN/control": about.encode(), "DEBIAN/md5sums": sums.encode()}
+    whole = {**files, "DEBIAN/control": about.encode(), "DEBIAN/md5sums": sums.encode(), **of_libraries(files)}
     file = to / f"kigvarp_{made.version}_{machine(files)[0]}.deb"
     date = str(int(made.date.timestamp()))
     with tempfile.TemporaryDirectory() as room:
