@@ -2,7 +2,7 @@
 be had.
 
 mmdebstrap makes the roots once, which needs the rights of root and a mirror, and takes a minute, or ten over a slow
-line. They are kept in KIGVARP_ROOTS, or in ~/.cache/kigvarp-roots."""
+line; after a quarter of an hour it is given up. They are kept in KIGVARP_ROOTS, or in ~/.cache/kigvarp-roots."""
 import os
 import re
 import shutil
@@ -16,7 +16,7 @@ from .trees import DOC, run
 MIRROR = os.environ.get("KIGVARP_MIRROR", "http://deb.debian.org/debian")
 KEPT = Path(os.environ.get("KIGVARP_ROOTS", Path.home() / ".cache/kigvarp-roots"))
 PACKAGE, OLDEST = "bookworm", ("jessie", "stretch", "buster", "bullseye")
-SECONDS = 1800
+SECONDS = 900
 
 # Places in which the system itself writes when a package comes and goes.
 SYSTEM = ("var/lib/dpkg", "var/lib/apt", "var/cache", "var/log", "tmp", "dev", "proc", "etc/ld.so.cache")
