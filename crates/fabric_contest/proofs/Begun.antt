@@ -44,7 +44,7 @@ module _ (names : List (List ℕ)) (lines : List Numbered) (passes : ScriptPasse
   abbrev both : Both
   both = new_both lines f s
 
-  are_begun : AreBegun both
+  pub are_begun : AreBegun both
   are_begun = record {
     new = new;
     next = next;
@@ -74,7 +74,7 @@ module _ (names : List (List ℕ)) (lines : List Numbered) (passes : ScriptPasse
       shown A = (made f host_f).fits
       shown B = (made s host_s).fits
 
-  none_tagged : (side : Side) → AreOwnUntagged (walker_of both side).view both.registers
+  pub none_tagged : (side : Side) → AreOwnUntagged (walker_of both side).view both.registers
       (walker_of both side).id
   none_tagged A node inside own = (made f host_f).untagged node inside
   none_tagged B node inside own = (made s host_s).untagged node inside
@@ -125,8 +125,9 @@ module _ (contest : Contest)
       host_f stands named))
 
   pub new_contest : AreLow contest.first.machine.todo → AreLow contest.second.machine.todo
-      → HasEntries contest.first → HasEntries contest.second → IsNewContest contest
-  new_contest low_f low_s entries_f entries_s = record {
+      → HasEntries contest.first → HasEntries contest.second → contest.first.going ≡ 0
+      → contest.second.going ≡ 0 → IsNewContest contest
+  new_contest low_f low_s entries_f entries_s none_f none_s = record {
     both = new_both_is;
     can = record {
       stands = new_stands contest.script.now.names.items lines contest.first_node contest.fabric
@@ -143,5 +144,7 @@ module _ (contest : Contest)
       low_second = low_s;
       entries_first = entries_f;
       entries_second = entries_s;
+      going_first = none_f;
+      going_second = none_s;
     };
   }

@@ -1,4 +1,5 @@
 mod Distinct
+mod Goings
 mod Playing
 mod Stopping
 mod Begun
@@ -7,3 +8,4 @@ mod AllTurns
 mod StayingOpen
 mod Carrying
 mod MadeTurns
+mod HostLaws

@@ -18,11 +18,17 @@ stands_over maint after script host same is_script is_host whole =
     (subst (λ h. StandsFor after.script.now.names.items after.script.now.lines.items h
     after.fabric.now) (same.host ∙ is_host) whole)
 
--- what follows of four facts of an answer that is not an error
-pub on_all_ok : {T E P Q R S Z : Type 0} (r : Result T E) → (P → Q → R → S → Z) → OnOk r P
-    → OnOk r Q → OnOk r R → OnOk r S → OnOk r Z
-on_all_ok (Ok value) f p q r s = f p q r s
-on_all_ok (Err end) f p q r s = p
+-- what follows of three facts of an answer that is not an error, and of six
+pub on_three_ok : {T E P Q R Z : Type 0} (r : Result T E) → (P → Q → R → Z) → OnOk r P → OnOk r Q
+    → OnOk r R → OnOk r Z
+on_three_ok (Ok value) f p q r = f p q r
+on_three_ok (Err end) f p q r = p
+
+pub on_six_ok : {T E P Q R S U V Z : Type 0} (r : Result T E)
+    → (P → Q → R → S → U → V → Z) → OnOk r P → OnOk r Q → OnOk r R → OnOk r S → OnOk r U
+    → OnOk r V → OnOk r Z
+on_six_ok (Ok value) f p q r s u v = f p q r s u v
+on_six_ok (Err end) f p q r s u v = p
 
 -- the cause of an end that is this one
 pub caused_by : (undetected faults : ℕ × ℕ) (met : PortRef → Event → Type 0) (end is : MaintEnd)

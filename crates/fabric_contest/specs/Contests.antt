@@ -6,10 +6,11 @@ use Rattle.fabric_map.specs.Plain.{topology_of, registers_of}
 use Rattle.host_enumerate.specs.Devised.{IsHost, devices_of, links_of}
 use Rattle.host_enumerate.specs.Underway.{AreOwnUntagged}
 use Rattle.link_watch.specs.declared.side.Side.{Side}
+use Rattle.link_watch.specs.declared.side.Side.TheVariants.{A, B}
 use Rattle.fabric_maint.specs.Going.{StandsFor}
 use Rattle.contest_machine.specs.Machine.{Walker}
 use Rattle.contest_machine.specs.Turns.{Both, after_turns}
-use Rattle.contest_machine.specs.Going.{AreBegun}
+use Rattle.contest_machine.specs.Going.{AreBegun, going_over}
 use Rattle.contest_machine.specs.Locks.{walker_of}
 use Rattle.host_contest.specs.Machines.{new_walker, has_ended}
 use Rattle.host_contest.specs.Reaching.{AreLow}
@@ -59,7 +60,8 @@ abbrev pub has_stopped : walkers.Walker → Bool
 has_stopped walker = walker.machine.begun && has_ended walker.machine
 
 -- The fabric rests, and both hosts are two of its script. They have made turns since they began,
--- and at first no device that bears the ID of one had a tag. Whoever is done has its entries.
+-- and at first no device that bears the ID of one had a tag. Whoever is done has its entries. All
+-- turns that went on are counted.
 pub record CanTurn (contest : Contest) : Type 0 where
   pub stands : StandsFor contest.script.now.names.items (contest_lines contest) contest.first_node
       contest.fabric
@@ -75,3 +77,5 @@ pub record CanTurn (contest : Contest) : Type 0 where
   pub low_second : AreLow contest.second.machine.todo
   pub entries_first : HasEntries contest.first
   pub entries_second : HasEntries contest.second
+  pub going_first : contest.first.going ≡ going_over begun A turns
+  pub going_second : contest.second.going ≡ going_over begun B turns

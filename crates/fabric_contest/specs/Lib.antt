@@ -3,3 +3,4 @@ pub mod Contests
 pub mod LastTurns
 pub mod ContestTexts
 pub mod Laws
+pub mod HostLaws

@@ -5,7 +5,7 @@ ghost use Rattle.host_enumerate.specs.Devised.{IsHost, devices_of, links_of};
 ghost use Rattle.contest_machine.specs.declared.stages.Turn.TheVariants.{Going};
 ghost use Rattle.contest_machine.specs.Turns.{turn_of, after_turns};
 ghost use Rattle.fabric_contest.specs.Contests.{new_both, both_of, has_stopped, CanTurn};
-ghost use Rattle.fabric_contest.specs.LastTurns.{lasts_of, lasts_after, lasts_after_turns};
+ghost use Rattle.fabric_contest.specs.LastTurns.{lasts_of, lasts_after, lasts_after_turns, goings_of, goings_after, goings_after_turns};
 ghost use Rattle.fabric_contest.specs.Orders.{sides_behind, seeded_turns};
 
 use crate::orders::{first_number, next_number, side_by};
@@ -52,6 +52,7 @@ impl<'a> Contest<'a> {
             ≡ new_both script.now.lines.items first second) }
         ensures can { IfOk result (λ contest. CanTurn contest) }
         ensures lasts { IfOk result (λ contest. lasts_of contest ≡ (Going, Going)) }
+        ensures goings { IfOk result (λ contest. goings_of contest ≡ (0, 0)) }
     {
         let mut fabric = Fabric::new(alloc, script)?;
         let first_id = id_of(&mut fabric, script, first);
@@ -72,6 +73,8 @@ impl<'a> Contest<'a> {
         ensures both { OnOk result (both_of self.new ≡ turn_of (both_of self.old) side) }
         ensures lasts { OnOk result (lasts_of self.new
             ≡ lasts_after (both_of self.old) (lasts_of self.old) side) }
+        ensures goings { OnOk result (goings_of self.new
+            ≡ goings_after (both_of self.old) (goings_of self.old) side) }
         ensures can { OnOk result (CanTurn self.new) }
     {
         match side {
@@ -86,6 +89,8 @@ impl<'a> Contest<'a> {
         ensures both { OnOk result (both_of self.new ≡ turn_of (both_of self.old) Side.A) }
         ensures lasts { OnOk result (lasts_of self.new
             ≡ lasts_after (both_of self.old) (lasts_of self.old) Side.A) }
+        ensures goings { OnOk result (goings_of self.new
+            ≡ goings_after (both_of self.old) (goings_of self.old) Side.A) }
         ensures can { OnOk result (CanTurn self.new) }
     {
         let node = self.first_node;
@@ -98,6 +103,8 @@ impl<'a> Contest<'a> {
         ensures both { OnOk result (both_of self.new ≡ turn_of (both_of self.old) Side.B) }
         ensures lasts { OnOk result (lasts_of self.new
             ≡ lasts_after (both_of self.old) (lasts_of self.old) Side.B) }
+        ensures goings { OnOk result (goings_of self.new
+            ≡ goings_after (both_of self.old) (goings_of self.old) Side.B) }
         ensures can { OnOk result (CanTurn self.new) }
     {
         let node = self.second_node;
@@ -111,6 +118,8 @@ impl<'a> Contest<'a> {
         ensures both { OnOk result (both_of self.new ≡ after_turns (both_of self.old) sides.now) }
         ensures lasts { IfOk result (λ lasts. lasts
             ≡ lasts_after_turns (both_of self.old) (lasts_of self.old) sides.now) }
+        ensures goings { OnOk result (goings_of self.new
+            ≡ goings_after_turns (both_of self.old) (goings_of self.old) sides.now) }
         ensures can { OnOk result (CanTurn self.new) }
     {
         for side in sides {

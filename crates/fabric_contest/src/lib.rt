@@ -12,7 +12,8 @@
 //!   the [`ContestEnd`].
 //! - [`Contest`] has the fabric and both walkers, and makes single turns, those of a list, and
 //!   those of a number. `over` makes a turn over the links.
-//! - [`contests_keep_apart`], [`the_greater_host_holds_on`] and [`kept_ways_stay_open`] are laws.
+//! - [`contests_keep_apart`], [`the_greater_host_holds_on`] and [`kept_ways_stay_open`] are laws, and
+//!   [`hosts_begin`] and those behind it carry the laws of `contest_machine` to hosts of a script.
 #![tactic(auto)]
 
 mod contest;
@@ -22,5 +23,8 @@ mod orders;
 mod over;
 
 pub use contest::Contest;
-pub use laws::{contests_keep_apart, kept_ways_stay_open, the_greater_host_holds_on};
+pub use laws::{
+    contests_keep_apart, done_hosts_have_numbered, hosts_begin, hosts_go_on_few_times,
+    hosts_wait_and_are_lost, kept_ways_stay_open, the_greater_host_holds_on,
+};
 pub use lines::{ContestEnd, write_contest};

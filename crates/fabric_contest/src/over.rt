@@ -5,7 +5,7 @@ ghost use Rattle.contest_machine.specs.Turns.{walker_turned, came_of};
 ghost use Rattle.fabric_maint.specs.Going.{topology_in, registers_in, StandsFor, StandsWhole, MaintIsSame};
 ghost use Rattle.host_contest.specs.Reaching.{CanReachOn};
 ghost use Rattle.host_contest.specs.Steps.{state_in, CanStep};
-ghost use Rattle.host_contest.specs.Walkers.{machine_in, HasEntries};
+ghost use Rattle.host_contest.specs.Walkers.{machine_in, HasEntries, going_after};
 ghost use Rattle.fabric_contest.specs.Contests.{view_of};
 
 use fabric_maint::FabricMaint;
@@ -53,6 +53,7 @@ pub(crate) fn turn_over(
         ≡ came_of (machine_in (view_of script.now.lines.items host) walker.old)
         (machine_in (view_of script.now.lines.items host) walker.new)) }
     ensures entries { OnOk result (HasEntries walker.new) }
+    ensures going { OnOk result (walker.new.going ≡ going_after walker.old.going walker.new.last) }
 {
     let mut noise = Quiet;
     let mut sink = PlainSink::new();
@@ -82,6 +83,7 @@ fn make_turn(
         ≡ came_of (machine_in (topology_in maint.old) walker.old)
         (machine_in (topology_in maint.old) walker.new)) }
     ensures entries { OnOk result (HasEntries walker.new) }
+    ensures going { OnOk result (walker.new.going ≡ going_after walker.old.going walker.new.last) }
 {
     match walker.turn(alloc, maint) {
         Ok(_) => Ok(()),

@@ -21,3 +21,6 @@ pub mod Types
 pub mod Requests
 pub mod Dones
 pub mod Answering
+pub mod Asking
+pub mod AskTasks
+pub mod Asks

@@ -163,7 +163,7 @@ comes_served count node (Further before comes goes) set_up none keeps =
 -- ---- what is sent
 
 -- the ID of a node stands in its registers
-sent_from : (old net : Network) (line : Line) (item : Item) → old.registers ≡ net.registers
+pub sent_from : (old net : Network) (line : Line) (item : Item) → old.registers ≡ net.registers
     → IsSentBy old line item → IsSentBy net line item
 sent_from old net (Send node prio ftype dest hex) item same is = (
   is.0,

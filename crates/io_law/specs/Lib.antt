@@ -2,3 +2,4 @@ pub mod Telling
 pub mod Items
 pub mod Replies
 pub mod Laws
+pub mod Asks

@@ -42,7 +42,8 @@ mistaken before c x bit low used heard differs = record {
       λ byte found e f. one_block before byte found bit
       (ltb-true byte 256 (subst (λ (y : Char). is_used y ≡ true) e used)) low
       (subst (λ (y : Char). IsHeardAs before (with_wrong_bit bit (group_of before y)) (Data found))
-      e (subst (λ (y : Char). IsHeardAs before (with_wrong_bit bit (group_of before c)) y) f heard));
+      e (subst (λ (y : Char). IsHeardAs before (with_wrong_bit bit (group_of before c)) y) f
+      heard));
 }
 
 pub bits_heard : (astray free : Bool) (before : Disparity) (chars heard : List Char)

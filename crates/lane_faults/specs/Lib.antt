@@ -1,3 +1,4 @@
 pub mod Among
+pub mod LaneRuns
 pub mod Mistakes
 pub mod WrongBits

@@ -1,5 +1,5 @@
 //! The laws of wrong bits. The calls do nothing: their clauses are the laws.
-ghost use Rattle.std.specs.Prelude.{◌≡◌, ◌<◌, ℕ, true, false, List, [], ◌∷◌, ◌++◌, length, Option, None};
+ghost use Rattle.std.specs.Prelude.{◌≡◌, ◌<◌, ℕ, Bool, true, false, List, [], ◌∷◌, ◌++◌, length, Option, None};
 ghost use Rattle.rio_chars.specs.declared.chars.Char.{Char};
 ghost use Rattle.code_groups.specs.declared.disparity.Disparity.{Disparity};
 ghost use Rattle.code_groups.specs.Changes.{with_wrong_bit_at};
@@ -8,8 +8,12 @@ ghost use Rattle.link_model.specs.Places.{Place, run};
 ghost use Rattle.link_model.specs.Said.{said};
 ghost use Rattle.link_model.specs.declared.event.Event.{Event};
 ghost use Rattle.link_port.specs.Prelude.{PortState};
+ghost use Rattle.link_port.specs.Ports.{new_port};
+ghost use Rattle.link_sound.specs.Histories.{AreBuffers};
+ghost use Rattle.link_machine.specs.States.{link, empty_wires};
 ghost use Rattle.link_wires.specs.Deliveries.{delivered, undetected};
 ghost use Rattle.lane_faults.specs.Among.{GoodStandIn, AreGood, IsGoodEvent};
+ghost use Rattle.lane_faults.specs.LaneRuns.{HeardUpTo, lanes_of, EndsUndetected};
 ghost use Rattle.lane_faults.specs.Mistakes.{HeardWithMistakes};
 ghost use Rattle.lane_faults.specs.WrongBits.{AreUsed, with_wrong_bits, AreApart};
 
@@ -59,4 +63,23 @@ pub fn no_delivery_is_undetected()
         → AreHeardAs before (with_wrong_bits wrong (groups_from before chars)) heard
         → AreGood (run port.place 0 chars)
         → undetected (delivered port (said port.place chars) heard) ≡ None }
+{}
+
+/// What is heard with mistakes may be taken in two pieces, cut anywhere: the second goes on as the
+/// first left the receiver, astray or not.
+pub fn mistakes_are_heard_in_pieces()
+    ensures { (astray : Bool) (front back heard : List Char)
+        → HeardWithMistakes astray (front ++ back) heard
+        → (first second : List Char) × (after : Bool) × (heard ≡ first ++ second)
+        × HeardUpTo astray front first after × HeardWithMistakes after back second }
+{}
+
+/// No run of a link over such lanes ends undetected: from a new link on, whatever turns, statuses,
+/// time-outs and deliveries come, and whatever the layer above does, each event that a port acts on
+/// was sent, if of the characters that it takes it hears what wrong bits that are apart make of
+/// them.
+pub fn no_run_ends_undetected()
+    ensures { (tells_a tells_b : Bool) (m n : ℕ) → AreBuffers m → AreBuffers n
+        → EndsUndetected (lanes_of (link empty_wires (new_port tells_a m) (new_port tells_b n)))
+        → ⊥ }
 {}

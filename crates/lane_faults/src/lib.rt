@@ -10,6 +10,7 @@
 mod laws;
 
 pub use laws::{
-    good_events_need_a_place, no_delivery_is_undetected, no_event_is_made_by_mistakes,
-    no_event_is_made_by_wrong_bits, one_wrong_bit_makes_no_event, wrong_bits_are_heard_as_mistakes,
+    good_events_need_a_place, mistakes_are_heard_in_pieces, no_delivery_is_undetected,
+    no_event_is_made_by_mistakes, no_event_is_made_by_wrong_bits, no_run_ends_undetected,
+    one_wrong_bit_makes_no_event, wrong_bits_are_heard_as_mistakes,
 };

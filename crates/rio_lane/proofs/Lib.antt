@@ -1,2 +1,4 @@
 pub mod LineLaws
+pub mod ReadBackLaws
+pub mod TextLaws
 pub mod WordLaws

@@ -6,6 +6,8 @@ use Rattle.rio_chars.specs.declared.chars.Char.TheVariants.{Special}
 use Rattle.code_groups.specs.Streams.{HaveGroups, HaveTenBits, groups_from, after_chars}
 use Rattle.group_text.specs.GroupTexts.{group_text_of, spaced_groups}
 use Rattle.fabric_script.specs.Lines.{words_of}
+use Rattle.lane_bits.specs.Aligning.{SpellBits, after_bits, pieces_of}
+use Rattle.lane_bits.specs.BitHearing.{HearsPieces}
 use Rattle.lane_sync.specs.declared.lane.LaneState.{LaneState}
 use Rattle.lane_sync.specs.Syncing.{LaneHearsAll}
 use Rattle.rio_lane.specs.declared.ends.LaneEnds.{LaneEnds}
@@ -73,3 +75,20 @@ pub record HearsText (commas : ℕ) (head : List ℕ) (ends : LaneEnds) (text : 
   pub reads : MatchOption read ((groups : List ℕ) → ¬ SpellGroups (text_words text) groups)
       (λ groups. SpellGroups (text_words text) groups)
   pub is : HeardAnswer commas head ends read answer
+
+-- What is heard of the bits of a line, and what is known of the lane after them; or the line is
+-- refused.
+abbrev pub BitsAnswer : ℕ → LaneEnds → Option (List ℕ) → LaneAnswer → Type 0
+BitsAnswer commas ends None answer = answer ≡ lane_says ends (codes "refused bit\n")
+BitsAnswer commas ends (Some bits) answer = (heard : List Char) × (to : LaneState)
+    × HearsPieces commas ends.receiver (pieces_of ends.aligner bits) to heard
+    × (answer ≡ lane_says
+    (record ends { receiver = to; aligner = after_bits ends.aligner bits })
+    (joined_chars heard ++ codes "\n"))
+
+pub record HearsBits (commas : ℕ) (ends : LaneEnds) (text : List ℕ) (answer : LaneAnswer) :
+    Type 0 where
+  pub read : Option (List ℕ)
+  pub reads : MatchOption read ((bits : List ℕ) → ¬ SpellBits text bits)
+      (λ bits. SpellBits text bits)
+  pub is : BitsAnswer commas ends read answer

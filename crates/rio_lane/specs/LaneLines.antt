@@ -1,21 +1,24 @@
 -- Lines, one after another, and their answers.
-use Rattle.std.specs.Prelude.{◌≡◌, ◌≢◌, ℕ, Bool, true, false, ◌⊎◌, List, [], ◌∷◌, ◌++◌, codes}
+use Rattle.std.specs.Prelude.{◌≡◌, ◌≢◌, ℕ, ◌⊎◌, List, [], ◌∷◌, ◌++◌, codes}
 use Rattle.rio_lane.specs.declared.ends.LaneEnds.{LaneEnds}
 use Rattle.rio_lane.specs.declared.ends.LaneTask.{LaneTask}
-use Rattle.rio_lane.specs.Tasks.{task_head, is_sending}
-use Rattle.rio_lane.specs.LaneAnswers.{LaneAnswer, lane_says, SendsText, HearsText}
+use Rattle.rio_lane.specs.declared.ends.LaneWay.{LaneWay}
+use Rattle.rio_lane.specs.declared.ends.LaneWay.TheVariants.{Sends, Hears, Aligns}
+use Rattle.rio_lane.specs.Tasks.{task_head, task_way}
+use Rattle.rio_lane.specs.LaneAnswers.{LaneAnswer, lane_says, SendsText, HearsText, HearsBits}
 
--- what is coded of a line, in the direction of the task
-abbrev pub CodesText : Bool → ℕ → List ℕ → LaneEnds → List ℕ → LaneAnswer → Type 0
-CodesText true commas head ends text answer = SendsText head ends text answer
-CodesText false commas head ends text answer = HearsText commas head ends text answer
+-- what is coded of a line, in the way of the task
+abbrev pub CodesText : LaneWay → ℕ → List ℕ → LaneEnds → List ℕ → LaneAnswer → Type 0
+CodesText Sends commas head ends text answer = SendsText head ends text answer
+CodesText Hears commas head ends text answer = HearsText commas head ends text answer
+CodesText Aligns commas head ends text answer = HearsBits commas ends text answer
 
 -- The answer of a line: what stands after the head of the task is coded, and a line that does not
 -- begin with it is passed on.
 abbrev pub AnswersLane : LaneTask → ℕ → LaneEnds → List ℕ → LaneAnswer → Type 0
 AnswersLane task commas ends line answer =
     ((text : List ℕ) × (line ≡ task_head task ++ text)
-    × CodesText (is_sending task) commas (task_head task) ends text answer)
+    × CodesText (task_way task) commas (task_head task) ends text answer)
     ⊎ (((text : List ℕ) → line ≢ task_head task ++ text)
     × (answer ≡ lane_says ends (line ++ codes "\n")))
 

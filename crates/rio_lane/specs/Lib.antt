@@ -1,4 +1,5 @@
 pub mod LaneAnswers
 pub mod LaneLines
 pub mod LaneProgram
+pub mod ReadingBack
 pub mod Tasks

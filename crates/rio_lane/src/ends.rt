@@ -1,8 +1,9 @@
 //! What is asked of the program, and the two ends of a lane.
 ghost use Rattle.std.specs.Prelude.{◌≡◌, codes};
-ghost use Rattle.rio_lane.specs.Tasks.{task_head, is_sending};
+ghost use Rattle.rio_lane.specs.Tasks.{task_head, task_way};
 
 use code_groups::Disparity;
+use lane_bits::Aligner;
 use lane_sync::LaneState;
 
 /// Which lines are coded, and in which direction. All other lines are passed on.
@@ -12,10 +13,23 @@ pub enum LaneTask {
     Groups,
     /// Lines of groups, as characters.
     Chars,
+    /// Lines of bits that are not parted into groups, as characters.
+    Bits,
     /// Lines that begin with the word `sent`: their characters as groups.
     Sent,
     /// Lines that begin with the word `got`: their groups as characters.
     Got,
+}
+
+/// What a line is coded as.
+#[derive(Clone, Copy, Debug, PartialEq, Eq)]
+pub enum LaneWay {
+    /// Characters, as groups.
+    Sends,
+    /// Groups, as characters.
+    Hears,
+    /// Bits, as characters.
+    Aligns,
 }
 
 /// The two ends of a lane: the disparity of what sends, and what hears.
@@ -25,6 +39,8 @@ pub struct LaneEnds {
     pub sender: Disparity,
     /// The lane that hears groups.
     pub receiver: LaneState,
+    /// Where groups begin, if bits are heard.
+    pub aligner: Aligner,
 }
 
 impl LaneTask {
@@ -33,19 +49,20 @@ impl LaneTask {
         ensures { result.now ≡ task_head self }
     {
         match self {
-            LaneTask::Groups | LaneTask::Chars => b"",
+            LaneTask::Groups | LaneTask::Chars | LaneTask::Bits => b"",
             LaneTask::Sent => b"sent ",
             LaneTask::Got => b"got ",
         }
     }
 
-    /// Whether characters become groups.
-    pub(crate) fn sends(self) -> bool
-        ensures { result ≡ is_sending self }
+    /// What a line that begins so is coded as.
+    pub(crate) fn way(self) -> LaneWay
+        ensures { result ≡ task_way self }
     {
         match self {
-            LaneTask::Groups | LaneTask::Sent => true,
-            LaneTask::Chars | LaneTask::Got => false,
+            LaneTask::Groups | LaneTask::Sent => LaneWay::Sends,
+            LaneTask::Chars | LaneTask::Got => LaneWay::Hears,
+            LaneTask::Bits => LaneWay::Aligns,
         }
     }
 }

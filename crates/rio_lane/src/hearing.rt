@@ -1,11 +1,12 @@
 //! Groups, as the characters that a lane hears.
 ghost use Rattle.std.specs.Prelude.{◌≡◌, ◌++◌, OnOk, OnErr, codes};
 ghost use Rattle.rio_chars.specs.Written.{Writes};
-ghost use Rattle.rio_lane.specs.LaneAnswers.{LaneAnswer, HearsText, joined_chars};
+ghost use Rattle.rio_lane.specs.LaneAnswers.{LaneAnswer, HearsText, HearsBits, joined_chars};
 
 use crate::ends::LaneEnds;
-use crate::telling::{LinePlace, tell_faults};
+use crate::telling::{LinePlace, tell_bits, tell_faults};
 use crate::words::{read_groups, words_in};
+use lane_bits::{hear_pieces, read_pieces};
 use lane_sync::hear_all;
 use rio_chars::{Char, Outbox, Sink, char_text};
 use std::alloc::{AllocError, Global};
@@ -35,6 +36,34 @@ pub(crate) fn hear_text<K: Sink, M: Sink>(
     write_line(outbox, head, chars.as_slice());
     tell_faults(messages, place, ends.receiver, groups.as_slice());
     ends.receiver = state;
+    Ok(())
+}
+
+/// Answers the bits of a text, on a lane that wants so many commas, and tells slips and faults. If
+/// memory is not given, nothing is answered.
+pub(crate) fn hear_bits<K: Sink, M: Sink>(
+    alloc: Global,
+    place: LinePlace,
+    ends: &mut LaneEnds,
+    text: &[u8],
+    outbox: &mut Outbox<K>,
+    messages: &mut Outbox<M>,
+) -> Result<(), AllocError>
+    ensures answer { OnOk result ((answer : LaneAnswer)
+        × HearsBits place.commas ends.old text.now answer × (ends.new ≡ answer.ends)
+        × Writes outbox.old outbox.new answer.text) }
+    ensures ends { OnErr result (ends.new ≡ ends.old) }
+    ensures outbox { OnErr result (outbox.new ≡ outbox.old) }
+{
+    let Some((aligner, pieces)) = read_pieces(alloc, ends.aligner, text)? else {
+        outbox.write(b"refused bit\n");
+        return Ok(());
+    };
+    let (state, chars) = hear_pieces(alloc, place.commas, ends.receiver, pieces.as_slice())?;
+    write_line(outbox, b"", chars.as_slice());
+    tell_bits(messages, place, *ends, text);
+    ends.receiver = state;
+    ends.aligner = aligner;
     Ok(())
 }
 

@@ -2,12 +2,13 @@
 //! line. So captures of ten bits can be read, and RTL with its own coding be driven.
 //!
 //! Promised: what was written is the answers of the lines that were read: a burst of characters as
-//! its groups, with an idle before and after it, or what a lane hears of groups, from the state
-//! where it stands then. Left out: packed bits, and more than one lane.
+//! its groups, with an idle before and after it, or what a lane hears of groups or of bits, from the
+//! state where it stands then. Left out: more than one lane.
 //!
 //! - `run`: the whole program, over any source, sink and sink of messages; `main` gives it the
-//!   arguments and the standard streams, and does nothing more.
-//! - `serve`: the same of one task, and how it ended; [`LaneTask`] and [`LaneEnds`].
+//!   words and the standard streams by `start` of `program_start`, and does nothing more.
+//! - `serve`: the same of one task, and how it ended; [`LaneTask`], [`LaneWay`] and [`LaneEnds`].
+//! - `what_is_written_is_read_back` has an empty body: its contract is a law.
 //!
 //! If the system does not give the arguments, the status is 1 and nothing is written.
 #![tactic(auto)]
@@ -15,36 +16,45 @@
 mod coding;
 mod ends;
 mod hearing;
+mod laws;
 mod program;
 mod serving;
 mod telling;
 mod words;
 
-pub use ends::{LaneEnds, LaneTask};
+pub use ends::{LaneEnds, LaneTask, LaneWay};
+pub use laws::what_is_written_is_read_back;
+use program::asked;
 pub use program::run;
-use rio_chars::{StdSink, StdSource};
+use program_start::{Program, start};
+use rio_chars::{Sink, Source};
 pub use serving::serve;
+use std::alloc::Global;
 use std::process::ExitCode;
-use std::{env, io};
 
-fn main(rt: HostRuntime) -> ExitCode {
-    let Ok(arguments) = arguments(&rt) else {
-        return ExitCode::from(1);
-    };
-    let mut source = StdSource::new(rt.reader());
-    let mut sink = StdSink::new(io::writer(&rt));
-    let mut messages = StdSink::new(rt.stderr());
-    let status = run(
-        rt.alloc(),
-        arguments.as_slice(),
-        &mut source,
-        &mut sink,
-        &mut messages,
-    );
-    ExitCode::from(status)
+/// The program, as it is started.
+struct RioLane;
+
+impl Program for RioLane {
+    fn waits_for(&self, words: &[String]) -> &'static [u8] {
+        match asked(words) {
+            Some(_) => b"rio_lane: waiting for lines; Ctrl-D ends them\n",
+            None => b"",
+        }
+    }
+
+    fn run<S: Source, K: Sink, M: Sink>(
+        &self,
+        alloc: Global,
+        words: &[String],
+        source: &mut S,
+        sink: &mut K,
+        messages: &mut M,
+    ) -> u8 {
+        run(alloc, words, source, sink, messages)
+    }
 }
 
-/// The program's name and the words that follow it.
-fn arguments(rt: &HostRuntime) -> io::Result<Vec<String>> {
-    Ok(env::args(rt)?.collect(rt.alloc())?)
+fn main(rt: HostRuntime) -> ExitCode {
+    start(&rt, &RioLane)
 }

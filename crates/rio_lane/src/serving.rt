@@ -4,13 +4,14 @@ ghost use Rattle.rio_chars.specs.Written.{Writes};
 ghost use Rattle.rio_lane.specs.LaneAnswers.{LaneAnswer};
 ghost use Rattle.rio_lane.specs.LaneLines.{AnswersLane, CodesText};
 ghost use Rattle.rio_lane.specs.LaneProgram.{LaneServes};
-ghost use Rattle.rio_lane.specs.Tasks.{new_ends, is_sending};
+ghost use Rattle.rio_lane.specs.Tasks.{new_ends};
 
 use crate::coding::send_text;
-use crate::ends::{LaneEnds, LaneTask};
-use crate::hearing::hear_text;
+use crate::ends::{LaneEnds, LaneTask, LaneWay};
+use crate::hearing::{hear_bits, hear_text};
 use crate::telling::LinePlace;
 use code_groups::Disparity;
+use lane_bits::Aligner;
 use lane_sync::LaneState;
 use live_lines::{LineReader, LiveStatus};
 use rio_chars::{Outbox, Sink, Source, TextBuffer};
@@ -42,6 +43,7 @@ pub fn serve<S: Source, K: Sink, M: Sink>(
     let mut ends = LaneEnds {
         sender: Disparity::Negative,
         receiver: LaneState::new(commas),
+        aligner: Aligner::new(),
     };
     let mut outbox = Outbox::new(&mut buffer, sink);
     let mut told = Outbox::new(&mut words, messages);
@@ -147,10 +149,30 @@ fn tell_line<K: Sink, M: Sink>(
         outbox.write(b"\n");
         return Ok(());
     };
-    if task.sends() {
-        send_text(alloc, head, ends, text, outbox)?;
-        return Ok(());
-    }
-    hear_text(alloc, place, head, ends, text, outbox, messages)?;
+    code_text(alloc, task.way(), place, head, ends, text, outbox, messages)?;
     Ok(())
+}
+
+/// Tells what a text is coded as that stands after this head.
+fn code_text<K: Sink, M: Sink>(
+    alloc: Global,
+    way: LaneWay,
+    place: LinePlace,
+    head: &[u8],
+    ends: &mut LaneEnds,
+    text: &[u8],
+    outbox: &mut Outbox<K>,
+    messages: &mut Outbox<M>,
+) -> Result<(), AllocError>
+    ensures answer { OnOk result ((answer : LaneAnswer)
+        × CodesText way place.commas head.now ends.old text.now answer
+        × (ends.new ≡ answer.ends) × Writes outbox.old outbox.new answer.text) }
+    ensures ends { OnErr result (ends.new ≡ ends.old) }
+    ensures outbox { OnErr result (outbox.new ≡ outbox.old) }
+{
+    match way {
+        LaneWay::Sends => send_text(alloc, head, ends, text, outbox),
+        LaneWay::Hears => hear_text(alloc, place, head, ends, text, outbox, messages),
+        LaneWay::Aligns => hear_bits(alloc, place, ends, text, outbox, messages),
+    }
 }

@@ -1,5 +1,6 @@
-use Rattle.std.proofs.Common.{refl}
+use Rattle.std.proofs.Common.{refl, sym, ap, ◌∙◌}
 use Rattle.host_enumerate.specs.declared.maint.MaintEnd.TheVariants.{Undetected, WriteFault}
+use Rattle.host_contest.specs.Walkers.{going_after}
 use Rattle.fabric_maint.proofs.Making.{follows_itself}
 use Rattle.fabric_maint.proofs.Meeting.{never_met}
 use Rattle.fabric_contest.proofs.MadeTurns.{caused_by, none_rose}
@@ -27,3 +28,7 @@ pub returns-in-Err-NoMemory-clause-same : goal.returns-in-Err-NoMemory-clause-sa
 returns-in-Err-NoMemory-clause-same c =
     (c.in-Err-NoMemory.ensures.leaves c.args.maint.now
     (follows_itself _ _ _ c.args.maint.now)).same
+
+pub returns-in-Ok-clause-going : goal.returns-in-Ok-clause-going
+returns-in-Ok-clause-going c =
+    c.in-Ok.ensures.going ∙ ap (going_after c.args.walker.now.going) (sym c.in-Ok.ensures.last)

@@ -7,6 +7,7 @@ use Rattle.fabric_maint.specs.Going.{StandsFor}
 use Rattle.fabric_maint.proofs.Making.{new_stands}
 use Rattle.fabric_contest.specs.declared.contest.Contest.{Contest}
 use Rattle.fabric_contest.proofs.Begun.{new_contest}
+use Rattle.fabric_contest.proofs.Goings.{none_went_on}
 use Rattle.fabric_contest.proofs.contest.Contest.new.Goals as goal
 
 pub id_of-first_id-requires : goal.id_of-first_id-requires
@@ -48,5 +49,11 @@ returns c =
     (c.id_of-second_id.ensures.id
     ∙ ap (λ (f : Fabric). (registers_of f.devices.items c.args.second).base_id)
     (one ∙ sym same)) c.new-2.ensures.machine c.new-3.ensures.machine c.new-2.ensures.low
-    c.new-3.ensures.low c.new-2.ensures.entries c.new-3.ensures.entries in
-    record { both = new.both; can = new.can; lasts = search rules }
+    c.new-3.ensures.low c.new-2.ensures.entries c.new-3.ensures.entries c.new-2.ensures.none
+    c.new-3.ensures.none in
+    record {
+      both = new.both;
+      can = new.can;
+      lasts = search rules;
+      goings = none_went_on contest c.new-2.ensures.none c.new-3.ensures.none;
+    }

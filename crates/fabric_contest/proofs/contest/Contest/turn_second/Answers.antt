@@ -1,8 +1,8 @@
 use Rattle.fabric_maint.proofs.Hosts.{other_stands}
 use Rattle.fabric_contest.specs.Contests.{contest_lines}
 use Rattle.fabric_contest.proofs.Carrying.{second_step, second_reaches}
-use Rattle.fabric_contest.proofs.MadeTurns.{on_all_ok}
-use Rattle.fabric_contest.proofs.Playing.{second_can}
+use Rattle.fabric_contest.proofs.MadeTurns.{on_three_ok, on_six_ok}
+use Rattle.fabric_contest.proofs.Playing.{second_can, second_goes}
 use Rattle.fabric_contest.proofs.contest.Contest.turn_second.Goals as goal
 
 pub turn_over-requires-clause-stands : goal.turn_over-requires-clause-stands
@@ -21,7 +21,15 @@ turn_over-requires-clause-reach c = second_reaches c.args.self.now c.requires.ca
 
 pub returns-clause-can : goal.returns-clause-can
 returns-clause-can c =
-    on_all_ok c.turn_over.result (λ stands turned can entries.
-    second_can c.args.self.now c.requires.can c.turn_over.new.fabric c.turn_over.new.walker can.low
-    entries turned stands) c.turn_over.ensures.stands c.turn_over.ensures.turned
-    c.turn_over.ensures.can c.turn_over.ensures.entries
+    on_six_ok c.turn_over.result (λ stands turned can entries last going.
+    second_can c.args.self.now c.requires.can c.turn_over.new.fabric c.turn_over.new.walker turned
+    last going can.low entries stands) c.turn_over.ensures.stands c.turn_over.ensures.turned
+    c.turn_over.ensures.can c.turn_over.ensures.entries c.turn_over.ensures.last
+    c.turn_over.ensures.going
+
+pub returns-clause-goings : goal.returns-clause-goings
+returns-clause-goings c =
+    on_three_ok c.turn_over.result (λ turned last going.
+    second_goes c.args.self.now c.requires.can c.turn_over.new.fabric c.turn_over.new.walker
+    turned last going) c.turn_over.ensures.turned c.turn_over.ensures.last
+    c.turn_over.ensures.going

@@ -1,0 +1,4 @@
+pub mod BitLaws
+pub mod GroupLaws
+pub mod HearingLaws
+pub mod PlaceLaws

@@ -1,0 +1,3 @@
+pub mod RowHearing
+pub mod RowSending
+pub mod Rows

@@ -1,0 +1,10 @@
+pub mod Wires
+pub mod Rooms
+pub mod Statuses
+pub mod PortsSeen
+pub mod PortLines
+pub mod Chars
+pub mod Packets
+pub mod States
+pub mod FabricsSeen
+pub mod FabricLines

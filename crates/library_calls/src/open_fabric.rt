@@ -1,0 +1,137 @@
+//! An open fabric, and its lines.
+ghost use Rattle.std.specs.Prelude.{◌≡◌, [], IfOk, drop};
+ghost use Rattle.live_fabric.specs.Lines.{Taken};
+ghost use Rattle.live_fabric.specs.Holding.{LiveHolds};
+ghost use Rattle.library_calls.specs.FabricsSeen.{FabricHolds, IsOpenedFabric, FabricTextTaken};
+ghost use Rattle.library_calls.specs.FabricLines.{FabricLineDid, TellsFabricLine};
+
+use crate::status::CallStatus;
+use crate::text_sink::TextSink;
+use live_fabric::{AfterLine, BrokenOff, Live, answer};
+use rio_chars::{NoMemory, Outbox, Sink, TextBuffer};
+use std::alloc::Global;
+use std::marker::Model;
+
+/// A fabric, how many lines it was given, the text that it told and that is not taken yet, and the
+/// room that its calls need.
+#[derive(Drop)]
+pub struct OpenFabric {
+    live: Live,
+    number: u32,
+    spent: bool,
+    sink: TextSink,
+    /// How many bytes of it were taken.
+    taken: usize,
+    buffer: TextBuffer,
+}
+
+impl Model for OpenFabric {
+    ghost use Rattle.std.specs.Prelude.{drop};
+    ghost use Rattle.library_calls.specs.FabricsSeen.{FabricSeen};
+
+    ghost Value = { FabricSeen };
+
+    ghost view = { λ opened. record {
+      live = opened.live;
+      number = opened.number;
+      spent = opened.spent;
+      text = drop opened.taken opened.sink.text.items;
+    } };
+}
+
+impl OpenFabric {
+    /// A fabric that was given no line.
+    pub fn new(alloc: Global) -> Result<OpenFabric, NoMemory>
+        ensures { IfOk result (λ opened. IsOpenedFabric opened) }
+    {
+        Ok(OpenFabric {
+            live: Live::new(alloc)?,
+            number: 0,
+            spent: false,
+            sink: TextSink::new(alloc),
+            taken: 0,
+            buffer: TextBuffer::new(alloc)?,
+        })
+    }
+
+    /// Answers a line of `rio_live`. The text of the line before is forgotten.
+    pub fn line(&mut self, alloc: Global, line: &[u8]) -> CallStatus
+        requires { FabricHolds self.old }
+        ensures holds { FabricHolds self.new }
+        ensures did { FabricLineDid line.now self.old result self.new }
+    {
+        if self.spent || self.number == u32::MAX {
+            return CallStatus::Spent;
+        }
+        self.number += 1;
+        self.sink.clear();
+        self.taken = 0;
+        self.spent = true;
+        let told = tell(
+            alloc,
+            &mut self.live,
+            self.number,
+            line,
+            &mut self.buffer,
+            &mut self.sink,
+        );
+        match told {
+            Ok(AfterLine::On) => {
+                self.spent = false;
+                CallStatus::Done
+            }
+            Ok(AfterLine::Undetected) => CallStatus::Undetected,
+            Err(BrokenOff) => CallStatus::Cut,
+        }
+    }
+
+    /// Takes what was told and is not taken yet, as much of it as has room, and answers how much.
+    pub fn text(&mut self, room: &mut [u8]) -> usize
+        ensures { FabricTextTaken room.old room.new result self.old self.new }
+    {
+        self.sink.take(&mut self.taken, room)
+    }
+}
+
+/// Answers the line of a number, and tells the answer.
+fn tell<K: Sink>(
+    alloc: Global,
+    live: &mut Live,
+    number: u32,
+    line: &[u8],
+    buffer: &mut TextBuffer,
+    sink: &mut K,
+) -> Result<AfterLine, BrokenOff>
+    requires { (taken : Taken) × LiveHolds live.old taken }
+    ensures { (taken : Taken) → LiveHolds live.old taken
+        → TellsFabricLine taken number line.now result live.new (K.written sink.old)
+        (K.written sink.new) }
+{
+    let mut outbox = Outbox::new(buffer, sink);
+    let told = tell_whole(alloc, live, number, line, &mut outbox);
+    outbox.into_sink();
+    told
+}
+
+/// The same through an outbox.
+fn tell_whole<K: Sink>(
+    alloc: Global,
+    live: &mut Live,
+    number: u32,
+    line: &[u8],
+    outbox: &mut Outbox<K>,
+) -> Result<AfterLine, BrokenOff>
+    requires holds { (taken : Taken) × LiveHolds live.old taken }
+    requires empty { outbox.old.waiting ≡ [] }
+    ensures told { (taken : Taken) → LiveHolds live.old taken
+        → TellsFabricLine taken number line.now result live.new outbox.old.written
+        outbox.new.written }
+    ensures same { outbox.new.sink ≡ outbox.old.sink }
+{
+    let answered = answer(alloc, live, number, line, outbox);
+    outbox.flush();
+    if outbox.failed() {
+        return Err(BrokenOff);
+    }
+    answered
+}

@@ -1,0 +1,122 @@
+//! An open port, and its lines.
+ghost use Rattle.std.specs.Prelude.{◌≡◌, ◌≤◌, [], IfOk, OnOk, OnErr, drop};
+ghost use Rattle.link_port.specs.Ports.{new_port};
+ghost use Rattle.port_lines.specs.Lines.{asked_answer};
+ghost use Rattle.library_calls.specs.PortsSeen.{opened_port, PortTextTaken};
+ghost use Rattle.library_calls.specs.PortLines.{PortLineDid, WritesBut};
+
+use crate::acting::Came;
+use crate::status::CallStatus;
+use crate::text_sink::TextSink;
+use arrayvec::ArrayVec;
+use link_port::Port;
+use port_lines::{PortRequest, RequestReason, answer, read_request};
+use rio_chars::{NoMemory, Outbox, Sink, TextBuffer};
+use rio_packets::Packet;
+use std::alloc::Global;
+use std::marker::Model;
+
+/// A port, the text that it told and that is not taken yet, and the room that its calls need.
+#[derive(Drop)]
+pub struct OpenPort {
+    pub(crate) port: Port,
+    pub(crate) came: Came,
+    sink: TextSink,
+    /// How many bytes of it were taken.
+    taken: usize,
+    buffer: TextBuffer,
+}
+
+impl Model for OpenPort {
+    ghost use Rattle.std.specs.Prelude.{drop};
+    ghost use Rattle.library_calls.specs.PortsSeen.{PortSeen};
+
+    ghost Value = { PortSeen };
+
+    ghost view = { λ opened. record {
+      port = opened.port;
+      text = drop opened.taken opened.sink.text.items;
+    } };
+}
+
+impl OpenPort {
+    /// A new port of 4 to 30 receive buffers, which tells its free buffers or does not.
+    pub fn new(alloc: Global, buffers: u8, tells: bool) -> Result<OpenPort, NoMemory>
+        requires least { 4 ≤ buffers }
+        requires most { buffers ≤ 30 }
+        ensures { IfOk result (λ opened. opened ≡ opened_port (new_port tells buffers)) }
+    {
+        let port = if tells {
+            Port::telling(alloc, buffers)?
+        } else {
+            Port::new(alloc, buffers)?
+        };
+        Ok(OpenPort {
+            port,
+            came: Came {
+                packet: Packet::default(),
+                freed: ArrayVec::new(),
+            },
+            sink: TextSink::new(alloc),
+            taken: 0,
+            buffer: TextBuffer::new(alloc)?,
+        })
+    }
+
+    /// Answers a line of `rio_port`. The text of the line before is forgotten.
+    pub fn line(&mut self, alloc: Global, line: &[u8]) -> CallStatus
+        ensures { PortLineDid line.now self.old result self.new }
+    {
+        self.sink.clear();
+        self.taken = 0;
+        let Ok(asked) = read_request(alloc, line) else {
+            return CallStatus::NoMemory;
+        };
+        if tell(&mut self.port, asked, &mut self.buffer, &mut self.sink) {
+            CallStatus::Cut
+        } else {
+            CallStatus::Done
+        }
+    }
+
+    /// Takes what was told and is not taken yet, as much of it as has room, and answers how much.
+    pub fn text(&mut self, room: &mut [u8]) -> usize
+        ensures { PortTextTaken room.old room.new result self.old self.new }
+    {
+        self.sink.take(&mut self.taken, room)
+    }
+}
+
+/// Does what is asked for and tells the answer, and answers whether a write failed.
+fn tell<K: Sink>(
+    port: &mut Port,
+    asked: Result<PortRequest, RequestReason>,
+    buffer: &mut TextBuffer,
+    sink: &mut K,
+) -> bool
+    ensures port { port.new ≡ (asked_answer port.old asked).port }
+    ensures text { WritesBut result (K.written sink.old) (K.written sink.new)
+        (asked_answer port.old asked).text }
+{
+    let mut outbox = Outbox::new(buffer, sink);
+    let failed = tell_whole(port, asked, &mut outbox);
+    outbox.into_sink();
+    failed
+}
+
+/// The same through an outbox.
+fn tell_whole<K: Sink>(
+    port: &mut Port,
+    asked: Result<PortRequest, RequestReason>,
+    outbox: &mut Outbox<K>,
+) -> bool
+    requires { outbox.old.waiting ≡ [] }
+    ensures port { port.new ≡ (asked_answer port.old asked).port }
+    ensures text { WritesBut result outbox.old.written outbox.new.written
+        (asked_answer port.old asked).text }
+    ensures same { outbox.new.sink ≡ outbox.old.sink }
+{
+    answer(port, asked, outbox);
+    outbox.flush();
+    outbox.failed()
+}
