@@ -53,8 +53,8 @@ def round_trips(lane):
 
 
 def cases(name):
-    """Each single wrong bit of each burst of a trace, and of all its bursts with no idle between them: the characters, and
-    the groups with it."""
+    """Each single wrong bit of each burst of a trace, and of all its bursts with no idle between them: the characters,
+    and the groups with it."""
     sent = bursts(name)
     for chars in [IDLE + burst + IDLE for burst in sent] + [IDLE + sum(sent, []) + IDLE]:
         for positive in (False, True):
@@ -92,7 +92,8 @@ def wrong_bits(lane, rio):
     tried = [case for name in TRACES for case in cases(name)]
     lines = [line for _, _, groups in tried for line in (LOST, " ".join(groups))]
     heard = run([lane, "chars"], lines)[1::2]
-    faults = [f"{i}: heard" for i, (_, positive, groups) in enumerate(tried) if heard[i].split() != hear(groups, positive)]
+    faults = [f"{i}: heard" for i, (_, positive, groups) in enumerate(tried)
+              if heard[i].split() != hear(groups, positive)]
     read = events_by_line(rio, heard)
     sent = events_by_line(rio, [" ".join(chars) for chars, _, _ in tried])
     faults += [f"case {i}: {read[i]} of {sent[i]}" for i in range(len(tried)) if not subsequence(read[i], sent[i])]
