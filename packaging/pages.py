@@ -7,7 +7,8 @@ TOP = Path(__file__).resolve().parent.parent
 
 # How each program is called; of rio the page has its commands.
 SYNOPSES = {
-    "rio_lane": tuple(f"rio_lane {task} [COMMAS]" for task in ("groups", "chars", "bits", "sent", "got")),
+    "rio_lane": tuple(f"rio_lane {task} [COMMAS]" for task in ("groups", "chars", "bits", "sent", "got"))
+    + tuple(f"rio_lane --lanes 4 {task} [COMMAS]" for task in ("groups", "chars")),
     "rio_port": ("rio_port [BUFFERS]",),
     "rio_live": ("rio_live",),
     "rio_view": (
