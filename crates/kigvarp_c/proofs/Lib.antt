@@ -1,0 +1,3 @@
+pub mod AsPortBox
+pub mod AsFabricBox
+pub mod CallLaws

@@ -1,0 +1,4 @@
+pub mod PortHandles
+pub mod FabricHandles
+pub mod Calls
+pub mod Handles

@@ -1,0 +1,127 @@
+/* Tries each call on a closed handle, opening and closing twice, and arguments out of range, which change nothing. */
+#include "kigvarp.h"
+#include <stdio.h>
+#include <string.h>
+
+static int failed;
+
+static void want(int well, const char *what) {
+  if (well) return;
+  printf("not so: %s\n", what);
+  failed = 1;
+}
+
+static struct kigvarp_port port;
+static struct kigvarp_fabric fabric;
+static const uint8_t line[] = "state";
+static kigvarp_char wire[KIGVARP_TURN], run[KIGVARP_ANSWER];
+static uint8_t bytes[KIGVARP_PACKET];
+static size_t count;
+static struct kigvarp_char_did did;
+static struct kigvarp_run_did run_did;
+static struct kigvarp_state told;
+static const struct kigvarp_header header = {0, 15, 0, 1, 2};
+
+/* Whether the rooms have what was put there, and nothing is counted. */
+static int untouched(void) {
+  for (size_t i = 0; i < KIGVARP_TURN; i++) if (wire[i] != 0x1234) return 0;
+  for (size_t i = 0; i < KIGVARP_PACKET; i++) if (bytes[i] != 0xa5) return 0;
+  return count == 0;
+}
+
+static void fill(void) {
+  for (size_t i = 0; i < KIGVARP_TURN; i++) wire[i] = 0x1234;
+  memset(bytes, 0xa5, sizeof bytes);
+  count = 99;
+}
+
+static void closed_port(void) {
+  fill();
+  want(kigvarp_port_close(&port) == KIGVARP_CLOSED, "a closed port is not closed");
+  want(kigvarp_port_line(&port, line, 5) == KIGVARP_CLOSED, "no line of a closed port");
+  want(kigvarp_port_text(&port, bytes, sizeof bytes, &count) == KIGVARP_CLOSED, "no text of a closed port");
+  want(kigvarp_port_take(&port, 0x11c, &did) == KIGVARP_CLOSED, "no character of a closed port");
+  want(kigvarp_port_got(&port, run, 1, wire, 4, &run_did) == KIGVARP_CLOSED, "no run of a closed port");
+  want(kigvarp_port_turn(&port, wire, KIGVARP_TURN, &count) == KIGVARP_CLOSED, "no turn of a closed port");
+  want(kigvarp_port_time_out(&port) == KIGVARP_CLOSED, "no time-out of a closed port");
+  want(kigvarp_port_send(&port, &header, bytes, 4) == KIGVARP_CLOSED, "nothing is sent by a closed port");
+  want(kigvarp_port_collect(&port, bytes, sizeof bytes, &count) == KIGVARP_CLOSED, "a closed port holds nothing");
+  want(kigvarp_port_state(&port, &told) == KIGVARP_CLOSED, "no state of a closed port");
+  want(untouched() && !port.open && !port.at, "a closed port changes nothing");
+}
+
+static void closed_fabric(void) {
+  fill();
+  want(kigvarp_fabric_close(&fabric) == KIGVARP_CLOSED, "a closed fabric is not closed");
+  want(kigvarp_fabric_line(&fabric, line, 5) == KIGVARP_CLOSED, "no line of a closed fabric");
+  want(kigvarp_fabric_text(&fabric, bytes, sizeof bytes, &count) == KIGVARP_CLOSED, "no text of a closed fabric");
+  want(untouched() && !fabric.open && !fabric.at, "a closed fabric changes nothing");
+}
+
+static uint32_t sends(struct kigvarp_header it, size_t length) {
+  return kigvarp_port_send(&port, &it, bytes, length);
+}
+
+/* Fields and lengths that no packet has. */
+static void packets_out_of_range(void) {
+  want(sends((struct kigvarp_header){4, 15, 0, 1, 2}, 4) == KIGVARP_ARGUMENT, "priority 4");
+  want(sends((struct kigvarp_header){0, 16, 0, 1, 2}, 4) == KIGVARP_ARGUMENT, "format type 16");
+  want(sends((struct kigvarp_header){0, 15, 0, 256, 2}, 4) == KIGVARP_ARGUMENT, "a long source");
+  want(sends((struct kigvarp_header){0, 15, 0, 1, 256}, 4) == KIGVARP_ARGUMENT, "a long destination");
+  want(sends(header, 3) == KIGVARP_ARGUMENT, "an odd length");
+  want(sends(header, 270) == KIGVARP_ARGUMENT, "a length of a byte pair too many");
+  want(sends((struct kigvarp_header){0, 15, 1, 1, 2}, 268) == KIGVARP_ARGUMENT, "the same behind long IDs");
+  want(kigvarp_port_state(&port, &told) == KIGVARP_OK && !told.waiting, "nothing waits");
+}
+
+static void out_of_range(void) {
+  want(kigvarp_port_open(&port, 3, 0) == KIGVARP_ARGUMENT && !port.open, "3 buffers");
+  want(kigvarp_port_open(&port, 31, 0) == KIGVARP_ARGUMENT && !port.open, "31 buffers");
+  want(kigvarp_port_open(&port, 4, 0) == KIGVARP_OK, "4 buffers");
+  void *at = port.at;
+  want(kigvarp_port_open(&port, 4, 0) == KIGVARP_OPEN && port.at == at, "an open port is not opened");
+  fill();
+  want(kigvarp_port_turn(&port, wire, KIGVARP_TURN - 1, &count) == KIGVARP_ARGUMENT, "a turn in too little room");
+  want(kigvarp_port_collect(&port, bytes, KIGVARP_PACKET - 1, &count) == KIGVARP_ARGUMENT, "a packet in too little room");
+  want(kigvarp_port_got(&port, run, 1, wire, 3, &run_did) == KIGVARP_ARGUMENT, "an answer in too little room");
+  want(kigvarp_port_collect(&port, bytes, KIGVARP_PACKET, &count) == KIGVARP_EMPTY && untouched(), "nothing is held");
+  want(kigvarp_port_got(&port, run, 0, wire, 0, &run_did) == KIGVARP_OK && untouched(), "a run of none");
+  packets_out_of_range();
+}
+
+/* 16 packets of a priority have room, and one more has not. */
+static void full(void) {
+  for (int i = 0; i < 16; i++) want(sends(header, 4) == KIGVARP_OK, "16 packets have room");
+  want(sends(header, 4) == KIGVARP_FULL, "17 have not");
+  want(kigvarp_port_close(&port) == KIGVARP_OK, "an open port is closed");
+}
+
+/* A text is taken in pieces, never past the room, and is gone with the next line. */
+static void texts(void) {
+  static const char refused[] = "refused 1\nok\n";
+  want(kigvarp_fabric_open(&fabric) == KIGVARP_OK, "a fabric opens");
+  want(kigvarp_fabric_open(&fabric) == KIGVARP_OPEN, "an open fabric is not opened");
+  want(kigvarp_fabric_line(&fabric, (const uint8_t *)"stop", 4) == KIGVARP_OK, "a line is answered");
+  for (size_t at = 0; at < 4; at++) {
+    fill();
+    want(kigvarp_fabric_text(&fabric, bytes, 1, &count) == KIGVARP_OK && count == 1, "a byte is taken");
+    want(bytes[0] == (uint8_t)refused[at] && bytes[1] == 0xa5, "the next byte, and nothing behind it");
+  }
+  want(kigvarp_fabric_line(&fabric, (const uint8_t *)"stop", 4) == KIGVARP_OK, "the next line is answered");
+  fill();
+  want(kigvarp_fabric_text(&fabric, bytes, sizeof bytes, &count) == KIGVARP_OK && count == sizeof refused - 1, "whole");
+  want(!memcmp(bytes, refused, count) && bytes[count] == 0xa5, "the text of the second line alone");
+  want(kigvarp_fabric_text(&fabric, bytes, sizeof bytes, &count) == KIGVARP_OK && count == 0, "no more waits");
+  want(kigvarp_fabric_close(&fabric) == KIGVARP_OK, "an open fabric is closed");
+}
+
+int main(void) {
+  closed_port();
+  closed_fabric();
+  out_of_range();
+  full();
+  texts();
+  closed_port();
+  closed_fabric();
+  return failed;
+}

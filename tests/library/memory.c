@@ -1,0 +1,102 @@
+/* Refuses each request for memory in turn, and then it and all later ones, and checks what each status says: a port or a
+   fabric that was not opened is closed; a text that was cut is a front of the whole; a port that went on answers as before.
+   Linked with --wrap of malloc and realloc. */
+#include "kigvarp.h"
+#include <stdio.h>
+#include <stdlib.h>
+#include <string.h>
+
+static long asked, refused = -1;
+static int later;
+
+void *__real_malloc(size_t size);
+void *__real_realloc(void *at, size_t size);
+
+static int refuses(void) {
+  long number = asked++;
+  return refused >= 0 && (number == refused || (later && number > refused));
+}
+
+void *__wrap_malloc(size_t size) { return refuses() ? 0 : __real_malloc(size); }
+void *__wrap_realloc(void *at, size_t size) { return refuses() ? 0 : __real_realloc(at, size); }
+
+static const char *const PORT[] = {"send 0 15 1 2 00112233", "turn 2", "state", "got k1c d00 dff d16", "nonsense", 0};
+static const char *const FABRIC[] = {"endpoint A 1",           "endpoint B 2",          "link A.0 B.0", "stop",
+                                     "send A 0 15 2 cafe0001", "settle A.0", "collect B",    "run 5", 0};
+
+static int failed;
+static struct kigvarp_port port;
+static struct kigvarp_fabric fabric;
+static char whole[2][16][1 << 12];
+
+static void want(int well, const char *what, long number) {
+  if (well) return;
+  printf("request %ld%s: not so: %s\n", number, later ? " and all later" : "", what);
+  failed = 1;
+}
+
+static uint32_t opens(int is_fabric) { return is_fabric ? kigvarp_fabric_open(&fabric) : kigvarp_port_open(&port, 8, 0); }
+static uint32_t closes(int is_fabric) { return is_fabric ? kigvarp_fabric_close(&fabric) : kigvarp_port_close(&port); }
+
+/* Gives a line, and fetches its text. */
+static uint32_t answers(int is_fabric, const char *text, char *into) {
+  const uint8_t *line = (const uint8_t *)text;
+  size_t length = strlen(text), count = 0;
+  uint32_t status = is_fabric ? kigvarp_fabric_line(&fabric, line, length) : kigvarp_port_line(&port, line, length);
+  if (is_fabric) kigvarp_fabric_text(&fabric, (uint8_t *)into, (1 << 12) - 1, &count);
+  else kigvarp_port_text(&port, (uint8_t *)into, (1 << 12) - 1, &count);
+  into[count] = 0;
+  return status;
+}
+
+/* One line while memory is refused. What was not done is asked again, once memory is there. */
+static int line(int is_fabric, int at, const char *text, long number) {
+  char told[1 << 12];
+  uint32_t status = answers(is_fabric, text, told);
+  const char *is = whole[is_fabric][at];
+  want(status == KIGVARP_OK || status == KIGVARP_NO_MEMORY || status == KIGVARP_CUT, "a status of memory", number);
+  if (status == KIGVARP_OK) want(!strcmp(told, is), "the whole answer", number);
+  else want(!strncmp(told, is, strlen(told)) && strcmp(told, is), "a front of the answer", number);
+  if (status == KIGVARP_NO_MEMORY) {
+    want(!told[0], "no text", number);
+    refused = -1;
+    want(answers(is_fabric, text, told) == KIGVARP_OK && !strcmp(told, is), "the same answer, asked again", number);
+  }
+  return status == KIGVARP_CUT && is_fabric;
+}
+
+/* All lines, and whether the refused request was reached. */
+static int lines(int is_fabric, long number) {
+  const char *const *texts = is_fabric ? FABRIC : PORT;
+  asked = 0, refused = number;
+  uint32_t status = opens(is_fabric);
+  if (status) {
+    want(status == KIGVARP_NO_MEMORY && closes(is_fabric) == KIGVARP_CLOSED, "not opened, and closed", number);
+    return 1;
+  }
+  for (int at = 0; texts[at]; at++)
+    if (line(is_fabric, at, texts[at], number)) {
+      char told[1 << 12];
+      want(answers(is_fabric, texts[at], told) == KIGVARP_SPENT && !told[0], "a fabric that was cut is spent", number);
+      break;
+    }
+  int reached = asked > number;
+  want(closes(is_fabric) == KIGVARP_OK && closes(is_fabric) == KIGVARP_CLOSED, "closed once", number);
+  return reached;
+}
+
+int main(void) {
+  long tried = 0;
+  for (int is_fabric = 0; is_fabric < 2; is_fabric++) {
+    const char *const *texts = is_fabric ? FABRIC : PORT;
+    refused = -1;
+    want(opens(is_fabric) == KIGVARP_OK, "opened", -1);
+    for (int at = 0; texts[at]; at++)
+      want(answers(is_fabric, texts[at], whole[is_fabric][at]) == KIGVARP_OK, "answered", -1);
+    want(closes(is_fabric) == KIGVARP_OK, "closed", -1);
+    for (later = 0; later < 2; later++)
+      for (long number = 0; lines(is_fabric, number); number++) tried++;
+  }
+  printf("%ld refusals\n", tried);
+  return failed || tried < 40;
+}

@@ -1,0 +1,86 @@
+"""The module of Python: a packet over two ports, runs of any length, statuses as exceptions, and a fabric by lines. The
+packet is that of the worked rows, which the standard's CRCs give."""
+import sys
+from array import array
+from pathlib import Path
+
+from kigvarp import Closed, Fabric, NotAsked, Port, Status, chars_of, text_of
+
+TOP = Path(__file__).resolve().parents[2]
+PACKET = "000f0201cafe0001a9bb0000"
+
+
+def equal(what, found, wanted):
+    if found != wanted:
+        sys.exit(f"{what}: {found!r}, wanted {wanted!r}")
+
+
+def packets():
+    with Port() as near, Port(buffers=4) as far:
+        equal("put", near.send(bytes.fromhex("cafe0001"), ftype=15, source=1, dest=2), True)
+        burst = near.turn()
+        did = far.got(burst)
+        equal("held", (did.held, did.freed, text_of(did.sent)), (1, 0, "k1c d00 dff d16"))
+        equal("packet", far.collect().hex(), PACKET)
+        equal("no more", far.collect(), None)
+        freed = [near.take(number) for number in did.sent]
+        equal("freed", [it.freed for it in freed], [0, 0, 0, 1])
+        equal("state", near.state(), ("ok", "ok", 0, False))
+        near.time_out()
+        equal("asks", near.state().output, "error-stopped")
+
+
+def runs():
+    """A run is as its characters one by one, however many they are."""
+    with Port() as by_run, Port() as by_one:
+        noise = array("H", (k * 2654435761 % 509 for k in range(100000)))
+        did = by_run.got(noise)
+        sent = array("H")
+        for number in noise:
+            sent.extend(by_one.take(number).sent)
+        equal("sent", did.sent, sent)
+        equal("state", by_run.state(), by_one.state())
+        equal("none", by_run.got([]), (0, 0, array("H")))
+
+
+def statuses():
+    port = Port()
+    for count in range(17):
+        equal("put", port.send(b"", prio=1, ftype=2, source=1, dest=2), count < 16)
+    for wrong in ({"prio": 4}, {"ftype": 16}, {"source": 256}):
+        try:
+            port.send(b"", **{"ftype": 2, "source": 1, "dest": 2, **wrong})
+            sys.exit(f"{wrong} is sent")
+        except NotAsked as fault:
+            equal("status", fault.status, Status.ARGUMENT)
+    port.close()
+    port.close()
+    try:
+        port.turn()
+        sys.exit("a closed port takes a turn")
+    except Closed as fault:
+        equal("status", fault.status, Status.CLOSED)
+    for buffers in (3, 31):
+        try:
+            sys.exit(f"{buffers} buffers: {Port(buffers)}")
+        except ValueError:
+            pass
+
+
+def lines():
+    with Port() as port:
+        equal("asked", port.ask("send 0 15 1 2 cafe0001"), ["queued " + PACKET])
+        equal("refused", port.ask("nonsense")[0].split()[0], "refused")
+    with Fabric() as fabric:
+        script = (TOP / "examples/first.script").read_text().splitlines()
+        trace = (TOP / "examples/first.trace").read_text().splitlines()
+        equal("trace", [*fabric.run(script), "end"], trace)
+
+
+def texts():
+    equal("text", text_of(chars_of("k1c d00 dff x")), "k1c d00 dff x")
+    equal("numbers", chars_of("k1c dff x"), [0x11C, 0xFF, 0x200])
+
+
+for case in (packets, runs, statuses, lines, texts):
+    case()

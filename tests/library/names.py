@@ -1,0 +1,36 @@
+"""The functions of the header are those of the archive, and no others of the shared library are seen.
+
+usage: names.py HEADER FOLDER    FOLDER: where the archive and the shared library stand
+"""
+import re
+import subprocess
+import sys
+from pathlib import Path
+
+
+def defined(file, *words):
+    """The names that a file defines for others."""
+    told = subprocess.run(["nm", "--defined-only", "--extern-only", *words, file], capture_output=True, text=True, check=True)
+    return {line.split()[2].partition("@")[0] for line in told.stdout.splitlines() if len(line.split()) == 3 and line.split()[1] in "TDBRVW"}
+
+
+def wanted(file):
+    """The names that the archive leaves to others."""
+    told = subprocess.run(["nm", "--undefined-only", file], capture_output=True, text=True, check=True)
+    return {line.split()[1] for line in told.stdout.splitlines() if len(line.split()) == 2}
+
+
+def same(what, found, wanted_names):
+    if found != wanted_names:
+        sys.exit(f"{what}: {sorted(found ^ wanted_names)} stand in one alone")
+
+
+header = set(re.findall(r"^uint32_t (kigvarp_\w+)\(", Path(sys.argv[1]).read_text(), re.M))
+archive, shared = (Path(sys.argv[2]) / name for name in ("libkigvarp.a", "libkigvarp.so.0"))
+same("archive", {name for name in defined(archive) if name.startswith("kigvarp_")}, header)
+if shared.exists():
+    same("shared library", defined(shared, "--dynamic") - {"KIGVARP_0"}, header)
+outside = wanted(archive) - defined(archive)
+if not outside <= {"malloc", "realloc", "free", "memcpy", "memmove", "memset", "memcmp", "bcmp", "_GLOBAL_OFFSET_TABLE_"}:
+    sys.exit(f"wanted of others: {sorted(outside)}")
+print(len(header), "functions")
