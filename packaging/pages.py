@@ -18,7 +18,8 @@ SYNOPSES = {
         "rio_capture pair [--set-up FILE] [--lines FILE] PORT PORT CHARS PLACES CHARS PLACES",
         "rio_capture FORM --help",
     ),
-    "rio_lane": tuple(f"rio_lane {task} [COMMAS]" for task in ("groups", "chars", "bits", "sent", "got")),
+    "rio_lane": tuple(f"rio_lane {task} [COMMAS]" for task in ("groups", "chars", "bits", "sent", "got"))
+    + tuple(f"rio_lane --lanes 4 {task} [COMMAS]" for task in ("groups", "chars")),
     "rio_port": ("rio_port [BUFFERS]",),
     "rio_live": ("rio_live",),
     "rio_view": (

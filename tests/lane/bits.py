@@ -3,7 +3,8 @@
 
 - The groups of a trace, joined to bits after 0 to 9 bits that make no comma, and cut into lines anywhere, become the
   characters with the idles around them, from each of the two disparities on.
-- A bit that is lost or made between two bursts is told as a slip, and each burst but those around it is heard as it was.
+- A bit that is lost or made between two bursts is told as a slip, and each burst but those around it is heard as it
+  was.
 
 usage: tests/lane/bits.py RIO_LANE
 """

@@ -3,8 +3,8 @@
 
 - Each burst is written as the groups that the equations of the encoder give, with an idle before and after it, and is
   read back as it was, from each of the two disparities on.
-- With each single bit of the bursts of three traces wrong, what `rio decode` reads of it has no good event that it does
-  not read of the bursts as they were sent, each at its place.
+- With each single bit of the bursts of three traces wrong, with idles between them and without, what `rio decode` reads
+  of it has no good event that it does not read of the bursts as they were sent, each at its place.
 
 usage: tests/lane/lines.py RIO_LANE RIO
 """
@@ -53,15 +53,15 @@ def round_trips(lane):
 
 
 def cases(name):
-    """Each single wrong bit of each burst of a trace: the characters, and the groups with it."""
-    for burst in bursts(name):
-        if len(burst) <= 120:
-            chars = IDLE + burst + IDLE
-            for positive in (False, True):
-                groups, _ = send(chars, positive)
-                for place in range(1, len(burst) + 1):
-                    for bit in range(10):
-                        yield chars, positive, with_wrong_bit(groups, place, bit)
+    """Each single wrong bit of each burst of a trace, and of all its bursts with no idle between them: the characters,
+    and the groups with it."""
+    sent = bursts(name)
+    for chars in [IDLE + burst + IDLE for burst in sent] + [IDLE + sum(sent, []) + IDLE]:
+        for positive in (False, True):
+            groups, _ = send(chars, positive)
+            for place in range(1, len(chars) - 1):
+                for bit in range(10):
+                    yield chars, positive, with_wrong_bit(groups, place, bit)
 
 
 def events_by_line(rio, lines):
@@ -92,7 +92,8 @@ def wrong_bits(lane, rio):
     tried = [case for name in TRACES for case in cases(name)]
     lines = [line for _, _, groups in tried for line in (LOST, " ".join(groups))]
     heard = run([lane, "chars"], lines)[1::2]
-    faults = [f"{i}: heard" for i, (_, positive, groups) in enumerate(tried) if heard[i].split() != hear(groups, positive)]
+    faults = [f"{i}: heard" for i, (_, positive, groups) in enumerate(tried)
+              if heard[i].split() != hear(groups, positive)]
     read = events_by_line(rio, heard)
     sent = events_by_line(rio, [" ".join(chars) for chars, _, _ in tried])
     faults += [f"case {i}: {read[i]} of {sent[i]}" for i in range(len(tried)) if not subsequence(read[i], sent[i])]

@@ -96,7 +96,7 @@ impl Fabric {
         self.stirs[cable] = true;
     }
 
-    /// Writes the output if it has at least so many bytes.
+    /// Writes the output if it has at least this many bytes.
     pub fn flush(&mut self, at: usize) -> io::Result<()> {
         if self.out.len() >= at {
             io::stdout().lock().write_all(&self.out)?;

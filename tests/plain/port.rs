@@ -39,7 +39,7 @@ pub struct Port {
     outstanding: VecDeque<usize>,
     /// How many of each list are outstanding.
     sent: [usize; 4],
-    /// The free buffers that the far port told, and the ackID that it expected then.
+    /// The free buffers that the far port reported, and the ackID that it expected then.
     report: Option<(u8, u8)>,
     queued: [VecDeque<Packet>; 4],
     input: In,

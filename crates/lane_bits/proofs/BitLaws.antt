@@ -5,7 +5,7 @@ use Rattle.lane_bits.specs.declared.align.Aligner.TheVariants.{Seeking, Aligned}
 use Rattle.lane_bits.specs.declared.align.AlignStep.{AlignStep}
 use Rattle.lane_bits.specs.declared.align.BitPiece.{BitPiece}
 use Rattle.lane_bits.specs.declared.align.BitPiece.TheVariants.{Slip, Group}
-use Rattle.lane_bits.specs.Aligning.{with_bit, kept, ends_comma, aligned_at, align_step, slip_at, aligned_reads, reads_bit, after_bits, with_piece, pieces_of, AreBits, SpellBits}
+use Rattle.lane_bits.specs.Aligning.{with_bit, nine_kept, ends_comma, aligned_at, align_step, slip_at, aligned_reads, reads_bit, after_bits, with_piece, bit_pieces, AreBits, SpellBits}
 use Rattle.lane_bits.specs.BitHearing.{HoldTens}
 
 pub after_both : (state : Aligner) (bits more : List ℕ)
@@ -19,13 +19,13 @@ with_both None pieces more = refl
 with_both (Some piece) pieces more = refl
 
 pub pieces_both : (state : Aligner) (bits more : List ℕ)
-    → pieces_of state (bits ++ more)
-    ≡ pieces_of state bits ++ pieces_of (after_bits state bits) more
+    → bit_pieces state (bits ++ more)
+    ≡ bit_pieces state bits ++ bit_pieces (after_bits state bits) more
 pieces_both state [] more = refl
 pieces_both state (bit ∷ bits) more =
     ap (with_piece (reads_bit state bit).piece) (pieces_both (reads_bit state bit).state bits more)
-    ∙ with_both (reads_bit state bit).piece (pieces_of (reads_bit state bit).state bits)
-    (pieces_of (after_bits (reads_bit state bit).state bits) more)
+    ∙ with_both (reads_bit state bit).piece (bit_pieces (reads_bit state bit).state bits)
+    (bit_pieces (after_bits (reads_bit state bit).state bits) more)
 
 -- each group that is read has ten bits
 if_holds : (c : Bool) (x y : AlignStep) → HoldTens (with_piece x.piece [])
@@ -46,7 +46,7 @@ bit_holds : (state : Aligner) (bit : ℕ) → HoldTens (with_piece (reads_bit st
 bit_holds (Seeking recent) bit =
     if_holds (ends_comma (with_bit recent bit))
     (align_step (aligned_at (with_bit recent bit) 7) None)
-    (align_step (Seeking (kept (with_bit recent bit))) None) tt tt
+    (align_step (Seeking (nine_kept (with_bit recent bit))) None) tt tt
 bit_holds (Aligned bits) bit =
     let word : ℕ = with_bit bits.recent bit in
     if_holds (ends_comma word)
@@ -63,10 +63,10 @@ with_holds None pieces h k = k
 with_holds (Some Slip) pieces h k = k
 with_holds (Some (Group group)) pieces h k = (h.0, k)
 
-pub pieces_hold : (state : Aligner) (bits : List ℕ) → HoldTens (pieces_of state bits)
+pub pieces_hold : (state : Aligner) (bits : List ℕ) → HoldTens (bit_pieces state bits)
 pieces_hold state [] = tt
 pieces_hold state (bit ∷ bits) =
-    with_holds (reads_bit state bit).piece (pieces_of (reads_bit state bit).state bits)
+    with_holds (reads_bit state bit).piece (bit_pieces (reads_bit state bit).state bits)
     (bit_holds state bit) (pieces_hold (reads_bit state bit).state bits)
 
 -- These digits were read, and these are left.
@@ -76,7 +76,7 @@ pub record DigitsDone (begin : Aligner) (digits left : List ℕ) (state : Aligne
   pub are_bits : AreBits bits
   pub spelled : digits ≡ map (λ (bit : ℕ). 48 + bit) bits ++ left
   pub stands : state ≡ after_bits begin bits
-  pub told : pieces ≡ pieces_of begin bits
+  pub told : pieces ≡ bit_pieces begin bits
 
 pub none_done : (begin : Aligner) (digits : List ℕ) (pieces : List BitPiece) → pieces ≡ []
     → DigitsDone begin digits digits begin pieces
@@ -134,7 +134,7 @@ one_done begin digits left state pieces next_pieces bit d step h some is low rea
           more
           ∙ ap (λ (s : AlignStep). pieces ++ with_piece s.piece []) read
           ∙ ap (λ (ps : List BitPiece). ps ++ with_piece (reads_bit state bit).piece []) h.told
-          ∙ ap (λ (s : Aligner). pieces_of begin h.bits ++ with_piece (reads_bit s bit).piece [])
+          ∙ ap (λ (s : Aligner). bit_pieces begin h.bits ++ with_piece (reads_bit s bit).piece [])
           h.stands
           ∙ sym (pieces_both begin h.bits (bit ∷ []));
     }
@@ -163,7 +163,7 @@ digit_stops begin digits left state pieces d h some zero_not one_not bits spelle
 pub all_done : (begin : Aligner) (digits left : List ℕ) (state : Aligner)
     (pieces : List BitPiece) → DigitsDone begin digits left state pieces → left ≡ []
     → (bits : List ℕ) × SpellBits digits bits × (state ≡ after_bits begin bits)
-    × (pieces ≡ pieces_of begin bits) × HoldTens pieces
+    × (pieces ≡ bit_pieces begin bits) × HoldTens pieces
 all_done begin digits left state pieces h none = (
   h.bits,
   record {

@@ -10,27 +10,27 @@ use Rattle.lane_bits.specs.declared.align.Aligner.TheVariants.{Seeking, Aligned}
 use Rattle.lane_bits.specs.declared.align.AlignStep.{AlignStep}
 use Rattle.lane_bits.specs.declared.align.BitPiece.{BitPiece}
 use Rattle.lane_bits.specs.declared.align.BitPiece.TheVariants.{Slip, Group}
-use Rattle.lane_bits.specs.Aligning.{with_bit, kept, ends_comma, aligned_at, align_step, slip_at, aligned_reads, reads_bit, after_bits, with_piece, pieces_of, group_bits}
+use Rattle.lane_bits.specs.Aligning.{with_bit, nine_kept, ends_comma, aligned_at, align_step, slip_at, aligned_reads, reads_bit, after_bits, with_piece, bit_pieces, group_bits}
 use Rattle.lane_bits.specs.BitHearing.{IsNewPlace, place_told, six_bits}
 use Rattle.lane_bits.proofs.BitLaws.{after_both, pieces_both}
 use Rattle.lane_bits.proofs.PlaceLaws.{no_comma_here, comma_here, kept_low, kept_small, kept_many, next_64, word_128, kept_128, next_256, next_512, word_1024}
 
 -- Bits lead from one aligner to another, and end these pieces.
 pub record Goes (from : Aligner) (bits : List ℕ) (to : Aligner) (pieces : List BitPiece) : Type 0
-    where
-  pub after : after_bits from bits ≡ to
-  pub told : pieces_of from bits ≡ pieces
+  where
+    pub after : after_bits from bits ≡ to
+    pub told : bit_pieces from bits ≡ pieces
 
-goes_none : (from : Aligner) → Goes from [] from []
+pub goes_none : (from : Aligner) → Goes from [] from []
 goes_none from = record { after = refl; told = refl }
 
-goes_bit : (from state to : Aligner) (bit : ℕ) (bits : List ℕ) (piece : Option BitPiece)
+pub goes_bit : (from state to : Aligner) (bit : ℕ) (bits : List ℕ) (piece : Option BitPiece)
     (pieces : List BitPiece) → reads_bit from bit ≡ align_step state piece
     → Goes state bits to pieces → Goes from (bit ∷ bits) to (with_piece piece pieces)
 goes_bit from state to bit bits piece pieces e h = record {
   after = ap (λ (s : AlignStep). after_bits s.state bits) e ∙ h.after;
   told =
-      ap (λ (s : AlignStep). with_piece s.piece (pieces_of s.state bits)) e
+      ap (λ (s : AlignStep). with_piece s.piece (bit_pieces s.state bits)) e
       ∙ ap (with_piece piece) h.told;
 }
 
@@ -43,8 +43,8 @@ goes_both from mid to bits more pieces others h k = record {
       ∙ ap (λ (s : Aligner). after_bits s more) h.after ∙ k.after;
   told =
       pieces_both from bits more
-      ∙ ap (λ (s : Aligner). pieces_of from bits ++ pieces_of s more) h.after
-      ∙ ap (λ (ps : List BitPiece). pieces_of from bits ++ ps) k.told
+      ∙ ap (λ (s : Aligner). bit_pieces from bits ++ bit_pieces s more) h.after
+      ∙ ap (λ (ps : List BitPiece). bit_pieces from bits ++ ps) k.told
       ∙ ap (λ (ps : List BitPiece). ps ++ others) h.told;
 }
 
@@ -69,22 +69,22 @@ seventh : (recent bit : ℕ)
 seventh recent bit = seventh_so (ends_comma (with_bit recent bit)) (with_bit recent bit)
 
 -- the bits of two groups that were read when one more was
-up_1 : (p g : ℕ) → g < 1024 → 2 * p + g / 512 % 2 ≡ (p * 1024 + g) / 512
+pub up_1 : (p g : ℕ) → g < 1024 → 2 * p + g / 512 % 2 ≡ (p * 1024 + g) / 512
 up_1 p g low = omega arith
 
-up_2 : (p g : ℕ) → 2 * ((p * 1024 + g) / 512) + g / 256 % 2 ≡ (p * 1024 + g) / 256
+pub up_2 : (p g : ℕ) → 2 * ((p * 1024 + g) / 512) + g / 256 % 2 ≡ (p * 1024 + g) / 256
 up_2 p g = omega arith
 
-up_3 : (p g : ℕ) → 2 * ((p * 1024 + g) / 256) + g / 128 % 2 ≡ (p * 1024 + g) / 128
+pub up_3 : (p g : ℕ) → 2 * ((p * 1024 + g) / 256) + g / 128 % 2 ≡ (p * 1024 + g) / 128
 up_3 p g = omega arith
 
-up_4 : (p g : ℕ) → 2 * ((p * 1024 + g) / 128) + g / 64 % 2 ≡ (p * 1024 + g) / 64
+pub up_4 : (p g : ℕ) → 2 * ((p * 1024 + g) / 128) + g / 64 % 2 ≡ (p * 1024 + g) / 64
 up_4 p g = omega arith
 
-up_5 : (p g : ℕ) → 2 * ((p * 1024 + g) / 64) + g / 32 % 2 ≡ (p * 1024 + g) / 32
+pub up_5 : (p g : ℕ) → 2 * ((p * 1024 + g) / 64) + g / 32 % 2 ≡ (p * 1024 + g) / 32
 up_5 p g = omega arith
 
-up_6 : (p g : ℕ) → 2 * ((p * 1024 + g) / 32) + g / 16 % 2 ≡ (p * 1024 + g) / 16
+pub up_6 : (p g : ℕ) → 2 * ((p * 1024 + g) / 32) + g / 16 % 2 ≡ (p * 1024 + g) / 16
 up_6 p g = omega arith
 
 up_7 : (p g : ℕ) → g < 1024 → (2 * ((p * 1024 + g) / 16) + g / 8 % 2) % 128 ≡ g / 8
@@ -126,7 +126,7 @@ pub record NoneWithin (g d : ℕ) : Type 0 where
 -- one of the first six bits
 record OneRead (recent count bit next : ℕ) : Type 0 where
   read : reads_bit (at recent count) bit ≡ aligned_reads (with_bit recent bit) count
-  low : kept (with_bit recent bit) % 64 ≡ next % 64
+  low : nine_kept (with_bit recent bit) % 64 ≡ next % 64
 
 one_read : (recent count x bit next w : ℕ) → recent % 64 ≡ x % 64 → 2 * x + bit ≡ next
     → next % 128 ≡ w / 8 → is_comma w ≡ false → OneRead recent count bit next
@@ -155,29 +155,29 @@ first_seven p g recent low same none =
     let h1 : OneRead recent 0 (g / 512 % 2) (n / 512) =
     one_read recent 0 p (g / 512 % 2) (n / 512) (ten_bits_at 4 p g) same (up_1 p g low)
     (seven_so_1 n) none.at_4 in
-    let r1 : ℕ = kept (with_bit recent (g / 512 % 2)) in
+    let r1 : ℕ = nine_kept (with_bit recent (g / 512 % 2)) in
     let h2 : OneRead r1 1 (g / 256 % 2) (n / 256) =
     one_read r1 1 (n / 512) (g / 256 % 2) (n / 256) (ten_bits_at 5 p g) h1.low (up_2 p g)
     (seven_so_2 n) none.at_5 in
-    let r2 : ℕ = kept (with_bit r1 (g / 256 % 2)) in
+    let r2 : ℕ = nine_kept (with_bit r1 (g / 256 % 2)) in
     let h3 : OneRead r2 2 (g / 128 % 2) (n / 128) =
     one_read r2 2 (n / 256) (g / 128 % 2) (n / 128) (ten_bits_at 6 p g) h2.low (up_3 p g)
     (seven_so_3 n) none.at_6 in
-    let r3 : ℕ = kept (with_bit r2 (g / 128 % 2)) in
+    let r3 : ℕ = nine_kept (with_bit r2 (g / 128 % 2)) in
     let h4 : OneRead r3 3 (g / 64 % 2) (n / 64) =
     one_read r3 3 (n / 128) (g / 64 % 2) (n / 64) (ten_bits_at 7 p g) h3.low (up_4 p g)
     (seven_so_4 n) none.at_7 in
-    let r4 : ℕ = kept (with_bit r3 (g / 64 % 2)) in
+    let r4 : ℕ = nine_kept (with_bit r3 (g / 64 % 2)) in
     let h5 : OneRead r4 4 (g / 32 % 2) (n / 32) =
     one_read r4 4 (n / 64) (g / 32 % 2) (n / 32) (ten_bits_at 8 p g) h4.low (up_5 p g)
     (seven_so_5 n) none.at_8 in
-    let r5 : ℕ = kept (with_bit r4 (g / 32 % 2)) in
+    let r5 : ℕ = nine_kept (with_bit r4 (g / 32 % 2)) in
     let h6 : OneRead r5 5 (g / 16 % 2) (n / 16) =
     one_read r5 5 (n / 32) (g / 16 % 2) (n / 16) (ten_bits_at 9 p g) h5.low (up_6 p g)
     (seven_so_6 n) none.at_9 in
-    let r6 : ℕ = kept (with_bit r5 (g / 16 % 2)) in
+    let r6 : ℕ = nine_kept (with_bit r5 (g / 16 % 2)) in
     let w7 : ℕ = with_bit r6 (g / 8 % 2) in
-    let r7 : ℕ = kept w7 in
+    let r7 : ℕ = nine_kept w7 in
     let to : Aligner = at r7 7 in (
       r7,
       goes_bit (at recent 0) (at r1 1) to (g / 512 % 2) _ None [] h1.read
@@ -222,13 +222,13 @@ low_64_of_256 r x h = omega (arith, h)
 low_64_of_512 : (r x : ℕ) → r % 512 ≡ x → r % 64 ≡ x % 64
 low_64_of_512 r x h = omega (arith, h)
 
-low_64_of_word : (word g : ℕ) → word % 1024 ≡ g → kept word % 64 ≡ g % 64
+low_64_of_word : (word g : ℕ) → word % 1024 ≡ g → nine_kept word % 64 ≡ g % 64
 low_64_of_word word g h = let low = kept_low word in omega (arith, h, low)
 
 bit_low : (n : ℕ) → n % 2 < 2
 bit_low n = omega arith
 
-last_three : (g d recent : ℕ) → g < 1024 → d < 1024 → recent % 128 ≡ g / 8 → NoneWithin g d
+pub last_three : (g d recent : ℕ) → g < 1024 → d < 1024 → recent % 128 ≡ g / 8 → NoneWithin g d
     → (ten : ℕ) × Goes (at recent 7) (last_three_bits g) (at ten 0) (Group g ∷ [])
     × (ten % 64 ≡ g % 64)
 last_three g d recent low low_d same none =
@@ -236,11 +236,11 @@ last_three g d recent low low_d same none =
     let b9 : ℕ = g / 2 % 2 in
     let b10 : ℕ = g % 2 in
     let w8 : ℕ = with_bit recent b8 in
-    let r8 : ℕ = kept w8 in
+    let r8 : ℕ = nine_kept w8 in
     let w9 : ℕ = with_bit r8 b9 in
-    let r9 : ℕ = kept w9 in
+    let r9 : ℕ = nine_kept w9 in
     let w10 : ℕ = with_bit r9 b10 in
-    let r10 : ℕ = kept w10 in
+    let r10 : ℕ = nine_kept w10 in
     let s8 : r8 % 256 ≡ g / 4 = next_256 recent (g / 8) b8 same ∙ eight g low in
     let s9 : r9 % 512 ≡ g / 2 = next_512 r8 (g / 4) b9 s8 ∙ nine g low in
     let s10 : w10 % 1024 ≡ g = word_1024 r9 (g / 2) b10 s9 (bit_low g) ∙ ten g low in
@@ -275,142 +275,5 @@ one_group p g d recent low low_d same from within =
       rest.0,
       goes_both (at recent 0) (at seven.0 7) (at rest.0 0) (first_seven_bits g)
           (last_three_bits g) [] (Group g ∷ []) seven.1 rest.1,
-      rest.2,
-    )
-
--- what an aligner keeps of the bits that were read last
-abbrev pub recent_of : Aligner → ℕ
-recent_of (Seeking recent) = recent
-recent_of (Aligned bits) = bits.recent
-
-recent_if : (c : Bool) (x y : AlignStep) (n : ℕ) → recent_of x.state ≡ n → recent_of y.state ≡ n
-    → recent_of (if c then x else y).state ≡ n
-recent_if true x y n h k = h
-recent_if false x y n h k = k
-
-recent_next : (state : Aligner) (bit : ℕ)
-    → recent_of (reads_bit state bit).state ≡ kept (with_bit (recent_of state) bit)
-recent_next (Seeking recent) bit =
-    let word : ℕ = with_bit recent bit in
-    recent_if (ends_comma word) (align_step (aligned_at word 7) None)
-    (align_step (Seeking (kept word)) None) (kept word) refl refl
-recent_next (Aligned bits) bit =
-    let word : ℕ = with_bit bits.recent bit in
-    recent_if (ends_comma word) (align_step (aligned_at word 7) (slip_at bits.count))
-    (aligned_reads word bits.count) (kept word) refl
-    (recent_if (nat_le 9 bits.count)
-    (align_step (aligned_at word 0) (Some (Group (word % 1024))))
-    (align_step (aligned_at word (bits.count + 1)) None) (kept word) refl refl)
-
-double : (recent bit least : ℕ) → least ≤ recent % 1024 → least ≤ 256
-    → 2 * least ≤ kept (with_bit recent bit) % 1024
-double recent bit least h few =
-    let word : ℕ = with_bit recent bit in
-    let small : kept word < 1024 = kept_small word in
-    let many : 2 * least ≤ kept word = kept_many word (2 * least) (omega (arith, h)) (omega arith) in
-    omega (arith, small, many)
-
--- so many bits were read
-pub bits_kept : (state : Aligner) (bits : List ℕ) → 1 ≤ recent_of state % 1024
-    → 1 ≤ recent_of (after_bits state bits) % 1024
-bits_kept state [] h = h
-bits_kept state (bit ∷ bits) h =
-    let twice : 2 * 1 ≤ kept (with_bit (recent_of state) bit) % 1024 =
-    double (recent_of state) bit 1 h (omega arith) in
-    let next : 1 ≤ recent_of (reads_bit state bit).state % 1024 =
-    subst (λ (n : ℕ). 1 ≤ n % 1024) (sym (recent_next state bit)) (omega (arith, twice)) in
-    bits_kept (reads_bit state bit).state bits next
-
--- the same, and which bits they were
-record LastBits (state : Aligner) (least x : ℕ) : Type 0 where
-  many : least ≤ recent_of state % 1024
-  low : recent_of state % 64 ≡ x % 64
-
-bits_next : (state : Aligner) (least x bit next : ℕ) → LastBits state least x → least ≤ 256
-    → 2 * x + bit ≡ next → LastBits (reads_bit state bit).state (2 * least) next
-bits_next state least x bit next h few up = record {
-  many = subst (λ (n : ℕ). 2 * least ≤ n % 1024) (sym (recent_next state bit))
-      (double (recent_of state) bit least h.many few);
-  low = ap (λ (n : ℕ). n % 64) (recent_next state bit)
-      ∙ next_64 (recent_of state) x bit h.low ∙ ap (λ (n : ℕ). n % 64) up;
-}
-
--- the six first bits of a group
-six_read : (state : Aligner) (g : ℕ) → g < 1024 → 1 ≤ recent_of state % 1024
-    → LastBits (after_bits state (six_bits g)) 64 (g / 16)
-six_read state g low some =
-    let p : ℕ = recent_of state in
-    let n : ℕ = p * 1024 + g in
-    let s0 : LastBits state 1 p = record { many = some; low = refl } in
-    let t1 : Aligner = (reads_bit state (g / 512 % 2)).state in
-    let s1 : LastBits t1 2 (n / 512) =
-    bits_next state 1 p (g / 512 % 2) (n / 512) s0 (omega arith) (up_1 p g low) in
-    let t2 : Aligner = (reads_bit t1 (g / 256 % 2)).state in
-    let s2 : LastBits t2 4 (n / 256) =
-    bits_next t1 2 (n / 512) (g / 256 % 2) (n / 256) s1 (omega arith) (up_2 p g) in
-    let t3 : Aligner = (reads_bit t2 (g / 128 % 2)).state in
-    let s3 : LastBits t3 8 (n / 128) =
-    bits_next t2 4 (n / 256) (g / 128 % 2) (n / 128) s2 (omega arith) (up_3 p g) in
-    let t4 : Aligner = (reads_bit t3 (g / 64 % 2)).state in
-    let s4 : LastBits t4 16 (n / 64) =
-    bits_next t3 8 (n / 128) (g / 64 % 2) (n / 64) s3 (omega arith) (up_4 p g) in
-    let t5 : Aligner = (reads_bit t4 (g / 32 % 2)).state in
-    let s5 : LastBits t5 32 (n / 32) =
-    bits_next t4 16 (n / 64) (g / 32 % 2) (n / 32) s4 (omega arith) (up_5 p g) in
-    let t6 : Aligner = (reads_bit t5 (g / 16 % 2)).state in
-    let s6 : LastBits t6 64 (n / 16) =
-    bits_next t5 32 (n / 32) (g / 16 % 2) (n / 16) s5 (omega arith) (up_6 p g) in
-    let many : 64 ≤ recent_of t6 % 1024 = s6.many in
-    let same : recent_of t6 % 64 ≡ n / 16 % 64 = s6.low in
-    record { many = many; low = same ∙ six_low p g low }
-  where
-    six_low : (p g : ℕ) → g < 1024 → (p * 1024 + g) / 16 % 64 ≡ g / 16 % 64
-    six_low p g low = omega arith
-
--- the seventh bit, where it ends a comma at a new place
-comma_read : (state : Aligner) (bit : ℕ) → IsNewPlace state
-    → ends_comma (with_bit (recent_of state) bit) ≡ true
-    → Goes state (bit ∷ []) (at (kept (with_bit (recent_of state) bit)) 7) (place_told state)
-comma_read (Seeking recent) bit new one =
-    let word : ℕ = with_bit recent bit in
-    goes_bit (Seeking recent) (aligned_at word 7) (aligned_at word 7) bit [] None []
-    (ap (λ (c : Bool). if c then align_step (aligned_at word 7) None
-    else align_step (Seeking (kept word)) None) one)
-    (goes_none (aligned_at word 7))
-comma_read (Aligned bits) bit new one =
-    let word : ℕ = with_bit bits.recent bit in
-    goes_bit (Aligned bits) (aligned_at word 7) (aligned_at word 7) bit [] (Some Slip) []
-    (ap (λ (c : Bool). if c then align_step (aligned_at word 7) (slip_at bits.count)
-    else aligned_reads word bits.count) one
-    ∙ ap (λ (c : Bool). align_step (aligned_at word 7) (if c then None else Some Slip))
-    (ne_eqb bits.count 6 new))
-    (goes_none (aligned_at word 7))
-
-seven_low : (g : ℕ) → g < 1024 → (2 * (g / 16) + g / 8 % 2) % 128 ≡ g / 8
-seven_low g low = omega arith
-
--- a group with a comma at a new place
-pub comma_group : (state : Aligner) (g d : ℕ) → g < 1024 → d < 1024
-    → 1 ≤ recent_of state % 1024 → IsNewPlace (after_bits state (six_bits g))
-    → is_comma g ≡ true → NoneWithin g d
-    → (ten : ℕ) × Goes state (group_bits g) (at ten 0) (pieces_of state (six_bits g)
-    ++ place_told (after_bits state (six_bits g)) ++ Group g ∷ []) × (ten % 64 ≡ g % 64)
-comma_group state g d low low_d some new one within =
-    let six : Aligner = after_bits state (six_bits g) in
-    let last = six_read state g low some in
-    let many : 64 ≤ recent_of six % 1024 = last.many in
-    let word : ℕ = with_bit (recent_of six) (g / 8 % 2) in
-    let window : word % 128 ≡ g / 8 =
-    word_128 (recent_of six) (g / 16) (g / 8 % 2) last.low ∙ seven_low g low in
-    let comma = comma_here word g (omega (arith, many)) window one in
-    let front : Goes state (six_bits g) six (pieces_of state (six_bits g)) =
-    record { after = refl; told = refl } in
-    let rest = last_three g d (kept word) low low_d (kept_128 word ∙ window) within in (
-      rest.0,
-      goes_both state (at (kept word) 7) (at rest.0 0) (first_seven_bits g) (last_three_bits g)
-          (pieces_of state (six_bits g) ++ place_told six) (Group g ∷ [])
-          (goes_both state six (at (kept word) 7) (six_bits g) (g / 8 % 2 ∷ [])
-          (pieces_of state (six_bits g)) (place_told six) front
-          (comma_read six (g / 8 % 2) new comma)) rest.1,
       rest.2,
     )

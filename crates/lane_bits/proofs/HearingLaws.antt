@@ -16,10 +16,11 @@ use Rattle.lane_bits.specs.declared.align.Aligner.TheVariants.{Seeking, Aligned}
 use Rattle.lane_bits.specs.declared.align.AlignStep.{AlignStep}
 use Rattle.lane_bits.specs.declared.align.BitPiece.{BitPiece}
 use Rattle.lane_bits.specs.declared.align.BitPiece.TheVariants.{Slip, Group}
-use Rattle.lane_bits.specs.Aligning.{with_bit, kept, ends_comma, aligned_at, align_step, slip_at, aligned_reads, reads_bit, with_piece, new_aligner, after_bits, pieces_of, group_bits, bits_of_groups, AreBits}
+use Rattle.lane_bits.specs.Aligning.{with_bit, nine_kept, ends_comma, aligned_at, align_step, slip_at, aligned_reads, reads_bit, with_piece, new_aligner, after_bits, bit_pieces, group_bits, bits_of_groups, AreBits}
 use Rattle.lane_bits.specs.BitHearing.{HearsPieces, HoldTens, IsNewPlace, place_told, six_bits}
 use Rattle.lane_bits.proofs.BitLaws.{after_both, pieces_both}
-use Rattle.lane_bits.proofs.GroupLaws.{Goes, at, NoneFrom, NoneWithin, one_group, comma_group, recent_of, bits_kept}
+use Rattle.lane_bits.proofs.GroupLaws.{Goes, at, NoneFrom, NoneWithin, one_group}
+use Rattle.lane_bits.proofs.NewPlaceLaws.{comma_group, recent_of, bits_kept}
 
 none_from : (before : Disparity) (c d : Char) → has_group c ≡ true → has_group d ≡ true
     → c ≢ Special 0xfc → NoneFrom (group_of before c) (group_of (disparity_after before c) d)
@@ -51,7 +52,7 @@ ten_low before c h = (group-range before c h).1
 pub groups_go : (before : Disparity) (c : Char) (chars : List Char) (recent : ℕ)
     → has_group c ≡ true → c ≢ Special 0xfc → HaveGroups chars → NoneOfK28_7 chars
     → recent % 64 ≡ group_of before c % 64
-    → pieces_of (at recent 0) (bits_of_groups (groups_from (disparity_after before c) chars))
+    → bit_pieces (at recent 0) (bits_of_groups (groups_from (disparity_after before c) chars))
     ≡ map Group (groups_from (disparity_after before c) chars)
 groups_go before c [] recent hc ne have none same = refl
 groups_go before c (d ∷ chars) recent hc ne have none same =
@@ -63,9 +64,9 @@ groups_go before c (d ∷ chars) recent hc ne have none same =
     (none_within next d have.0 none.0) in
     let rest = groups_go next d chars here.0 have.0 none.0 have.1 none.1 here.2 in
     pieces_both (at recent 0) (group_bits g) (bits_of_groups others)
-    ∙ ap (λ (ps : List BitPiece). ps ++ pieces_of (after_bits (at recent 0) (group_bits g))
+    ∙ ap (λ (ps : List BitPiece). ps ++ bit_pieces (after_bits (at recent 0) (group_bits g))
     (bits_of_groups others)) here.1.told
-    ∙ ap (λ (s : Aligner). Group g ∷ pieces_of s (bits_of_groups others)) here.1.after
+    ∙ ap (λ (s : Aligner). Group g ∷ bit_pieces s (bits_of_groups others)) here.1.after
     ∙ ap (λ (ps : List BitPiece). Group g ∷ ps) rest
 
 comma_is : (before : Disparity) → is_comma (group_of before (Special 0xbc)) ≡ true
@@ -83,10 +84,11 @@ idle_not e = true≢false (ap is_idle e)
 
 module _ (front : List ℕ) (before : Disparity) (chars : List Char) (have : HaveGroups chars)
     (none : NoneOfK28_7 chars) where
-  pub comma_begins : IsNewPlace (after_bits new_aligner (front ++ six_bits (group_of before (Special 0xbc))))
-      → pieces_of new_aligner
+  pub comma_begins : IsNewPlace (after_bits new_aligner
+      (front ++ six_bits (group_of before (Special 0xbc))))
+      → bit_pieces new_aligner
       (front ++ bits_of_groups (groups_from before (Special 0xbc ∷ chars)))
-      ≡ pieces_of new_aligner (front ++ six_bits (group_of before (Special 0xbc)))
+      ≡ bit_pieces new_aligner (front ++ six_bits (group_of before (Special 0xbc)))
       ++ place_told (after_bits new_aligner (front ++ six_bits (group_of before (Special 0xbc))))
       ++ map Group (groups_from before (Special 0xbc ∷ chars))
   comma_begins new =
@@ -104,24 +106,25 @@ module _ (front : List ℕ) (before : Disparity) (chars : List Char) (have : Hav
       (subst IsNewPlace same_six new) (comma_is before)
       (none_within before (Special 0xbc) refl idle_not) in
       let rest = groups_go before (Special 0xbc) chars here.0 refl idle_not have none here.2 in
-      let early : List BitPiece = pieces_of state (six_bits g) in
+      let early : List BitPiece = bit_pieces state (six_bits g) in
       let told : List BitPiece = early ++ place_told six in
-      let all : pieces_of state (group_bits g ++ bits_of_groups others)
+      let all : bit_pieces state (group_bits g ++ bits_of_groups others)
       ≡ told ++ Group g ∷ map Group others =
       pieces_both state (group_bits g) (bits_of_groups others)
-      ∙ ap (λ (s : Aligner). pieces_of state (group_bits g) ++ pieces_of s (bits_of_groups others))
+      ∙ ap (λ (s : Aligner). bit_pieces state (group_bits g)
+      ++ bit_pieces s (bits_of_groups others))
       here.1.after
-      ∙ ap (λ (ps : List BitPiece). pieces_of state (group_bits g) ++ ps) rest
+      ∙ ap (λ (ps : List BitPiece). bit_pieces state (group_bits g) ++ ps) rest
       ∙ ap (λ (ps : List BitPiece). ps ++ map Group others) here.1.told
       ∙ append_assoc told (Group g ∷ []) (map Group others) in
       pieces_both new_aligner front (group_bits g ++ bits_of_groups others)
-      ∙ ap (λ (ps : List BitPiece). pieces_of new_aligner front ++ ps) all
-      ∙ sym (append_assoc (pieces_of new_aligner front) told (Group g ∷ map Group others))
+      ∙ ap (λ (ps : List BitPiece). bit_pieces new_aligner front ++ ps) all
+      ∙ sym (append_assoc (bit_pieces new_aligner front) told (Group g ∷ map Group others))
       ∙ ap (λ (ps : List BitPiece). ps ++ Group g ∷ map Group others)
-      (sym (append_assoc (pieces_of new_aligner front) early (place_told six)))
+      (sym (append_assoc (bit_pieces new_aligner front) early (place_told six)))
       ∙ ap (λ (ps : List BitPiece). ps ++ place_told six ++ Group g ∷ map Group others)
       (sym (pieces_both new_aligner front (six_bits g)))
-      ∙ ap (λ (s : Aligner). pieces_of new_aligner (front ++ six_bits g) ++ place_told s
+      ∙ ap (λ (s : Aligner). bit_pieces new_aligner (front ++ six_bits g) ++ place_told s
       ++ Group g ∷ map Group others) (sym same_six)
 
 -- before a comma no piece ends
@@ -131,7 +134,7 @@ IsSeeking (Aligned bits) = ⊥
 
 seeking_if : (c : Bool) (word : ℕ)
     → (if c then align_step (aligned_at word 7) None
-    else align_step (Seeking (kept word)) None).piece ≡ None
+    else align_step (Seeking (nine_kept word)) None).piece ≡ None
 seeking_if true word = refl
 seeking_if false word = refl
 
@@ -156,13 +159,14 @@ still_one (Aligned bits) bit h =
     absurd (aligned_if (ends_comma word) word bits.count h)
 
 still : (state : Aligner) (bits : List ℕ) → IsSeeking (after_bits state bits)
-    → IsSeeking state × (pieces_of state bits ≡ [])
+    → IsSeeking state × (bit_pieces state bits ≡ [])
 still state [] h = (h, refl)
 still state (bit ∷ bits) h =
     let rest = still (reads_bit state bit).state bits h in
     let here = still_one state bit rest.0 in (
       here.0,
-      ap (λ (p : Option BitPiece). with_piece p (pieces_of (reads_bit state bit).state bits)) here.1
+      ap (λ (p : Option BitPiece). with_piece p (bit_pieces (reads_bit state bit).state bits))
+          here.1
           ∙ rest.1,
     )
 
@@ -180,19 +184,19 @@ pub sent_bits_heard : (front : List ℕ) (recent : ℕ) (before own : Disparity)
     (chars heard : List Char) (to : LaneState) → HaveGroups chars → NoneOfK28_7 chars
     → after_bits new_aligner (front ++ six_bits (group_of before (Special 0xbc)))
     ≡ Seeking recent
-    → HearsPieces 1 (lane_out 1 own) (pieces_of new_aligner
+    → HearsPieces 1 (lane_out 1 own) (bit_pieces new_aligner
     (front ++ bits_of_groups (groups_from before (Special 0xbc ∷ chars)))) to heard
     → heard ≡ Special 0xbc ∷ chars
 sent_bits_heard front recent before own chars heard to have none seeks h =
     let six : Aligner =
     after_bits new_aligner (front ++ six_bits (group_of before (Special 0xbc))) in
     let early : List BitPiece =
-    pieces_of new_aligner (front ++ six_bits (group_of before (Special 0xbc))) in
+    bit_pieces new_aligner (front ++ six_bits (group_of before (Special 0xbc))) in
     let groups : List ℕ = groups_from before (Special 0xbc ∷ chars) in
     let nothing : early ≡ [] =
     (still new_aligner (front ++ six_bits (group_of before (Special 0xbc)))
     (subst IsSeeking (sym seeks) tt)).1 in
-    let pieces : pieces_of new_aligner (front ++ bits_of_groups groups) ≡ map Group groups =
+    let pieces : bit_pieces new_aligner (front ++ bits_of_groups groups) ≡ map Group groups =
     comma_begins front before chars have none (subst IsNewPlace (sym seeks) tt)
     ∙ ap (λ (ps : List BitPiece). ps ++ place_told six ++ map Group groups) nothing
     ∙ ap (λ (s : Aligner). place_told s ++ map Group groups) seeks in

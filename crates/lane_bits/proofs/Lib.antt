@@ -1,4 +1,5 @@
 pub mod BitLaws
 pub mod GroupLaws
 pub mod HearingLaws
+pub mod NewPlaceLaws
 pub mod PlaceLaws

@@ -1,4 +1,5 @@
--- Where groups begin in a stream of bits: each comma begins one, and from there each tenth bit does.
+-- Where groups begin in a stream of bits: each comma begins one, and from there each tenth bit
+-- does.
 use Rattle.std.specs.Prelude.{◌≡◌, ℕ, ◌+◌, ◌-◌, ◌*◌, ◌/◌, ◌%◌, ◌==◌, ◌<◌, nat_le, nat_lt, ◌&&◌, ◌||◌, if◌then◌else◌, Bool, true, false, List, [], ◌∷◌, ◌++◌, map, Option, Some, None}
 use Rattle.lane_bits.specs.declared.align.Aligner.{Aligner}
 use Rattle.lane_bits.specs.declared.align.Aligner.TheVariants.{Seeking, Aligned}
@@ -12,8 +13,8 @@ abbrev pub with_bit : ℕ → ℕ → ℕ
 with_bit recent bit = 2 * (recent % 1024) + bit
 
 -- no more than nine of them are kept
-abbrev pub kept : ℕ → ℕ
-kept word = if nat_lt word 1024 then word else 512 + word % 512
+abbrev pub nine_kept : ℕ → ℕ
+nine_kept word = if nat_lt word 1024 then word else 512 + word % 512
 
 -- whether the last seven of them are a comma
 abbrev pub ends_comma : ℕ → Bool
@@ -24,7 +25,7 @@ abbrev pub new_aligner : Aligner
 new_aligner = Seeking 1
 
 abbrev pub aligned_at : ℕ → ℕ → Aligner
-aligned_at word count = Aligned (record { recent = kept word; count = count })
+aligned_at word count = Aligned (record { recent = nine_kept word; count = count })
 
 abbrev pub align_step : Aligner → Option BitPiece → AlignStep
 align_step state piece = record { state = state; piece = piece }
@@ -45,7 +46,7 @@ abbrev pub reads_bit : Aligner → ℕ → AlignStep
 reads_bit (Seeking recent) bit =
     if ends_comma (with_bit recent bit)
     then align_step (aligned_at (with_bit recent bit) 7) None
-    else align_step (Seeking (kept (with_bit recent bit))) None
+    else align_step (Seeking (nine_kept (with_bit recent bit))) None
 reads_bit (Aligned bits) bit =
     if ends_comma (with_bit bits.recent bit)
     then align_step (aligned_at (with_bit bits.recent bit) 7) (slip_at bits.count)
@@ -60,10 +61,10 @@ abbrev pub with_piece : Option BitPiece → List BitPiece → List BitPiece
 with_piece None pieces = pieces
 with_piece (Some piece) pieces = piece ∷ pieces
 
-abbrev pub pieces_of : Aligner → List ℕ → List BitPiece
-pieces_of state [] = []
-pieces_of state (bit ∷ bits) =
-    with_piece (reads_bit state bit).piece (pieces_of (reads_bit state bit).state bits)
+abbrev pub bit_pieces : Aligner → List ℕ → List BitPiece
+bit_pieces state [] = []
+bit_pieces state (bit ∷ bits) =
+    with_piece (reads_bit state bit).piece (bit_pieces (reads_bit state bit).state bits)
 
 -- each is 0 or 1
 abbrev pub AreBits : List ℕ → Type 0

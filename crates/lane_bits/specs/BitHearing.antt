@@ -9,8 +9,8 @@ use Rattle.lane_bits.specs.declared.align.Aligner.TheVariants.{Seeking, Aligned}
 use Rattle.lane_bits.specs.declared.align.BitPiece.{BitPiece}
 use Rattle.lane_bits.specs.declared.align.BitPiece.TheVariants.{Slip, Group}
 
--- Groups are heard one after another. A slip puts the lane out of sync: what comes after it is heard
--- from the comma on, as at the beginning.
+-- Groups are heard one after another. A slip puts the lane out of sync: what comes after it is
+-- heard from the comma on, as at the beginning.
 abbrev pub HearsPieces : ℕ → LaneState → List BitPiece → LaneState → List Char → Type 0
 HearsPieces commas from [] to heard = (to ≡ from) × (heard ≡ [])
 HearsPieces commas from (Slip ∷ pieces) to heard =

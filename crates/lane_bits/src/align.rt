@@ -1,7 +1,7 @@
 //! Where groups begin in bits.
 ghost use Rattle.std.specs.Prelude.{◌≡◌, ◌<◌, ◌+◌, IfSome, None};
 ghost use Rattle.lane_bits.specs.declared.align.Aligner.TheVariants.{Seeking, Aligned};
-ghost use Rattle.lane_bits.specs.Aligning.{with_bit, kept, ends_comma, new_aligner, aligned_at, align_step, slip_at, aligned_reads, reads_bit};
+ghost use Rattle.lane_bits.specs.Aligning.{with_bit, nine_kept, ends_comma, new_aligner, aligned_at, align_step, slip_at, aligned_reads, reads_bit};
 
 /// How many bits of a group stand before its last one.
 const BEFORE_LAST: u8 = 9;
@@ -104,7 +104,11 @@ fn read_on(word: u16, count: u8) -> AlignStep
 fn slip_of(count: u8) -> Option<BitPiece>
     ensures { result ≡ slip_at count }
 {
-    if count == 6 { None } else { Some(BitPiece::Slip) }
+    if count == 6 {
+        None
+    } else {
+        Some(BitPiece::Slip)
+    }
 }
 
 fn step(state: Aligner, piece: Option<BitPiece>) -> AlignStep
@@ -131,7 +135,7 @@ fn joined(recent: u16, bit: u16) -> u16
 }
 
 fn last_nine(word: u16) -> u16
-    ensures { result ≡ kept word }
+    ensures { result ≡ nine_kept word }
 {
     if word < 1024 { word } else { 512 + word % 512 }
 }

@@ -11,7 +11,7 @@ ghost use Rattle.lane_sync.specs.Syncing.{lane_out};
 ghost use Rattle.lane_bits.specs.declared.align.Aligner.{Aligner};
 ghost use Rattle.lane_bits.specs.declared.align.Aligner.TheVariants.{Seeking};
 ghost use Rattle.lane_bits.specs.declared.align.BitPiece.TheVariants.{Group};
-ghost use Rattle.lane_bits.specs.Aligning.{new_aligner, after_bits, pieces_of, bits_of_groups, AreBits};
+ghost use Rattle.lane_bits.specs.Aligning.{new_aligner, after_bits, bit_pieces, bits_of_groups, AreBits};
 ghost use Rattle.lane_bits.specs.BitHearing.{HearsPieces, IsNewPlace, place_told, six_bits};
 
 /// Whatever bits were read, from a new aligner on, an idle K28.5 at a place where no group begins
@@ -21,8 +21,9 @@ pub fn a_comma_at_a_new_place_begins_groups()
     ensures { (front : List ℕ) (before : Disparity) (chars : List Char)
         → AreBits front → HaveGroups chars → NoneOfK28_7 chars
         → IsNewPlace (after_bits new_aligner (front ++ six_bits (group_of before (Special 0xbc))))
-        → pieces_of new_aligner (front ++ bits_of_groups (groups_from before (Special 0xbc ∷ chars)))
-        ≡ pieces_of new_aligner (front ++ six_bits (group_of before (Special 0xbc)))
+        → bit_pieces new_aligner
+        (front ++ bits_of_groups (groups_from before (Special 0xbc ∷ chars)))
+        ≡ bit_pieces new_aligner (front ++ six_bits (group_of before (Special 0xbc)))
         ++ place_told (after_bits new_aligner (front ++ six_bits (group_of before (Special 0xbc))))
         ++ map Group (groups_from before (Special 0xbc ∷ chars)) }
 {}
@@ -34,7 +35,7 @@ pub fn bits_of_what_is_sent_are_heard()
         (to : LaneState) → AreBits front → HaveGroups chars → NoneOfK28_7 chars
         → after_bits new_aligner (front ++ six_bits (group_of before (Special 0xbc)))
         ≡ Seeking recent
-        → HearsPieces 1 (lane_out 1 own) (pieces_of new_aligner
+        → HearsPieces 1 (lane_out 1 own) (bit_pieces new_aligner
         (front ++ bits_of_groups (groups_from before (Special 0xbc ∷ chars)))) to heard
         → heard ≡ Special 0xbc ∷ chars }
 {}

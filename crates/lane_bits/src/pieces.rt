@@ -1,7 +1,7 @@
 //! Bits one after another, and what a lane hears of them.
 ghost use Rattle.std.specs.Prelude.{◌≡◌, ◌≢◌, ◌<◌, ◌+◌, ◌++◌, ◌∷◌, [], ℕ, List, IfOk, OnOk, MatchOption};
 ghost use Rattle.rio_chars.specs.declared.chars.Char.{Char};
-ghost use Rattle.lane_bits.specs.Aligning.{after_bits, pieces_of, with_piece, SpellBits};
+ghost use Rattle.lane_bits.specs.Aligning.{after_bits, bit_pieces, with_piece, SpellBits};
 ghost use Rattle.lane_bits.specs.BitHearing.{HearsPieces, HoldTens};
 
 use crate::align::{Aligner, BitPiece};
@@ -19,7 +19,7 @@ pub fn read_pieces(
     ensures { IfOk result (λ read. MatchOption read
         ((bits : List ℕ) → ¬ SpellBits digits.now bits)
         (λ read. (bits : List ℕ) × SpellBits digits.now bits
-        × (read.0 ≡ after_bits begin bits) × (read.1.items ≡ pieces_of begin bits)
+        × (read.0 ≡ after_bits begin bits) × (read.1.items ≡ bit_pieces begin bits)
         × HoldTens read.1.items)) }
 {
     let mut pieces = Vec::with_capacity(alloc, digits.len() / 10)?;
@@ -67,7 +67,7 @@ fn push_piece(pieces: &mut Vec<BitPiece>, piece: Option<BitPiece>) -> Result<(),
     Ok(())
 }
 
-/// Puts what a lane hears of one piece after what it heard before it, and answers the lane after it.
+/// Puts what a lane hears of one piece after what it heard before, and answers the lane after it.
 fn hear_piece(
     commas: u8,
     before: LaneState,

@@ -160,5 +160,7 @@ same_groups (x ∷ xs) (y ∷ ys) tens_x tens_y e =
   where
     heads_same : (a b : List ℕ) (more others : List (List ℕ)) → a ∷ more ≡ b ∷ others → a ≡ b
     heads_same a b more others e = cc
-    tails_same : (a b : List ℕ) (more others : List (List ℕ)) → a ∷ more ≡ b ∷ others → more ≡ others
+
+    tails_same : (a b : List ℕ) (more others : List (List ℕ)) → a ∷ more ≡ b ∷ others
+        → more ≡ others
     tails_same a b more others e = cc

@@ -6,7 +6,7 @@ use Rattle.rio_chars.specs.declared.chars.Char.TheVariants.{Special}
 use Rattle.code_groups.specs.Streams.{HaveGroups, HaveTenBits, groups_from, after_chars}
 use Rattle.group_text.specs.GroupTexts.{group_text_of, spaced_groups}
 use Rattle.fabric_script.specs.Lines.{words_of}
-use Rattle.lane_bits.specs.Aligning.{SpellBits, after_bits, pieces_of}
+use Rattle.lane_bits.specs.Aligning.{SpellBits, after_bits, bit_pieces}
 use Rattle.lane_bits.specs.BitHearing.{HearsPieces}
 use Rattle.lane_sync.specs.declared.lane.LaneState.{LaneState}
 use Rattle.lane_sync.specs.Syncing.{LaneHearsAll}
@@ -67,7 +67,8 @@ abbrev pub HeardAnswer : ℕ → List ℕ → LaneEnds → Option (List ℕ) →
 HeardAnswer commas head ends None answer = answer ≡ lane_says ends (codes "refused group\n")
 HeardAnswer commas head ends (Some groups) answer = (heard : List Char) × (to : LaneState)
     × LaneHearsAll commas ends.receiver groups to heard
-    × (answer ≡ lane_says (record ends { receiver = to }) (head ++ joined_chars heard ++ codes "\n"))
+    × (answer ≡ lane_says (record ends { receiver = to })
+    (head ++ joined_chars heard ++ codes "\n"))
 
 pub record HearsText (commas : ℕ) (head : List ℕ) (ends : LaneEnds) (text : List ℕ)
     (answer : LaneAnswer) : Type 0 where
@@ -81,7 +82,7 @@ pub record HearsText (commas : ℕ) (head : List ℕ) (ends : LaneEnds) (text : 
 abbrev pub BitsAnswer : ℕ → LaneEnds → Option (List ℕ) → LaneAnswer → Type 0
 BitsAnswer commas ends None answer = answer ≡ lane_says ends (codes "refused bit\n")
 BitsAnswer commas ends (Some bits) answer = (heard : List Char) × (to : LaneState)
-    × HearsPieces commas ends.receiver (pieces_of ends.aligner bits) to heard
+    × HearsPieces commas ends.receiver (bit_pieces ends.aligner bits) to heard
     × (answer ≡ lane_says
     (record ends { receiver = to; aligner = after_bits ends.aligner bits })
     (joined_chars heard ++ codes "\n"))

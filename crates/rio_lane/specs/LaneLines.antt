@@ -3,8 +3,9 @@ use Rattle.std.specs.Prelude.{◌≡◌, ◌≢◌, ℕ, ◌⊎◌, List, [], �
 use Rattle.rio_lane.specs.declared.ends.LaneEnds.{LaneEnds}
 use Rattle.rio_lane.specs.declared.ends.LaneTask.{LaneTask}
 use Rattle.rio_lane.specs.declared.ends.LaneWay.{LaneWay}
-use Rattle.rio_lane.specs.declared.ends.LaneWay.TheVariants.{Sends, Hears, Aligns}
+use Rattle.rio_lane.specs.declared.ends.LaneWay.TheVariants.{Sends, Hears, Aligns, SendsRows, HearsRows}
 use Rattle.rio_lane.specs.Tasks.{task_head, task_way}
+use Rattle.rio_lane.specs.FourAnswers.{SendsLanes, HearsLanes}
 use Rattle.rio_lane.specs.LaneAnswers.{LaneAnswer, lane_says, SendsText, HearsText, HearsBits}
 
 -- what is coded of a line, in the way of the task
@@ -12,6 +13,8 @@ abbrev pub CodesText : LaneWay → ℕ → List ℕ → LaneEnds → List ℕ �
 CodesText Sends commas head ends text answer = SendsText head ends text answer
 CodesText Hears commas head ends text answer = HearsText commas head ends text answer
 CodesText Aligns commas head ends text answer = HearsBits commas ends text answer
+CodesText SendsRows commas head ends text answer = SendsLanes ends text answer
+CodesText HearsRows commas head ends text answer = HearsLanes commas ends text answer
 
 -- The answer of a line: what stands after the head of the task is coded, and a line that does not
 -- begin with it is passed on.

@@ -11,28 +11,45 @@ use Rattle.program_start.specs.declared.questions.Question.{Question}
 use Rattle.rio_chars.specs.Unless.{WritesUnless}
 use Rattle.rio_lane.specs.declared.ends.LaneEnds.{LaneEnds}
 use Rattle.rio_lane.specs.declared.ends.LaneTask.{LaneTask}
-use Rattle.rio_lane.specs.Tasks.{task_word, new_ends}
+use Rattle.rio_lane.specs.Tasks.{task_word, task_lanes, new_ends}
 use Rattle.rio_lane.specs.LaneAnswers.{LaneAnswer}
 use Rattle.rio_lane.specs.LaneLines.{AnswersLanes}
 
--- the words after the program's name ask for this task on a lane that wants so many commas
+-- a word asks for this task on so many lanes
+abbrev pub WordAsks : ℕ → List ℕ → LaneTask → Type 0
+WordAsks lanes word task = (word ≡ task_word task) × (task_lanes task ≡ lanes)
+
+abbrev pub FourWordsAsk : List ℕ → List ℕ → List ℕ → LaneTask → Type 0
+FourWordsAsk option count word task =
+    (option ≡ codes "--lanes") × ((count ≡ codes "4") × WordAsks 4 word task)
+
+-- a word says how many commas a lane wants
+abbrev pub SaysCommas : List ℕ → ℕ → Type 0
+SaysCommas number commas = (1 ≤ commas) × (commas ≤ 127) × (number ≡ decimal commas)
+
+-- the words after the program's name ask for this task on lanes that want so many commas
 abbrev pub AskTask : List (List ℕ) → LaneTask → ℕ → Type 0
 AskTask [] task commas = ⊥
-AskTask (word ∷ []) task commas = (word ≡ task_word task) × (commas ≡ 1)
-AskTask (word ∷ number ∷ []) task commas =
-    (word ≡ task_word task) × (1 ≤ commas) × (commas ≤ 127) × (number ≡ decimal commas)
-AskTask (word ∷ number ∷ more ∷ words) task commas = ⊥
+AskTask (word ∷ []) task commas = WordAsks 1 word task × (commas ≡ 1)
+AskTask (word ∷ number ∷ []) task commas = WordAsks 1 word task × SaysCommas number commas
+AskTask (option ∷ count ∷ word ∷ []) task commas =
+    FourWordsAsk option count word task × (commas ≡ 1)
+AskTask (option ∷ count ∷ word ∷ number ∷ []) task commas =
+    FourWordsAsk option count word task × SaysCommas number commas
+AskTask (option ∷ count ∷ word ∷ number ∷ more ∷ words) task commas = ⊥
 
 -- how the program is used, on several lines
 abbrev pub lane_help : List ℕ
-lane_help = codes "usage: rio_lane groups|chars|bits|sent|got [COMMAS], with 1 to 127 commas\n\n"
-    ++ codes "Each line is answered before the next is read.\n\n"
+lane_help =
+    codes "usage: rio_lane groups|chars|bits|sent|got [COMMAS], or --lanes 4 groups|chars "
+    ++ codes "[COMMAS]\n\nEach line is answered before the next is read.\n\n"
     ++ codes "groups   characters: their code groups, with an idle before and after them\n"
     ++ codes "chars    code groups of ten digits: the characters that a lane hears\n"
     ++ codes "bits     digits 0 and 1, cut anywhere: the same, from the first comma on\n"
     ++ codes "sent     lines that begin with sent, as groups; others are passed on\n"
     ++ codes "got      lines that begin with got, as characters; others are passed on\n\n"
-    ++ codes "COMMAS is how many commas a lane wants before it is in sync, 1 if it is not said.\n"
+    ++ codes "--lanes 4 has groups in rows of four, one of each lane.\n"
+    ++ codes "COMMAS, 1 to 127, is how many commas a lane wants before it is in sync, and else 1.\n"
     ++ codes "docs/lanes.md has the rules.\n"
 
 -- From these ends of a lane on, lines were served: those that were read, each after the one before

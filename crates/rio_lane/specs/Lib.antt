@@ -1,3 +1,4 @@
+pub mod FourAnswers
 pub mod LaneAnswers
 pub mod LaneLines
 pub mod LaneProgram

@@ -35,7 +35,7 @@ pub(crate) fn send_text<K: Sink>(
     };
     let burst = burst_of(alloc, chars.as_slice())?;
     let groups = encode_all(alloc, ends.sender, burst.as_slice())?;
-    write_line(outbox, head, groups.as_slice());
+    write_groups_line(outbox, head, groups.as_slice());
     ends.sender = after_all(ends.sender, burst.as_slice());
     Ok(())
 }
@@ -68,7 +68,7 @@ fn after_all(before: Disparity, chars: &[Char]) -> Disparity
 }
 
 /// Tells a line of groups after its head.
-fn write_line<K: Sink>(outbox: &mut Outbox<K>, head: &[u8], groups: &[u16])
+pub(crate) fn write_groups_line<K: Sink>(outbox: &mut Outbox<K>, head: &[u8], groups: &[u16])
     requires { HaveTenBits groups.now }
     ensures { Writes outbox.old outbox.new (head.now ++ joined_groups groups.now ++ codes "\n") }
 {

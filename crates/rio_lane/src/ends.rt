@@ -4,6 +4,7 @@ ghost use Rattle.rio_lane.specs.Tasks.{task_head, task_way};
 
 use code_groups::Disparity;
 use lane_bits::Aligner;
+use lane_rows::{FourReceivers, FourSenders};
 use lane_sync::LaneState;
 
 /// Which lines are coded, and in which direction. All other lines are passed on.
@@ -19,6 +20,10 @@ pub enum LaneTask {
     Sent,
     /// Lines that begin with the word `got`: their groups as characters.
     Got,
+    /// Lines of characters, as rows of groups of four lanes.
+    FourGroups,
+    /// Lines of rows of groups of four lanes, as characters.
+    FourChars,
 }
 
 /// What a line is coded as.
@@ -30,9 +35,13 @@ pub enum LaneWay {
     Hears,
     /// Bits, as characters.
     Aligns,
+    /// Characters, as rows of groups.
+    SendsRows,
+    /// Rows of groups, as characters.
+    HearsRows,
 }
 
-/// The two ends of a lane: the disparity of what sends, and what hears.
+/// The two ends of a lane: the disparity of what sends, and what hears. The same of four lanes.
 #[derive(Clone, Copy, Debug, PartialEq, Eq)]
 pub struct LaneEnds {
     /// The disparity of the next group that is sent.
@@ -41,6 +50,10 @@ pub struct LaneEnds {
     pub receiver: LaneState,
     /// Where groups begin, if bits are heard.
     pub aligner: Aligner,
+    /// The disparities of the next groups, if four lanes send.
+    pub senders: FourSenders,
+    /// Four lanes that hear groups.
+    pub receivers: FourReceivers,
 }
 
 impl LaneTask {
@@ -49,9 +62,9 @@ impl LaneTask {
         ensures { result.now ≡ task_head self }
     {
         match self {
-            LaneTask::Groups | LaneTask::Chars | LaneTask::Bits => b"",
             LaneTask::Sent => b"sent ",
             LaneTask::Got => b"got ",
+            _ => b"",
         }
     }
 
@@ -63,6 +76,8 @@ impl LaneTask {
             LaneTask::Groups | LaneTask::Sent => LaneWay::Sends,
             LaneTask::Chars | LaneTask::Got => LaneWay::Hears,
             LaneTask::Bits => LaneWay::Aligns,
+            LaneTask::FourGroups => LaneWay::SendsRows,
+            LaneTask::FourChars => LaneWay::HearsRows,
         }
     }
 }

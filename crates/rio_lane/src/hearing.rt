@@ -68,7 +68,7 @@ pub(crate) fn hear_bits<K: Sink, M: Sink>(
 }
 
 /// Tells a line of characters after its head.
-fn write_line<K: Sink>(outbox: &mut Outbox<K>, head: &[u8], chars: &[Char])
+pub(crate) fn write_line<K: Sink>(outbox: &mut Outbox<K>, head: &[u8], chars: &[Char])
     ensures { Writes outbox.old outbox.new (head.now ++ joined_chars chars.now ++ codes "\n") }
 {
     outbox.write(head);

@@ -2,8 +2,9 @@
 //! line. So captures of ten bits can be read, and RTL with its own coding be driven.
 //!
 //! Promised: what was written is the answers of the lines that were read: a burst of characters as
-//! its groups, with an idle before and after it, or what a lane hears of groups or of bits, from the
-//! state where it stands then. Left out: more than one lane.
+//! its groups, with an idle before and after it, or what a lane hears of groups or of bits, from
+//! the state where it stands then; and the same of groups in rows, on four lanes. Left out: bits
+//! of four lanes.
 //!
 //! - `run`: the whole program, over any source, sink and sink of messages; `main` gives it the
 //!   words and the standard streams by `start` of `program_start`, and does nothing more.
@@ -15,6 +16,7 @@
 
 mod coding;
 mod ends;
+mod four;
 mod hearing;
 mod laws;
 mod program;

@@ -1,11 +1,10 @@
 //! The whole program, but for where its words and its streams come from.
-ghost use Rattle.std.specs.Prelude.{◌≡◌, ◌≢◌, ◌≤◌, map, MatchOption, ℕ, if◌then◌else◌};
+ghost use Rattle.std.specs.Prelude.{◌≡◌, ◌≢◌, ◌≤◌, map, MatchOption, ℕ, codes, if◌then◌else◌};
 ghost use Rattle.std.specs.Fmt.{decimal};
 ghost use Rattle.std.specs.String.{string_bytes};
 ghost use Rattle.live_lines.specs.declared.status.LiveStatus.TheVariants as ends_with;
 ghost use Rattle.rio_lane.specs.declared.ends.LaneTask.{LaneTask};
-ghost use Rattle.rio_lane.specs.LaneProgram.{LaneRan, LaneDid, AskTask};
-ghost use Rattle.rio_lane.specs.Tasks.{task_word};
+ghost use Rattle.rio_lane.specs.LaneProgram.{LaneRan, LaneDid, AskTask, WordAsks, FourWordsAsk, SaysCommas};
 
 use crate::ends::LaneTask;
 use crate::serving::serve;
@@ -16,10 +15,12 @@ use rio_chars::{Sink, Source};
 use std::alloc::Global;
 
 /// How the program is used, in a line.
-const USAGE: &[u8] = b"usage: rio_lane groups|chars|bits|sent|got [COMMAS], with 1 to 127 commas\n";
+const USAGE: &[u8] =
+    b"usage: rio_lane groups|chars|bits|sent|got [COMMAS], or --lanes 4 groups|chars [COMMAS]\n";
 
 /// The same on several lines.
-const HELP: &[u8] = b"usage: rio_lane groups|chars|bits|sent|got [COMMAS], with 1 to 127 commas
+const HELP: &[u8] =
+    b"usage: rio_lane groups|chars|bits|sent|got [COMMAS], or --lanes 4 groups|chars [COMMAS]
 
 Each line is answered before the next is read.
 
@@ -29,7 +30,8 @@ bits     digits 0 and 1, cut anywhere: the same, from the first comma on
 sent     lines that begin with sent, as groups; others are passed on
 got      lines that begin with got, as characters; others are passed on
 
-COMMAS is how many commas a lane wants before it is in sync, 1 if it is not said.
+--lanes 4 has groups in rows of four, one of each lane.
+COMMAS, 1 to 127, is how many commas a lane wants before it is in sync, and else 1.
 docs/lanes.md has the rules.
 ";
 
@@ -95,19 +97,28 @@ pub(crate) fn asked(words: &[String]) -> Option<(LaneTask, u8)>
         (λ asked. AskTask (map string_bytes words.now) asked.0 asked.1) }
 {
     match words {
-        [word] => asked_by_word(word.as_str().as_bytes()),
-        [word, number] => {
-            asked_by_words(word.as_str().as_bytes(), number.as_str().as_bytes())
+        [word] => asked_by_word(bytes(word)),
+        [word, number] => asked_by_words(bytes(word), bytes(number)),
+        [option, count, word] => asked_of_four(bytes(option), bytes(count), bytes(word)),
+        [option, count, word, number] => {
+            asked_of_four_lanes(bytes(option), bytes(count), bytes(word), bytes(number))
         }
         _ => None,
     }
 }
 
-/// The task that a word alone asks for.
+/// The bytes of a word.
+fn bytes(word: &String) -> &[u8]
+    ensures { result.now ≡ string_bytes word.now }
+{
+    word.as_str().as_bytes()
+}
+
+/// The task that a word alone asks for, on one lane.
 fn asked_by_word(word: &[u8]) -> Option<(LaneTask, u8)>
     ensures { MatchOption result
-        ((task : LaneTask) (commas : ℕ) → ¬ ((word.now ≡ task_word task) × (commas ≡ 1)))
-        (λ asked. (word.now ≡ task_word asked.0) × (asked.1 ≡ 1)) }
+        ((task : LaneTask) (commas : ℕ) → ¬ (WordAsks 1 word.now task × (commas ≡ 1)))
+        (λ asked. WordAsks 1 word.now asked.0 × (asked.1 ≡ 1)) }
 {
     let Some(task) = task_of(word) else {
         return None;
@@ -115,13 +126,12 @@ fn asked_by_word(word: &[u8]) -> Option<(LaneTask, u8)>
     Some((task, COMMAS))
 }
 
-/// The task and the number of commas that two words ask for.
+/// The task and the number of commas that two words ask for, on one lane.
 fn asked_by_words(word: &[u8], number: &[u8]) -> Option<(LaneTask, u8)>
     ensures { MatchOption result
-        ((task : LaneTask) (commas : ℕ) → ¬ ((word.now ≡ task_word task) × (1 ≤ commas)
-        × (commas ≤ 127) × (number.now ≡ decimal commas)))
-        (λ asked. (word.now ≡ task_word asked.0) × (1 ≤ asked.1) × (asked.1 ≤ 127)
-        × (number.now ≡ decimal asked.1)) }
+        ((task : LaneTask) (commas : ℕ)
+        → ¬ (WordAsks 1 word.now task × SaysCommas number.now commas))
+        (λ asked. WordAsks 1 word.now asked.0 × SaysCommas number.now asked.1) }
 {
     let Some(task) = task_of(word) else {
         return None;
@@ -132,10 +142,45 @@ fn asked_by_words(word: &[u8], number: &[u8]) -> Option<(LaneTask, u8)>
     Some((task, commas))
 }
 
-/// The task that a word asks for.
+/// The task that three words ask for, on four lanes.
+fn asked_of_four(option: &[u8], count: &[u8], word: &[u8]) -> Option<(LaneTask, u8)>
+    ensures { MatchOption result
+        ((task : LaneTask) (commas : ℕ)
+        → ¬ (FourWordsAsk option.now count.now word.now task × (commas ≡ 1)))
+        (λ asked. FourWordsAsk option.now count.now word.now asked.0 × (asked.1 ≡ 1)) }
+{
+    let Some(task) = four_task(option, count, word) else {
+        return None;
+    };
+    Some((task, COMMAS))
+}
+
+/// The task and the number of commas that four words ask for, on four lanes.
+fn asked_of_four_lanes(
+    option: &[u8],
+    count: &[u8],
+    word: &[u8],
+    number: &[u8],
+) -> Option<(LaneTask, u8)>
+    ensures { MatchOption result
+        ((task : LaneTask) (commas : ℕ)
+        → ¬ (FourWordsAsk option.now count.now word.now task × SaysCommas number.now commas))
+        (λ asked. FourWordsAsk option.now count.now word.now asked.0
+        × SaysCommas number.now asked.1) }
+{
+    let Some(task) = four_task(option, count, word) else {
+        return None;
+    };
+    let Some(commas) = number_of_commas(number) else {
+        return None;
+    };
+    Some((task, commas))
+}
+
+/// The task that a word asks for, on one lane.
 fn task_of(word: &[u8]) -> Option<LaneTask>
-    ensures { MatchOption result ((task : LaneTask) → word.now ≢ task_word task)
-        (λ task. word.now ≡ task_word task) }
+    ensures { MatchOption result ((task : LaneTask) → ¬ WordAsks 1 word.now task)
+        (λ task. WordAsks 1 word.now task) }
 {
     match word {
         b"groups" => Some(LaneTask::Groups),
@@ -143,6 +188,42 @@ fn task_of(word: &[u8]) -> Option<LaneTask>
         b"bits" => Some(LaneTask::Bits),
         b"sent" => Some(LaneTask::Sent),
         b"got" => Some(LaneTask::Got),
+        _ => None,
+    }
+}
+
+/// The task that three words ask for.
+fn four_task(option: &[u8], count: &[u8], word: &[u8]) -> Option<LaneTask>
+    ensures { MatchOption result
+        ((task : LaneTask) → ¬ FourWordsAsk option.now count.now word.now task)
+        (λ task. FourWordsAsk option.now count.now word.now task) }
+{
+    match option {
+        b"--lanes" => counted_task(count, word),
+        _ => None,
+    }
+}
+
+/// The task that a number of lanes and a word ask for.
+fn counted_task(count: &[u8], word: &[u8]) -> Option<LaneTask>
+    ensures { MatchOption result
+        ((task : LaneTask) → ¬ ((count.now ≡ codes "4") × WordAsks 4 word.now task))
+        (λ task. (count.now ≡ codes "4") × WordAsks 4 word.now task) }
+{
+    match count {
+        b"4" => rows_task(word),
+        _ => None,
+    }
+}
+
+/// The task that a word asks for, on four lanes.
+fn rows_task(word: &[u8]) -> Option<LaneTask>
+    ensures { MatchOption result ((task : LaneTask) → ¬ WordAsks 4 word.now task)
+        (λ task. WordAsks 4 word.now task) }
+{
+    match word {
+        b"groups" => Some(LaneTask::FourGroups),
+        b"chars" => Some(LaneTask::FourChars),
         _ => None,
     }
 }

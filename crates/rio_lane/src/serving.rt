@@ -8,10 +8,12 @@ ghost use Rattle.rio_lane.specs.Tasks.{new_ends};
 
 use crate::coding::send_text;
 use crate::ends::{LaneEnds, LaneTask, LaneWay};
+use crate::four::{hear_lanes, send_lanes};
 use crate::hearing::{hear_bits, hear_text};
 use crate::telling::LinePlace;
 use code_groups::Disparity;
 use lane_bits::Aligner;
+use lane_rows::{FourReceivers, FourSenders};
 use lane_sync::LaneState;
 use live_lines::{LineReader, LiveStatus};
 use rio_chars::{Outbox, Sink, Source, TextBuffer};
@@ -44,6 +46,8 @@ pub fn serve<S: Source, K: Sink, M: Sink>(
         sender: Disparity::Negative,
         receiver: LaneState::new(commas),
         aligner: Aligner::new(),
+        senders: FourSenders::new(),
+        receivers: FourReceivers::new(commas),
     };
     let mut outbox = Outbox::new(&mut buffer, sink);
     let mut told = Outbox::new(&mut words, messages);
@@ -174,5 +178,7 @@ fn code_text<K: Sink, M: Sink>(
         LaneWay::Sends => send_text(alloc, head, ends, text, outbox),
         LaneWay::Hears => hear_text(alloc, place, head, ends, text, outbox, messages),
         LaneWay::Aligns => hear_bits(alloc, place, ends, text, outbox, messages),
+        LaneWay::SendsRows => send_lanes(alloc, ends, text, outbox),
+        LaneWay::HearsRows => hear_lanes(alloc, place, ends, text, outbox, messages),
     }
 }

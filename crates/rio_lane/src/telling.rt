@@ -5,6 +5,7 @@ ghost use Rattle.std.specs.Prelude.{◌<◌};
 use crate::ends::LaneEnds;
 use group_text::group_text;
 use lane_bits::BitPiece;
+use lane_rows::FourReceivers;
 use lane_sync::{LaneState, LaneStep};
 use rio_chars::{Char, Outbox, Sink};
 
@@ -80,6 +81,40 @@ fn tell_piece<M: Sink>(
         tell(messages, place.line, b", bit ", number, group % 1024, words);
     }
     step.state
+}
+
+/// The same of groups in rows, each on its own lane.
+pub(crate) fn tell_rows<M: Sink>(
+    messages: &mut Outbox<M>,
+    place: LinePlace,
+    begin: FourReceivers,
+    groups: &[u16],
+)
+    requires { HaveTenBits groups.now }
+{
+    let mut number = 0u32;
+    let mut lanes = begin;
+    let mut left = groups;
+    while let [group, rest @ ..] = left {
+        let step = lanes.a.hear(place.commas, *group);
+        number = number.saturating_add(1);
+        let words = words_for(lanes.a, step);
+        if !words.is_empty() {
+            tell(messages, place.line, b", group ", number, *group, words);
+        }
+        lanes = turned(lanes, step.state);
+        left = rest;
+    }
+}
+
+/// The lanes after a group on the first one, which is last then.
+fn turned(lanes: FourReceivers, after: LaneState) -> FourReceivers {
+    FourReceivers {
+        a: lanes.b,
+        b: lanes.c,
+        c: lanes.d,
+        d: after,
+    }
 }
 
 /// What is said of a group, if anything is.

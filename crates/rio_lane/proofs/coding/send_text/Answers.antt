@@ -27,8 +27,8 @@ encode_all-requires g c =
     c.as_slice-2.ensures.value ∙ c.in_ok-burst.ensures ∙ ap burst_chars c.as_slice.ensures in
     subst HaveGroups (sym burst) (have_burst c.in-Some.chars spelled.have)
 
-pub write_line-requires : goal.write_line-requires
-write_line-requires g c =
+pub write_groups_line-requires : goal.write_groups_line-requires
+write_groups_line-requires g c =
     let spelled = rw c.in-Some.is at c.in_ok-chars.ensures in
     let burst =
     c.as_slice-2.ensures.value ∙ c.in_ok-burst.ensures ∙ ap burst_chars c.as_slice.ensures in
@@ -63,6 +63,6 @@ returns-clause-answer g c =
       },
       ap (λ (d : Disparity). record ends { sender = d })
           (c.after_all-ends.ensures ∙ ap (after_chars ends.sender) last),
-      subst (λ (gs : List ℕ). Writes c.args.outbox.now c.write_line.new.outbox
-          (head ++ joined_groups gs ++ codes "\n")) groups c.write_line.ensures,
+      subst (λ (gs : List ℕ). Writes c.args.outbox.now c.write_groups_line.new.outbox
+          (head ++ joined_groups gs ++ codes "\n")) groups c.write_groups_line.ensures,
     )

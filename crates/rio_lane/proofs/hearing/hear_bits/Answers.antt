@@ -37,7 +37,8 @@ returns-clause-answer g c =
         is = (
           heard,
           state,
-          subst (λ (ps : List BitPiece). HearsPieces c.args.place.commas ends.receiver ps state heard)
+          subst (λ (ps : List BitPiece).
+              HearsPieces c.args.place.commas ends.receiver ps state heard)
               (c.as_slice.ensures.value ∙ read.3) c.in_ok-state.ensures,
           refl,
         );

@@ -8,7 +8,8 @@ use Rattle.rio_lane.proofs.serving.serve_lines.Goals as goal
 pub loop-count-init : goal.loop-count-init
 loop-count-init g c = record {
   served =
-      LanesServed-begin c.args.task c.args.commas c.args.outbox.now c.args.ends.now (g.S.Source.left c.args.source.now)
+      LanesServed-begin c.args.task c.args.commas c.args.outbox.now c.args.ends.now
+      (g.S.Source.left c.args.source.now)
       (g.S.Source.faults c.args.source.now) c.args.input.now c.requires.input;
   same = refl;
   fine = c.requires.fine;
@@ -60,11 +61,13 @@ returns-then-failed-clause-serves g c =
     let line = c.read_line.new.line.items in
     let given = c.in-Ok.ensures.answer in
     let now =
-    LanesServed-line c.args.task c.args.commas c.args.outbox.now c.args.ends.now (g.S.Source.left c.args.source.now)
+    LanesServed-line c.args.task c.args.commas c.args.outbox.now c.args.ends.now
+    (g.S.Source.left c.args.source.now)
     (g.S.Source.faults c.args.source.now) c.loop-count.input c.read_line.new.self line read.0
     (g.S.Source.faults c.loop-count.source) (g.S.Source.faults c.read_line.new.source) given.0
     h.served read.1 read.2 c.in_default.ensures.line
-    (subst (λ text. AnswersLane c.args.task c.args.commas c.loop-count.ends text given.0) c.as_slice.ensures.value given.1)
+    (subst (λ text. AnswersLane c.args.task c.args.commas c.loop-count.ends text given.0)
+    c.as_slice.ensures.value given.1)
     given.2 given.3 c.in_default.ensures.counts in
     record {
       lines = now.lines;
@@ -86,12 +89,13 @@ loop-count-preserved g c =
     let given = c.in-Ok.ensures.answer in
     record {
       served =
-          LanesServed-line c.args.task c.args.commas c.args.outbox.now c.args.ends.now (g.S.Source.left c.args.source.now)
+          LanesServed-line c.args.task c.args.commas c.args.outbox.now c.args.ends.now
+          (g.S.Source.left c.args.source.now)
           (g.S.Source.faults c.args.source.now) c.loop-count.input c.read_line.new.self line read.0
           (g.S.Source.faults c.loop-count.source) (g.S.Source.faults c.read_line.new.source) given.0
           h.served read.1 read.2 c.in_default.ensures.line
-          (subst (λ text. AnswersLane c.args.task c.args.commas c.loop-count.ends text given.0) c.as_slice.ensures.value
-          given.1)
+          (subst (λ text. AnswersLane c.args.task c.args.commas c.loop-count.ends text given.0)
+          c.as_slice.ensures.value given.1)
           given.2 given.3 c.in_default.ensures.counts;
       same = given.3.same ∙ h.same;
       fine = sym c.failed.ensures ∙ c.if-failed.false;

@@ -1,5 +1,5 @@
 use Rattle.rio_chars.proofs.WrittenLaws.{Writes-then}
-use Rattle.rio_lane.proofs.coding.write_line.Goals as goal
+use Rattle.rio_lane.proofs.coding.write_groups_line.Goals as goal
 
 pub returns : goal.returns
 returns g c =

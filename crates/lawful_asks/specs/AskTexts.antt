@@ -1,0 +1,26 @@
+-- The texts of asks are lawful.
+use Rattle.std.specs.Prelude.{◌≡◌, ℕ, List, [], ◌∷◌, ◌++◌, length}
+use Rattle.link_wires.specs.declared.edits.Edit.{Edit}
+use Rattle.fabric_script.specs.Known.{Known}
+use Rattle.fabric_script.specs.Scripts.{ScriptPasses}
+use Rattle.fabric_script.specs.declared.lines.Numbered.{Numbered}
+use Rattle.trace_lines.specs.Lines.{TraceLine, Ended, steps_of}
+use Rattle.fabric_trace.specs.Known.{Seen}
+use Rattle.fabric_trace.specs.Runs.{bare, set_up_all, start}
+use Rattle.trace_check.specs.Lawful.{IsLawful}
+use Rattle.lawful_traces.specs.Knowing.{KnowsScript}
+use Rattle.lawful_traces.specs.Texts.{trace_texts}
+use Rattle.fabric_ports.specs.declared.noise.Quiet.{Quiet}
+use Rattle.fabric_maint.specs.Asked.{Asked}
+use Rattle.fabric_maint.specs.Going.{LeadsTo}
+
+-- The lines of asks of a host, from the state behind the set-up lines on and with no edits, are
+-- lawful texts if `end` stands behind them.
+abbrev pub AsksAreLawful : Type 0
+AsksAreLawful = (edits : Quiet → List Edit) (names : List (List ℕ)) (script : List Numbered)
+    (host tid next : ℕ) (lines : List TraceLine) (end : Seen) (known : Known)
+    → ((noise : Quiet) → edits noise ≡ []) → ScriptPasses names script
+    → KnowsScript names script known → Asked edits host (start script) tid lines end next
+    → LeadsTo host (start script) lines end
+    → IsLawful known (set_up_all bare script) (trace_texts names (lines ++ Ended ∷ []))
+    (length (steps_of lines))

@@ -1,0 +1,9 @@
+//! Which texts of asks are lawful: a law is the contract of a function with an empty body.
+ghost use Rattle.lawful_asks.specs.AskTexts.{AsksAreLawful};
+
+/// The texts of the lines of a host's asks, from the state behind the set-up lines of a script on,
+/// with the text `end` behind them, are a lawful trace, of as many steps as the lines have; if no
+/// edit is made.
+pub fn asks_are_lawful()
+    ensures { AsksAreLawful }
+{}
