@@ -62,10 +62,8 @@ class Trees:
     def fill(self, tree):
         """Puts the programs where a gate leaves them, and what else it built."""
         for path in built():
-            parts = Path(path).parts
-            file = self.crates.joinpath(*parts[1:]) if parts[0] == "crates" else TOP / path
             (tree / path).parent.mkdir(parents=True, exist_ok=True)
-            shutil.copy(file, tree / path)
+            shutil.copy(place_of(path, self.crates), tree / path)
 
     def passed(self, tree):
         """Has a gate pass in a tree."""
@@ -92,6 +90,12 @@ def built():
         words = line.split("#")[0].split()
         if words[2:] == ["built"]:
             yield words[0]
+
+
+def place_of(path, crates):
+    """Where this file stands here, if the programs of crates stand in that folder."""
+    parts = Path(path).parts
+    return crates.joinpath(*parts[1:]) if parts[0] == "crates" else TOP / path
 
 
 def with_kit(tree):
