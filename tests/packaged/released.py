@@ -43,7 +43,7 @@ def trials_of_evidence(folder):
                  f"the gate: {RESULT}"):
         yield f"gate.txt: {line}", line not in gate.splitlines() and "it is not there"
     contracts = (folder / "contracts.txt").read_text()
-    crates = re.findall(r"^(\w+):", (TOP / "crates.txt").read_text(), re.M)
+    crates = re.findall(r"^(\w+)(?: staticlib)?:", (TOP / "crates.txt").read_text(), re.M)
     yield "crates of contracts.txt", re.findall(r"^crate (\w+)$", contracts, re.M) != crates and "others are there"
     for line in ("  question_of", "    ensures held { held_of event.now result.held ≡ (acts self.old event.now).held }"):
         yield f"contracts.txt: {line}", line not in contracts.splitlines() and "it is not there"
