@@ -1,7 +1,7 @@
 //! The page of a trace: up to the fabric. Made from `share/page.html` by
 //! `tests/view/embed.py --write`.
 
-pub(crate) const HEAD: &[u8] = b"<!DOCTYPE html>
+pub(crate) const HEAD_1: &[u8] = b"<!DOCTYPE html>
 <html lang='en'>
 <head>
 <meta charset='utf-8'>
@@ -18,7 +18,7 @@ pub(crate) const HEAD: &[u8] = b"<!DOCTYPE html>
   :root {
     --back: #16181c; --text: #e8e8e8; --soft: #a5abb5; --line: #464c55; --band: #262b33;
     --packet: #7db4f5; --symbol: #b9c0ca; --retry: #e0a840; --fault: #ff7b80; --way: #d79bf5;
-    --chosen: #4a4220;
+    --chosen: #3b351d;
   }
 }
 * { box-sizing: border-box; }
@@ -114,25 +114,33 @@ svg .got circle { fill: none; stroke: var(--symbol); } svg .way circle { fill: v
 aria-label='The whole trace, from top to bottom: where faults and retries are'></canvas>
 </main>
 <aside>
-<section id='detail' aria-label='The chosen line' tabindex='0'></section>
+<section id='detail' aria-label='The chosen line' aria-live='polite' tabindex='0'></section>
 <section id='states' aria-label='Ports at the chosen line' tabindex='0'></section>
 <section id='way' aria-label='The way of the packet' tabindex='0'></section>
 <section id='key' aria-label='Key' tabindex='0'>
 <h2>Key</h2>
 <dl>
-<dt><svg width='60' height='10' class='packet'><g class='packet'><path d='M2 5H56'/></g></svg></dt>
+<dt><svg aria-hidden='true' width='60' height='10' class='packet'>
+<g class='packet'><path d='M2 5H56'/></g></svg></dt>
 <dd>a packet, with its ackID</dd>
-<dt><svg width='60' height='10'><g><path d='M2 5H56'/></g></svg></dt><dd>a control symbol</dd>
-<dt><svg width='60' height='10'><g class='retry'><path d='M2 5H56'/></g></svg></dt>
+<dt><svg aria-hidden='true' width='60' height='10'>
+<g><path d='M2 5H56'/></g></svg></dt>
+<dd>a control symbol</dd>
+<dt><svg aria-hidden='true' width='60' height='10'>
+<g class='retry'><path d='M2 5H56'/></g></svg></dt>
 <dd><b>~</b> a retry: no room, sent again</dd>
-<dt><svg width='60' height='10'><g class='fault'><path d='M2 5H56'/></g></svg></dt>
+<dt><svg aria-hidden='true' width='60' height='10'>
+<g class='fault'><path d='M2 5H56'/></g></svg></dt>
 <dd><b>!</b> a fault: an edit, what is refused, recovery, a time-out</dd>
-<dt><svg width='60' height='10'><g class='inside'><path d='M2 5H56'/></g></svg></dt>
+<dt><svg aria-hidden='true' width='60' height='10'>
+<g class='inside'><path d='M2 5H56'/></g></svg></dt>
 <dd>a move inside a switch</dd>
-<dt><svg width='60' height='10'><circle cx='10' cy='5' r='3'/><g class='got'>
+<dt><svg aria-hidden='true' width='60' height='10'>
+<circle cx='10' cy='5' r='3'/><g class='got'>
 <circle cx='40' cy='5' r='3'/></g></svg></dt>
 <dd>full: a step at a port; open: it came as it was sent</dd>
-<dt><svg width='60' height='10'><g class='way'><path d='M2 5H56'/></g></svg></dt>
+<dt><svg aria-hidden='true' width='60' height='10'>
+<g class='way'><path d='M2 5H56'/></g></svg></dt>
 <dd>the way of the chosen packet</dd>
 </dl>
 <p>Keys: arrows, page and end keys move; <b>g</b> line, <b>/</b> find, <b>f</b> next fault,

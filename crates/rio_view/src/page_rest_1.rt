@@ -1,7 +1,7 @@
 //! The page of a trace: the script that shows them. Made from `share/page.html` by
 //! `tests/view/embed.py --write`.
 
-pub(crate) const REST: &[u8] = b"<script>
+pub(crate) const REST_1: &[u8] = b"<script>
 'use strict';
 const ROW = 22;
 const view = { trace: null, times: null, shown: null, top: 0, chosen: 0, links: null,
@@ -119,12 +119,14 @@ function gotSvg(i, y, lane, where, way) {
   }
   const all = told(view.trace, i);
   const worst = all.find((it) => it[0] === 'b') || all[0] || ['o', '..'];
-  const inward = [lane[0], -lane[1]];
   const label = 'got ' + worst[1];
-  const end = inward[1] < 0;
+  // Towards its peer, unless the other side alone has room.
+  const room = [lane[0] - 12, where.wide - lane[0] - 12];
+  let end = lane[1] > 0;
+  if (room[end ? 0 : 1] < label.length * 5.6) end = room[0] > room[1];
   return `<g class='${CLASSES[worst[0]] || ''}${way}'><circle cx='${lane[0]}' cy='${y}' r='3.5'/>`
-    + `<text class='${end ? 'end' : ''}' x='${lane[0] + 8 * inward[1]}' y='${y + 4}'>`
-    + `${cut(label, where.wide / 2)}</text></g>`;
+    + `<text class='${end ? 'end' : ''}' x='${lane[0] + (end ? -8 : 8)}' y='${y + 4}'>`
+    + `${cut(label, room[end ? 0 : 1])}</text></g>`;
 }
 
 function movedSvg(i, y, lane, where, way) {
@@ -244,7 +246,8 @@ function showRecord() {
   const rows = statesAt(trace, i).filter((it, port) => wanted.has(port) && trace.link[port] >= 0)
     .map((it) => `<tr><th scope='row'>${escaped(it.name)}</th>${stateHtml(it.output)}`
       + `${stateHtml(it.input)}<td>${it.outstanding}</td><td>${it.held}</td></tr>`);
-  at('states').innerHTML = `<h2>Ports after line ${trace.number[i]}</h2><table id='ports'><tr>`
+  at('states').innerHTML = `<h2 id='after'>Ports after line ${trace.number[i]}</h2>`
+    + \"<table id='ports' aria-labelledby='after'><tr>\"
     + \"<th scope='col'>port</th><th scope='col'>output</th><th scope='col'>input</th>\"
     + `<th scope='col'>outstanding</th><th scope='col'>held</th></tr>${rows.join('')}</table>`;
   history.replaceState(null, '', '#' + trace.number[i]);
@@ -382,24 +385,4 @@ function listen() {
   window.addEventListener('afterprint', () => draw());
   matchMedia('(prefers-color-scheme: dark)').addEventListener('change', () => draw());
 }
-
-function start() {
-  const fabric = JSON.parse(at('fabric').textContent);
-  view.trace = readTrace(at('trace').textContent, fabric);
-  at('trace').remove();
-  view.times = at('times') && JSON.parse(at('times').textContent);
-  at('links').innerHTML = fabric.links.map(([a, b], link) => `<option value='${link}'>`
-    + `${escaped(fabric.ports[a])} - ${escaped(fabric.ports[b])}</option>`).join('');
-  at('links').size = Math.min(3, Math.max(2, fabric.links.length));
-  listen();
-  draw();
-  filter();
-  if (location.hash) jump(Number(location.hash.slice(1)) || 1);
-  showWay();
-}
-
-start();
-</script>
-</body>
-</html>
 ";

@@ -1,7 +1,7 @@
 //! The page of a trace: the script that reads records. Made from `share/page.html` by
 //! `tests/view/embed.py --write`.
 
-pub(crate) const SCRIPT: &[u8] = b"</script>
+pub(crate) const SCRIPT_1: &[u8] = b"</script>
 <script>
 'use strict';
 // The page of a trace. The first half reads the records that the program wrote, and knows nothing
