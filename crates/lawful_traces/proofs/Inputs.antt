@@ -1,16 +1,13 @@
 -- An input of the set-up lines of a script, with the texts of its trace behind them, is lawful.
 use Rattle.std.proofs.Common.{◌≡◌, ℕ, suc, Bool, true, false, List, [], ◌∷◌, length, if◌then◌else◌, refl, sym, ap, ◌∙◌, subst}
-use Rattle.fabric_script.specs.declared.known.Node.{Node}
 use Rattle.fabric_script.specs.declared.lines.Line.{Line}
 use Rattle.fabric_script.specs.declared.lines.Numbered.{Numbered}
-use Rattle.fabric_script.specs.declared.ports.PortRef.{PortRef}
 use Rattle.fabric_script.specs.Known.{Known, known_after, nodes_after, links_after, nothing_in, of_set_up}
 use Rattle.fabric_script.specs.Lines.{is_event}
 use Rattle.fabric_script.specs.Reading.{new_name_in}
 use Rattle.fabric_script.specs.Scripts.{is_skipped, pieces_of, SpellsFrom}
-use Rattle.fabric_script.specs.SetUps.{for_event}
 use Rattle.fabric_model.specs.Network.{Network}
-use Rattle.trace_lines.specs.Lines.{TraceLine, steps_of}
+use Rattle.trace_lines.specs.Lines.{steps_of}
 use Rattle.fabric_trace.specs.Runs.{bare, set_up, set_up_all}
 use Rattle.fabric_trace.proofs.Rounds.Blocks.{by_test}
 use Rattle.fabric_trace.proofs.SetUps.SettingUp.{set_up-event}
