@@ -31,9 +31,10 @@ SYNOPSES = {
         "rio_view packets",
         "rio_view page",
         "rio_view map [--tables] [--dot]",
-        "rio_view coverage",
+        "rio_view coverage [--link PORT | --port PORT]",
         "rio_view VIEW [--lines N-M] [--link PORT | --port PORT]",
         "rio_view --help",
+        "rio_view --version",
     ),
 }
 

@@ -96,21 +96,23 @@ static void full(void) {
   want(kigvarp_port_close(&port) == KIGVARP_OK, "an open port is closed");
 }
 
+static uint32_t gives(const char *text) { return kigvarp_fabric_line(&fabric, (const uint8_t *)text, strlen(text)); }
+
 /* A text is taken in pieces, never past the room, and is gone with the next line. */
 static void texts(void) {
-  static const char refused[] = "refused 1\nok\n";
+  static const char empty[] = "> collect A\nempty\nok\n";
   want(kigvarp_fabric_open(&fabric) == KIGVARP_OK, "a fabric opens");
   want(kigvarp_fabric_open(&fabric) == KIGVARP_OPEN, "an open fabric is not opened");
-  want(kigvarp_fabric_line(&fabric, (const uint8_t *)"stop", 4) == KIGVARP_OK, "a line is answered");
+  want(gives("endpoint A 1") == KIGVARP_OK && gives("collect A") == KIGVARP_OK, "two lines are answered");
   for (size_t at = 0; at < 4; at++) {
     fill();
     want(kigvarp_fabric_text(&fabric, bytes, 1, &count) == KIGVARP_OK && count == 1, "a byte is taken");
-    want(bytes[0] == (uint8_t)refused[at] && bytes[1] == 0xa5, "the next byte, and nothing behind it");
+    want(bytes[0] == (uint8_t)empty[at] && bytes[1] == 0xa5, "the next byte, and nothing behind it");
   }
-  want(kigvarp_fabric_line(&fabric, (const uint8_t *)"stop", 4) == KIGVARP_OK, "the next line is answered");
+  want(gives("collect A") == KIGVARP_OK, "the next line is answered");
   fill();
-  want(kigvarp_fabric_text(&fabric, bytes, sizeof bytes, &count) == KIGVARP_OK && count == sizeof refused - 1, "whole");
-  want(!memcmp(bytes, refused, count) && bytes[count] == 0xa5, "the text of the second line alone");
+  want(kigvarp_fabric_text(&fabric, bytes, sizeof bytes, &count) == KIGVARP_OK && count == sizeof empty - 1, "whole");
+  want(!memcmp(bytes, empty, count) && bytes[count] == 0xa5, "the text of the last line alone");
   want(kigvarp_fabric_text(&fabric, bytes, sizeof bytes, &count) == KIGVARP_OK && count == 0, "no more waits");
   want(kigvarp_fabric_close(&fabric) == KIGVARP_OK, "an open fabric is closed");
 }

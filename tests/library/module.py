@@ -78,8 +78,8 @@ def lines():
 
 
 def texts():
-    equal("text", text_of(chars_of("k1c d00 dff x")), "k1c d00 dff x")
-    equal("numbers", chars_of("k1c dff x"), [0x11C, 0xFF, 0x200])
+    equal("text", text_of(chars_of("k1c d00 dff inv")), "k1c d00 dff inv")
+    equal("numbers", chars_of("k1c dff inv"), [0x11C, 0xFF, 0x200])
 
 
 for case in (packets, runs, statuses, lines, texts):

@@ -60,7 +60,7 @@ def traces(program):
 
 
 def refusals(program):
-    """Each stored refusal of a line is answered at that line, and the fabric goes on."""
+    """Each stored refusal of a line is answered at that line in the words of `rio replay`, and the fabric goes on."""
     count = 0
     for script in sorted((CASES / "refused").glob("*.in")):
         words = script.with_suffix(".out").read_text().split()
@@ -68,7 +68,11 @@ def refusals(program):
             continue
         fabric = Port(program)
         answers = [asked(fabric, line) for line in lines_of(script)[: int(words[1])]]
-        equal(script.stem, answers[-1], ["refused " + words[2]])
+        said = "rio: line %s: " % words[1]
+        equal(script.stem, [line.startswith("refused %s " % words[2]) for line in answers[-1]], [True])
+        why = said + answers[-1][0].split(" ", 2)[2]
+        told = script.with_suffix(".err").read_text(encoding="latin-1")
+        equal(script.stem, told[: len(why) + 1].rstrip("\n").rstrip(":"), why)
         equal(script.stem, [answer for answer in answers[:-1] if answer[:1] == ["refused"]], [])
         equal("as before", fabric.ask("# more"), [])
         fabric.end()
@@ -81,11 +85,25 @@ def forgotten(program):
     fabric = Port(program)
     for line in SETUP:
         equal(line, fabric.ask(line), [])
-    for line, reason in [("endpoint A 3", 4), ("link A.0 B.0", 7), ("collect C", 5), ("settle A.1", 6), ("stop", 1)]:
-        equal(line, fabric.ask(line), ["refused %d" % reason])
+    for line, why in [
+        ("endpoint A 3", "4 a node of an earlier line has this name"),
+        ("link A.0 B.0", "7 the port is linked already"),
+        ("collect C", "5 no node of an earlier line has this name"),
+        ("settle A.1", "6 the node has no port of this number"),
+        ("stop", "1 no kind of line begins with this word"),
+        ("endpoint C 3\r", "2 the line ends with a carriage return"),
+    ]:
+        equal(line, fabric.ask(line), ["refused " + why])
     equal("send", fabric.ask(SEND), TAKE)
-    for line, reason in [("endpoint C 3", 12), ("buffers A.0 5", 12), ("send A 0 15 2 cafe000", 9), ("pump A.0 0", 2)]:
-        equal(line, fabric.ask(line), ["refused %d" % reason])
+    late = "12 a line that sets the fabric up may not come after an event"
+    for line, why in [
+        ("endpoint C 3", late),
+        ("buffers A.0 5", late),
+        ("send A 0 15 2 cafe000",
+         "9 word 6 must be bytes of two lower-case hexadecimal digits each, or a hyphen for none"),
+        ("pump A.0 0", "2 word 3 must be a number from 1 to 100000 in decimal"),
+    ]:
+        equal(line, fabric.ask(line), ["refused " + why])
     equal("settle", fabric.ask("settle A.0")[3], "hold B.0 " + PACKET)
     equal("collect", fabric.ask("collect B"), ["> collect B", "leave B " + PACKET])
     equal("run", fabric.ask("run 100000"), ["> run 100000"])
@@ -93,8 +111,14 @@ def forgotten(program):
 
 
 def ends(program):
-    """How it ends, and what stands behind the last line feed is not answered."""
-    for text, wanted in [(b"", b"end\n"), (b"endpoint A 1", b"end\n"), (b"\n#\nstop\nrun", b"ok\nok\nrefused 1\nok\nend\n")]:
+    """How it ends, and that the last line needs no line feed."""
+    stop = b"refused 1 no kind of line begins with this word\nok\n"
+    run = b"refused 1 this kind of line has 1 words after the first\nok\n"
+    for text, wanted in [
+        (b"", b"end\n"),
+        (b"endpoint A 1", b"ok\nend\n"),
+        (b"\n#\nstop\nrun", b"ok\nok\n" + stop + run + b"end\n"),
+    ]:
         ended(program, text, wanted, 0)
     ended(program, b"stop\n", b"", 2, "replay")
     undetected = b"endpoint A 1\nendpoint B 2\nlink A.0 B.0\n" + b"".join(
@@ -109,7 +133,9 @@ def long_lines(program):
     """A line of the most bytes is answered, and one more ends it."""
     text = b"endpoint A 1\n#" + b"x" * (MOST_LINE - 1) + b"\ncollect A\n#" + b"x" * (MOST_LINE - 1)
     data = b"\nsend A 0 15 2 " + b"0" * (MOST_LINE - 14) + b"\n"
-    wanted = b"ok\nok\n> collect A\nempty\nok\nok\nrefused 10\nok\n"
+    length = b"refused 10 the packet has a length that is not allowed: its data is an even number of bytes, at most 268 "
+    length += b"(266 after send16), and of type 8 it is 6 and up to 8 times 8 bytes\nok\n"
+    wanted = b"ok\nok\n> collect A\nempty\nok\nok\n" + length
     ended(program, text + data + b"x" * (MOST_LINE + 1) + b"\n", wanted, 8)
 
 
@@ -118,7 +144,8 @@ def largest_set_up(program):
     lines = ["switch S%d 16" % place for place in range(4)] + ["endpoint E%d %d" % (place, place) for place in range(60)]
     lines += ["link S0.0 S1.0", "link S2.0 S3.0"]
     lines += ["route S%d %d %d" % (place % 4, place // 4, place % 16) for place in range(1000)]
-    answers = "ok\n" * len(lines) + "refused 14\nok\nend\n"
+    many = "a script may have 64 nodes, and its events may cost 100000: run N costs 20 N times the links, settle 20, "
+    answers = "ok\n" * len(lines) + "refused 14 " + many + "pump and deliver N, others 1\nok\nend\n"
     ended(program, ("\n".join(lines) + "\nendpoint X 255\n").encode(), answers.encode(), 0)
 
 
@@ -130,7 +157,7 @@ def comments(program):
 
 
 def bytes_and_readers(program):
-    byte_by_byte(program, b"collect A", b"refused 5\nok\n")
+    byte_by_byte(program, b"collect A", b"refused 5 no node of an earlier line has this name\nok\n")
     gone(program, b"endpoint A 1\n")
 
 

@@ -66,17 +66,34 @@ def time_out(program):
     a.end(), b.end()
 
 
+BYTES = "9 word 6 must be bytes of two lower-case hexadecimal digits each, or a hyphen for none"
+CHARACTER = "must be d or k and two lower-case hexadecimal digits, or inv"
+LENGTH = ("10 the packet has a length that is not allowed: its data is an even number of bytes, at most 268 (266 after "
+          "send16), and of type 8 it is 6 and up to 8 times 8 bytes")
+# Lines behind what is said of them: the sentences are those of `rio replay`, and the reasons those of a script.
 REFUSED = {
-    "words": ["", "foo", "take 1", "state ", " take", "TAKE", "turn 1 1", "send", "send 1 2 3",
-              "send16", "send8 0 15 1 2 -", "SEND16 0 15 1 2 -"],
-    "number": ["turn 0", "turn 100001", "turn x", "turn 01", "send 4 15 1 2 -", "send 0 16 1 2 -", "send 0 0 256 2 -",
-               "send 0 0 1 256 -", "send16 4 15 1 2 -", "send16 0 16 1 2 -", "send16 0 0 65536 2 -",
-               "send16 0 0 1 65536 -", "send16 0 0 01 2 -"],
-    "character": ["got k1", "got k1c  d00", "got kBC", "got d00 "],
-    "bytes": ["send 0 15 1 2 ", "send 0 15 1 2 0", "send 0 15 1 2 0G", "send 0 15 1 2", "send 0 15 1 2 00 00",
-              "send16 0 15 1 2", "send16 0 15 1 2 0"],
-    "length": ["send 0 15 1 2 00", "send 0 15 1 2 " + "00" * 270,
-               "send16 0 15 1 2 00", "send16 0 15 1 2 " + "00" * 268],
+    "1 no kind of line begins with this word": ["", "foo", "TAKE", "send8 0 15 1 2 -", "SEND16 0 15 1 2 -", "# take"],
+    "1 this kind of line has 0 words after the first": ["take 1", "state ", "timeout 1"],
+    "1 this kind of line has 1 words after the first": ["turn", "turn 1 1", "turn x 1"],
+    "1 this kind of line has 5 words after the first": [
+        "send", "send 1 2 3", "send 9 15 1 2", "send 0 15 1 2 00 00", "send16", "send16 0 15 1 2"],
+    "1 the line begins with a space": [" take"],
+    "1 the line has a tab, and one space separates words": ["take\t", "\ttake"],
+    "1 the line ends with a carriage return": ["take\r"],
+    "1 the line has bytes of 0, as UTF-16 has, and only plain ASCII is read": ["t\0a\0k\0e\0"],
+    "2 the line ends with a carriage return": ["turn 1\r"],
+    "2 word 2 must be a number from 1 to 100000 in decimal": ["turn 0", "turn 100001", "turn x", "turn 01", "turn "],
+    "2 word 2 must be a number from 0 to 3 in decimal": ["send 4 15 1 2 -", "send16 4 16 1 2 0"],
+    "2 word 3 must be a number from 0 to 15 in decimal": ["send 0 16 1 2 -", "send16 0 16 1 2 -"],
+    "2 word 4 must be a number from 0 to 255 in decimal": ["send 0 0 256 2 -", "send 0 0 256 2 0"],
+    "2 word 5 must be a number from 0 to 255 in decimal": ["send 0 0 1 256 -"],
+    "2 word 4 must be a number from 0 to 65535 in decimal": ["send16 0 0 65536 2 -", "send16 0 0 01 2 -"],
+    "2 word 5 must be a number from 0 to 65535 in decimal": ["send16 0 0 1 65536 -"],
+    "9 word 2 " + CHARACTER: ["got k1", "got kBC", "got ", "got  d00"],
+    "9 word 3 " + CHARACTER: ["got k1c  d00", "got d00 ", "got d00 x x"],
+    "9 word 402 " + CHARACTER: ["got" + 400 * " d00" + " d0"],
+    BYTES: ["send 0 15 1 2 ", "send 0 15 1 2 0", "send 0 15 1 2 0G", "send16 0 15 1 2 0"],
+    LENGTH: ["send 0 15 1 2 00", "send 0 15 1 2 " + "00" * 270, "send16 0 15 1 2 00", "send16 0 15 1 2 " + "00" * 268],
 }
 
 
@@ -86,14 +103,14 @@ def refused(program):
     port.ask("got " + BURST[:15])
     for reason, lines in REFUSED.items():
         for line in lines:
-            equal(line, port.ask(line), ["refused " + reason])
+            equal(line[:80], port.ask(line), ["refused " + reason])
     equal("as before", port.ask("got" + BURST[15:]), ["hold " + PACKET, "sent " + ACCEPTED])
     port.end()
 
 
 def ends(program):
-    """How it ends, and what stands behind the last line feed is not answered."""
-    for text, wanted in [(b"", b""), (b"take", b""), (b"take\ntake", b"empty\nok\n")]:
+    """How it ends, and that the last line needs no line feed."""
+    for text, wanted in [(b"", b""), (b"take", b"empty\nok\n"), (b"take\ntake", 2 * b"empty\nok\n")]:
         ended(program, text, wanted, 0)
     for words in [["3"], ["31"], ["x"], ["8", "8"], [""], ["08"]]:
         ended(program, b"take\n", b"", 2, *words)

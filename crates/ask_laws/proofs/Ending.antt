@@ -1,61 +1,42 @@
 -- The packet of an ask comes to an end: as a request, or as the response to it.
-use Rattle.std.proofs.Common.{◌≡◌, ◌≢◌, ℕ, zero, suc, ◌+◌, ◌<◌, ◌≤◌, Bool, true, false, List, [], ◌∷◌, ◌++◌, Option, Some, None, option_and_then, option_map, slice_get, if◌then◌else◌, refl, sym, ap, ◌∙◌, subst, arith, MatchBool, append_assoc}
+use Rattle.std.proofs.Common.{◌≡◌, ℕ, ◌<◌, Bool, true, false, List, [], ◌∷◌, Option, Some, None, option_and_then, option_map, slice_get, if◌then◌else◌, refl, sym, ap, ◌∙◌, subst, arith}
 use Rattle.std.specs.List.{AllByRecursion}
-use Rattle.std.proofs.lemmas.Bool.{ne_eqb}
 use Rattle.rio_packets.specs.Fields.{prio_of, is_request}
-use Rattle.rio_packets.specs.LinkForm.{Passes, LinkForm}
 use Rattle.rio_packets.proofs.FormLaws.{Passes-from_form}
 use Rattle.maint_registers.specs.Devices.{Registers}
 use Rattle.maint_registers.specs.Within.{IsWithin}
-use Rattle.maint_packets.specs.Answers.{RequestAnswered, request_answered}
-use Rattle.maint_packets.specs.NextHops.{moved, is_spent}
+use Rattle.maint_packets.specs.Answers.{request_answered}
 use Rattle.maint_packets.specs.Requests.{request_of, request_body}
-use Rattle.maint_packets.specs.Responses.{response_of, response_bytes}
+use Rattle.maint_packets.specs.Responses.{response_bytes}
 use Rattle.maint_packets.specs.declared.request.Request.{Request}
-use Rattle.maint_packets.specs.declared.response.Response.{Response}
 use Rattle.maint_packets.proofs.AnswerLaws.{responses_pass}
-use Rattle.link_wires.specs.declared.edits.Edit.{Edit}
-use Rattle.fabric_script.specs.Ports.{port_at}
 use Rattle.fabric_script.specs.declared.ports.PortRef.{PortRef}
-use Rattle.fabric_map.specs.Plain.{topology_of, registers_of}
-use Rattle.fabric_model.specs.Network.{IsEndpoint, Item, Network, peer_in, port_of, room_out, with_device}
+use Rattle.fabric_model.specs.Network.{Network, peer_in, port_of, with_device}
 use Rattle.fabric_model.specs.Serving.{device_after, response_at}
-use Rattle.fabric_model.specs.Steps.{Take, AtNode, item_of, moved_item}
-use Rattle.fabric_model.specs.Laws.Leaving.IsAfterMoves.{AsItWas, OnceMore}
-use Rattle.fabric_model.proofs.Moving.{moves_on}
+use Rattle.fabric_model.specs.Steps.{Take, AtNode, item_of}
 use Rattle.fabric_model.proofs.Forms.{device_at}
 use Rattle.fabric_model.proofs.Nodes.{few_prio}
-use Rattle.fabric_model.proofs.Peers.{peer_back}
-use Rattle.trace_lines.specs.Lines.{Full, TraceLine, Stepped, Lacked}
+use Rattle.trace_lines.specs.Lines.{Full, Stepped, Lacked}
 use Rattle.fabric_trace.specs.Blocks.{Asks}
 use Rattle.fabric_trace.specs.Fold.{seen_line, seen}
 use Rattle.fabric_trace.specs.Known.{Seen}
 use Rattle.fabric_trace.specs.Parts.{Made, PartSteps}
-use Rattle.fabric_trace.specs.Served.{IsCollect}
-use Rattle.fabric_trace.proofs.Parts.Folding.{seen-append}
-use Rattle.fabric_trace.proofs.Parts.Keeping.{IsGood, made_keeps}
+use Rattle.fabric_trace.proofs.Parts.Keeping.{made_keeps}
 use Rattle.fabric_trace.proofs.Parts.Making.{one_part, made_by}
 use Rattle.fabric_trace.proofs.Traces.Existing.{good_of}
 use Rattle.fabric_ask.specs.Answered.{after_request}
-use Rattle.fabric_ask.specs.Asks.{AskRound, AskRounds, holds_some, most_rounds}
-use Rattle.fabric_ask.specs.Course.{answered_registers, IsEndpointIn, IsLaid, HandledAs, Handled, Home, Away, Rounded, Waited, Handed, Final, Fell, WasHeard, HasLeft}
-use Rattle.fabric_ask.specs.Only.{Held, Waits, IsOnly, IsClear}
-use Rattle.fabric_ask.specs.Travel.{IsOn, GoesOn}
-use Rattle.fabric_ask.proofs.Asking.{holds_it}
-use Rattle.fabric_ask.proofs.Crossing.{Split, split, HasRun}
+use Rattle.fabric_ask.specs.Asks.{AskRounds, most_rounds}
+use Rattle.fabric_ask.specs.Course.{IsLaid}
+use Rattle.fabric_ask.specs.Only.{Waits, IsOnly}
+use Rattle.fabric_ask.specs.Travel.{IsOn}
+use Rattle.fabric_ask.proofs.Crossing.{split}
 use Rattle.fabric_ask.proofs.Hosting.{has_room_out}
 use Rattle.fabric_ask.proofs.Laying.{laid_heard}
-use Rattle.fabric_ask.proofs.Losing.{clear_rounds}
-use Rattle.fabric_ask.proofs.Lowering.{moves_same}
 use Rattle.fabric_ask.proofs.OnWay.{asks, on_request, on_response, response_asks}
-use Rattle.fabric_ask.proofs.Packets.{IsBack, is_back, read_again}
-use Rattle.fabric_ask.proofs.Rounding.{rounded}
+use Rattle.fabric_ask.proofs.Packets.{is_back, read_again}
 use Rattle.fabric_ask.proofs.Serving.{put_only}
-use Rattle.fabric_ask.proofs.Uncollected.{made_endpoint}
-use Rattle.fabric_ask.proofs.Traveling.{nothing_holds, EndsThere, IsLost, IsThere, GoesFurther, ends_there}
-use Rattle.fabric_ask.proofs.Walking.{on_moves}
-use Rattle.ask_laws.specs.Ended.{AskEnded, IsGone, WaitsThere, CameHome, AsksEndSomewhere}
-use Rattle.ask_laws.proofs.Rounds.{ended_behind, Begins, Heard, goes_on}
+use Rattle.ask_laws.specs.Ended.{AsksEndSomewhere}
+use Rattle.ask_laws.proofs.Rounds.{ended_behind, Heard, goes_on}
 
 -- ---- the response
 

@@ -1,60 +1,39 @@
 -- A packet goes on round by round, with fewer hops left, until it comes to an end.
-use Rattle.std.proofs.Common.{◌≡◌, ◌≢◌, ℕ, zero, suc, ◌+◌, ◌<◌, ◌≤◌, Bool, true, false, List, [], ◌∷◌, ◌++◌, Option, Some, None, option_and_then, option_map, slice_get, if◌then◌else◌, refl, sym, ap, ◌∙◌, subst, arith, MatchBool, append_assoc}
-use Rattle.std.specs.List.{AllByRecursion}
+use Rattle.std.proofs.Common.{◌≡◌, ℕ, zero, suc, ◌+◌, ◌<◌, ◌≤◌, Bool, false, List, ◌++◌, Some, None, refl, sym, ap, ◌∙◌, subst, arith, MatchBool, append_assoc}
 use Rattle.std.proofs.lemmas.Bool.{ne_eqb}
-use Rattle.rio_packets.specs.Fields.{prio_of, is_request}
-use Rattle.rio_packets.specs.LinkForm.{Passes, LinkForm}
-use Rattle.rio_packets.proofs.FormLaws.{Passes-from_form}
+use Rattle.rio_packets.specs.Fields.{is_request}
+use Rattle.rio_packets.specs.LinkForm.{Passes}
 use Rattle.maint_registers.specs.Devices.{Registers}
-use Rattle.maint_registers.specs.Within.{IsWithin}
-use Rattle.maint_packets.specs.Answers.{RequestAnswered, request_answered}
 use Rattle.maint_packets.specs.NextHops.{moved, is_spent}
-use Rattle.maint_packets.specs.Requests.{request_of, request_body}
-use Rattle.maint_packets.specs.Responses.{response_of, response_bytes}
-use Rattle.maint_packets.specs.declared.request.Request.{Request}
-use Rattle.maint_packets.specs.declared.response.Response.{Response}
-use Rattle.maint_packets.proofs.AnswerLaws.{responses_pass}
 use Rattle.link_wires.specs.declared.edits.Edit.{Edit}
 use Rattle.fabric_script.specs.Ports.{port_at}
 use Rattle.fabric_script.specs.declared.ports.PortRef.{PortRef}
-use Rattle.fabric_map.specs.Plain.{topology_of, registers_of}
-use Rattle.fabric_model.specs.Network.{IsEndpoint, Item, Network, peer_in, port_of, room_out, with_device}
-use Rattle.fabric_model.specs.Serving.{device_after, response_at}
-use Rattle.fabric_model.specs.Steps.{Take, AtNode, item_of, moved_item}
+use Rattle.fabric_model.specs.Network.{IsEndpoint, Item, Network, peer_in, port_of}
+use Rattle.fabric_model.specs.Serving.{response_at}
+use Rattle.fabric_model.specs.Steps.{item_of, moved_item}
 use Rattle.fabric_model.specs.Laws.Leaving.IsAfterMoves.{AsItWas, OnceMore}
 use Rattle.fabric_model.proofs.Moving.{moves_on}
-use Rattle.fabric_model.proofs.Forms.{device_at}
 use Rattle.fabric_model.proofs.Nodes.{few_prio}
 use Rattle.fabric_model.proofs.Peers.{peer_back}
-use Rattle.trace_lines.specs.Lines.{Full, TraceLine, Stepped, Lacked}
-use Rattle.fabric_trace.specs.Blocks.{Asks}
-use Rattle.fabric_trace.specs.Fold.{seen_line, seen}
+use Rattle.trace_lines.specs.Lines.{TraceLine}
+use Rattle.fabric_trace.specs.Fold.{seen}
 use Rattle.fabric_trace.specs.Known.{Seen}
-use Rattle.fabric_trace.specs.Parts.{Made, PartSteps}
 use Rattle.fabric_trace.specs.Served.{IsCollect}
 use Rattle.fabric_trace.proofs.Parts.Folding.{seen-append}
-use Rattle.fabric_trace.proofs.Parts.Keeping.{IsGood, made_keeps}
-use Rattle.fabric_trace.proofs.Parts.Making.{one_part, made_by}
-use Rattle.fabric_trace.proofs.Traces.Existing.{good_of}
-use Rattle.fabric_ask.specs.Answered.{after_request}
-use Rattle.fabric_ask.specs.Asks.{AskRound, AskRounds, holds_some, most_rounds}
-use Rattle.fabric_ask.specs.Course.{answered_registers, IsEndpointIn, IsLaid, HandledAs, Handled, Home, Away, Rounded, Waited, Handed, Final, Fell, WasHeard, HasLeft}
+use Rattle.fabric_trace.proofs.Parts.Keeping.{IsGood}
+use Rattle.fabric_ask.specs.Asks.{AskRound, AskRounds, holds_some}
+use Rattle.fabric_ask.specs.Course.{answered_registers, IsEndpointIn, IsLaid, Handled, Home, Away, Rounded, Waited, Handed, Final, Fell, WasHeard, HasLeft}
 use Rattle.fabric_ask.specs.Only.{Held, Waits, IsOnly, IsClear}
 use Rattle.fabric_ask.specs.Travel.{IsOn, GoesOn}
 use Rattle.fabric_ask.proofs.Asking.{holds_it}
 use Rattle.fabric_ask.proofs.Crossing.{Split, split, HasRun}
-use Rattle.fabric_ask.proofs.Hosting.{has_room_out}
-use Rattle.fabric_ask.proofs.Laying.{laid_heard}
 use Rattle.fabric_ask.proofs.Losing.{clear_rounds}
 use Rattle.fabric_ask.proofs.Lowering.{moves_same}
-use Rattle.fabric_ask.proofs.OnWay.{asks, on_request, on_response, response_asks}
-use Rattle.fabric_ask.proofs.Packets.{IsBack, is_back, read_again}
 use Rattle.fabric_ask.proofs.Rounding.{rounded}
-use Rattle.fabric_ask.proofs.Serving.{put_only}
 use Rattle.fabric_ask.proofs.Uncollected.{made_endpoint}
 use Rattle.fabric_ask.proofs.Traveling.{nothing_holds, EndsThere, IsLost, IsThere, GoesFurther, ends_there}
 use Rattle.fabric_ask.proofs.Walking.{on_moves}
-use Rattle.ask_laws.specs.Ended.{AskEnded, IsGone, WaitsThere, CameHome, AsksEndSomewhere}
+use Rattle.ask_laws.specs.Ended.{AskEnded, IsGone, WaitsThere, CameHome}
 
 -- ---- lines before
 
@@ -164,7 +143,8 @@ Heard host extra wanted regs links = (k : ℕ) (left : List Edit) (t : Seen) (re
     (q p : PortRef) (mid : Network) (packet response : List ℕ) (item : Item) → extra ≤ k
     → IsGood t → t.undetected ≡ None → mid.registers ≡ regs → t.network.links ≡ links
     → peer_in links q ≡ Some p → Passes packet → is_request packet ≡ wanted
-    → response_at mid q packet ≡ Some response → item.now ≡ response → IsOnly t.network (Waits q) item
+    → response_at mid q packet ≡ Some response → item.now ≡ response
+    → IsOnly t.network (Waits q) item
     → t.network.registers ≡ answered_registers mid q packet → AskRounds host k left t rest
     → (seen t rest).undetected ≡ None → AskEnded host t rest
 
@@ -281,4 +261,3 @@ module _ (host dest extra : ℕ) (wanted : Bool) (regs : List Registers)
         still = behind;
       }) only2 (on_moves item.now dest h (subst (IsOn item.now dest) next on))
       (moved_asks item.now dest h (subst (IsOn item.now dest) next on) ∙ asks_is))
-

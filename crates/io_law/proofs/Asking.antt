@@ -181,7 +181,8 @@ turns_carry_none (node ∷ nodes) rest = turns_carry_none nodes rest
 
 module _ (endpoints : List ℕ) (s : IoState) (counts : ℕ → ℕ) (rest : List IoTask) where
   pub line_next : (line : IoLine) → NumbersAre s counts → AllByRecursion IsNoAsk rest
-      → head_asks (tasks_of endpoints s.stations line ++ rest) ≡ io_request_of (next_number_of counts) line
+      → head_asks (tasks_of endpoints s.stations line ++ rest)
+      ≡ io_request_of (next_number_of counts) line
   line_next (Memory node bytes) numbers all = rest_none rest all
   line_next (NRead node dest addr size) numbers all =
       ap (λ (n : ℕ). Some (io_request node (Some n)

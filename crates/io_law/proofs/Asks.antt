@@ -1,5 +1,5 @@
 -- In every run what is asked is what the lines of the script ask for, in order.
-use Rattle.std.proofs.Common.{codes, ◌≡◌, ◌%◌, ℕ, zero, suc, List, [], ◌∷◌, ◌++◌, All, length, map, replicate, Option, Some, None, refl, sym, ap, ◌∙◌, subst, append-nil, append_assoc}
+use Rattle.std.proofs.Common.{codes, ◌≡◌, ℕ, zero, suc, List, [], ◌∷◌, ◌++◌, length, map, replicate, Option, Some, None, refl, sym, ap, ◌∙◌, subst, append-nil, append_assoc}
 use Rattle.std.specs.List.{AllByRecursion}
 use Rattle.std.proofs.Math.ListN.{get_or}
 use Rattle.std.proofs.lemmas.List.{length-replicate}
@@ -46,7 +46,8 @@ asking_push asking [] line = refl
 asking_push asking (first ∷ lines) line = asking_push (asking_by asking first) lines line
 
 asking_and : (lines : List IoTold) (more : Option IoTold)
-    → asking_with (asking_on nothing_asked lines) more ≡ asking_on nothing_asked (and_told lines more)
+    → asking_with (asking_on nothing_asked lines) more
+    ≡ asking_on nothing_asked (and_told lines more)
 asking_and lines None = refl
 asking_and lines (Some line) = asking_push nothing_asked lines line
 

@@ -80,10 +80,10 @@ pub fn done_lines_answer_requests()
     ensures { DonesAnswerRequests }
 {}
 
-/// In every run of a script that may be carried out, the lines begun are the first of the script, in
-/// order. The k-th line that says that a node asked is of the k-th of their requests that had room:
-/// it names the node and the number of that request, and the k-th packet that nodes asked with is
-/// that request. The numbered requests of a node count from 0 on, modulo 256.
+/// In every run of a script that may be carried out, the lines begun are the first of the script,
+/// in order. The k-th line that says that a node asked is of the k-th of their requests that had
+/// room: it names the node and the number of that request, and the k-th packet that nodes asked
+/// with is that request. The numbered requests of a node count from 0 on, modulo 256.
 pub fn asks_are_of_their_lines()
     ensures { AsksAreOfTheirLines }
 {}

@@ -11,7 +11,8 @@
 //!
 //! - `specs/Telling.antt` says what a run tells and what that leaves in a memory,
 //!   `specs/Items.antt` of which packets its lines are, `specs/Asks.antt` of which lines of the
-//!   script, `specs/Replies.antt` what each node serves and replies, and `specs/Laws.antt` the laws.
+//!   script, `specs/Replies.antt` what each node serves and replies, and `specs/Laws.antt` the
+//!   laws.
 //! - [`reads_are_of_lines_told`], [`memories_are_as_told`], [`output_is_what_was_told`],
 //!   [`packets_have_one_line`], [`packets_come_as_taken`], [`responses_were_replied`],
 //!   [`requests_were_asked`], [`packets_come_in_turn`], [`replies_answer_what_was_served`],

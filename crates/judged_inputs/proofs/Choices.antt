@@ -1,14 +1,13 @@
 -- Both, one of two, all of a list, an option and a front: each holds, or does not.
-use Rattle.std.proofs.Common.{◌≡◌, ◌≢◌, ℕ, ◌<◌, ◌++◌, Bool, true, false, List, [], ◌∷◌, Contains, length, Option, Some, None, IsSome, refl, sym, ap, ◌∙◌, subst, ◌⊎◌, inl, inr, arith}
+use Rattle.std.proofs.Common.{◌≡◌, ℕ, ◌<◌, ◌++◌, Bool, true, false, List, [], ◌∷◌, Contains, Option, Some, None, IsSome, refl, ap, ◌⊎◌, inl, inr, arith}
 use Rattle.std.specs.Bool.{Decides}
 use Rattle.std.specs.List.{AllByRecursion}
 use Rattle.std.proofs.lemmas.Bool.{cases_lt, cases_eq}
 use Rattle.std.proofs.lemmas.Bool.Decides.{not_from_Decides}
 use Rattle.rio_chars.specs.declared.chars.Char.{Char}
 use Rattle.rio_chars.specs.declared.chars.Char.TheVariants.{Data, Special, Invalid}
-use Rattle.fabric_script.specs.Names.{name_of}
 use Rattle.fabric_script.proofs.Exclusion.{named_is_there}
-use Rattle.script_law.proofs.Choosing.{Decided, same_or_not}
+use Rattle.script_law.proofs.Choosing.{Decided}
 use Rattle.script_law.proofs.NodeWords.{node_or_none}
 
 -- the same said in other words

@@ -1,5 +1,5 @@
 -- Words are those of a step, a sign, a lack or an end of a trace, or of none.
-use Rattle.std.proofs.Common.{◌≡◌, ◌≢◌, ℕ, ◌<◌, ◌^◌, List, [], ◌∷◌, map, codes, refl, ◌⊎◌, inl, inr}
+use Rattle.std.proofs.Common.{◌≡◌, ◌≢◌, ℕ, ◌<◌, ◌^◌, List, [], ◌∷◌, map, codes, ◌⊎◌, inl, inr}
 use Rattle.std.specs.List.{AllByRecursion}
 use Rattle.std.specs.Fmt.{decimal}
 use Rattle.rio_chars.specs.CharText.{char_text_of, HasByte}
@@ -161,7 +161,8 @@ module _ (known : Known) (orderly : IsOrderly known) where
       to (inr (inr (inr (inr (inr (inr x)))))) =
           (ByDevice (Answer x.0.0 x.0.1.0 x.0.1.1.0), x.1, (x.2.0, x.2.1.0, x.2.1.1.0))
 
-      from : (step : Step) → words ≡ step_words known.names step → StepFits known step → OneStep words
+      from : (step : Step) → words ≡ step_words known.names step → StepFits known step
+          → OneStep words
       from (Linked (Hold q packet)) e fits =
           inl ((q, (packet, tt)), e, (fits.0, (fits.1, tt)))
       from (Linked (Free p packet)) e fits =
@@ -224,7 +225,8 @@ module _ (known : Known) (orderly : IsOrderly known) where
       to (inr (inl x)) = (Got x.0.0 x.0.1, x.1, (x.2.0, x.2.1.0, x.2.1.1))
       to (inr (inr x)) = (Fired x.0.0, x.1, x.2.0)
 
-      from : (sign : Sign) → words ≡ sign_words known.names sign → SignFits known sign → OneSign words
+      from : (sign : Sign) → words ≡ sign_words known.names sign → SignFits known sign
+          → OneSign words
       from (Sent p chars) e fits = inl ((p, chars), e, (fits.0, (fits.1, fits.2)))
       from (Got q chars) e fits = inr (inl ((q, chars), e, (fits.0, (fits.1, fits.2))))
       from (Fired p) e fits = inr (inr ((p, tt), e, (fits, tt)))

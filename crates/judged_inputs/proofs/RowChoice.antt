@@ -1,5 +1,5 @@
 -- Words are those of one thing of a kind, or of none: one word after the other.
-use Rattle.std.proofs.Common.{◌≡◌, ◌≢◌, ℕ, List, [], ◌∷◌, map, refl, sym, ap, ◌∙◌, ◌⊎◌, inl, inr}
+use Rattle.std.proofs.Common.{◌≡◌, ◌≢◌, ℕ, List, [], ◌∷◌, map, refl, ap, ◌∙◌, inl, inr}
 use Rattle.std.specs.List.{AllByRecursion}
 use Rattle.rio_chars.specs.CharText.{char_text_of, HasByte}
 use Rattle.rio_chars.specs.declared.chars.Char.{Char}

@@ -1,7 +1,5 @@
 -- A text spells a line of a trace, or none.
-use Rattle.std.proofs.Common.{◌≡◌, ℕ, List, [], ◌∷◌, codes, refl, ◌⊎◌, inl, inr}
-use Rattle.link_model.specs.declared.event.Event.{Event}
-use Rattle.fabric_script.specs.declared.lines.Line.{Line}
+use Rattle.std.proofs.Common.{◌≡◌, ℕ, List, [], ◌∷◌, codes, ◌⊎◌, inl, inr}
 use Rattle.fabric_script.specs.Known.{Known, IsOrderly, one_event}
 use Rattle.fabric_script.specs.Lines.{words_of}
 use Rattle.trace_lines.specs.Lines.{TraceLine, Begun, Stepped, Signed, Lacked, Ended, Undetected}

@@ -1,9 +1,8 @@
 -- A word is the text of one thing of a kind, or of none.
-use Rattle.std.proofs.Common.{◌≡◌, ℕ, ◌<◌, Bool, true, false, List, [], ◌∷◌, length, refl, sym, ap, ◌∙◌, subst, ◌⊎◌, inl, inr, arith}
+use Rattle.std.proofs.Common.{◌≡◌, ℕ, ◌<◌, true, List, [], ◌∷◌, length, refl, sym, ◌∙◌, subst, inl, inr, arith}
 use Rattle.std.specs.Fmt.{decimal}
 use Rattle.rio_chars.specs.HexText.{hex_of}
 use Rattle.rio_chars.specs.CharText.{char_text_of, HasByte}
-use Rattle.rio_chars.specs.declared.chars.Char.{Char}
 use Rattle.rio_packets.specs.Carries.{passes}
 use Rattle.rio_packets.specs.LinkForm.{Passes}
 use Rattle.rio_packets.proofs.CarriesLaws.{decides_passes}

@@ -1,6 +1,5 @@
 -- The lines of asks begin no event, and what a port got in them is not empty.
-use Rattle.std.proofs.Common.{◌≡◌, ℕ, zero, suc, ◌==◌, ◌||◌, ◌++◌, Bool, true, false, List, [], ◌∷◌, None, refl, sym, ap, ◌∙◌, subst, MatchBool}
-use Rattle.std.specs.List.{AllByRecursion}
+use Rattle.std.proofs.Common.{◌≡◌, ℕ, zero, suc, ◌==◌, ◌||◌, ◌++◌, List, [], ◌∷◌, None, sym, ap, ◌∙◌}
 use Rattle.rio_chars.specs.declared.chars.Char.{Char}
 use Rattle.maint_registers.specs.Devices.{Registers, is_switch}
 use Rattle.maint_packets.specs.declared.request.Request.{Request}
@@ -24,7 +23,7 @@ use Rattle.lawful_traces.proofs.GotsInBlocks.{some_by, takes_some, collected_som
 use Rattle.fabric_ask.specs.Asks.{CarryAll, CollectsAll, CollectRests, CollectGoes, CollectStops, CollectNodes, Handles, AskRound, holds_some, AskRounds, most_rounds, IsAsk}
 use Rattle.fabric_ask.specs.Noise.{IsCarry, stirred}
 use Rattle.fabric_ask.specs.Travel.{GoesOn}
-use Rattle.fabric_ask.proofs.Crossing.{Split, split}
+use Rattle.fabric_ask.proofs.Crossing.{split}
 use Rattle.fabric_ports.specs.declared.noise.Quiet.{Quiet}
 use Rattle.fabric_maint.specs.Asked.{Asked, AskedNothing, AskedMore, Owns}
 
@@ -118,7 +117,8 @@ round_some : (host : ℕ) (noise left : List Edit) (s : Seen) (lines : List Trac
     → AllGotSome lines × (left ≡ [])
 round_some host noise left s lines none is still =
     let parts = split (CarryAll s.network.links noise left s) (Handles host) s lines is still in
-    let own = carry_all_some s.network.links noise left s parts.first none parts.own parts.still in (
+    let own = carry_all_some s.network.links noise left s parts.first none parts.own parts.still
+    in (
       some_by parts.whole (all-append GotsSome parts.first parts.rest own.0
           (handles_some host (seen s parts.first) parts.rest parts.more)),
       own.1,

@@ -1,11 +1,11 @@
 -- The lines of asks spell their texts, and no reason hits one.
-use Rattle.std.proofs.Common.{◌≡◌, ℕ, ◌++◌, List, [], ◌∷◌, length, append-nil, refl, sym, ap, ◌∙◌, subst}
+use Rattle.std.proofs.Common.{◌++◌, List, [], ◌∷◌, length, append-nil, refl, sym, ap, ◌∙◌}
 use Rattle.trace_lines.specs.Lines.{TraceLine, Begun, Stepped, Signed, Lacked, Ended, Undetected, steps_of}
 use Rattle.fabric_model.specs.Steps.{Step}
 use Rattle.fabric_trace.specs.Fold.{seen_line, seen}
 use Rattle.fabric_trace.specs.Known.{Seen}
 use Rattle.fabric_trace.specs.Parts.{Made, PartEnds}
-use Rattle.fabric_trace.specs.Runs.{bare, set_up_all, begins, start}
+use Rattle.fabric_trace.specs.Runs.{bare, set_up_all, begins}
 use Rattle.fabric_trace.proofs.Parts.Keeping.{steps_of-append}
 use Rattle.fabric_trace.proofs.Parts.Making.{one_part, made-append}
 use Rattle.fabric_trace.proofs.SetUps.Happening.{may_set_up}

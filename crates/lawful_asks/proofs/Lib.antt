@@ -1,3 +1,4 @@
 mod Passing
 mod AskLines
 mod LawfulAsks
+mod AskInputs

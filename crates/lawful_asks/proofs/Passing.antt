@@ -9,7 +9,6 @@ use Rattle.link_wires.specs.Kept.{behind, IsSubsequence}
 use Rattle.link_wires.specs.declared.edits.Edit.{Edit}
 use Rattle.link_wires.proofs.KeptLaws.{all_then, finds_all}
 use Rattle.fabric_script.specs.declared.ports.PortRef.{PortRef}
-use Rattle.fabric_script.specs.declared.lines.Numbered.{Numbered}
 use Rattle.fabric_model.specs.Network.{Network, peer_in}
 use Rattle.fabric_model.specs.Steps.{Hold, Free, Step, Linked, LegalFrom}
 use Rattle.fabric_model.proofs.Joining.{legal_parts}
@@ -20,8 +19,8 @@ use Rattle.fabric_trace.specs.Fold.{edit_of, says, seen}
 use Rattle.fabric_trace.specs.Holds.{got, holds, numbered_packets, HoldsCame}
 use Rattle.fabric_trace.specs.Frees.{frees_by}
 use Rattle.fabric_trace.specs.Parts.{Made}
-use Rattle.fabric_trace.specs.Runs.{bare, set_up_all, begins, start, Runs}
-use Rattle.fabric_trace.specs.SetUps.{IsSetUp, MaySetUpAll}
+use Rattle.fabric_trace.specs.Runs.{begins}
+use Rattle.fabric_trace.specs.SetUps.{IsSetUp}
 use Rattle.fabric_trace.specs.Wires.{WireChars, StoodThere}
 use Rattle.fabric_trace.proofs.Holds.Coming.{numbered-append}
 use Rattle.fabric_trace.proofs.Parts.Folding.{network_is}
@@ -29,7 +28,7 @@ use Rattle.fabric_trace.proofs.Frees.FreesRead.{frees_all}
 use Rattle.fabric_trace.proofs.Parts.Fronting.{cut, cut_came}
 use Rattle.fabric_trace.proofs.Holds.HoldsRead.{got-append, holds-append}
 use Rattle.fabric_trace.proofs.Parts.Keeping.{steps_of-append}
-use Rattle.fabric_trace.proofs.SetUps.Starting.{set_up_bare, legal, made, wires_fold, holds_came}
+use Rattle.fabric_trace.proofs.SetUps.Starting.{legal, wires_fold, holds_came}
 use Rattle.fabric_trace.specs.Allowance.{allowance, FreesAllowed}
 use Rattle.fabric_trace.specs.Owned.{HasEvent, IsOwned, AreOwned}
 use Rattle.trace_check.specs.Wires.{are_short, wires_after}

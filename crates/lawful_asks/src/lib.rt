@@ -5,9 +5,9 @@
 //!
 //! Left out: asks whose wires meet edits.
 //!
-//! - `specs/AskTexts.antt` says the law, [`asks_are_lawful`].
+//! - `specs/AskTexts.antt` says the laws, [`asks_are_lawful`] and [`inputs_of_asks_are_lawful`].
 #![tactic(auto)]
 
 mod laws;
 
-pub use laws::asks_are_lawful;
+pub use laws::{asks_are_lawful, inputs_of_asks_are_lawful};

@@ -1,10 +1,8 @@
 -- Each character that a port sends is a byte, and what a port finds that was not sent can be told.
-use Rattle.std.proofs.Common.{◌≡◌, ℕ, zero, suc, ◌+◌, ◌*◌, ◌<◌, ◌++◌, Bool, true, false, nat_lt, List, [], ◌∷◌, All, map, length, slice_get, option_to_list, Option, Some, None, if◌then◌else◌, refl, sym, ap, ◌∙◌, subst, arith}
-use Rattle.std.specs.Prelude.{slice_index}
+use Rattle.std.proofs.Common.{◌≡◌, ℕ, suc, ◌<◌, ◌++◌, Bool, true, false, nat_lt, List, [], ◌∷◌, All, length, Option, Some, None, if◌then◌else◌, refl, subst, arith}
 use Rattle.std.specs.List.{AllByRecursion, flat_map}
 use Rattle.std.proofs.lemmas.List.Elements.{All-head, All-tail}
 use Rattle.rio_chars.specs.declared.chars.Char.{Char}
-use Rattle.rio_chars.specs.declared.chars.Char.TheVariants.{Data}
 use Rattle.rio_chars.specs.CharText.{HasByte}
 use Rattle.rio_symbols.specs.declared.characters.Delimiter.{Delimiter}
 use Rattle.rio_symbols.specs.declared.characters.Delimiter.TheVariants.{Sc, Pd}
@@ -28,7 +26,6 @@ use Rattle.link_model.specs.Places.{Place, byte_added, outside, symbol_taken, fi
 use Rattle.link_model.specs.Reading.{Text, Plain, Skipped, Within, packet_ended, ends_packet, told, placed}
 use Rattle.link_model.specs.ReadingKinds.{kind}
 use Rattle.link_model.specs.ReadingSpelt.{delimiter_char, data_chars, symbol_chars_of, bytes_with_ack, packet_chars_of}
-use Rattle.link_port.specs.Answers.{IsAnswer}
 use Rattle.link_port.specs.Ports.{PortState}
 use Rattle.link_port.specs.Steps.{is_acted}
 use Rattle.link_machine.specs.Led.{AreAnswers}
@@ -46,8 +43,10 @@ AreBytesOf chars = AllByRecursion HasByte chars
 
 data_bytes : (bytes : List ℕ) → All (λ b. b < 256) bytes → AreBytesOf (data_chars bytes)
 data_bytes [] all = tt
-data_bytes (byte ∷ bytes) all =
-    (All-head (λ b. b < 256) byte bytes all, data_bytes bytes (All-tail (λ b. b < 256) byte bytes all))
+data_bytes (byte ∷ bytes) all = (
+  All-head (λ b. b < 256) byte bytes all,
+  data_bytes bytes (All-tail (λ b. b < 256) byte bytes all),
+)
 
 delimiter_byte : (d : Delimiter) → HasByte (delimiter_char d)
 delimiter_byte Sc = omega arith

@@ -25,7 +25,7 @@ use Rattle.link_machine.specs.Settling.{SchedulePart, of_end, first_has_chars, a
 use Rattle.link_machine.specs.States.{LinkState, from_end}
 use Rattle.fabric_script.specs.declared.ports.PortRef.{PortRef}
 use Rattle.fabric_model.proofs.Lists.{all-append}
-use Rattle.trace_lines.specs.Lines.{Sent, Got, TraceLine, Signed, Begun, Ended, Undetected}
+use Rattle.trace_lines.specs.Lines.{Got, TraceLine, Signed, Begun, Ended, Undetected}
 use Rattle.trace_lines.specs.Notes.{line_of, lines_of}
 
 -- A line within the block of an event: it begins no event and ends no trace. What a port got is not
@@ -208,10 +208,12 @@ loop_some : (test leaves : Reached → Bool) (Part Last : SchedulePart) → Acts
     → ActsSome Last → {reached : Reached} {acts : List Act}
     → LoopOf goes test Part leaves Last reached acts → AllByRecursion ActSome acts
 loop_some test leaves Part Last part last (LoopRests none is) = acts_by is tt
-loop_some test leaves Part Last part last {reached} (LoopGoesOn first rest holds own is stays more) =
+loop_some test leaves Part Last part last {reached}
+    (LoopGoesOn first rest holds own is stays more) =
     acts_by is (all-append ActSome first rest (part reached first own)
     (loop_some test leaves Part Last part last more))
-loop_some test leaves Part Last part last {reached} (LoopLeaves first rest holds own is goes_now end) =
+loop_some test leaves Part Last part last {reached}
+    (LoopLeaves first rest holds own is goes_now end) =
     acts_by is (all-append ActSome first rest (part reached first own)
     (last (goes reached first) rest end))
 
@@ -240,7 +242,8 @@ turn_some side =
     (λ reached acts holds is. acts_by is (tt, tt))) drains_some
 
 restarts_some : (side : Side) → ActsSome (Restarts side)
-restarts_some side = where_some _ (TakesTurn side) (λ reached acts holds. turn_some side reached acts)
+restarts_some side =
+    where_some _ (TakesTurn side) (λ reached acts holds. turn_some side reached acts)
 
 times_some : (side : Side) → ActsSome (TimesOut side)
 times_some side =

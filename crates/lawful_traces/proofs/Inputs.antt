@@ -1,22 +1,20 @@
 -- An input of the set-up lines of a script, with the texts of its trace behind them, is lawful.
 use Rattle.std.proofs.Common.{◌≡◌, ℕ, suc, Bool, true, false, List, [], ◌∷◌, length, if◌then◌else◌, refl, sym, ap, ◌∙◌, subst}
-use Rattle.fabric_script.specs.declared.known.Node.{Node}
 use Rattle.fabric_script.specs.declared.lines.Line.{Line}
 use Rattle.fabric_script.specs.declared.lines.Numbered.{Numbered}
-use Rattle.fabric_script.specs.declared.ports.PortRef.{PortRef}
 use Rattle.fabric_script.specs.Known.{Known, known_after, nodes_after, links_after, nothing_in, of_set_up}
 use Rattle.fabric_script.specs.Lines.{is_event}
 use Rattle.fabric_script.specs.Reading.{new_name_in}
 use Rattle.fabric_script.specs.Scripts.{is_skipped, pieces_of, SpellsFrom}
-use Rattle.fabric_script.specs.SetUps.{for_event}
 use Rattle.fabric_model.specs.Network.{Network}
-use Rattle.trace_lines.specs.Lines.{TraceLine, steps_of}
+use Rattle.trace_lines.specs.Lines.{steps_of}
 use Rattle.fabric_trace.specs.Runs.{bare, set_up, set_up_all}
 use Rattle.fabric_trace.proofs.Rounds.Blocks.{by_test}
 use Rattle.fabric_trace.proofs.SetUps.SettingUp.{set_up-event}
-use Rattle.script_input.specs.Inputs.{set_up_bytes}
+use Rattle.script_input.specs.Inputs.{IsInput, set_up_bytes}
 use Rattle.trace_check.specs.Lawful.{IsLawful}
-use Rattle.lawful_traces.specs.Knowing.{nodes_all, links_all, lines_of_set_up}
+use Rattle.trace_check.specs.Outcomes.{HasLawful}
+use Rattle.lawful_traces.specs.Knowing.{KnowsScript, nodes_all, links_all, lines_of_set_up}
 use Rattle.lawful_traces.specs.Texts.{trace_texts, InputsOfTracesAreLawful}
 use Rattle.lawful_traces.proofs.Events.{nodes_stay, links_stay}
 use Rattle.lawful_traces.proofs.Spelling.{traces_are_lawful}
@@ -69,9 +67,13 @@ known_of (text ∷ texts) number known lines end spells =
       rest.1 ∙ ap (λ (l : List Numbered). links_all known.links l) (sym kept.2),
     )) spells
 
-pub inputs_are_lawful : InputsOfTracesAreLawful
-inputs_are_lawful bytes lines_read known texts names script lines passes counted runs input
-    same_names same_lines texts_are =
+-- what is known of the set-up lines of a script, and the network that they make
+
+pub knows_of : (bytes : List ℕ) (lines_read : List Numbered) (known : Known)
+    (texts names : List (List ℕ)) (script : List Numbered) → IsInput bytes lines_read known texts
+    → known.names ≡ names → lines_of_set_up lines_read ≡ lines_of_set_up script
+    → KnowsScript names script known
+knows_of bytes lines_read known texts names script input same_names same_lines =
     let end = input.accepted.end in
     let is = input.accepted.known_is in
     let all = known_of (pieces_of (set_up_bytes bytes)) 1 (nothing_in of_set_up) lines_read end
@@ -80,21 +82,36 @@ inputs_are_lawful bytes lines_read known texts names script lines passes counted
     lines_read script [] same_lines in
     let links = same_set_up links_after links_all (λ s. refl) (λ s line rest. refl) links_stay
     lines_read script [] same_lines in
-    let net = same_set_up set_up set_up_all (λ s. refl) (λ s line rest. refl) set_up-event
-    lines_read script bare same_lines in
-    let own = traces_are_lawful names script lines known passes counted (record {
+    record {
       names_are = same_names;
       nodes_are = ap (λ (k : Known). k.nodes) is ∙ (all.0 ∙ nodes);
       links_are = ap (λ (k : Known). k.links) is ∙ (all.1 ∙ links);
       event = ap (λ (k : Known). k.mode) is;
-    }) runs in
+    }
+
+-- texts that are lawful behind the script are so behind the lines that were read
+pub has_lawful : (bytes : List ℕ) (lines_read : List Numbered) (known : Known)
+    (texts own : List (List ℕ)) (script : List Numbered) (steps : ℕ)
+    → IsInput bytes lines_read known texts
+    → lines_of_set_up lines_read ≡ lines_of_set_up script → texts ≡ own
+    → IsLawful known (set_up_all bare script) own steps → HasLawful bytes steps
+has_lawful bytes lines_read known texts own script steps input same_lines texts_are lawful =
+    let net = same_set_up set_up set_up_all (λ s. refl) (λ s line rest. refl) set_up-event
+    lines_read script bare same_lines in
     record {
       set_up = lines_read;
       known = known;
       texts = texts;
       input = input;
-      lawful = subst (λ (t : List (List ℕ)). IsLawful known (set_up_all bare lines_read) t
-          (length (steps_of lines))) (sym texts_are)
-          (subst (λ (n : Network). IsLawful known n (trace_texts names lines)
-          (length (steps_of lines))) (sym net) own);
+      lawful = subst (λ (t : List (List ℕ)). IsLawful known (set_up_all bare lines_read) t steps)
+          (sym texts_are)
+          (subst (λ (n : Network). IsLawful known n own steps) (sym net) lawful);
     }
+
+pub inputs_are_lawful : InputsOfTracesAreLawful
+inputs_are_lawful bytes lines_read known texts names script lines passes counted runs input
+    same_names same_lines texts_are =
+    has_lawful bytes lines_read known texts (trace_texts names lines) script
+    (length (steps_of lines)) input same_lines texts_are
+    (traces_are_lawful names script lines known passes counted
+    (knows_of bytes lines_read known texts names script input same_names same_lines) runs)

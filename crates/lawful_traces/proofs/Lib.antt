@@ -8,4 +8,4 @@ pub mod Sending
 pub mod Stepping
 pub mod Wiring
 pub mod Spelling
-mod Inputs
+pub mod Inputs

@@ -1,5 +1,5 @@
 -- What is known of a script is so of the network that it sets up: nodes, ports and links.
-use Rattle.std.proofs.Common.{◌≡◌, ℕ, zero, suc, ◌<◌, ◌≤◌, ◌||◌, Bool, true, false, List, [], ◌∷◌, ◌++◌, map, length, Option, Some, None, option_map, slice_get, get_or, if◌then◌else◌, refl, sym, ap, ◌∙◌, subst, arith, append-nil}
+use Rattle.std.proofs.Common.{◌≡◌, ℕ, zero, suc, ◌<◌, Bool, true, false, List, [], ◌∷◌, ◌++◌, map, length, Some, option_map, slice_get, get_or, if◌then◌else◌, refl, sym, ap, ◌∙◌, subst, arith, append-nil}
 use Rattle.std.specs.List.{AllByRecursion}
 use Rattle.std.proofs.lemmas.List.{map-append, length-map}
 use Rattle.maint_registers.specs.Devices.{Registers, is_switch}
@@ -9,13 +9,13 @@ use Rattle.fabric_script.specs.declared.ports.PortRef.{PortRef}
 use Rattle.fabric_script.specs.declared.lines.Line.{Line}
 use Rattle.fabric_script.specs.declared.lines.Line.TheVariants.{Endpoint, Switch}
 use Rattle.fabric_script.specs.declared.lines.Numbered.{Numbered}
-use Rattle.fabric_script.specs.Known.{Known, nothing, known_after, nodes_after, links_after, node_ports, ports_of, is_linked}
+use Rattle.fabric_script.specs.Known.{Known, nothing, known_after, nodes_after, node_ports, is_linked}
 use Rattle.fabric_script.specs.Lines.{new_name}
 use Rattle.fabric_script.specs.Scripts.{PassesFrom, ScriptPasses}
 use Rattle.fabric_script.proofs.KnownLaws.{count-after}
 use Rattle.fabric_model.specs.Network.{Network, bare, same_port, peer_in, IsEndpoint}
 use Rattle.fabric_model.specs.Steps.{Step, after}
-use Rattle.fabric_model.specs.Laws.Nodes.{HasPort, IsPortOf, JoinsNodes}
+use Rattle.fabric_model.specs.Laws.Nodes.{HasPort, IsPortOf}
 use Rattle.fabric_model.proofs.Flows.{switches_stay}
 use Rattle.fabric_model.proofs.Joining.{links_stay}
 use Rattle.fabric_model.proofs.Nodes.{count_ports, port_before}

@@ -1,6 +1,6 @@
 -- What ports do at their links: they have links, and send characters that are bytes; and what is
 -- found that was not sent can be told.
-use Rattle.std.proofs.Common.{◌≡◌, ◌≢◌, ℕ, zero, suc, ◌<◌, ◌+◌, ◌++◌, Bool, true, false, List, [], ◌∷◌, map, take, length, nat_lt, slice_get, option_to_list, Option, Some, None, if◌then◌else◌, refl, sym, ap, ◌∙◌, subst, arith}
+use Rattle.std.proofs.Common.{◌≡◌, ◌≢◌, ℕ, zero, suc, ◌<◌, ◌++◌, Bool, true, false, List, [], ◌∷◌, map, take, length, nat_lt, slice_get, option_to_list, Option, Some, None, if◌then◌else◌, refl, sym, ap, ◌∙◌, subst, arith}
 use Rattle.std.specs.List.{AllByRecursion}
 use Rattle.rio_chars.specs.declared.chars.Char.{Char}
 use Rattle.rio_chars.specs.CharText.{HasByte}
@@ -25,7 +25,7 @@ use Rattle.link_port.proofs.AnswerLaws.{reply_answers}
 use Rattle.link_port.proofs.SentReads.{InRanges, standing_range}
 use Rattle.link_sound.proofs.PortBounds.{turn_port}
 use Rattle.link_machine.specs.Led.{AreAnswers}
-use Rattle.link_machine.specs.Calls.{sent_notes, has_chars, is_silent, delivery_from, move_note, told_notes, delivery_notes, pump_notes, tell_notes, time_out_notes}
+use Rattle.link_machine.specs.Calls.{sent_notes, has_chars, delivery_from, move_note, told_notes, delivery_notes, time_out_notes}
 use Rattle.link_machine.proofs.Settling.AnswerLaws.{IsNarrow, port_narrow, acts_narrow, AreAnswers-append}
 use Rattle.link_watch.specs.declared.note.Note.TheVariants as Notes
 use Rattle.link_watch.specs.declared.side.Side.{Side}
@@ -38,7 +38,7 @@ use Rattle.link_wires.specs.declared.moves.Move.TheVariants.{Held, Freed}
 use Rattle.fabric_script.specs.Known.{Known}
 use Rattle.fabric_script.specs.declared.ports.PortRef.{PortRef}
 use Rattle.fabric_model.specs.Network.{peer_in}
-use Rattle.fabric_model.specs.Steps.{Hold, Free, Linked, AtNode, ByDevice}
+use Rattle.fabric_model.specs.Steps.{Hold, Free, Linked}
 use Rattle.fabric_model.proofs.Lists.{all-append}
 use Rattle.fabric_model.proofs.Peers.{peer_back}
 use Rattle.trace_lines.specs.Lines.{Sent, Got, Fired, TraceLine, Begun, Stepped, Signed, Lacked, Ended, Undetected}
@@ -116,7 +116,8 @@ turns_bytes (suc n) port is =
     all-append HasByte (turn_sends port).chars (bursts n (turns_to port)).chars
     (burst_bytes (port_turn port).sends (standing port) (waiting_in port) (standing_range port is)
     (IsOutStore-lists_without (prios_of port.output) port.queued is.covered is.sends)
-    (turn_in_range port.tells port.output (waiting_in port))) (turns_bytes n (turns_to port) (turn_port port is))
+    (turn_in_range port.tells port.output (waiting_in port))) (turns_bytes n (turns_to port)
+    (turn_port port is))
 
 tell_bytes : (port : PortState) → IsPort port → AreBytesOf (tell_sends port).chars
 tell_bytes port is = by port.tells

@@ -1,5 +1,5 @@
 -- The steps of a trace are at ports and nodes of its script, and their packets are in link form.
-use Rattle.std.proofs.Common.{◌≡◌, ℕ, ◌++◌, ◌&&◌, ◌==◌, Bool, true, false, List, [], ◌∷◌, slice_get, Option, Some, None, if◌then◌else◌, refl, sym, ap, ◌∙◌, subst}
+use Rattle.std.proofs.Common.{◌≡◌, ℕ, ◌++◌, Bool, true, false, List, [], ◌∷◌, slice_get, Option, Some, None, if◌then◌else◌, refl, sym, subst}
 use Rattle.std.specs.List.{AllByRecursion}
 use Rattle.rio_packets.specs.Fields.{prio_of}
 use Rattle.rio_packets.specs.LinkForm.{Passes}
@@ -7,7 +7,7 @@ use Rattle.fabric_script.specs.Known.{Known}
 use Rattle.fabric_script.specs.declared.ports.PortRef.{PortRef}
 use Rattle.fabric_model.specs.Network.{Item, Network, same_port, first_packet, peer_in}
 use Rattle.fabric_model.specs.Steps.{Hold, Free, Take, Leave, Move, Drop, Answer, Step, Linked, AtNode, ByDevice, Needs, behind_first, only_first, after_hold, after, LegalFrom}
-use Rattle.fabric_model.specs.Laws.Holding.{ReceivedAt, WaitingAt}
+use Rattle.fabric_model.specs.Laws.Holding.{WaitingAt}
 use Rattle.fabric_model.specs.Laws.Nodes.{HasPort, IsPortOf, IsSpot, JoinsNodes, StandAtNodes}
 use Rattle.fabric_model.proofs.Lanes.{AreWell, well_on, well_passes}
 use Rattle.fabric_model.proofs.Lists.{all-append}

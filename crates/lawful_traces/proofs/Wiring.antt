@@ -1,5 +1,5 @@
 -- What ports get are bytes, since what is sent and what edits put on wires are.
-use Rattle.std.proofs.Common.{◌≡◌, ℕ, zero, suc, ◌+◌, ◌++◌, Bool, true, false, List, [], ◌∷◌, take, drop, length, Option, Some, None, if◌then◌else◌, refl, sym, ap, ◌∙◌, subst}
+use Rattle.std.proofs.Common.{ℕ, zero, suc, ◌+◌, ◌++◌, Bool, true, false, List, [], ◌∷◌, take, drop, length, Option, Some, None, if◌then◌else◌, subst}
 use Rattle.std.specs.Prelude.{slice_set}
 use Rattle.std.specs.List.{AllByRecursion}
 use Rattle.rio_chars.specs.declared.chars.Char.{Char}
@@ -9,7 +9,7 @@ use Rattle.link_wires.specs.declared.edits.Edit.{Edit}
 use Rattle.link_wires.specs.declared.edits.Edit.TheVariants as Edits
 use Rattle.fabric_script.specs.Known.{Known}
 use Rattle.fabric_script.specs.Lines.{new_name}
-use Rattle.fabric_script.specs.Reading.{MayBe, IsFree}
+use Rattle.fabric_script.specs.Reading.{MayBe}
 use Rattle.fabric_script.specs.declared.lines.Line.{Line}
 use Rattle.fabric_script.specs.declared.lines.Line.TheVariants.{Alter, Erase, Insert}
 use Rattle.fabric_script.specs.declared.ports.PortRef.{PortRef}

@@ -5,15 +5,18 @@
 //!
 //! Left out: where lines come from, and where answers go.
 //!
-//! - [`PortRequest`] and [`RequestReason`], `read_request`: what a line asks for, or why it is
-//!   refused
+//! - [`PortRequest`], `read_request`: what a line asks for
+//! - [`RequestRefusal`] and [`RequestFault`]: why a line is refused, and what is said of it
 //! - `answer`: does what a line asks for, and tells the answer
 #![tactic(auto)]
 
 mod answers;
+mod faults;
+mod kinds;
 mod requests;
 mod texts;
 mod words;
 
 pub use answers::answer;
-pub use requests::{PortRequest, RequestReason, read_request};
+pub use faults::{RequestFault, RequestRefusal};
+pub use requests::{PortRequest, read_request};

@@ -29,17 +29,26 @@ pub trait Program {
 /// Runs a program with the arguments and the standard streams of the system. If the system does not
 /// give the arguments, the status is 1 and nothing is written.
 pub fn start<P: Program>(rt: &HostRuntime, program: &P) -> ExitCode {
+    let mut source = StdSource::new(rt.reader());
+    start_reading(rt, program, &mut source)
+}
+
+/// The same, with a source of its own that reads standard input.
+pub fn start_reading<P: Program, S: Source>(
+    rt: &HostRuntime,
+    program: &P,
+    source: &mut S,
+) -> ExitCode {
     let Ok(arguments) = arguments(rt) else {
         return ExitCode::from(1);
     };
-    let mut source = StdSource::new(rt.reader());
     let mut sink = StdSink::new(io::writer(rt));
     let mut messages = StdSink::new(rt.stderr());
     let words = after_name(arguments.as_slice());
     if rt.stdin().is_terminal() {
         write_unless(false, &mut messages, program.waits_for(words));
     }
-    let status = program.run(rt.alloc(), words, &mut source, &mut sink, &mut messages);
+    let status = program.run(rt.alloc(), words, source, &mut sink, &mut messages);
     ExitCode::from(status)
 }
 

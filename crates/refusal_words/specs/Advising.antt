@@ -1,5 +1,5 @@
 -- What in a line is to blame, in words.
-use Rattle.std.specs.Prelude.{◌≡◌, ℕ, List, ◌∷◌, ◌++◌, Contains, codes}
+use Rattle.std.specs.Prelude.{◌≡◌, ℕ, List, [], ◌∷◌, ◌++◌, Contains, codes}
 use Rattle.std.specs.Fmt.{decimal}
 use Rattle.fabric_script.specs.Advice.{IsTrueOf}
 use Rattle.fabric_script.specs.declared.advice.Advice.{Advice}
@@ -60,3 +60,17 @@ pub record IsWhy (text meaning why : List ℕ) : Type 0 where
   pub blame : Blame
   pub so : IsBlameOf text blame
   pub says : why ≡ blame_text meaning blame
+
+-- the bytes of a text show it, whatever its words ask
+abbrev pub IsPlain : Blame → Type 0
+IsPlain (Blamed.Advice CarriageReturn) = Unit {0}
+IsPlain (Blamed.Advice Indent) = Unit {0}
+IsPlain (Blamed.Advice advice) = ⊥
+IsPlain blame = Unit {0}
+
+-- The same of a line of any language, of what its bytes alone show.
+pub record IsPlainWhy (text why : List ℕ) : Type 0 where
+  pub blame : Blame
+  pub plain : IsPlain blame
+  pub so : IsBlameOf text blame
+  pub says : why ≡ blame_text [] blame

@@ -1,5 +1,10 @@
 -- How a line is shown.
 use Rattle.std.specs.Prelude.{ℕ, ◌&&◌, leb, ltb, List, [], ◌∷◌, ◌++◌, codes, length, map, take, if◌then◌else◌}
+use Rattle.std.specs.Fmt.{decimal}
+
+-- the line of a refusal: the number of its reason, and what is said of it
+abbrev pub refusal_line : ℕ → List ℕ → List ℕ
+refusal_line reason why = codes "refused " ++ decimal reason ++ codes " " ++ why ++ codes "\n"
 
 -- a byte that a terminal prints, or a question mark
 abbrev pub shown_byte : ℕ → ℕ

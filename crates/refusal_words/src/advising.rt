@@ -1,11 +1,11 @@
 //! What in a line is to blame.
-ghost use Rattle.std.specs.Prelude.{◌≡◌, ◌++◌, [], ℕ, List, OnOk};
+ghost use Rattle.std.specs.Prelude.{◌≡◌, ◌++◌, [], ℕ, List, IfOk, OnOk, MatchBool};
 ghost use Rattle.std.specs.Fmt.{decimal};
-ghost use Rattle.refusal_words.specs.Advising.{IsWhy, advice_text as advice_text_of, blame_text, word_kind_text};
+ghost use Rattle.refusal_words.specs.Advising.{IsWhy, IsPlainWhy, advice_text as advice_text_of, blame_text, word_kind_text};
 ghost use Rattle.fabric_script.specs.declared.advice.Advice.TheVariants as AnAdvice;
 ghost use Rattle.fabric_script.specs.declared.advice.WordKind.TheVariants as AWordKind;
 
-use crate::blame::{Blame, blame_of};
+use crate::blame::{Blame, blame_of, plain_blame};
 use fabric_script::{Advice, WordKind};
 use rio_chars::write_decimal;
 use std::alloc::{AllocError, Global};
@@ -23,6 +23,21 @@ pub fn push_why(
         × (message.new.items ≡ message.old.items ++ why)) }
 {
     push_blame(message, blame_of(alloc, text, reason), meaning)
+}
+
+/// Adds what is to blame in a line of any language, if the bytes of its text alone show that, and
+/// answers whether they do.
+pub fn push_plain(message: &mut Vec<u8>, text: &[u8]) -> Result<bool, AllocError>
+    ensures { IfOk result (λ found. MatchBool found
+        ((why : List ℕ) × IsPlainWhy text.now why
+        × (message.new.items ≡ message.old.items ++ why))
+        (message.new.items ≡ message.old.items)) }
+{
+    let Some(blame) = plain_blame(text) else {
+        return Ok(false);
+    };
+    push_blame(message, blame, b"")?;
+    Ok(true)
 }
 
 /// Adds what is to blame.
@@ -51,7 +66,7 @@ fn push_blame(message: &mut Vec<u8>, blame: Blame, meaning: &[u8]) -> Result<(),
 }
 
 /// Adds what in a line is to blame, or the reason if its text alone does not show that.
-fn push_advice(message: &mut Vec<u8>, advice: Advice, reason: &[u8]) -> Result<(), AllocError>
+pub fn push_advice(message: &mut Vec<u8>, advice: Advice, reason: &[u8]) -> Result<(), AllocError>
     ensures { OnOk result
         (message.new.items ≡ message.old.items ++ advice_text_of reason.now advice) }
 {
@@ -95,7 +110,7 @@ fn push_word(message: &mut Vec<u8>, place: u8, kind: WordKind) -> Result<(), All
 }
 
 /// Adds how a word is spelled.
-fn push_kind(message: &mut Vec<u8>, kind: WordKind) -> Result<(), AllocError>
+pub fn push_kind(message: &mut Vec<u8>, kind: WordKind) -> Result<(), AllocError>
     ensures { OnOk result (message.new.items ≡ message.old.items ++ word_kind_text kind) }
 {
     match kind {

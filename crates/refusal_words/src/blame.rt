@@ -1,6 +1,6 @@
 //! What is to blame in a line that is no line of a script.
 ghost use Rattle.std.specs.Prelude.{IfSome};
-ghost use Rattle.refusal_words.specs.Advising.{IsBlameOf};
+ghost use Rattle.refusal_words.specs.Advising.{IsBlameOf, IsPlain};
 
 use fabric_script::{Advice, advise};
 use std::alloc::Global;
@@ -32,9 +32,23 @@ pub(crate) fn blame_of(alloc: Global, text: &[u8], reason: u8) -> Blame
     }
 }
 
+/// What is to blame in the text of a line of any language, if its bytes alone show that.
+pub(crate) fn plain_blame(text: &[u8]) -> Option<Blame>
+    ensures { IfSome result (λ blame. IsPlain blame × IsBlameOf text.now blame) }
+{
+    if let Some(blame) = foreign_blame(text) {
+        return Some(blame);
+    }
+    match text {
+        [.., b'\r'] => Some(Blame::Advice(Advice::CarriageReturn)),
+        [b' ', ..] => Some(Blame::Advice(Advice::Indent)),
+        _ => None,
+    }
+}
+
 /// What shows that a text is not of a script at all.
 fn foreign_blame(text: &[u8]) -> Option<Blame>
-    ensures { IfSome result (IsBlameOf text.now) }
+    ensures { IfSome result (λ blame. IsPlain blame × IsBlameOf text.now blame) }
 {
     match text {
         [0xef, 0xbb, 0xbf, ..] => Some(Blame::ByteOrderMark),

@@ -1,11 +1,24 @@
 //! How a line is shown.
 ghost use Rattle.std.specs.Prelude.{◌≡◌, ◌++◌, OnOk, map, take};
-ghost use Rattle.refusal_words.specs.Citing.{excerpt_of, shown_text, shown_byte as shown_byte_of};
+ghost use Rattle.rio_chars.specs.Written.{Writes};
+ghost use Rattle.refusal_words.specs.Citing.{refusal_line, excerpt_of, shown_text, shown_byte as shown_byte_of};
 
+use rio_chars::{Outbox, Sink};
 use std::alloc::AllocError;
 
 /// How many bytes of a line are shown.
 const MOST_SHOWN: usize = 80;
+
+/// Tells the line of a refusal: the number of its reason, and what is said of it.
+pub fn write_refusal<K: Sink>(outbox: &mut Outbox<K>, reason: u8, why: &[u8])
+    ensures { Writes outbox.old outbox.new (refusal_line reason why.now) }
+{
+    outbox.write(b"refused ");
+    outbox.write_decimal(u32::from(reason));
+    outbox.write(b" ");
+    outbox.write(why);
+    outbox.write(b"\n");
+}
 
 /// Adds what is shown of a line, after a colon, and nothing of an empty line.
 pub fn push_excerpt(message: &mut Vec<u8>, text: &[u8]) -> Result<(), AllocError>

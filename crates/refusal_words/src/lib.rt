@@ -5,6 +5,9 @@
 //!
 //! - `script_reason`, `set_up_reason`: what a reason means, of a script and of set-up lines alone
 //! - `push_why`: what in a line is to blame, or what its reason means
+//! - `push_plain`: what is to blame in a line of any language; `push_advice`, `push_kind`: what of its
+//!   words is, and how one is spelled
+//! - `write_refusal`: the line of a refusal
 //! - `push_excerpt`, `push_shown`: the first bytes of a line
 //! - `push_number`: a number in decimal digits
 #![tactic(auto)]
@@ -14,6 +17,6 @@ mod blame;
 mod citing;
 mod reasons;
 
-pub use advising::{push_number, push_why};
-pub use citing::{push_excerpt, push_shown};
+pub use advising::{push_advice, push_kind, push_number, push_plain, push_why};
+pub use citing::{push_excerpt, push_shown, write_refusal};
 pub use reasons::{script_reason, set_up_reason};

@@ -10,8 +10,8 @@ use Rattle.live_lines.specs.Serving.{ServesLines}
 use Rattle.live_lines.specs.Statuses.{status_value, message_of}
 use Rattle.live_fabric.specs.Lines.{Taken, nothing_taken, seen_so_far, IsSent, AnswersLines, IsAnswerFront}
 use Rattle.live_fabric.specs.Holding.{IsTrace}
-use Rattle.program_start.specs.Questions.{AsksQuestion, AsksNoQuestion, question_text}
-use Rattle.program_start.specs.declared.questions.Question.{Question}
+use Rattle.program_start.specs.Questions.{AsksNoQuestion}
+use Rattle.live_lines.specs.Asked.{AnswersQuestion}
 
 -- the bytes that were read begin with this line, and the text is a front of its answer
 pub record CutAt (taken : Taken) (number : ℕ) (behind text : List ℕ) : Type 0 where
@@ -73,16 +73,6 @@ abbrev pub ReadsNothing : Option (List ℕ) → Option (List ℕ) → ℕ → �
 ReadsNothing left left_after read_faults read_faults_after =
     Keeps left left_after × (read_faults_after ≡ read_faults)
 
--- A question was answered, or a front of the answer was written since a write failed.
-pub record LiveTold (words : List (List ℕ)) (status : LiveStatus)
-    (written written_after : Option (List ℕ)) (write_faults write_faults_after : ℕ) : Type 0 where
-  pub question : Question
-  pub asks : AsksQuestion question words
-  pub failed : Bool
-  pub told : WritesUnless false written write_faults failed written_after write_faults_after
-      (question_text (codes "rio_live") live_help question)
-  pub ends : status ≡ (if failed then WriteFault else Done)
-
 -- There are no words, and lines were served; or they ask a question, and it was answered; or they
 -- say nothing, and nothing was read or written.
 abbrev pub LiveDid : List (List ℕ) → LiveStatus → Option (List ℕ) → Option (List ℕ) → ℕ → ℕ
@@ -91,7 +81,8 @@ LiveDid words status left left_after read_faults read_faults_after written writt
     write_faults write_faults_after =
     ((words ≡ []) × LiveServes status left left_after read_faults read_faults_after written
     written_after write_faults write_faults_after)
-    ⊎ ((LiveTold words status written written_after write_faults write_faults_after
+    ⊎ ((AnswersQuestion (codes "rio_live") live_help words status written written_after write_faults
+    write_faults_after
     × ReadsNothing left left_after read_faults read_faults_after)
     ⊎ ((words ≢ []) × AsksNoQuestion words × (status ≡ Words)
     × Keeps written written_after × (write_faults_after ≡ write_faults)

@@ -7,7 +7,7 @@
 //! number of them may come.
 //!
 //! - `run`: the whole program, over any source, sink and sink of messages; `main` gives it the
-//!   words and the standard streams by `start` of `program_start`, and does nothing more.
+//!   words and the standard streams by `start_lines` of `live_lines`, and does nothing more.
 //! - `serve`: the same without the words, and how it ended.
 //!
 //! If the system does not give the arguments, the status is 1 and nothing is written.
@@ -16,8 +16,9 @@
 mod program;
 mod serving;
 
+use live_lines::start_lines;
 pub use program::run;
-use program_start::{Program, start};
+use program_start::Program;
 use rio_chars::{Sink, Source};
 pub use serving::serve;
 use std::alloc::Global;
@@ -47,5 +48,5 @@ impl Program for RioLive {
 }
 
 fn main(rt: HostRuntime) -> ExitCode {
-    start(&rt, &RioLive)
+    start_lines(&rt, &RioLive)
 }

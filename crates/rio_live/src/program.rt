@@ -1,12 +1,11 @@
 //! The whole program, but for where its words and its streams come from.
-ghost use Rattle.std.specs.Prelude.{◌≡◌, map, if◌then◌else◌};
+ghost use Rattle.std.specs.Prelude.{map};
 ghost use Rattle.std.specs.String.{string_bytes};
-ghost use Rattle.live_lines.specs.declared.status.LiveStatus.TheVariants as ends_with;
 ghost use Rattle.rio_live.specs.Program.{LiveRan, LiveDid};
 
 use crate::serving::serve;
-use live_lines::{LiveStatus, say, status_number};
-use program_start::{answer_question, question_of};
+use live_lines::{LiveStatus, say, status_number, tell_question};
+use program_start::question_of;
 use rio_chars::{Sink, Source};
 use std::alloc::Global;
 
@@ -57,21 +56,10 @@ fn serve_words<S: Source, K: Sink>(
         (K.faults sink.old) (K.faults sink.new) }
 {
     if let Some(question) = question_of(words) {
-        return told(answer_question(sink, b"rio_live", HELP, question));
+        return tell_question(sink, b"rio_live", HELP, question);
     }
     match words {
         [] => serve(alloc, source, sink),
         _ => LiveStatus::Words,
-    }
-}
-
-/// How it ended, by whether a write failed.
-fn told(failed: bool) -> LiveStatus
-    ensures { result ≡ (if failed then ends_with.WriteFault else ends_with.Done) }
-{
-    if failed {
-        LiveStatus::WriteFault
-    } else {
-        LiveStatus::Done
     }
 }

@@ -1,9 +1,13 @@
 -- Lines that are served, one after another.
-use Rattle.std.proofs.Common.{◌≡◌, ℕ, ◌+◌, Option, List, [], ◌∷◌, ◌++◌, refl, sym, ap, ◌∙◌, subst, append-nil, append_assoc}
+use Rattle.std.proofs.Common.{◌≡◌, ◌≢◌, ℕ, ◌+◌, Option, List, [], ◌∷◌, ◌++◌, refl, sym, ap, ◌∙◌, subst, append-nil, append_assoc}
 use Rattle.std.specs.Io.KnownBytes.{Consumes}
 use Rattle.rio_chars.specs.Written.{Outgoing, Writes}
 use Rattle.link_port.specs.Ports.{PortState}
 use Rattle.live_lines.specs.Lines.{IsLine, with_feed}
+use Rattle.live_lines.specs.Serving.{end_status}
+use Rattle.live_lines.specs.declared.input.LineEnd.{LineEnd}
+use Rattle.live_lines.specs.declared.input.LineEnd.TheVariants.{End, Fault, TooLong, NoMemory}
+use Rattle.live_lines.specs.declared.status.LiveStatus.TheVariants.{Undetected}
 use Rattle.live_lines.proofs.ServingLaws.{Going, Going-begin, Going-line, Going-told, Going-read}
 use Rattle.port_lines.specs.Answers.{PortAnswer, saying, after_text}
 use Rattle.port_lines.specs.Lines.{AnswersLine, PortAnswersLines}
@@ -30,6 +34,13 @@ AnswersLines-more port (other ∷ lines) line so_far next h k = (
   ap (λ (a : PortAnswer). saying next.port (a.text ++ next.text)) h.4
       ∙ ap (saying next.port) (append_assoc h.0.text h.1.text next.text),
 )
+
+-- there is no further line, which is no event that was not sent
+pub end_is_sent : (end : LineEnd) → end_status end ≢ Undetected
+end_is_sent End same = absurd cc
+end_is_sent Fault same = absurd cc
+end_is_sent TooLong same = absurd cc
+end_is_sent NoMemory same = absurd cc
 
 -- Lines were served so far, and these bytes were read behind the last one.
 pub record Served (begun out : Outgoing) (port now : PortState) (left left_now : Option (List ℕ))

@@ -6,7 +6,7 @@
 //! tables give at its state there. Left out: when a time-out comes, and the wire to the other end.
 //!
 //! - `run`: the whole program, over any source, sink and sink of messages; `main` gives it the
-//!   arguments and the standard streams, and does nothing more.
+//!   words and the standard streams by `start_lines` of `live_lines`, and does nothing more.
 //! - `serve`: the same of a port with so many buffers, and how it ended.
 //!
 //! If the system does not give the arguments, the status is 1 and nothing is written.
@@ -15,30 +15,38 @@
 mod program;
 mod serving;
 
+use live_lines::start_lines;
+use program::buffers_of;
 pub use program::run;
-use rio_chars::{StdSink, StdSource};
+use program_start::Program;
+use rio_chars::{Sink, Source};
 pub use serving::serve;
+use std::alloc::Global;
 use std::process::ExitCode;
-use std::{env, io};
 
-fn main(rt: HostRuntime) -> ExitCode {
-    let Ok(arguments) = arguments(&rt) else {
-        return ExitCode::from(1);
-    };
-    let mut source = StdSource::new(rt.reader());
-    let mut sink = StdSink::new(io::writer(&rt));
-    let mut messages = StdSink::new(rt.stderr());
-    let status = run(
-        rt.alloc(),
-        arguments.as_slice(),
-        &mut source,
-        &mut sink,
-        &mut messages,
-    );
-    ExitCode::from(status)
+/// The program, as it is started.
+struct RioPort;
+
+impl Program for RioPort {
+    fn waits_for(&self, words: &[String]) -> &'static [u8] {
+        match buffers_of(words) {
+            Some(_) => b"rio_port: waiting for the lines of a port; Ctrl-D ends them\n",
+            None => b"",
+        }
+    }
+
+    fn run<S: Source, K: Sink, M: Sink>(
+        &self,
+        alloc: Global,
+        words: &[String],
+        source: &mut S,
+        sink: &mut K,
+        messages: &mut M,
+    ) -> u8 {
+        run(alloc, words, source, sink, messages)
+    }
 }
 
-/// The program's name and the words that follow it.
-fn arguments(rt: &HostRuntime) -> io::Result<Vec<String>> {
-    Ok(env::args(rt)?.collect(rt.alloc())?)
+fn main(rt: HostRuntime) -> ExitCode {
+    start_lines(&rt, &RioPort)
 }

@@ -34,8 +34,6 @@ pub enum ViewName {
     Page,
     /// The fabric as a picture.
     Map,
-    /// How the program is used.
-    Help,
 }
 
 /// What the program is asked for: a view, and which part of the trace it shows.
@@ -52,7 +50,7 @@ pub struct ViewCommand<'a> {
 }
 
 /// The views by their words.
-const VIEWS: [(&[u8], ViewName); 10] = [
+const VIEWS: [(&[u8], ViewName); 9] = [
     (b"words", ViewName::Words),
     (b"counts", ViewName::Counts),
     (b"ladder", ViewName::Ladder),
@@ -62,13 +60,17 @@ const VIEWS: [(&[u8], ViewName); 10] = [
     (b"coverage", ViewName::Coverage),
     (b"page", ViewName::Page),
     (b"map", ViewName::Map),
-    (b"--help", ViewName::Help),
 ];
 
 impl ViewName {
-    /// Whether a part of a trace can be shown so.
-    fn has_parts(self) -> bool {
-        !matches!(self, ViewName::Coverage | ViewName::Map | ViewName::Help)
+    /// Whether some lines of a trace can be shown so.
+    fn has_lines(self) -> bool {
+        !matches!(self, ViewName::Coverage | ViewName::Map)
+    }
+
+    /// Whether some ports of a trace can be shown so.
+    fn has_ports(self) -> bool {
+        self != ViewName::Map
     }
 }
 
@@ -89,7 +91,7 @@ pub(crate) fn command_of(words: &[String]) -> Option<ViewCommand<'_>> {
 }
 
 /// The view that a word names.
-fn view_of(word: &[u8]) -> Option<ViewName> {
+pub(crate) fn view_of(word: &[u8]) -> Option<ViewName> {
     for (name, view) in &VIEWS {
         if word == *name {
             return Some(*view);
@@ -172,13 +174,13 @@ impl<'a> Asked<'a> {
 
     /// An option with a value, if it is one of this view.
     fn value(&mut self, name: &[u8], value: &'a [u8]) -> Option<OptionKind> {
-        if name == b"--lines".as_slice() && self.command.view.has_parts() {
+        if name == b"--lines".as_slice() && self.command.view.has_lines() {
             self.command.part.lines = lines_of(value)?;
             Some(OptionKind::Lines)
-        } else if name == b"--link".as_slice() && self.command.view.has_parts() {
+        } else if name == b"--link".as_slice() && self.command.view.has_ports() {
             self.command.part.ports = ChosenPorts::Link(value);
             Some(OptionKind::Ports)
-        } else if name == b"--port".as_slice() && self.command.view.has_parts() {
+        } else if name == b"--port".as_slice() && self.command.view.has_ports() {
             self.command.part.ports = ChosenPorts::Port(value);
             Some(OptionKind::Ports)
         } else if self.command.view == ViewName::Ladder {

@@ -2,13 +2,13 @@
 ghost use Rattle.std.specs.Prelude.{◌≤◌};
 
 use crate::entries::{COUNT, entries};
-use crate::shadow::{Came, EntriesMet, Shadow};
+use crate::shadow::{Came, EntriesMet, Kept, Shadow};
 use fabric_script::{Line, PortRef};
 use link_port::Port;
 use rio_chars::NoMemory;
 use std::alloc::{AllocError, Global};
 use trace_lines::{NetworkStep, TraceLine};
-use view_words::{Ear, Ports, Seen, Setting, Text, View, ViewEnd, ViewStatus, port_of};
+use view_words::{Ear, Ports, Seen, Selection, Setting, Text, View, ViewEnd, ViewStatus, port_of};
 
 /// The receive buffers of a port of which no line says another number.
 const BUFFERS: u8 = 8;
@@ -22,6 +22,7 @@ pub(crate) struct Coverage {
     shadows: Ports<Option<Shadow>>,
     buffers: Ports<Option<u8>>,
     tells: Ports<bool>,
+    kept: Kept,
     met: EntriesMet,
     alloc: Global,
 }
@@ -33,6 +34,7 @@ impl Coverage {
             shadows: Ports::new(alloc),
             buffers: Ports::new(alloc),
             tells: Ports::new(alloc),
+            kept: Kept::new(),
             met: EntriesMet { counts: [0; COUNT] },
             alloc,
         }
@@ -47,16 +49,21 @@ impl View for Coverage {
             self.set_up(&line.line);
         }
         for line in set_up.lines() {
-            self.add_ports(&line.line)?;
+            self.add_ports(setting.selection, &line.line)?;
         }
         Ok(())
     }
 
     fn take(&mut self, seen: &Seen<'_>, _: &mut Text) -> Result<(), ViewEnd> {
-        if let Some((port, came)) = came_of(seen.line) {
-            if let Some(Some(shadow)) = self.shadows.get_mut(port) {
-                shadow.follow(&came, &mut self.met)?;
-            }
+        match seen.line {
+            TraceLine::Sent(port, chars) => self.follow(*port, &Came::Sent(chars.as_slice()))?,
+            TraceLine::Got(port, chars) => self.follow(*port, &Came::Got(chars.as_slice()))?,
+            TraceLine::Fired(port) => self.follow(*port, &Came::Fired)?,
+            TraceLine::Stepped(step) => self.step(step)?,
+            TraceLine::Begun(_)
+            | TraceLine::Lacked(_)
+            | TraceLine::Ended
+            | TraceLine::Undetected(..) => {}
         }
         Ok(())
     }
@@ -106,11 +113,15 @@ impl Coverage {
         }
     }
 
-    /// Ports that follow the trace, if the line has a link.
-    fn add_ports(&mut self, line: &Line) -> Result<(), ViewEnd> {
+    /// Ports that follow the trace, if the line has a link, and they are chosen.
+    fn add_ports(&mut self, selection: &Selection, line: &Line) -> Result<(), ViewEnd> {
         if let Line::Link { a, b } = line {
-            self.add_port(*a)?;
-            self.add_port(*b)?;
+            if selection.has_port(*a) {
+                self.add_port(*a)?;
+            }
+            if selection.has_port(*b) {
+                self.add_port(*b)?;
+            }
         }
         Ok(())
     }
@@ -148,27 +159,30 @@ impl Coverage {
             _ => BUFFERS,
         }
     }
-}
 
-/// What a line says that comes to a port, and to which.
-fn came_of(line: &TraceLine) -> Option<(PortRef, Came<'_>)> {
-    match line {
-        TraceLine::Sent(port, chars) => Some((*port, Came::Sent(chars.as_slice()))),
-        TraceLine::Got(port, chars) => Some((*port, Came::Got(chars.as_slice()))),
-        TraceLine::Fired(port) => Some((*port, Came::Fired)),
-        TraceLine::Stepped(step) => given_by(step),
-        TraceLine::Begun(_) | TraceLine::Lacked(_) | TraceLine::Ended | TraceLine::Undetected(..) =>
-            None,
+    /// A port does what a line says, if it follows the trace.
+    fn follow(&mut self, port: PortRef, came: &Came<'_>) -> Result<(), AllocError> {
+        match self.shadows.get_mut(port) {
+            Some(Some(shadow)) => shadow.follow(came, &mut self.kept, &mut self.met),
+            _ => Ok(()),
+        }
     }
-}
 
-/// The packet that goes on by a step, and the port that held it.
-fn given_by(step: &NetworkStep) -> Option<(PortRef, Came<'_>)> {
-    match step {
-        NetworkStep::Leave(node, packet) => Some((port_of(*node), Came::Given(packet))),
-        NetworkStep::Move(port, _, packet)
-        | NetworkStep::Drop(port, packet)
-        | NetworkStep::Answer(port, packet, _) => { Some((*port, Came::Given(packet))) }
-        NetworkStep::Hold(..) | NetworkStep::Free(..) | NetworkStep::Take(..) => None,
+    /// Ports give and take the packets of a step.
+    fn step(&mut self, step: &NetworkStep) -> Result<(), AllocError> {
+        match step {
+            NetworkStep::Take(node, packet) => self.follow(port_of(*node), &Came::Put(packet)),
+            NetworkStep::Leave(node, packet) => self.follow(port_of(*node), &Came::Given(packet)),
+            NetworkStep::Drop(port, packet) => self.follow(*port, &Came::Given(packet)),
+            NetworkStep::Move(from, to, packet) => {
+                self.follow(*from, &Came::Given(packet))?;
+                self.follow(*to, &Came::Put(packet))
+            }
+            NetworkStep::Answer(port, request, response) => {
+                self.follow(*port, &Came::Given(request))?;
+                self.follow(*port, &Came::Put(response))
+            }
+            NetworkStep::Hold(..) | NetworkStep::Free(..) => Ok(()),
+        }
     }
 }

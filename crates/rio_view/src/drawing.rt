@@ -1,7 +1,7 @@
 //! What a ladder shows of the characters that a port sends and takes.
 
 use crate::cells::Cells;
-use crate::ladder::Lane;
+use crate::lanes::Lane;
 use crate::picture::{Arrow, ArrowKind, Picture, PictureRow};
 use rio_chars::Char;
 use rio_packets::{Cause, Packet};

@@ -1,9 +1,9 @@
 //! A trace as a ladder: a lifeline for each port of a link, and an arrow for each packet and
 //! symbol.
 
-use crate::cells::Cells;
 use crate::command::Range;
 use crate::drawing::{Draws, Takes};
+use crate::lanes::{Lane, WireChange, edit_of};
 use crate::picture::{Arrow, ArrowKind, GAP, MARGIN, MOST_ROWS, Mark, Picture, PictureRow, WIDE};
 use fabric_script::{Line, PortRef};
 use link_model::Event;
@@ -15,38 +15,6 @@ use view_words::{
     AskedRegisters, Ear, LineRange, Ports, Seen, Setting, Text, View, ViewEnd, links_of, listen,
     peer_of, port_of, put_event, put_packet, put_port,
 };
-
-/// The lifeline of a port, and what stands on its wire.
-#[derive(Drop)]
-pub(crate) struct Lane {
-    pub(crate) wire: Cells,
-    /// The row of the packet that is being sent.
-    pub(crate) open: Option<usize>,
-    /// Whether it asked which packet is expected, and has no answer yet.
-    pub(crate) asks: bool,
-    /// Where the lifeline is, and whether it is the left one of its link.
-    pub(crate) life: Option<(u32, bool)>,
-}
-
-impl Lane {
-    /// Nothing stands on the wire.
-    fn new(alloc: Global) -> Lane {
-        Lane {
-            wire: Cells::new(alloc),
-            open: None,
-            asks: false,
-            life: None,
-        }
-    }
-}
-
-/// A change of what stands on the wire of a port.
-#[derive(Clone, Copy)]
-enum WireChange {
-    Alter(u32),
-    Insert(u32),
-    Erase(u32, u32),
-}
 
 /// A ladder in the making.
 #[derive(Drop)]
@@ -201,26 +169,10 @@ impl Ladder {
 
     /// Makes an edit.
     fn edit(&mut self, port: PortRef, edit: WireChange) -> Result<(), AllocError> {
-        let Some(lane) = self.lanes.get_mut(port) else {
-            return Ok(());
-        };
-        match edit {
-            WireChange::Alter(place) => {
-                let row = lane.wire.alter(place as usize);
-                self.picture.change(row);
-            }
-            WireChange::Insert(place) => {
-                let row = lane.wire.insert(place as usize)?;
-                self.picture.change(row);
-            }
-            WireChange::Erase(place, count) => {
-                for _ in 0..count {
-                    let row = lane.wire.erase(place as usize);
-                    self.picture.lose(row);
-                }
-            }
+        match self.lanes.get_mut(port) {
+            Some(lane) => lane.edit(edit, &mut self.picture),
+            None => Ok(()),
         }
-        Ok(())
     }
 
     /// A port sends characters: an arrow for each packet and symbol.
@@ -415,15 +367,5 @@ impl Ladder {
         put_packet(tip, &mut self.asked, packet);
         tip.put(b" ");
         tip.put_hex(packet.bytes());
-    }
-}
-
-/// The edit that an event makes, and on the wire of which port.
-fn edit_of(line: &Line) -> Option<(PortRef, WireChange)> {
-    match line {
-        Line::Alter { port, place, .. } => Some((*port, WireChange::Alter(*place))),
-        Line::Insert { port, place, .. } => Some((*port, WireChange::Insert(*place))),
-        Line::Erase { port, place, n } => Some((*port, WireChange::Erase(*place, *n))),
-        _ => None,
     }
 }

@@ -6,7 +6,7 @@
 //! is lawful, which that crate tells.
 //!
 //! - `run`: the whole program, over any source, sink and sink of messages; `main` gives it the
-//!   arguments and the standard streams, and does nothing more.
+//!   words and the standard streams by `start` of `program_start`, and does nothing more.
 //! - [`ViewCommand`]: what the words ask for.
 //!
 //! If the system does not give the arguments, the status is 1 and nothing is written.
@@ -19,6 +19,7 @@ mod coverage;
 mod drawing;
 mod entries;
 mod ladder;
+mod lanes;
 mod map;
 mod map_answer;
 mod map_dot;
@@ -26,13 +27,15 @@ mod map_layout;
 mod map_svg;
 mod messages;
 mod page;
-mod page_head;
-mod page_rest;
-mod page_script;
+mod page_head_1;
+mod page_rest_1;
+mod page_rest_2;
+mod page_script_1;
 mod pen;
 mod picture;
 mod probes;
 mod program;
+mod records;
 mod save;
 mod shadow;
 mod telling;
@@ -40,28 +43,32 @@ mod wave;
 
 pub use command::{Range, ViewCommand, ViewName};
 pub use program::run;
-use rio_chars::{StdSink, StdSource};
+use program::waits_for;
+use program_start::{Program, start};
+use rio_chars::{Sink, Source};
+use std::alloc::Global;
 use std::process::ExitCode;
-use std::{env, io};
 
-fn main(rt: HostRuntime) -> ExitCode {
-    let Ok(arguments) = arguments(&rt) else {
-        return ExitCode::from(1);
-    };
-    let mut source = StdSource::new(rt.reader());
-    let mut sink = StdSink::new(io::writer(&rt));
-    let mut messages = StdSink::new(rt.stderr());
-    let status = run(
-        rt.alloc(),
-        arguments.as_slice(),
-        &mut source,
-        &mut sink,
-        &mut messages,
-    );
-    ExitCode::from(status)
+/// The program, as it is started.
+struct RioView;
+
+impl Program for RioView {
+    fn waits_for(&self, words: &[String]) -> &'static [u8] {
+        waits_for(words)
+    }
+
+    fn run<S: Source, K: Sink, M: Sink>(
+        &self,
+        alloc: Global,
+        words: &[String],
+        source: &mut S,
+        sink: &mut K,
+        messages: &mut M,
+    ) -> u8 {
+        run(alloc, words, source, sink, messages)
+    }
 }
 
-/// The program's name and the words that follow it.
-fn arguments(rt: &HostRuntime) -> io::Result<Vec<String>> {
-    Ok(env::args(rt)?.collect(rt.alloc())?)
+fn main(rt: HostRuntime) -> ExitCode {
+    start(&rt, &RioView)
 }

@@ -18,7 +18,7 @@ pub(crate) fn read_answer<S: Source>(
             return Ok(());
         }
         if read_line(map, lines.line()).is_none() {
-            return refused(number, LineFault::NoForm);
+            return refused(map.alloc, number, LineFault::OtherMap, lines.line());
         }
     }
     Err(ViewEnd::Ended(ViewStatus::TooLong))

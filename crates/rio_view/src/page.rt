@@ -6,18 +6,20 @@
 //! port and its outstanding packets, if they change. Fields are parted by tabs. `=` stands for the
 //! characters of the last line that the peer sent, or for the packet of the step before.
 
-use crate::page_head::HEAD;
-use crate::page_rest::REST;
-use crate::page_script::SCRIPT;
+use crate::page_head_1::HEAD_1;
+use crate::page_rest_1::REST_1;
+use crate::page_rest_2::REST_2;
+use crate::page_script_1::SCRIPT_1;
+use crate::records::{is_edit, lack_words, put_chars, put_states};
 use crate::telling::{Telling, Way};
 use fabric_script::{Line, PortRef, SetUp};
 use rio_chars::Char;
 use rio_packets::Packet;
 use std::alloc::{AllocError, Global};
-use trace_lines::{Lack, NetworkStep, TraceLine};
+use trace_lines::{NetworkStep, TraceLine};
 use view_words::{
-    AskedRegisters, Ear, HalfState, Halves, Ports, Seen, Setting, Text, View, ViewEnd, links_of,
-    listen, peer_of, port_of, put_event, put_packet, put_port,
+    AskedRegisters, Ear, Halves, Ports, Seen, Setting, Text, View, ViewEnd, links_of, listen,
+    peer_of, port_of, put_event, put_packet, put_port,
 };
 
 /// A port of the page.
@@ -76,7 +78,7 @@ impl View for PageView {
         }
         self.links = links_of(self.alloc, setting.set_up)?;
         self.next = setting.first;
-        out.put(HEAD);
+        out.put(HEAD_1);
         self.put_fabric(setting, out);
         Ok(())
     }
@@ -100,18 +102,10 @@ impl View for PageView {
     fn end(&mut self, _: Setting<'_>, out: &mut Text) -> Result<(), ViewEnd> {
         out.lack(&self.words);
         out.lack(&self.step);
-        out.put(SCRIPT);
-        out.put(REST);
+        out.put(SCRIPT_1);
+        out.put(REST_1);
+        out.put(REST_2);
         Ok(())
-    }
-}
-
-/// The letter of a state.
-fn letter(state: HalfState) -> &'static [u8] {
-    match state {
-        HalfState::Ok => b"O",
-        HalfState::RetryStopped => b"R",
-        HalfState::ErrorStopped => b"E",
     }
 }
 
@@ -342,52 +336,6 @@ impl PageView {
         out.put_hex(packet.bytes());
         out.put(b"\t");
         put_packet(out, &mut self.asked, packet);
-    }
-}
-
-/// The states of a port behind a colon, if they change.
-fn put_states(out: &mut Text, before: Halves, halves: Halves) {
-    if before.output != halves.output
-        || before.input != halves.input
-        || before.outstanding != halves.outstanding
-    {
-        out.put(b":");
-        out.put(letter(halves.output));
-        out.put(letter(halves.input));
-        out.put_number(u64::from(halves.outstanding));
-    }
-}
-
-/// Characters in short: two digits for each, behind a letter if it is no data.
-fn put_chars(out: &mut Text, chars: &[Char]) {
-    for c in chars {
-        match c {
-            Char::Data(byte) => out.put_hex(&[*byte]),
-            Char::Special(byte) => {
-                out.put(b"k");
-                out.put_hex(&[*byte]);
-            }
-            Char::Invalid => out.put(b"i"),
-        }
-    }
-}
-
-/// Whether an event changes a wire, or lets a time-out fire.
-fn is_edit(line: &Line) -> bool {
-    matches!(
-        line,
-        Line::Alter { .. } | Line::Insert { .. } | Line::Erase { .. } | Line::Timeout { .. }
-    )
-}
-
-/// Why nothing was done.
-fn lack_words(lack: Lack) -> &'static [u8] {
-    match lack {
-        Lack::Full => b"k full",
-        Lack::Empty => b"k empty",
-        Lack::Short => b"k short",
-        Lack::Early => b"k early",
-        Lack::NoStep => b"k none",
     }
 }
 

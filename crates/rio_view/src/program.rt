@@ -9,42 +9,62 @@ use crate::messages::{HELP, say};
 use crate::page::PageView;
 use crate::save::SaveFile;
 use crate::wave::Wave;
-use rio_chars::{Sink, Source, write_all};
+use program_start::{Question, answer_question, question_of};
+use rio_chars::{Sink, Source};
 use std::alloc::Global;
 use view_words::{CountsView, Part, ViewEnd, ViewStatus, WordsView, show, status_number};
 
-/// Writes the view that the words behind the program's name ask for, and answers the exit status.
-/// What there is to say of the end is said to `messages`. A message that cannot be said changes
-/// nothing.
+/// Writes the view that the words after the program's name ask for, or answers a question, and
+/// answers the exit status. What there is to say of the end is said to `messages`. A message that
+/// cannot be said changes nothing.
 pub fn run<S: Source, K: Sink, M: Sink>(
     alloc: Global,
-    arguments: &[String],
+    words: &[String],
     source: &mut S,
     sink: &mut K,
     messages: &mut M,
 ) -> u8 {
-    let end = view_words(alloc, arguments, source, sink);
-    say(messages, &end);
+    let end = answer_words(alloc, words, source, sink);
+    say(messages, words, &end);
     match end {
         Ok(()) => 0,
         Err(end) => status_number(end.status()),
     }
 }
 
-/// Writes the view that the arguments ask for.
-fn view_words<S: Source, K: Sink>(
+/// What is said at a terminal before the view of these words is made.
+pub(crate) fn waits_for(words: &[String]) -> &'static [u8] {
+    match command_of(words) {
+        Some(command) if command.view == ViewName::Map => {
+            b"rio_view: waiting for the set-up lines of a fabric; Ctrl-D ends them\n"
+        }
+        Some(_) => {
+            b"rio_view: waiting for set-up lines, a line --- and a trace; Ctrl-D ends them\n"
+        }
+        None => b"",
+    }
+}
+
+/// Answers the question of these words, or writes the view that they ask for.
+fn answer_words<S: Source, K: Sink>(
     alloc: Global,
-    arguments: &[String],
+    words: &[String],
     source: &mut S,
     sink: &mut K,
 ) -> Result<(), ViewEnd> {
-    let command = match arguments {
-        [_, words @ ..] => command_of(words),
-        [] => None,
-    };
-    match command {
-        Some(command) => view(alloc, command, source, sink),
-        None => Err(ViewEnd::Ended(ViewStatus::Words)),
+    match (question_of(words), command_of(words)) {
+        (Some(question), _) => answer(sink, question),
+        (None, Some(command)) => view(alloc, command, source, sink),
+        (None, None) => Err(ViewEnd::Ended(ViewStatus::Words)),
+    }
+}
+
+/// Answers a question.
+fn answer<K: Sink>(sink: &mut K, question: Question) -> Result<(), ViewEnd> {
+    if answer_question(sink, b"rio_view", HELP, question) {
+        Err(ViewEnd::Ended(ViewStatus::WriteFault))
+    } else {
+        Ok(())
     }
 }
 
@@ -67,10 +87,6 @@ fn view<S: Source, K: Sink>(
         ViewName::Coverage => show(alloc, part, Coverage::new(alloc), source, sink),
         ViewName::Page => show_page(alloc, part, source, sink),
         ViewName::Map => show_map(alloc, command, source, sink),
-        ViewName::Help => match write_all(sink, HELP) {
-            Ok(()) => Ok(()),
-            Err(_) => Err(ViewEnd::Ended(ViewStatus::WriteFault)),
-        },
     }
 }
 

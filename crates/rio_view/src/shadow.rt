@@ -3,10 +3,9 @@
 
 use crate::entries::{COUNT, of_bad, of_packet, of_receiver, of_sender, of_time_out, of_turn};
 use arrayvec::ArrayVec;
-use link_model::Event;
-use link_port::{InKind, OutKind, Port, PortFace, Taken};
+use link_port::{Completed, OutKind, Port, PortFace, Sending};
 use rio_chars::Char;
-use rio_packets::Packet;
+use rio_packets::{Cause, Packet};
 use rio_symbols::Symbol;
 use rio_symbols::stype1::{LINK_REQUEST, RESTART_FROM_RETRY};
 use std::alloc::AllocError;
@@ -43,6 +42,26 @@ pub(crate) enum Came<'a> {
     Fired,
     /// This packet, which it held, goes on.
     Given(&'a Packet),
+    /// This packet is to be sent.
+    Put(&'a Packet),
+}
+
+/// What is kept of one run of characters for the next: the last packet, and the packets that were
+/// freed.
+#[derive(Drop)]
+pub(crate) struct Kept {
+    packet: Packet,
+    freed: ArrayVec<Packet, 31>,
+}
+
+impl Kept {
+    /// Nothing was read.
+    pub(crate) fn new() -> Kept {
+        Kept {
+            packet: Packet::default(),
+            freed: ArrayVec::new(),
+        }
+    }
 }
 
 /// A port that follows a trace.
@@ -52,67 +71,72 @@ pub(crate) struct Shadow {
     pub(crate) ear: Ear,
 }
 
-/// The states of a port before something comes.
-#[derive(Clone, Copy)]
-struct Before {
-    output: OutKind,
-    asked: bool,
-    input: InKind,
-}
-
 impl Shadow {
     /// The port does what a line says.
     pub(crate) fn follow(
         &mut self,
         came: &Came<'_>,
+        kept: &mut Kept,
         met: &mut EntriesMet,
     ) -> Result<(), AllocError> {
         match *came {
             Came::Sent(chars) => self.send(chars, met)?,
-            Came::Got(chars) => self.get(chars, met),
+            Came::Got(chars) => self.get(chars, kept, met),
             Came::Fired => self.fire(met),
             Came::Given(packet) => self.give(packet),
+            Came::Put(packet) => self.put(packet),
         }
         Ok(())
     }
 
-    /// The states of the port.
-    fn states(&self) -> Before {
-        Before {
-            output: self.port.out_kind(),
-            asked: self.port.asked(),
-            input: self.port.in_kind(),
-        }
-    }
-
     /// The port takes characters.
-    fn get(&mut self, chars: &[Char], met: &mut EntriesMet) {
-        for c in chars {
-            let before = self.states();
-            let mut freed = ArrayVec::new();
-            let taken = self.port.take(*c, &mut freed);
-            self.note(before, &taken, met);
+    fn get(&mut self, chars: &[Char], kept: &mut Kept, met: &mut EntriesMet) {
+        let mut left = chars;
+        while !left.is_empty() {
+            let (count, completed) = self.port.read(left, &mut kept.packet);
+            left = left.split_at(count).1;
+            self.act(completed, kept, met);
         }
     }
 
-    /// Notes what the last character did.
-    fn note(&self, before: Before, taken: &Taken, met: &mut EntriesMet) {
-        match &taken.first {
-            None => {}
-            Some(Event::Ctl(symbol)) => self.note_symbol(before, symbol, met),
-            Some(Event::Pkt(..)) => met.meet(of_packet(before.input, self.port.in_kind())),
-            Some(Event::Bad(_)) => met.meet(of_bad(before.input)),
-        }
-        if let Some(symbol) = &taken.second {
-            self.note_symbol(before, symbol, met);
+    /// The port acts on what characters completed.
+    fn act(&mut self, completed: Completed, kept: &mut Kept, met: &mut EntriesMet) {
+        match completed {
+            Completed::Nothing => {}
+            Completed::Symbol(symbol) => self.hear(symbol, kept, met),
+            Completed::Packet(ack, symbol) => {
+                self.take(ack, &kept.packet, met);
+                self.hear(symbol, kept, met);
+            }
+            Completed::NoPacket(cause, symbol) => {
+                self.refuse(cause, met);
+                self.hear(symbol, kept, met);
+            }
+            Completed::Bad(cause) => self.refuse(cause, met),
         }
     }
 
-    /// Notes a symbol. One that ends a packet does nothing in the input half.
-    fn note_symbol(&self, before: Before, symbol: &Symbol, met: &mut EntriesMet) {
-        let behind = self.port.out_kind();
-        met.meet(of_sender(before.output, before.asked, symbol.s0, behind));
-        met.meet(of_receiver(before.input, symbol));
+    /// A packet comes.
+    fn take(&mut self, ack: u8, packet: &Packet, met: &mut EntriesMet) {
+        let before = self.port.in_kind();
+        self.port.act_packet(ack, packet);
+        met.meet(of_packet(before, self.port.in_kind()));
+    }
+
+    /// What comes is neither a packet nor a symbol.
+    fn refuse(&mut self, cause: Cause, met: &mut EntriesMet) {
+        met.meet(of_bad(self.port.in_kind()));
+        self.port.act_bad(cause);
+    }
+
+    /// A symbol comes.
+    fn hear(&mut self, symbol: Symbol, kept: &mut Kept, met: &mut EntriesMet) {
+        let before = self.port.out_kind();
+        let asked = self.port.asked();
+        met.meet(of_receiver(self.port.in_kind(), &symbol));
+        kept.freed.clear();
+        self.port.act_symbol(symbol, &mut kept.freed);
+        met.meet(of_sender(before, asked, symbol.s0, self.port.out_kind()));
     }
 
     /// The port sends characters.
@@ -133,6 +157,13 @@ impl Shadow {
     /// A packet that was held goes on.
     fn give(&mut self, packet: &Packet) {
         self.port.in_pop(packet.prio());
+    }
+
+    /// A packet is to be sent.
+    fn put(&mut self, packet: &Packet) {
+        if self.port.out_room(packet.prio()) {
+            self.port.out_put(packet.copy());
+        }
     }
 }
 
@@ -160,9 +191,10 @@ impl Hear for Turns<'_> {
 }
 
 impl Turns<'_> {
-    /// A packet is sent, which waited already or comes just now.
+    /// A packet is sent. No line said that it is to be sent if none can start.
     fn start(&mut self, packet: &Packet) {
-        if !self.port.waiting() && self.port.out_room(packet.prio()) {
+        let is_new = self.port.out_kind() == OutKind::Ok && !self.port.ready();
+        if is_new && self.port.out_room(packet.prio()) {
             self.port.out_put(packet.copy());
         }
         self.turn();
@@ -175,11 +207,15 @@ impl Turns<'_> {
         }
     }
 
-    /// The port takes a turn.
+    /// The port takes a turn. In a turn that sends its status it meets no entry.
     fn turn(&mut self) {
         let before = self.port.out_kind();
-        let burst = self.port.turn();
-        if !burst.sent.is_empty() {
+        let is_met = match self.port.start_turn() {
+            Sending::Nothing => false,
+            Sending::Symbol(_) => before != OutKind::Ok,
+            Sending::Packet { .. } => true,
+        };
+        if is_met {
             if let Some(entry) = of_turn(before) {
                 self.met.meet(entry);
             }

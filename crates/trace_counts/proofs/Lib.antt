@@ -1,1 +1,2 @@
 pub mod SumsLaws
+pub mod RoomLaws

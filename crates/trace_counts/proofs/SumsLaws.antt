@@ -1,5 +1,5 @@
 -- What characters say is noted run by run, and lines are counted one by one.
-use Rattle.std.proofs.Common.{◌≡◌, ℕ, suc, ◌+◌, ◌-◌, ◌<◌, ◌≤◌, List, [], ◌∷◌, ◌++◌, length, take, drop, take-append-drop, map, refl, sym, ap, ap₂, ◌∙◌, ◌*◌, zero, replicate, arith}
+use Rattle.std.proofs.Common.{◌≡◌, ℕ, suc, ◌+◌, ◌-◌, ◌<◌, ◌≤◌, List, [], ◌∷◌, ◌++◌, length, take, drop, take-append-drop, map, subst, refl, sym, ap, ap₂, ◌∙◌, ◌*◌, zero, replicate, arith}
 use Rattle.std.proofs.lemmas.List.{map-append}
 use Rattle.rio_chars.specs.declared.chars.Char.{Char}
 use Rattle.link_model.specs.declared.event.Event.{Event}
@@ -18,6 +18,8 @@ use Rattle.trace_lines.specs.declared.lines.TraceLine.{TraceLine}
 use Rattle.link_model.proofs.PlacesLaws.{placed_away}
 use Rattle.trace_counts.specs.declared.sums.Sums.{Sums}
 use Rattle.trace_counts.specs.Sums.{PortCounts, noted, noted_all, nothing_done}
+use Rattle.trace_counts.specs.Room.{SumsHaveRoom}
+use Rattle.trace_counts.proofs.RoomLaws.{room-noted_all}
 use Rattle.trace_counts.specs.Counts.{line_counted, counted_all, counts_of_lines}
 
 pub noted_all-append : (s : Sums) (es fs : List Event)
@@ -98,6 +100,23 @@ sums-front s s2 from cs rest count told new some count_is told_is new_is rest_is
     rest_here)
     ∙ sym (noted_all-append s front.step.gives (said front.step.place (drop front.count cs)))
     ∙ ap (noted_all s) (sym (said-front from cs there))
+
+-- what the first run of characters adds
+pub room-front : (s : Sums) (from : Place) (cs : List Char) (count : ℕ) (told : Told)
+    (new : Framing) → 0 < count → count ≡ (telling_front from cs).count
+    → told ≡ told_of_events (telling_front from cs).step.gives
+    → new ≡ framing_after (telling_front from cs).step → SumsHaveRoom (noted_all s (said from cs))
+    → SumsHaveRoom (noted_all s
+    (listed (events_by told new.ended).first (events_by told new.ended).second))
+room-front s from cs count told new some count_is told_is new_is room =
+    let front = telling_front from cs in
+    let there : 0 < front.count = omega (arith, count_is, some) in
+    let rest = said front.step.place (drop front.count cs) in
+    let whole : SumsHaveRoom (noted_all (noted_all s front.step.gives) rest) =
+    subst SumsHaveRoom (ap (noted_all s) (said-front from cs there)
+    ∙ noted_all-append s front.step.gives rest) room in
+    subst SumsHaveRoom (sym (ap (noted_all s) (given_events from cs told new told_is new_is)))
+    (room-noted_all (noted_all s front.step.gives) rest whole)
 
 -- where the reading of characters goes on behind their first run
 pub stands-read : (from : Place) (cs rest : List Char) (count : ℕ) (new : Framing)

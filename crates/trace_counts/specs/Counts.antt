@@ -1,6 +1,5 @@
 -- What each port did, counted over the lines of a trace.
 use Rattle.std.specs.Prelude.{ℕ, ◌+◌, ◌*◌, nat_lt, List, [], ◌∷◌, length, replicate, slice_index_or, slice_set, if◌then◌else◌}
-use Rattle.rio_packets.specs.LinkForm.{Passes}
 use Rattle.fabric_script.specs.declared.ports.PortRef.{PortRef}
 use Rattle.trace_lines.specs.declared.lines.TraceLine.{TraceLine}
 use Rattle.trace_lines.specs.declared.lines.TraceLine.TheVariants as L

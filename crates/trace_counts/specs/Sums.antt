@@ -124,5 +124,7 @@ still_held c = c.holds - (c.moves_out + c.drops + c.answers + c.leaves)
 -- four totals with a port more: what was taken, answered, left and was dropped there
 abbrev pub totals_with : List ℕ → LineCounts → List ℕ
 totals_with total c =
-    capped (slice_index_or total 0 0 + c.takes) ∷ capped (slice_index_or total 1 0 + c.answers)
-    ∷ capped (slice_index_or total 2 0 + c.leaves) ∷ capped (slice_index_or total 3 0 + c.drops) ∷ []
+    capped (slice_index_or total 0 0 + c.takes)
+    ∷ capped (slice_index_or total 1 0 + c.answers)
+    ∷ capped (slice_index_or total 2 0 + c.leaves)
+    ∷ capped (slice_index_or total 3 0 + c.drops) ∷ []

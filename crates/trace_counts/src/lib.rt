@@ -1,9 +1,9 @@
 //! What each port of a trace did, counted over its lines.
 //!
-//! Promised: a line adds exactly what it says, and each sum is one over the lines that were counted.
+//! Promised: a line adds exactly what it says, each sum is one over the lines that were counted,
+//! and `TooMany` comes exactly if one of them would be 2^64 or more.
 //!
-//! Left out: whether the trace is lawful, that each of its lines is counted, and when `TooMany`
-//! comes, which is meant for a sum of 2^64 or more.
+//! Left out: whether the trace is lawful, and that each of its lines is counted.
 //!
 //! - `Sums` and `Counts`, in `specs`: what a line adds
 //! - [`Tallies`]: what each port did; [`PortTally`]: what one port did

@@ -1,15 +1,16 @@
 //! What a port did, as sums.
-ghost use Rattle.std.specs.Prelude.{◌≡◌, ◌+◌, ℕ, suc, IsSome, IfOk, OnOk};
+ghost use Rattle.std.specs.Prelude.{◌≡◌, ◌+◌, ◌≤◌, ℕ, suc, IsSome, IfOk, OnOk, OnErr};
 ghost use Rattle.rio_symbols.specs.Fields.{Fields};
 ghost use Rattle.link_model.specs.declared.event.Event.TheVariants.{Ctl, Pkt, Bad};
 ghost use Rattle.rio_framer.specs.Giving.{listed, events_by};
 ghost use Rattle.trace_counts.specs.Sums.{kind_raised, noted, noted_all, packet_counted, no_sums, sent_again, left_to_send, still_held, totals_with};
+ghost use Rattle.trace_counts.specs.Room.{EachHasRoom, SumsHaveRoom, line_sums};
 
 use rio_framer::{Framer, Told};
 use rio_symbols::Symbol;
 use rio_symbols::stype0::PACKET_NOT_ACCEPTED;
 
-/// A sum is too great.
+/// A sum would be 2^64 or more.
 #[derive(Clone, Copy)]
 pub struct TooMany;
 
@@ -66,7 +67,8 @@ pub enum LineKind {
 
 /// So many more.
 fn raise_by(count: &mut u64, more: u64) -> Result<(), TooMany>
-    ensures { OnOk result (count.new ≡ count.old + more) }
+    ensures sum { OnOk result (count.new ≡ count.old + more) }
+    ensures too_many { OnErr result (18446744073709551616 ≤ count.old + more) }
 {
     let Some(sum) = count.checked_add(more) else {
         return Err(TooMany);
@@ -77,7 +79,8 @@ fn raise_by(count: &mut u64, more: u64) -> Result<(), TooMany>
 
 /// One more.
 fn raise(count: &mut u64) -> Result<(), TooMany>
-    ensures { OnOk result (count.new ≡ count.old + 1) }
+    ensures sum { OnOk result (count.new ≡ count.old + 1) }
+    ensures too_many { OnErr result (18446744073709551616 ≤ count.old + 1) }
 {
     raise_by(count, 1)
 }
@@ -85,7 +88,8 @@ fn raise(count: &mut u64) -> Result<(), TooMany>
 impl LineCounts {
     /// A line is counted.
     pub(crate) fn raise(&mut self, kind: LineKind) -> Result<(), TooMany>
-        ensures { OnOk result (self.new ≡ kind_raised self.old kind) }
+        ensures sums { OnOk result (self.new ≡ kind_raised self.old kind) }
+        ensures too_many { OnErr result (EachHasRoom (line_sums (kind_raised self.old kind)) → ⊥) }
     {
         match kind {
             LineKind::Take => raise(&mut self.takes),
@@ -131,8 +135,10 @@ impl Sums {
 
     /// So many characters are sent.
     pub(crate) fn note_characters(&mut self, count: u64) -> Result<(), TooMany>
-        ensures { OnOk result (self.new
+        ensures sums { OnOk result (self.new
             ≡ record self.old { characters = self.old.characters + count }) }
+        ensures too_many { OnErr result
+            (SumsHaveRoom (record self.old { characters = self.old.characters + count }) → ⊥) }
     {
         raise_by(&mut self.characters, count)
     }
@@ -140,8 +146,11 @@ impl Sums {
     /// What the last characters told.
     pub(crate) fn note(&mut self, told: Told, framer: &Framer) -> Result<(), TooMany>
         requires { (symbol : Fields) → told ≡ Told.Ends symbol → IsSome framer.now.ended }
-        ensures { OnOk result (self.new ≡ noted_all self.old (listed
+        ensures sums { OnOk result (self.new ≡ noted_all self.old (listed
             (events_by told framer.now.ended).first (events_by told framer.now.ended).second)) }
+        ensures too_many { OnErr result (SumsHaveRoom (noted_all self.old (listed
+            (events_by told framer.now.ended).first
+            (events_by told framer.now.ended).second)) → ⊥) }
     {
         match told {
             Told::Nothing => Ok(()),
@@ -157,8 +166,10 @@ impl Sums {
     /// A packet, or what is none.
     fn note_ended(&mut self, framer: &Framer) -> Result<(), TooMany>
         requires { IsSome framer.now.ended }
-        ensures { OnOk result (self.new
+        ensures sums { OnOk result (self.new
             ≡ noted_all self.old (listed framer.now.ended None)) }
+        ensures too_many { OnErr result
+            (SumsHaveRoom (noted_all self.old (listed framer.now.ended None)) → ⊥) }
     {
         match framer.ended() {
             Ok((ack, _)) => self.note_packet(ack),
@@ -169,7 +180,8 @@ impl Sums {
     /// A packet: it is as many behind the oldest one that is not freed as its ackID is behind that
     /// one's.
     fn note_packet(&mut self, ack: u8) -> Result<(), TooMany>
-        ensures { OnOk result (self.new ≡ packet_counted self.old ack) }
+        ensures sums { OnOk result (self.new ≡ packet_counted self.old ack) }
+        ensures too_many { OnErr result (SumsHaveRoom (packet_counted self.old ack) → ⊥) }
     {
         raise(&mut self.packets)?;
         let oldest = (self.lines.frees % 32) as u8;
@@ -187,7 +199,8 @@ impl Sums {
 
     /// A symbol.
     fn note_symbol(&mut self, symbol: &Symbol) -> Result<(), TooMany>
-        ensures { OnOk result (self.new ≡ noted self.old (Ctl symbol.now)) }
+        ensures sums { OnOk result (self.new ≡ noted self.old (Ctl symbol.now)) }
+        ensures too_many { OnErr result (SumsHaveRoom (noted self.old (Ctl symbol.now)) → ⊥) }
     {
         raise(&mut self.senders[usize::from(symbol.s0)])?;
         raise(&mut self.receivers[usize::from(symbol.s1)])?;

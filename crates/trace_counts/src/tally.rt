@@ -1,8 +1,9 @@
 //! What each port did, counted over the lines of a trace.
-ghost use Rattle.std.specs.Prelude.{◌≡◌, ◌*◌, ◌<◌, IfOk, IfSome, IfNone, OnOk, [], ◌∷◌, ◌++◌, List, ℕ, length, slice_get, option_copied};
+ghost use Rattle.std.specs.Prelude.{◌≡◌, ◌*◌, ◌<◌, IfOk, IfSome, IfNone, OnOk, OnErr, [], ◌∷◌, ◌++◌, List, ℕ, length, slice_get, option_copied};
 ghost use Rattle.fabric_script.specs.Known.{Known as AKnown};
 ghost use Rattle.trace_lines.specs.declared.lines.TraceLine.{TraceLine as ALine};
 ghost use Rattle.trace_counts.specs.Sums.{nothing_done, sent, PortCounts};
+ghost use Rattle.trace_counts.specs.Room.{SumsHaveRoom, PortsHaveRoom};
 ghost use Rattle.trace_counts.specs.Counts.{count_place, at_port, with_line_kind, with_step, line_counted, counts_of_lines, endpoint_port};
 
 use crate::sums::{LineKind, Sums, TooMany};
@@ -48,14 +49,16 @@ impl PortTally {
 
     /// A line of the port is counted.
     fn raise(&mut self, kind: LineKind) -> Result<(), TooMany>
-        ensures { OnOk result (self.new ≡ with_line_kind kind self.old) }
+        ensures sums { OnOk result (self.new ≡ with_line_kind kind self.old) }
+        ensures too_many { OnErr result (SumsHaveRoom (with_line_kind kind self.old).sums → ⊥) }
     {
         self.sums.lines.raise(kind)
     }
 
     /// The port sends characters.
     fn send(&mut self, chars: &[Char]) -> Result<(), TooMany>
-        ensures { OnOk result (self.new ≡ sent self.old chars.now) }
+        ensures sums { OnOk result (self.new ≡ sent self.old chars.now) }
+        ensures too_many { OnErr result (SumsHaveRoom (sent self.old chars.now).sums → ⊥) }
     {
         self.sums.note_characters(chars.len() as u64)?;
         let mut left = chars;
@@ -102,10 +105,10 @@ impl Tallies {
         self.items.get(place_of(port))
     }
 
-    /// Counts a line of a trace. `TooMany` is meant for a sum that would be 2^64 or more; no clause
-    /// says so.
+    /// Counts a line of a trace. `TooMany` comes exactly if a sum would be 2^64 or more.
     pub fn count(&mut self, line: &TraceLine) -> Result<(), TooMany>
         ensures line { OnOk result (self.new ≡ line_counted self.old line.now) }
+        ensures too_many { OnErr result (PortsHaveRoom (line_counted self.old line.now) → ⊥) }
         ensures sums { (nodes : ℕ) (lines : List ALine) → self.old ≡ counts_of_lines nodes lines
             → OnOk result (self.new ≡ counts_of_lines nodes (lines ++ line.now ∷ [])) }
     {
@@ -115,7 +118,8 @@ impl Tallies {
 
     /// Counts a line of a trace.
     fn add(&mut self, line: &TraceLine) -> Result<(), TooMany>
-        ensures { OnOk result (self.new ≡ line_counted self.old line.now) }
+        ensures line { OnOk result (self.new ≡ line_counted self.old line.now) }
+        ensures too_many { OnErr result (PortsHaveRoom (line_counted self.old line.now) → ⊥) }
     {
         match line {
             TraceLine::Sent(port, chars) => self.send(*port, chars.as_slice()),
@@ -131,7 +135,8 @@ impl Tallies {
 
     /// A step of a packet.
     fn count_step(&mut self, step: &NetworkStep) -> Result<(), TooMany>
-        ensures { OnOk result (self.new ≡ with_step self.old step.now) }
+        ensures step { OnOk result (self.new ≡ with_step self.old step.now) }
+        ensures too_many { OnErr result (PortsHaveRoom (with_step self.old step.now) → ⊥) }
     {
         match step {
             NetworkStep::Hold(port, _) => self.raise(*port, LineKind::Hold),
@@ -149,7 +154,9 @@ impl Tallies {
 
     /// A line of a port.
     fn raise(&mut self, port: PortRef, kind: LineKind) -> Result<(), TooMany>
-        ensures { OnOk result (self.new ≡ at_port self.old port (with_line_kind kind)) }
+        ensures sums { OnOk result (self.new ≡ at_port self.old port (with_line_kind kind)) }
+        ensures too_many { OnErr result
+            (PortsHaveRoom (at_port self.old port (with_line_kind kind)) → ⊥) }
     {
         let place = place_of(port);
         if place < self.items.len() {
@@ -160,7 +167,9 @@ impl Tallies {
 
     /// A port sends characters.
     fn send(&mut self, port: PortRef, chars: &[Char]) -> Result<(), TooMany>
-        ensures { OnOk result (self.new ≡ at_port self.old port (λ c. sent c chars.now)) }
+        ensures sums { OnOk result (self.new ≡ at_port self.old port (λ c. sent c chars.now)) }
+        ensures too_many { OnErr result
+            (PortsHaveRoom (at_port self.old port (λ c. sent c chars.now)) → ⊥) }
     {
         let place = place_of(port);
         if place < self.items.len() {

@@ -143,7 +143,8 @@ impl Halves {
         }
     }
 
-    /// Something is wrong. What comes until the port knows which packet is expected changes nothing.
+    /// Something is wrong. What comes until the port knows which packet is expected changes
+    /// nothing.
     fn fail(&mut self) {
         if self.output != HalfState::ErrorStopped {
             self.output = HalfState::ErrorStopped;

@@ -5,7 +5,7 @@
 //! is lawful, which `trace_check` tells.
 //!
 //! - [`show`]: reads set-up lines and a trace, and writes what a [`View`] makes of them, or ends
-//!   with a [`ViewEnd`]
+//!   with a [`ViewEnd`], of which a [`RefusedLine`] says which line is to blame and why
 //! - [`Part`], [`Selection`]: which lines and ports of a trace are shown
 //! - [`Text`]: what is written, with the mark of memory that was not given
 //! - [`Ports`]: what a view keeps for each port; [`Ear`], [`Hear`], [`Heard`]: what characters say;
@@ -13,6 +13,8 @@
 //! - [`WordsView`], [`CountsView`]: a trace in words, and its counts
 #![tactic(auto)]
 
+mod behind;
+mod blame;
 mod counts;
 mod fabric;
 mod halves;
@@ -20,11 +22,13 @@ mod heard;
 mod lines;
 mod packets;
 mod reading;
+mod refusals;
 mod registers;
 mod selection;
 mod status;
 mod symbols;
 mod text;
+mod transfers;
 mod view;
 mod words;
 
@@ -34,7 +38,8 @@ pub use halves::{HalfState, Halves};
 pub use heard::{Ear, Hear, Heard, listen};
 pub use lines::Lines;
 pub use packets::{AskedRegisters, put_packet, put_sent_packet};
-pub use reading::{LineFault, RefusedLine, ViewEnd, read_front, refused, show, write_out};
+pub use reading::{ViewEnd, read_front, show, write_out};
+pub use refusals::{LineFault, RefusedLine, refused};
 pub use selection::{ChosenPorts, LineRange, Part, Selection};
 pub use status::{ViewStatus, status_number};
 pub use symbols::{

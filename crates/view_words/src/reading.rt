@@ -3,6 +3,7 @@ ghost use Rattle.std.specs.Prelude.{IfOk};
 ghost use Rattle.fabric_script.specs.SetUps.{KnownIsReady};
 
 use crate::lines::{Lines, MOST_LINE};
+use crate::refusals::{LineFault, RefusedLine, refused, refused_form, refused_set_up};
 use crate::selection::{LineRange, Part, Selection};
 use crate::status::ViewStatus;
 use crate::text::Text;
@@ -19,30 +20,8 @@ const BETWEEN: &[u8] = b"---";
 /// How many bytes of a view wait before they are written.
 const ROOM: usize = 65_536;
 
-/// Why a line is refused.
-#[derive(Clone, Copy)]
-pub enum LineFault {
-    /// A set-up line is refused, for the reason of this number.
-    SetUp(u8),
-    /// No line `---` comes.
-    NoTrace,
-    /// It is no line of a trace.
-    NoForm,
-    /// It stands behind the last line of the trace.
-    Behind,
-    /// The last line of the trace does not come.
-    NoEnd,
-}
-
-/// The line that is refused, and why.
-#[derive(Clone, Copy)]
-pub struct RefusedLine {
-    pub line: u32,
-    pub reason: LineFault,
-}
-
 /// Why there is no whole view.
-#[derive(Clone, Copy)]
+#[derive(Drop)]
 pub enum ViewEnd {
     /// A line of the input is refused.
     Refused(RefusedLine),
@@ -56,11 +35,11 @@ pub enum ViewEnd {
 
 impl ViewEnd {
     /// How the program ends.
-    pub fn status(self) -> ViewStatus {
+    pub fn status(&self) -> ViewStatus {
         match self {
             ViewEnd::Refused(_) => ViewStatus::Refused,
             ViewEnd::NoPort | ViewEnd::TooHigh(_) => ViewStatus::Words,
-            ViewEnd::Ended(status) => status,
+            ViewEnd::Ended(status) => *status,
         }
     }
 }
@@ -89,11 +68,6 @@ impl From<TooMany> for ViewEnd {
     }
 }
 
-/// A line is refused.
-pub fn refused<T>(line: u32, reason: LineFault) -> Result<T, ViewEnd> {
-    Err(ViewEnd::Refused(RefusedLine { line, reason }))
-}
-
 /// Reads set-up lines, a line `---` and a trace, and writes a view of a part of it, in pieces of
 /// kilobytes. If a line is refused, what waits to be written is dropped.
 pub fn show<S: Source, K: Sink, V: View + Drop>(
@@ -106,7 +80,7 @@ pub fn show<S: Source, K: Sink, V: View + Drop>(
     let mut lines = Lines::new(alloc)?;
     let (set_up, first, has_trace) = read_front(alloc, &mut lines, source)?;
     if !has_trace {
-        return refused(first, LineFault::NoTrace);
+        return refused(alloc, first, LineFault::NoTrace, b"");
     }
     let selection = Selection::of(alloc, &set_up, part)?;
     let mut showing = Showing {
@@ -166,10 +140,10 @@ impl<V: View> Showing<V> {
         let mut is_done = false;
         for number in first..u32::MAX {
             if !lines.read(source)? {
-                return end_before(number, is_done);
+                return end_before(self.alloc, number, is_done);
             }
             if is_done {
-                return refused(number, LineFault::Behind);
+                return refused(self.alloc, number, LineFault::Behind, lines.line());
             }
             is_done = self.show_line(number, lines.line())?;
             make_room(&mut self.out, sink)?;
@@ -181,7 +155,9 @@ impl<V: View> Showing<V> {
     fn show_line(&mut self, number: u32, text: &[u8]) -> Result<bool, ViewEnd> {
         let line = match read_trace_line(self.alloc, &self.set_up, text) {
             Ok(line) => line,
-            Err(TraceLineEnd::NoForm) => return refused(number, LineFault::NoForm),
+            Err(TraceLineEnd::NoForm) => {
+                return Err(refused_form(self.alloc, &self.set_up, number, text));
+            }
             Err(TraceLineEnd::NoMemory) => return Err(ViewEnd::Ended(ViewStatus::NoMemory)),
         };
         let seen = Seen {
@@ -250,17 +226,32 @@ fn set_up_of(alloc: Global, script: &[u8]) -> Result<SetUp, ViewEnd>
     }
     match read_set_up(alloc, script) {
         Ok(set_up) => Ok(set_up),
-        Err(ScriptEnd::Refused(refusal)) => refused(refusal.line, LineFault::SetUp(refusal.reason)),
+        Err(ScriptEnd::Refused(refusal)) => {
+            let text = line_of(script, refusal.line);
+            Err(refused_set_up(alloc, refusal.line, refusal.reason, text))
+        }
         Err(ScriptEnd::NoMemory) => Err(ViewEnd::Ended(ViewStatus::NoMemory)),
     }
 }
 
+/// The text of the set-up line of this number.
+fn line_of(script: &[u8], number: u32) -> &[u8] {
+    let mut left = number;
+    for text in script.split(|byte| *byte == b'\n') {
+        if left <= 1 {
+            return text;
+        }
+        left -= 1;
+    }
+    b""
+}
+
 /// What it means that the line of this number does not come.
-fn end_before(number: u32, is_done: bool) -> Result<(), ViewEnd> {
+fn end_before(alloc: Global, number: u32, is_done: bool) -> Result<(), ViewEnd> {
     if is_done {
         Ok(())
     } else {
-        refused(number, LineFault::NoEnd)
+        refused(alloc, number, LineFault::NoEnd, b"")
     }
 }
 

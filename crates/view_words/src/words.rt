@@ -1,17 +1,18 @@
 //! A trace with words behind each line, or one line for each transfer.
 
+use crate::behind::put_chars;
 use crate::fabric::{Ports, links_of, peer_of, put_node, put_port};
-use crate::heard::{Ear, Hear, Heard, listen};
+use crate::heard::{Ear, listen};
 use crate::packets::{AskedRegisters, put_packet, put_sent_packet};
 use crate::reading::ViewEnd;
-use crate::symbols::{bad_words, is_delimiter, put_brief_symbol, put_symbol};
+use crate::symbols::{bad_words, put_symbol};
 use crate::text::Text;
+use crate::transfers::{Faults, Transfers, put_at, put_line_number};
 use crate::view::{Seen, Setting, View};
 use fabric_script::PortRef;
 use link_model::Event;
 use rio_chars::Char;
-use rio_packets::{Cause, Packet};
-use rio_symbols::Symbol;
+use rio_packets::Packet;
 use std::alloc::{AllocError, Global};
 use trace_lines::{Lack, NetworkStep, TraceLine};
 
@@ -65,15 +66,6 @@ impl View for WordsView {
     fn end(&mut self, _: Setting<'_>, _: &mut Text) -> Result<(), ViewEnd> {
         Ok(())
     }
-}
-
-/// How wide the numbers of lines are.
-const NUMBER: usize = 6;
-
-/// The number of a line, in front of it.
-fn put_line_number(out: &mut Text, number: u32) {
-    out.put_number_right(NUMBER, u64::from(number));
-    out.put(b" ");
 }
 
 impl WordsView {
@@ -240,163 +232,6 @@ fn put_step_at(out: &mut Text, seen: &Seen<'_>, word: &[u8], port: PortRef) {
     out.put(b"  ");
     out.put(word);
     put_port(out, seen.set_up, port);
-}
-
-/// What characters say, behind a line.
-fn put_chars(
-    out: &mut Text,
-    asked: &mut AskedRegisters,
-    ear: Option<&mut Ear>,
-    chars: &[Char],
-) -> Result<(), AllocError> {
-    let Some(ear) = ear else {
-        return Ok(());
-    };
-    let mut behind = Behind {
-        out,
-        asked,
-        parting: b"  # ",
-    };
-    listen(ear, chars, &mut behind)?;
-    if !ear.at_rest() {
-        behind.put_parting();
-        behind.out.put(b"..");
-    }
-    Ok(())
-}
-
-/// The words behind a line, one after another.
-#[derive(Drop)]
-struct Behind<'a> {
-    out: &'a mut Text,
-    asked: &'a mut AskedRegisters,
-    parting: &'static [u8],
-}
-
-impl Behind<'_> {
-    /// What stands before the next of them.
-    fn put_parting(&mut self) {
-        self.out.put(self.parting);
-        self.parting = b"; ";
-    }
-
-    /// The words of a symbol.
-    fn put_symbol(&mut self, symbol: &Symbol) {
-        self.put_parting();
-        put_symbol(self.out, symbol);
-    }
-
-    /// The words of what is neither a packet nor a symbol.
-    fn put_bad(&mut self, cause: Cause) {
-        self.put_parting();
-        self.out.put(bad_words(cause));
-    }
-}
-
-impl Hear for Behind<'_> {
-    fn hear(&mut self, _: &[Char], heard: &Heard) -> Result<(), AllocError> {
-        match heard {
-            Heard::Nothing => {}
-            Heard::Symbol(symbol) => self.put_symbol(symbol),
-            Heard::Packet(ack, packet, symbol) => {
-                self.put_parting();
-                put_sent_packet(self.out, self.asked, *ack, packet);
-                self.out.put(b", CRC good");
-                self.put_symbol(symbol);
-            }
-            Heard::Broken(cause, symbol) => {
-                self.put_bad(*cause);
-                self.put_symbol(symbol);
-            }
-            Heard::Bad(cause) => self.put_bad(*cause),
-        }
-        Ok(())
-    }
-}
-
-/// The transfers of a port, one a line. A packet is told without the symbols around it.
-#[derive(Drop)]
-struct Transfers<'a> {
-    out: &'a mut Text,
-    asked: &'a mut AskedRegisters,
-    seen: &'a Seen<'a>,
-    port: PortRef,
-    peer: Option<PortRef>,
-}
-
-impl Transfers<'_> {
-    /// Who sends, and to whom.
-    fn put_ends(&mut self) {
-        put_at(self.out, self.seen, self.port, b" > ");
-        if let Some(peer) = self.peer {
-            put_port(self.out, self.seen.set_up, peer);
-        }
-        self.out.put(b": ");
-    }
-
-    /// The line of a symbol, unless it only begins or ends a packet.
-    fn put_symbol(&mut self, symbol: &Symbol) {
-        if !is_delimiter(symbol) {
-            self.put_ends();
-            put_brief_symbol(self.out, symbol);
-            self.out.put(b"\n");
-        }
-    }
-
-    /// The line of what is neither a packet nor a symbol.
-    fn put_bad(&mut self, cause: Cause) {
-        self.put_ends();
-        self.out.put(bad_words(cause));
-        self.out.put(b"\n");
-    }
-}
-
-impl Hear for Transfers<'_> {
-    fn hear(&mut self, _: &[Char], heard: &Heard) -> Result<(), AllocError> {
-        match heard {
-            Heard::Nothing => {}
-            Heard::Symbol(symbol) => self.put_symbol(symbol),
-            Heard::Packet(ack, packet, symbol) => {
-                self.put_ends();
-                put_sent_packet(self.out, self.asked, *ack, packet);
-                self.out.put(b"\n");
-                self.put_symbol(symbol);
-            }
-            Heard::Broken(cause, symbol) => {
-                self.put_bad(*cause);
-                self.put_symbol(symbol);
-            }
-            Heard::Bad(cause) => self.put_bad(*cause),
-        }
-        Ok(())
-    }
-}
-
-/// What a port takes that is neither a packet nor a symbol, one a line.
-#[derive(Drop)]
-struct Faults<'a> {
-    out: &'a mut Text,
-    seen: &'a Seen<'a>,
-    port: PortRef,
-}
-
-impl Hear for Faults<'_> {
-    fn hear(&mut self, _: &[Char], heard: &Heard) -> Result<(), AllocError> {
-        if let Heard::Broken(cause, _) | Heard::Bad(cause) = heard {
-            put_at(self.out, self.seen, self.port, b": got ");
-            self.out.put(bad_words(*cause));
-            self.out.put(b"\n");
-        }
-        Ok(())
-    }
-}
-
-/// The beginning of a line of a port.
-fn put_at(out: &mut Text, seen: &Seen<'_>, port: PortRef, words: &[u8]) {
-    put_line_number(out, seen.number);
-    out.put(b"  ");
-    put_port(out, seen.set_up, port);
-    out.put(words);
 }
 
 /// Why nothing was done.

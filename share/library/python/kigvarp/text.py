@@ -1,4 +1,4 @@
-"""Characters as numbers and as text: d00 to dff is data, k00 to kff is special, and x is no character."""
+"""Characters as numbers and as text: d00 to dff is data, k00 to kff is special, and inv is no character."""
 from typing import Iterable
 
 # The number of what is no character.
@@ -9,7 +9,7 @@ def char_text(number: int) -> str:
     """The text of a character."""
     if 0 <= number < 0x100:
         return f"d{number:02x}"
-    return f"k{number - 0x100:02x}" if 0x100 <= number < 0x200 else "x"
+    return f"k{number - 0x100:02x}" if 0x100 <= number < 0x200 else "inv"
 
 
 def text_of(numbers: Iterable[int]) -> str:
@@ -19,7 +19,7 @@ def text_of(numbers: Iterable[int]) -> str:
 
 def char_of(text: str) -> int:
     """The character of a text."""
-    if text == "x":
+    if text == "inv":
         return NO_CHAR
     if len(text) != 3 or text[0] not in "dk" or text.lower() != text:
         raise ValueError(f"{text!r} is no character")

@@ -7,9 +7,7 @@ returns-in-Some g c = inr (inl (
   record {
     question = c.in-Some.question;
     asks = c.in-Some.ensures;
-    failed = c.answer_question.result;
-    told = c.answer_question.ensures;
-    ends = c.told.ensures;
+    tells = c.tell_question.ensures;
   },
   (Keeps-refl _, refl),
 ))

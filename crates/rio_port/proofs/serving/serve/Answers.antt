@@ -9,6 +9,7 @@ returns-in_default g c = record {
   lines = [];
   answer = saying (new_port false c.args.buffers) [];
   answers = refl;
+  ends = λ same. absurd cc;
   serves = served_none (2 ^ 64 - 1) _ _ _ _;
 }
 
@@ -17,6 +18,7 @@ returns-in_default-new g c = record {
   lines = [];
   answer = saying (new_port false c.args.buffers) [];
   answers = refl;
+  ends = λ same. absurd cc;
   serves = served_none (2 ^ 64 - 1) _ _ _ _;
 }
 
@@ -25,5 +27,6 @@ returns-in_default-new-2 g c = record {
   lines = [];
   answer = saying (new_port false c.args.buffers) [];
   answers = refl;
+  ends = λ same. absurd cc;
   serves = served_none (2 ^ 64 - 1) _ _ _ _;
 }

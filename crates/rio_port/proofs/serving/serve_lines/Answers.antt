@@ -2,7 +2,7 @@ use Rattle.std.proofs.Common.{◌≡◌, ◌-◌, ◌^◌, ◌++◌, refl, sym, 
 use Rattle.live_lines.specs.Lines.{with_feed}
 use Rattle.live_lines.proofs.ServingLaws.{Going-stops, Going-done, Going-no_memory, Going-fault}
 use Rattle.port_lines.specs.Lines.{AnswersLine}
-use Rattle.rio_port.proofs.ServingLaws.{Served-begin, Served-line, Served-read}
+use Rattle.rio_port.proofs.ServingLaws.{Served-begin, Served-line, Served-read, end_is_sent}
 use Rattle.rio_port.proofs.serving.serve_lines.Goals as goal
 
 pub loop-count-init : goal.loop-count-init
@@ -23,6 +23,7 @@ returns-in-Err-clause-serves g c =
       lines = h.served.lines;
       answer = h.served.answer;
       answers = h.served.answers;
+      ends = end_is_sent c.in-Err.end;
       serves =
           Going-stops c.args.outbox.now
           (g.S.Source.left c.args.source.now) (g.S.Source.faults c.args.source.now) (2 ^ 64 - 1)
@@ -45,6 +46,7 @@ returns-in_default-answer_line-clause-serves g c =
       lines = now.lines;
       answer = now.answer;
       answers = now.answers;
+      ends = λ same. absurd cc;
       serves =
           Going-no_memory c.args.outbox.now
           (g.S.Source.left c.args.source.now) (g.S.Source.faults c.args.source.now) (2 ^ 64 - 1)
@@ -70,6 +72,7 @@ returns-then-failed-clause-serves g c =
       lines = now.lines;
       answer = now.answer;
       answers = now.answers;
+      ends = λ same. absurd cc;
       serves =
           Going-fault c.args.outbox.now
           (g.S.Source.left c.args.source.now) (g.S.Source.faults c.args.source.now) (2 ^ 64 - 1)
@@ -106,6 +109,7 @@ returns-clause-serves g c =
       lines = h.served.lines;
       answer = h.served.answer;
       answers = h.served.answers;
+      ends = λ same. absurd cc;
       serves =
           Going-done c.args.outbox.now
           (g.S.Source.left c.args.source.now) (g.S.Source.faults c.args.source.now) (2 ^ 64 - 1)

@@ -3,5 +3,5 @@ use Rattle.trace_counts.proofs.tally.Tallies.count.Goals as goal
 
 pub returns-clause-sums : goal.returns-clause-sums
 returns-clause-sums c = λ nodes lines before.
-    counts-more nodes lines c.args.line.now c.args.self.now c.add.new.self c.in_ok-add.ensures
+    counts-more nodes lines c.args.line.now c.args.self.now c.add.new.self c.in_ok-add.ensures.line
     before
