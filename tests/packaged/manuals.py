@@ -3,7 +3,7 @@ import gzip
 import re
 import shutil
 
-from .trees import TOP, run
+from .trees import PROGRAMS, TOP, run
 
 # Tables whose rows are words, statuses, reasons and kinds of lines: each is on the manual page of the program.
 PAGES = {"rio_capture": ("captures.md",), "rio": ("running.md", "decode.md", "script-format.md"), "rio_lane": ("lanes.md",),
@@ -70,10 +70,19 @@ def trials_of_words(root, name, page):
         yield f"manual of {name}: {word}", not re.search(rf"(?<![\w-]){word}(?![\w-])", page) and "it is not there"
 
 
+def trials_of_version(root, name):
+    """The program says what version it is: the number of the package without what stands behind it."""
+    number = run(str(TOP / "packaging/version")).stdout.decode().strip()
+    done = run(str(root / f"usr/bin/{name}"), "--version")
+    told = (done.stdout + done.stderr).decode()
+    yield f"version of {name}", f"{name} {number}, proved with rattle-kit" not in told and told
+
+
 def trials(root, version):
     """What is said of each program that is unpacked here."""
     for name in PAGES:
         source = gzip.decompress((root / f"usr/share/man/man1/{name}.1.gz").read_bytes())
         yield f"version of {name}.1", f"kigvarp {version}".encode() not in source and "it has another"
         yield from trials_of_manual(name, source)
+        yield from trials_of_version(root, name) if name in PROGRAMS else ()
         yield from trials_of_words(root, name, source.decode().replace("\\-", "-"))
