@@ -15,8 +15,8 @@ use rio_packets::{Header, Packet, build};
 const PACKET: usize = 276;
 
 impl OpenPort {
-    /// Puts the packet of these fields, and these bytes behind them, to those to be sent. Nothing is
-    /// done if a field is out of range or the length is, or if there is no room.
+    /// Puts the packet of these fields, and these bytes behind them, to those to be sent. Nothing
+    /// is done if a field is out of range or the length is, or if there is no room.
     pub fn send(&mut self, header: &PacketHeader, rest: &[u8]) -> CallStatus
         ensures { PacketSends header.now rest.now self.old result self.new }
     {
