@@ -33,6 +33,8 @@ returns-clause-opens c =
     let ports = c.args.port.now.handle.ports in
     let none : ports ≡ [] = no_items ports _ c.requires c.if-port-ne0.false in
     opens_closed (OpensPort c.args.buffers c.args.tells) ports _ Done _ none
-    c.call_number-2.ensures ((c.if-buffers-lt4.false, c.if-buffers-gt30.false),
-    c.put_port.ensures.open
-    ∙ ap (λ (p : PortSeen). p ∷ []) (c.in-Ok-new.ensures.ok ∙ c.in-Ok.ensures))
+    c.call_number-2.ensures (
+      (c.if-buffers-lt4.false, c.if-buffers-gt30.false),
+      c.put_port.ensures.open
+          ∙ ap (λ (p : PortSeen). p ∷ []) (c.in-Ok-new.ensures.ok ∙ c.in-Ok.ensures),
+    )
