@@ -7,6 +7,17 @@ TOP = Path(__file__).resolve().parent.parent
 
 # How each program is called; of rio the page has its commands.
 SYNOPSES = {
+    "rio_capture": (
+        "rio_capture vcd --data S --flag S [--invalid S] [--valid S] [--clock S] [--edge WORD] [--places FILE] [FILE]",
+        "rio_capture columns [--data C] [--flag C] [--invalid C] [--valid C] [--time C] [--bytes N] [--head N] [FILE]",
+        "rio_capture monitor --data N --flag N [--invalid N] [--valid N] [--time N] [--radix WORD] [FILE]",
+        "rio_capture dump [--first WORD] [FILE]",
+        "rio_capture names [--time] [--places FILE] [FILE]",
+        "rio_capture decode [FILE]",
+        "rio_capture times [--page | --ladder TRACE] PLACES [FILE]",
+        "rio_capture pair [--set-up FILE] [--lines FILE] PORT PORT CHARS PLACES CHARS PLACES",
+        "rio_capture FORM --help",
+    ),
     "rio_lane": tuple(f"rio_lane {task} [COMMAS]" for task in ("groups", "chars", "bits", "sent", "got"))
     + tuple(f"rio_lane --lanes 4 {task} [COMMAS]" for task in ("groups", "chars")),
     "rio_port": ("rio_port [BUFFERS]",),
