@@ -8,6 +8,7 @@ import sys
 
 from kigvarp import NotAsked, Port, char_text, text_of
 
+LENGTHS = (0, 2, 4, 5, 80, 264, 266, 268, 270)
 STATES = ("output", "input", "outstanding", "waiting")
 
 
@@ -51,10 +52,11 @@ def got(by_calls, by_lines, chars, chance):
 
 
 def send(by_calls, by_lines, chance):
-    large = chance.randrange(4) == 0
-    most = (0x10003 if large else 0x102) if chance.randrange(8) == 0 else 0x80
-    prio, ftype = chance.randrange(5 if chance.randrange(8) == 0 else 4), chance.randrange(17 if chance.randrange(8) == 0 else 16)
-    source, dest, rest = chance.randrange(most), chance.randrange(most), chance.randbytes(chance.choice((0, 2, 4, 5, 80, 264, 266, 268, 270)))
+    """A packet, of which one in some has a field or a length out of range."""
+    large, wild = chance.randrange(4) == 0, chance.randrange(4) == 0
+    most = (0x10003 if large else 0x102) if wild else 0x80
+    prio, ftype = chance.randrange(4 + wild), chance.randrange(16 + wild)
+    source, dest, rest = chance.randrange(most), chance.randrange(most), chance.randbytes(chance.choice(LENGTHS))
     line = f"send{'16' * large} {prio} {ftype} {source} {dest} {rest.hex() or '-'}"
     try:
         found = "queued" if by_calls.send(rest, prio=prio, ftype=ftype, source=source, dest=dest, large=large) else "full"

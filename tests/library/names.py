@@ -11,7 +11,8 @@ from pathlib import Path
 def defined(file, *words):
     """The names that a file defines for others."""
     told = subprocess.run(["nm", "--defined-only", "--extern-only", *words, file], capture_output=True, text=True, check=True)
-    return {line.split()[2].partition("@")[0] for line in told.stdout.splitlines() if len(line.split()) == 3 and line.split()[1] in "TDBRVW"}
+    rows = [line.split() for line in told.stdout.splitlines()]
+    return {row[2].partition("@")[0] for row in rows if len(row) == 3 and row[1] in "TDBRVW"}
 
 
 def wanted(file):

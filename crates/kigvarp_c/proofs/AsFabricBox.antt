@@ -12,7 +12,17 @@ use Rattle.kigvarp_c.specs.contracts.parts.Parts as Parts
 use Rattle.kigvarp_c.specs.contracts.fabric_handle.FabricHandle as Handle
 
 abbrev pub E : Bx
-E = record { row = Opened.the_row; laws = opened.the_row_laws; al = record { row = Heap.the_row; laws = heap.the_row_laws; g = ghosts; d = dict; drops = impl [] tnil dnil } }
+E = record {
+  row = Opened.the_row;
+  laws = opened.the_row_laws;
+  al = record {
+    row = Heap.the_row;
+    laws = heap.the_row_laws;
+    g = ghosts;
+    d = dict;
+    drops = impl [] tnil dnil;
+  };
+}
 
 abbrev pub FromHeap : Slot 0
 FromHeap = plain (λ _. Heap.the_row)

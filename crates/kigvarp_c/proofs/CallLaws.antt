@@ -19,7 +19,8 @@ module _ {X : Type 0} where
       (old others after : List X) (was was_too now : X) (status : CallStatus) (number : ℕ)
       → old ≡ was ∷ others → was_too ≡ was → number ≡ call_number status → after ≡ now ∷ []
       → Does was_too status now → Calls Untouched Does old number after
-  calls_open Untouched Does old others after was was_too now status number some same is opened does =
+  calls_open Untouched Does old others after was was_too now status number some same is opened does
+      =
       subst (λ (xs : List X). Calls Untouched Does xs number after) (sym some)
       (status, now, is, opened, subst (λ (x : X). Does x status now) same does)
 

@@ -39,7 +39,8 @@ OpensFabric _ after = ⊥
 
 -- What opening does, by the number that it answers: an open handle stays as it is.
 abbrev pub OpensBy : {X : Type 0} → (CallStatus → List X → Type 0) → List X → ℕ → List X → Type 0
-OpensBy Opens [] number after = (status : CallStatus) × (number ≡ call_number status) × Opens status after
+OpensBy Opens [] number after = (status : CallStatus) × (number ≡ call_number status) × Opens
+    status after
 OpensBy Opens (old ∷ others) number after = (number ≡ call_number Open) × (after ≡ old ∷ others)
 
 -- What closing does: the handle is closed, and a closed one is told of.

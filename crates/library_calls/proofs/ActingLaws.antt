@@ -7,7 +7,7 @@ use Rattle.link_model.specs.declared.event.Event.{Event}
 use Rattle.link_model.specs.declared.event.Event.TheVariants.{Ctl}
 use Rattle.link_port.specs.declared.completed.Completed.{Completed}
 use Rattle.link_port.specs.Ports.{PortState}
-use Rattle.link_port.specs.Steps.{Acted, idle, acts, acts_all, acts_symbol, joined, takes}
+use Rattle.link_port.specs.Steps.{idle, acts, acts_all, acts_symbol, joined, takes}
 use Rattle.link_port.specs.Runs.{front_of, after_front, completed_events}
 use Rattle.link_port.proofs.ActLaws.{joined-idle}
 

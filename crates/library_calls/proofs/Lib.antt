@@ -2,5 +2,4 @@ pub mod WireLaws
 pub mod ActingLaws
 pub mod RunLaws
 pub mod TextLaws
-pub mod SeenLaws
 pub mod FabricLaws

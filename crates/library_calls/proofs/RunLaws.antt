@@ -1,8 +1,7 @@
 -- Characters are taken one after another, and their answers are written one behind another.
-use Rattle.std.proofs.Common.{◌≡◌, ℕ, zero, suc, ◌+◌, ◌*◌, ◌≤◌, ◌-◌, List, [], ◌∷◌, ◌++◌, Option, Some, None, option_to_list, length, get_or, take, drop, refl, sym, ap, ◌∙◌, subst, append_assoc, append-nil, arith, length-append}
+use Rattle.std.proofs.Common.{◌≡◌, ℕ, suc, ◌+◌, ◌*◌, ◌≤◌, ◌-◌, List, [], ◌∷◌, ◌++◌, Option, Some, None, option_to_list, length, get_or, take, drop, refl, sym, ap, ◌∙◌, append_assoc, append-nil, arith, length-append}
 use Rattle.std.proofs.lemmas.Grind.{common_steps}
 use Rattle.std.proofs.lemmas.List.{take_at, drop_at, drop-drop}
-use Rattle.rio_chars.specs.declared.chars.Char.{Char}
 use Rattle.rio_symbols.specs.Fields.{Fields}
 use Rattle.link_port.specs.Ports.{PortState}
 use Rattle.link_port.specs.Steps.{Acted, takes}
@@ -10,7 +9,7 @@ use Rattle.link_port.specs.Streams.{Streamed, unmoved, followed, takes_each}
 use Rattle.library_calls.specs.declared.told.RunDid.{RunDid}
 use Rattle.library_calls.specs.Wires.{wire_char, wire_chars}
 use Rattle.library_calls.specs.Rooms.{laid_over, laid_at}
-use Rattle.library_calls.specs.Chars.{symbol_wires, reply_wires, replies_wires, no_run, AddsChar, TellsRun}
+use Rattle.library_calls.specs.Chars.{reply_wires, replies_wires, no_run, AddsChar, TellsRun}
 
 -- Of a run this much was done, and what is left is to come.
 pub record IsRun (whole rest : Streamed) (did : RunDid) (begun room : List ℕ) : Type 0 where

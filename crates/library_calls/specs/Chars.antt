@@ -79,8 +79,8 @@ PortTimesOut old new = new ≡ seen_at old (timed_out old.port)
 abbrev pub no_run : RunDid
 no_run = record { held = 0; freed = 0; sent = 0 }
 
--- Room for the answers of all characters, of which each has at most one, and no more characters than a
--- run has at most.
+-- Room for the answers of all characters, of which each has at most one, and no more characters
+-- than a run has at most.
 abbrev pub RunFits : List ℕ → List ℕ → Type 0
 RunFits chars room = (length chars ≤ 65536) × (4 * length chars ≤ length room)
 
@@ -93,8 +93,8 @@ RunTakes chars room room_after did old Argument new =
     (RunFits chars room → ⊥) × (did ≡ no_run) × (room_after ≡ room) × (new ≡ old)
 RunTakes chars room room_after did old _ new = ⊥
 
--- A turn was taken, and what it sends stands in the room; or there is room for fewer characters than
--- a turn sends at most.
+-- A turn was taken, and what it sends stands in the room; or there is room for fewer characters
+-- than a turn sends at most.
 abbrev pub TurnTakes : List ℕ → List ℕ → ℕ → PortSeen → CallStatus → PortSeen → Type 0
 TurnTakes room room_after count old Done new =
     (room_after ≡ laid_over (char_wires (turn_sends old.port).chars) room)

@@ -30,7 +30,8 @@ pub record FabricLineTold (old : FabricSeen) (line : List ℕ) (spent : Bool) (g
   pub counts : new.number ≡ old.number + 1
   pub spent_is : new.spent ≡ spent
 
--- memory was refused while the line was answered: a front of the answer waits, and the fabric is spent
+-- memory was refused while the line was answered: a front of the answer waits, and the fabric is
+-- spent
 pub record FabricLineCut (old : FabricSeen) (line : List ℕ) (new : FabricSeen) : Type 0 where
   pub going : is_fabric_spent old ≡ false
   pub front : (taken : Taken) → LiveHolds old.live taken
@@ -47,8 +48,8 @@ FabricLineDid line old Spent new = (is_fabric_spent old ≡ true) × (new ≡ ol
 FabricLineDid line old _ new = ⊥
 
 -- What a line was answered with was written, or a front of it.
-abbrev pub TellsFabricLine : Taken → ℕ → List ℕ → Result AfterLine BrokenOff → Live → Option (List ℕ)
-    → Option (List ℕ) → Type 0
+abbrev pub TellsFabricLine : Taken → ℕ → List ℕ → Result AfterLine BrokenOff → Live
+    → Option (List ℕ) → Option (List ℕ) → Type 0
 TellsFabricLine taken number line (Ok goes) live written written_after = (text : List ℕ)
     × FabricAnswered taken number line text live goes × Appends written written_after text
 TellsFabricLine taken number line (Err broken) live written written_after = (text : List ℕ)

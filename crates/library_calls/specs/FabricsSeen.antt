@@ -5,8 +5,8 @@ use Rattle.live_fabric.specs.Lines.{Taken, nothing_taken}
 use Rattle.live_fabric.specs.Holding.{LiveHolds}
 use Rattle.library_calls.specs.Rooms.{TextTaken}
 
--- The fabric, how many lines it was given, whether it is spent, and the text that was told and is not
--- taken yet.
+-- The fabric, how many lines it was given, whether it is spent, and the text that was told and is
+-- not taken yet.
 pub record FabricSeen : Type 0 where
   pub live : Live
   pub number : ℕ

@@ -1,5 +1,5 @@
 -- What is done with packets of an open port.
-use Rattle.std.specs.Prelude.{◌≡◌, ◌==◌, ℕ, ◌<◌, Bool, true, false, not, List, [], Option, Some, None, length, slice_get}
+use Rattle.std.specs.Prelude.{◌≡◌, ◌==◌, ℕ, ◌<◌, Bool, true, false, not, List, Some, None, length, slice_get}
 use Rattle.rio_packets.specs.declared.making.Header.{Header}
 use Rattle.rio_packets.specs.Fields.{body_of, prio_of}
 use Rattle.rio_packets.specs.LinkForm.{LinkForm, IsBadLength}
@@ -17,8 +17,8 @@ abbrev pub has_large_ids : PacketHeader → Bool
 has_large_ids header = not (header.large == 0)
 
 -- the fields as the packets of a link have them
-abbrev pub header_fields : PacketHeader → Header
-header_fields header = record {
+abbrev pub fields_of_header : PacketHeader → Header
+fields_of_header header = record {
   prio = header.prio;
   ftype = header.ftype;
   dest = header.dest;
@@ -47,8 +47,8 @@ abbrev pub with_queued : PortState → List ℕ → PortState
 with_queued port packet =
     record port { queued = appended port.queued (prio_of packet) packet }
 
--- The packet was put to those to be sent; or its priority has no room; or a field is out of range, or
--- the length of the packet is. Then nothing was done.
+-- The packet was put to those to be sent; or its priority has no room; or a field is out of range,
+-- or the length of the packet is. Then nothing was done.
 abbrev pub PacketSends : PacketHeader → List ℕ → PortSeen → CallStatus → PortSeen → Type 0
 PacketSends header rest old Done new = (packet : List ℕ) × Makes header rest packet
     × (port_has_room old.port (prio_of packet) ≡ true)

@@ -1,5 +1,5 @@
 -- What a line does that an open port is given.
-use Rattle.std.specs.Prelude.{◌≡◌, ℕ, Bool, true, false, Option, List, [], ◌++◌}
+use Rattle.std.specs.Prelude.{◌≡◌, ℕ, Bool, true, false, Option, List, ◌++◌}
 use Rattle.std.specs.Io.KnownBytes.{Appends}
 use Rattle.rio_chars.specs.Fronts.{AppendsFront}
 use Rattle.port_lines.specs.Answers.{PortAnswer}
@@ -8,7 +8,8 @@ use Rattle.library_calls.specs.declared.status.CallStatus.{CallStatus}
 use Rattle.library_calls.specs.declared.status.CallStatus.TheVariants.{Done, NoMemory, Cut}
 use Rattle.library_calls.specs.PortsSeen.{PortSeen, opened_port}
 
--- The port went on as an answer says that the line has, and a front of the text of that answer waits.
+-- The port went on as an answer says that the line has, and a front of the text of that answer
+-- waits.
 pub record PortLineCut (old : PortSeen) (line : List ℕ) (new : PortSeen) : Type 0 where
   pub answer : PortAnswer
   pub answers : AnswersLine old.port line answer
@@ -16,8 +17,8 @@ pub record PortLineCut (old : PortSeen) (line : List ℕ) (new : PortSeen) : Typ
   pub port : new.port ≡ answer.port
   pub front : answer.text ≡ new.text ++ rest
 
--- The line was answered. If memory was refused before the line was read, the port is as before. If it
--- was refused later, the port went on, and a front of the answer waits.
+-- The line was answered. If memory was refused before the line was read, the port is as before. If
+-- it was refused later, the port went on, and a front of the answer waits.
 abbrev pub PortLineDid : List ℕ → PortSeen → CallStatus → PortSeen → Type 0
 PortLineDid line old Done new = (answer : PortAnswer) × AnswersLine old.port line answer
     × (new ≡ record { port = answer.port; text = answer.text })

@@ -10,8 +10,8 @@ use rio_chars::Char;
 use rio_packets::Packet;
 use rio_symbols::Symbol;
 
-/// Where packets are put that come in, or that a symbol frees. A port has one for all characters, so
-/// that none makes a packet.
+/// Where packets are put that come in, or that a symbol frees. A port has one for all characters,
+/// so that none makes a packet.
 #[derive(Drop)]
 pub(crate) struct Came {
     pub(crate) packet: Packet,

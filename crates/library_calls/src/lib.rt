@@ -1,8 +1,8 @@
 //! An open port and an open fabric: what the calls of the C library do, but for what C holds.
 //!
 //! Promised: a call tells exactly what the port or the fabric that it wraps does, writes within the
-//! room that it is given, and says by its status what was not done. An argument out of range changes
-//! nothing. If memory is refused, the status says what stands.
+//! room that it is given, and says by its status what was not done. An argument out of range
+//! changes nothing. If memory is refused, the status says what stands.
 //!
 //! Left out: handles, and what C owes.
 //!

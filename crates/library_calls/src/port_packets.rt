@@ -1,7 +1,7 @@
 //! Packets of an open port, and its state.
 ghost use Rattle.std.specs.Prelude.{◌≡◌, ◌≤◌, ◌<◌, ◌↔◌, length, IfSome, IsTrue, MatchOption};
 ghost use Rattle.link_buffers.specs.Prelude.{highest, list_at};
-ghost use Rattle.library_calls.specs.Packets.{HeaderFits, PacketSends, PacketCollects, header_fields};
+ghost use Rattle.library_calls.specs.Packets.{HeaderFits, PacketSends, PacketCollects, fields_of_header};
 ghost use Rattle.library_calls.specs.Rooms.{laid_over};
 ghost use Rattle.library_calls.specs.States.{TellsState, out_number as out_number_of, in_number as in_number_of};
 
@@ -15,8 +15,8 @@ use rio_packets::{Header, Packet, build};
 const PACKET: usize = 276;
 
 impl OpenPort {
-    /// Puts the packet of these fields, and these bytes behind them, to those to be sent. Nothing is
-    /// done if a field is out of range or the length is, or if there is no room.
+    /// Puts the packet of these fields, and these bytes behind them, to those to be sent. Nothing
+    /// is done if a field is out of range or the length is, or if there is no room.
     pub fn send(&mut self, header: &PacketHeader, rest: &[u8]) -> CallStatus
         ensures { PacketSends header.now rest.now self.old result self.new }
     {
@@ -66,7 +66,7 @@ impl OpenPort {
 /// The fields of a packet, if each has its width.
 fn header_of(header: &PacketHeader) -> Option<Header>
     ensures { MatchOption result (¬ HeaderFits header.now)
-        (λ made. HeaderFits header.now × (made ≡ header_fields header.now)) }
+        (λ made. HeaderFits header.now × (made ≡ fields_of_header header.now)) }
 {
     let large = header.large != 0;
     if header.prio >= 4 || header.ftype >= 16 {

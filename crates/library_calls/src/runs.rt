@@ -58,8 +58,8 @@ fn add_char(port: &mut Port, number: u16, room: &mut [u16], came: &mut Came, did
     did.sent = put_reply(&done.reply, room, did.sent as usize) as u32;
 }
 
-/// Writes the characters of an answer at a place of the room, if there is one, and answers the place
-/// behind them.
+/// Writes the characters of an answer at a place of the room, if there is one, and answers the
+/// place behind them.
 pub(crate) fn put_reply(reply: &Option<Symbol>, room: &mut [u16], at: usize) -> usize
     requires { at + 4 ≤ length room.old }
     ensures behind { result ≡ at + length (reply_wires reply.now) }

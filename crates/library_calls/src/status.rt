@@ -9,7 +9,8 @@ pub enum CallStatus {
     Done,
     /// The handle is closed. Nothing was done.
     Closed,
-    /// What was passed is out of range, or there is too little room for the answer. Nothing was done.
+    /// What was passed is out of range, or there is too little room for the answer. Nothing was
+    /// done.
     Argument,
     /// The handle is open already. Nothing was done.
     Open,

@@ -8,6 +8,8 @@ use Rattle.kigvarp_c.proofs.port_calls.kigvarp_port_text.Goals as goal
 pub returns-clause-does : goal.returns-clause-does
 returns-clause-does c =
     let found = c.in-Some.ensures.taken in
-    calls_open _ (Always (PortTextTaken c.args.room.now c.text.new.room c.text.result)) c.args.port.now.handle.ports found.0 _ c.in-Some.opened.value
-    c.deref_mut.result.now c.text.new.self Done _ found.1 c.deref_mut.ensures.value c.call_number-2.ensures
+    calls_open _ (Always (PortTextTaken c.args.room.now c.text.new.room c.text.result))
+    c.args.port.now.handle.ports found.0 _ c.in-Some.opened.value
+    c.deref_mut.result.now c.text.new.self Done _ found.1 c.deref_mut.ensures.value
+    c.call_number-2.ensures
     c.put_port.ensures.open c.text.ensures

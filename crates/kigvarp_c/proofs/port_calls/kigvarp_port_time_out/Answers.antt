@@ -9,5 +9,6 @@ pub returns-clause-does : goal.returns-clause-does
 returns-clause-does c =
     let found = c.in-Some.ensures.taken in
     calls_open _ (Always PortTimesOut) c.args.port.now.handle.ports found.0 _ c.in-Some.opened.value
-    c.deref_mut.result.now c.time_out.new.self Done _ found.1 c.deref_mut.ensures.value c.call_number-2.ensures
+    c.deref_mut.result.now c.time_out.new.self Done _ found.1 c.deref_mut.ensures.value
+    c.call_number-2.ensures
     c.put_port.ensures.open c.time_out.ensures

@@ -3,7 +3,7 @@ use Rattle.std.specs.Option.{option_or}
 use Rattle.link_model.specs.declared.event.Event.TheVariants.{Ctl, Pkt, Bad}
 use Rattle.link_port.specs.declared.completed.Completed.{Completed}
 use Rattle.link_port.specs.declared.acts.Done.{Done}
-use Rattle.link_port.specs.Steps.{Acted, idle, acts, acts_all, acts_symbol, acts_packet, acts_bad, joined}
+use Rattle.link_port.specs.Steps.{Acted, idle, acts_all, acts_symbol, acts_packet, acts_bad, joined}
 use Rattle.link_port.specs.Runs.{completed_events}
 use Rattle.link_port.proofs.ActLaws.{second_holds_none}
 use Rattle.library_calls.specs.Chars.{held_if}
@@ -97,7 +97,8 @@ returns-in-NoPacket c =
     record {
       port = c.act_symbol-answer-in-NoPacket.ensures.state ∙ ap (λ (a : Acted). a.port) whole;
       reply = ap (λ (d : Done). d.reply) c.replying-in-NoPacket.ensures ∙ c.or-in-NoPacket.ensures
-          ∙ ap (λ r. option_or r c.act_symbol-answer-in-NoPacket.result) c.act_bad-reply.ensures.reply
+          ∙ ap (λ r. option_or r c.act_symbol-answer-in-NoPacket.result)
+          c.act_bad-reply.ensures.reply
           ∙ ap (option_or first.reply) c.act_symbol-answer-in-NoPacket.ensures.reply
           ∙ ap (λ (a : Acted). a.reply) whole;
       held = ap (λ (d : Done). held_if d.held packet) c.replying-in-NoPacket.ensures

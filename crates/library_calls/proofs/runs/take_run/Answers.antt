@@ -1,4 +1,4 @@
-use Rattle.std.proofs.Common.{◌≡◌, ℕ, suc, ◌-◌, ◌≤◌, length, get_or, take, drop, refl, sym, ap, ◌∙◌, subst, rules, arith}
+use Rattle.std.proofs.Common.{◌≡◌, ℕ, suc, ◌-◌, ◌≤◌, length, get_or, take, drop, sym, ap, ◌∙◌, subst, rules, arith}
 use Rattle.link_port.specs.Ports.{PortState}
 use Rattle.link_port.specs.Steps.{takes}
 use Rattle.link_port.specs.Streams.{Streamed, followed, takes_each}
@@ -20,7 +20,8 @@ add_char-requires c =
       held = omega (arith, h.held, c.requires.few, c.in-len1-up.len_at_least);
       freed = omega (arith, h.freed, c.requires.few, c.in-len1-up.len_at_least);
       sent = omega (arith, h.sent, c.requires.few, c.in-len1-up.len_at_least);
-      room = omega (arith, h.sent, c.requires.room, c.in-len1-up.len_at_least, c.loop-left.auto.room);
+      room =
+          omega (arith, h.sent, c.requires.room, c.in-len1-up.len_at_least, c.loop-left.auto.room);
     }
 
 pub loop-left-preserved : goal.loop-left-preserved

@@ -1,4 +1,3 @@
-use Rattle.std.proofs.Common.{◌<◌, ◌≤◌, length, sym, arith}
 use Rattle.library_calls.proofs.WireLaws.{wires-more}
 use Rattle.library_calls.proofs.wires.put_wires.Goals as goal
 
