@@ -77,7 +77,8 @@ module _ (contest : Contest) (can : CanTurn contest) (fabric : Fabric) (walker :
           (omega arith)
 
       pub first_can : AreLow walker.machine.todo → HasEntries walker
-          → StandsFor contest.script.now.names.items (contest_lines contest) contest.first_node fabric
+          → StandsFor contest.script.now.names.items (contest_lines contest) contest.first_node
+          fabric
           → CanTurn by_first
       first_can low entries stands = record {
         stands = stands;

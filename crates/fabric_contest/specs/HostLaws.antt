@@ -15,7 +15,7 @@ use Rattle.link_watch.specs.declared.side.Side.{Side}
 use Rattle.contest_machine.specs.declared.stages.Turn.TheVariants.{Waiting, Lost}
 use Rattle.contest_machine.specs.declared.stages.Stage.TheVariants as stages
 use Rattle.contest_machine.specs.Machine.{Walker, kept}
-use Rattle.contest_machine.specs.Turns.{Both, after_turns}
+use Rattle.contest_machine.specs.Turns.{after_turns}
 use Rattle.contest_machine.specs.Locks.{walker_of, side_answer, locks_in_turn, locks_over}
 use Rattle.contest_machine.specs.Going.{AreBegun, HasNumbered, IsLeftAlone, going_over}
 use Rattle.contest_machine.specs.Waiting.{HasGreater, HasLesser, IsLostWalker}

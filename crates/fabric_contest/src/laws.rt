@@ -25,8 +25,8 @@ pub fn kept_ways_stay_open()
 
 // ---- the laws of two hosts, of those of a script
 
-/// Two hosts of a script begin as the laws of two hosts ask: with different IDs, over registers that
-/// show its devices and links, and no device that bears the ID of one has a tag.
+/// Two hosts of a script begin as the laws of two hosts ask: with different IDs, over registers
+/// that show its devices and links, and no device that bears the ID of one has a tag.
 pub fn hosts_begin()
     ensures { HostsBegin }
 {}

@@ -12,8 +12,9 @@
 //!   the [`ContestEnd`].
 //! - [`Contest`] has the fabric and both walkers, and makes single turns, those of a list, and
 //!   those of a number. `over` makes a turn over the links.
-//! - [`contests_keep_apart`], [`the_greater_host_holds_on`] and [`kept_ways_stay_open`] are laws, and
-//!   [`hosts_begin`] and those behind it carry the laws of `contest_machine` to hosts of a script.
+//! - [`contests_keep_apart`], [`the_greater_host_holds_on`] and [`kept_ways_stay_open`] are laws,
+//!   and [`hosts_begin`] and those behind it carry the laws of `contest_machine` to hosts of a
+//!   script.
 #![tactic(auto)]
 
 mod contest;
