@@ -10,7 +10,7 @@ use crate::status::CallStatus;
 use crate::text_sink::TextSink;
 use arrayvec::ArrayVec;
 use link_port::Port;
-use port_lines::{PortRequest, RequestReason, answer, read_request};
+use port_lines::{PortRequest, RequestRefusal, answer, read_request};
 use rio_chars::{NoMemory, Outbox, Sink, TextBuffer};
 use rio_packets::Packet;
 use std::alloc::Global;
@@ -90,7 +90,7 @@ impl OpenPort {
 /// Does what is asked for and tells the answer, and answers whether a write failed.
 fn tell<K: Sink>(
     port: &mut Port,
-    asked: Result<PortRequest, RequestReason>,
+    asked: Result<PortRequest, RequestRefusal>,
     buffer: &mut TextBuffer,
     sink: &mut K,
 ) -> bool
@@ -107,7 +107,7 @@ fn tell<K: Sink>(
 /// The same through an outbox.
 fn tell_whole<K: Sink>(
     port: &mut Port,
-    asked: Result<PortRequest, RequestReason>,
+    asked: Result<PortRequest, RequestRefusal>,
     outbox: &mut Outbox<K>,
 ) -> bool
     requires { outbox.old.waiting ≡ [] }
