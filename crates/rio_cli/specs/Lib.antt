@@ -8,7 +8,6 @@ pub mod Statuses
 pub mod Soaking
 pub mod Answers
 pub mod Texts
-pub mod Hints
 pub mod Messages
 pub mod Program
 pub mod Decoding

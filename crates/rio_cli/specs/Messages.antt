@@ -11,7 +11,7 @@ use Rattle.rio_cli.specs.declared.command.Command.{Command}
 use Rattle.rio_cli.specs.declared.command.Command.TheVariants.{Decode, Check, Io, Enumerate, Contest}
 use Rattle.rio_cli.specs.declared.status.Status.{Status}
 use Rattle.rio_cli.specs.declared.status.Status.TheVariants.{Done, Words, Script, ReadFault, WriteFault, NoMemory, Undetected, TooLong, Locked, Unlawful}
-use Rattle.rio_cli.specs.Hints.{hint_text}
+use Rattle.check_words.specs.Hints.{hint_text}
 use Rattle.refusal_words.specs.Advising.{IsWhy}
 use Rattle.refusal_words.specs.Citing.{excerpt_of}
 use Rattle.rio_words.specs.BadWords.{IsCharsWhy}

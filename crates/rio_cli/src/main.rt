@@ -22,7 +22,6 @@ mod awaiting;
 mod command;
 mod contesting;
 mod decode;
-mod hints;
 mod laws;
 mod lines;
 mod messages;

@@ -4,8 +4,8 @@ ghost use Rattle.rio_cli.specs.Inputs.{most_input};
 ghost use Rattle.rio_cli.specs.Messages.{input_line_text, citation_of, place_text, IsExpectedBy, IsWhyOf, Explains};
 
 use crate::command::Command;
-use crate::hints::push_hint;
 use crate::texts::reason_text;
+use check_words::push_hint;
 use refusal_words::{push_excerpt, push_number, push_why};
 use rio_words::{push_bad_word, push_lines};
 use std::alloc::{AllocError, Global};
@@ -105,7 +105,7 @@ fn expected_in_trace(
     requires { length bytes.now ≤ most_input }
     ensures { IfOk result (IsExpectedBy Command.Check bytes.now line reason) }
 {
-    if reason <= 21 || reason == 23 {
+    if reason <= 21 {
         return Ok(None);
     }
     expect(alloc, bytes, line)

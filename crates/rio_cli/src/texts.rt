@@ -3,6 +3,7 @@ ghost use Rattle.std.specs.Prelude.{◌≡◌};
 ghost use Rattle.rio_cli.specs.Texts.{reason_text as reason_text_of, contest_reason as contest_reason_of};
 
 use crate::command::Command;
+use check_words::trace_reason;
 use refusal_words::{script_reason, set_up_reason};
 
 /// Why a line is refused, by the number of the reason.
@@ -16,23 +17,6 @@ pub(crate) fn reason_text(command: &Command, reason: u8) -> &'static [u8]
         Command::Decode => b"a word of this line is not a character",
         Command::Check => trace_reason(reason),
         Command::Io => io_reason(reason),
-    }
-}
-
-/// Why a line of an input of `check` is refused or not lawful.
-fn trace_reason(reason: u8) -> &'static [u8]
-    ensures { result.now ≡ reason_text_of Command.Check reason }
-{
-    match reason {
-        15 => b"no line --- follows the set-up lines",
-        21 => b"this is no line of a trace, or it stands after the last, or the last is missing",
-        22 => b"these characters are not at the front of the wire, or the edit is not within it",
-        23 => b"no such step can be made here",
-        24 =>
-            b"this packet did not come with the ackID whose turn it is, after the one held before",
-        25 => b"more packets are freed than were acknowledged",
-        26 => b"a packet is sent that neither waits at the port nor is lent",
-        _ => set_up_reason(reason),
     }
 }
 

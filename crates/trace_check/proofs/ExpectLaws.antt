@@ -1,5 +1,5 @@
 -- What would have been lawful at the line ahead.
-use Rattle.std.proofs.Common.{◌≡◌, ◌↔◌, ℕ, Bool, true, false, List, length, Option, Some, None, Bor, inl, inr, IfSome, IsSome, refl, subst, arith}
+use Rattle.std.proofs.Common.{◌≡◌, ◌↔◌, ℕ, Bool, true, false, List, length, Option, Some, None, Bor, inl, inr, IfSome, IsSome, IsSomeAnd, refl, subst, arith}
 use Rattle.fabric_script.specs.Known.{Known, IsOrderly}
 use Rattle.fabric_model.specs.Network.{Network}
 use Rattle.trace_check.specs.declared.expecting.Expected.{Expected}
@@ -8,7 +8,7 @@ use Rattle.trace_check.specs.Expecting.{IsExplained, IsToBeTold, TellsLine}
 use Rattle.script_input.specs.Inputs.{texts_ahead, texts_of}
 use Rattle.trace_check.specs.Lawful.{as_behind}
 use Rattle.trace_check.specs.Outcomes.{HitsNextText}
-use Rattle.trace_check.specs.States.{fault_of, ReachedState}
+use Rattle.trace_check.specs.States.{fault_of, IsReachedState, ReachedState}
 use Rattle.trace_check.specs.Verdicts.{ExpectedAt, IsStop}
 use Rattle.trace_check.specs.Wires.{are_short}
 use Rattle.trace_check.proofs.StopLaws.{Ahead, Answered, hit_ahead, IsAhead, IsFirst}
@@ -18,6 +18,14 @@ pub if_some_map : {A : Type 0} {P Q : A → Type 0} (o : Option A) → IfSome o 
 if_some_map None some f = tt
 if_some_map (Some x) some f = f x some
 
+-- what is told by whatever is reached is so of it
+pub told_of : {state : State} {Within : ReachedState → Type 0}
+    (So : ReachedState → Expected → Type 0) (o : Option Expected)
+    → ((r : ReachedState) → IsReachedState r state → Within r → IsSomeAnd o (So r))
+    → IfSome o (λ e. (r : ReachedState) → IsReachedState r state → Within r → So r e)
+told_of So None told = tt
+told_of So (Some e) told = told
+
 -- what is told of the next line is so behind the lines that were read
 told_ahead : {known : Known} {net : Network} {bytes : List ℕ} {first number steps : ℕ}
     {text left : Bor (List ℕ)} {state : State} {expected : Expected} (ended : Bool)
@@ -26,22 +34,23 @@ told_ahead : {known : Known} {net : Network} {bytes : List ℕ} {first number st
     → ExpectedAt known net (texts_of bytes) first number expected
 told_ahead true is goes told = absurd cc
 told_ahead {text = text} {left} false is goes told =
-    let line = told is.r is.reached is.behind.nodes_are in (
+    let are = is.are in
+    let line = told are.r are.reached are.behind.nodes_are in (
       length is.front,
       is.number_is,
       record {
         front = is.front;
         text = text.now;
         rest = texts_of left.now;
-        lines = is.lines;
+        lines = are.lines;
         line = line.0;
         split = is.split;
         at = refl;
-        spelled = is.read.0;
-        pass = is.read.1;
+        spelled = are.read.0;
+        pass = are.read.1;
         spells = line.1;
-        r = is.r;
-        reached = is.behind;
+        r = are.r;
+        reached = are.behind;
         so = line.2;
       },
     )
@@ -51,9 +60,9 @@ to_be_told : (known : Known) (r : ReachedState) (text : List ℕ) (short ended :
     → HitsNextText known r text short ended reason → IsExplained reason
     → (ended ≡ false) × IsToBeTold known r text
 to_be_told known r text short true reason form told =
-    absurd (let above = told.0 in omega (arith, above, form))
+    absurd (omega (arith, told, form))
 to_be_told known r text short false reason (inl (form, none)) told =
-    absurd (let above = told.0 in omega (arith, above, form))
+    absurd (omega (arith, told, form))
 to_be_told known r text short false reason (inr found) told = (
   refl,
   record {
@@ -86,8 +95,9 @@ stop_ahead {known} {reason = reason} {text = text} {ended = ended} {short} {expe
       told = if_some_map expected told
           (λ e tells. (asks.0 tells.0, told_ahead ended is tells.1 tells.2));
       some = λ asked explained.
-          let nodes = is.behind.nodes_are in
-          let tell = to_be_told known is.r text.now short ended reason
-          (hits is.r is.reached nodes) explained in
-          some (asks.1 asked) tell.0 is.r is.reached nodes tell.1;
+          let are = is.are in
+          let nodes = are.behind.nodes_are in
+          let tell = to_be_told known are.r text.now short ended reason
+          (hits are.r are.reached nodes) explained in
+          some (asks.1 asked) tell.0 are.r are.reached nodes tell.1;
     }

@@ -48,7 +48,7 @@ module _ (net : Network) (p : PortRef) where
     λ all. absurd (not_all prio events one all),
   )
 
-first_in : (items : List Item) → slice_get (packets_in items) 0 ≡ first_packet items
+pub first_in : (items : List Item) → slice_get (packets_in items) 0 ≡ first_packet items
 first_in [] = refl
 first_in (item ∷ items) = refl
 

@@ -24,3 +24,6 @@ pub mod ExpectLaws
 pub mod LackLaws
 pub mod Worked
 pub mod WorkedTexts
+pub mod UnmetLaws
+pub mod TakeLaws
+pub mod SoFarLaws

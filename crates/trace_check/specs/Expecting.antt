@@ -1,5 +1,5 @@
 -- What would have been lawful at a line of a trace, by what the lines before it reach.
-use Rattle.std.specs.Prelude.{◌≡◌, ◌≢◌, ◌⊎◌, ℕ, ◌+◌, ◌<◌, ◌==◌, nat_lt, Bool, List, [], ◌∷◌, ◌++◌, length, take, Option, None, Some, option_map, unwrap_or, find, if◌then◌else◌}
+use Rattle.std.specs.Prelude.{◌≡◌, ◌⊎◌, ℕ, ◌+◌, ◌<◌, ◌==◌, nat_lt, Bool, List, [], ◌∷◌, ◌++◌, length, take, Option, None, Some, option_map, unwrap_or, find, if◌then◌else◌}
 use Rattle.rio_chars.specs.declared.chars.Char.{Char}
 use Rattle.rio_packets.specs.Fields.{prio_of}
 use Rattle.link_model.specs.declared.event.Event.{Event}
@@ -22,11 +22,11 @@ use Rattle.trace_check.specs.Reaches.{Reaches}
 use Rattle.trace_check.specs.Running.{Come}
 use Rattle.trace_check.specs.States.{ReachedState, SparesAt}
 use Rattle.trace_lines.specs.Words.{SpellsLine}
+use Rattle.trace_check.specs.Unmet.{IsUnmet}
 
--- the reasons of which it is told what would have been lawful: those of wires, holds, frees and
--- packets that are sent
+-- the reasons of which it is told what would have been lawful: all but that of the form
 abbrev pub IsExplained : ℕ → Type 0
-IsExplained reason = (21 < reason) × (reason ≢ 23)
+IsExplained reason = 21 < reason
 
 -- ---- what is told
 
@@ -70,6 +70,7 @@ IsSo r (Stepped (Linked (Hold q packet))) (E.Came ack first) =
 IsSo r (Stepped (Linked (Free p packet))) (E.Freed n) = n ≡ (r.runs p).allowed
 IsSo r (Signed (Sent p chars)) (E.Waiting prio first) =
     OneIsLacked r.net p prio (says chars) × (first ≡ first_packet (r.net.waiting p prio))
+IsSo r (Stepped step) (E.Needed unmet) = IsUnmet r.net step unmet
 IsSo r line expected = ⊥
 
 -- ---- of one text

@@ -12,3 +12,7 @@ pub mod Starting
 pub mod Outcomes
 pub mod Verdicts
 pub mod Examples
+pub mod Unmet
+pub mod SoFar
+pub mod Keeping
+pub mod Taken

@@ -1,99 +1,184 @@
-//! Which reason hits a line of a trace, behind the lines before it.
+//! A check that takes one line of a trace after another.
 
-ghost use Rattle.std.specs.Prelude.{◌≡◌, ◌+◌, ◌<◌, false, [], ◌∷◌, length, IfOk};
-ghost use Rattle.trace_lines.specs.Lines.{steps_of};
-ghost use Rattle.trace_check.specs.Lawful.{is_last};
-ghost use Rattle.trace_lines.specs.Reads.{line_read};
-ghost use Rattle.trace_check.specs.Starting.{IsBegun, net_of, nodes_of};
-ghost use Rattle.trace_check.specs.States.{Checks, IsLineIn, IsReachedState, ReachedState, unreached};
+ghost use Rattle.std.specs.Prelude.{◌≡◌, ◌≤◌, ◌<◌, IsTrue, false, is_some};
+ghost use Rattle.fabric_script.specs.SetUps.{KnownIsReady};
 
-use crate::state::{Fault, State};
-use fabric_script::SetUp;
+use crate::checking::{CheckEnd, Unlawful};
+use crate::reader::Reader;
+use crate::reading::{BAD_FORM, says_short};
+use fabric_script::{Line, SetUp, read_set_up};
 use std::alloc::{AllocError, Global};
-use trace_lines::TraceLine;
+use trace_lines::{TraceLine, TraceLineEnd, read_trace_line};
 
-/// What is known after lines of a trace.
+/// A check of a trace, line by line as they come. It keeps what is on wires, in buffers and not yet
+/// matched, and no line but an event, which waits for the next line: that one says whether its wire
+/// was too short.
+///
+/// After an error only that it may be dropped is promised.
 #[derive(Drop)]
-pub(crate) struct Checker {
-    state: State,
-    steps: u32,
-    ended: bool,
+pub struct Checker {
+    set_up: SetUp,
+    reader: Reader,
+    waiting: Option<Line>,
+    lines: u32,
+    ghost ready: { KnownIsReady set_up.known },
+    ghost few: { reader.steps ≤ lines },
+    ghost goes: { IsTrue (is_some waiting) → reader.ended ≡ false },
+    ghost fewer: { IsTrue (is_some waiting) → reader.steps < lines },
 }
 
 impl Checker {
-    /// Before the first line.
-    pub(crate) fn new(alloc: Global, set_up: &SetUp) -> Result<Checker, AllocError>
-        requires { IsBegun set_up.now }
-        ensures ended { IfOk result (λ checker. checker.ended ≡ false) }
-        ensures steps { IfOk result (λ checker. checker.steps ≡ 0) }
-        ensures reached { IfOk result (λ checker.
-            IsReachedState (unreached (nodes_of set_up.now) (net_of set_up.now)) checker.state) }
+    ghost use Rattle.std.specs.Prelude.{◌+◌, [], ◌∷◌, ◌++◌, ℕ, List, None, length, IfOk, IsErrOf};
+    ghost use Rattle.fabric_script.specs.Known.{of_set_up};
+    ghost use Rattle.fabric_script.specs.Scripts.{RefusedIn};
+    ghost use Rattle.trace_lines.specs.Reads.{line_read};
+    ghost use Rattle.trace_lines.specs.Words.{SpellsLine};
+    ghost use Rattle.trace_check.specs.Lawful.{as_behind, IsLawful};
+    ghost use Rattle.trace_check.specs.Starting.{net_of};
+    ghost use Rattle.trace_check.specs.Taken.{AreReadBy, AreReadTo, AreTaken, HasTaken, HitsOne, IsHitAt, IsHitIn, IsHitNext, IsSetUpOf, ReadsOne};
+    ghost use Rattle.trace_check.specs.Wires.{are_short};
+
+    /// A check of a trace of the fabric that these set-up lines make, of at most 16,777,216 bytes,
+    /// before its first line. Refused comes exactly if a reason hits the set-up lines, unless memory
+    /// runs out.
+    pub fn new(alloc: Global, script: &[u8]) -> Result<Checker, CheckEnd>
+        requires { length script.now ≤ 16777216 }
+        ensures made { IfOk result (λ checker. IsSetUpOf script.now checker.set_up) }
+        ensures taken { IfOk result (HasTaken []) }
+        ensures refused { (refusal : _) → IsErrOf result (CheckEnd.Refused refusal)
+            → RefusedIn of_set_up script.now refusal.line refusal.reason }
+        ensures lawful { (hit : _) → IsErrOf result (CheckEnd.Unlawful hit) → ⊥ }
     {
-        let state = State::new(alloc, set_up)?;
+        let set_up = read_set_up(alloc, script)?;
+        let reader = Reader::new(alloc, &set_up)?;
         Ok(Checker {
-            state,
-            steps: 0,
-            ended: false,
+            set_up,
+            reader,
+            waiting: None,
+            lines: 0,
         })
     }
 
-    /// Whether the last line has come.
-    pub(crate) fn has_ended(&self) -> bool
-        ensures { result ≡ self.now.ended }
+    /// How many lines were taken.
+    pub fn lines(&self) -> u32
+        ensures { result ≡ self.now.lines }
     {
-        self.ended
+        self.lines
     }
 
-    /// How many steps there were.
-    pub(crate) fn steps(&self) -> u32
-        ensures { result ≡ self.now.steps }
+    /// Takes the next line, without its line feed. Unlawful comes exactly if a reason hits this
+    /// line, or the line before it if that edits a wire: at the line that is told, counted from 1,
+    /// whatever more may come.
+    pub fn take(&mut self, alloc: Global, text: &[u8]) -> Result<(), CheckEnd>
+        requires few { self.old.lines < 4294967295 }
+        ensures set_up { self.new.set_up ≡ self.old.set_up }
+        ensures lawful { IfOk result (λ _. (texts : List (List ℕ)) → HasTaken texts self.old
+            → HasTaken (texts ++ text.now ∷ []) self.new) }
+        ensures unlawful { (hit : _) → IsErrOf result (CheckEnd.Unlawful hit)
+            → (texts : List (List ℕ)) → HasTaken texts self.old
+            → IsHitIn self.old.set_up (texts ++ text.now ∷ []) hit }
+        ensures never_refused { (refusal : _) → IsErrOf result (CheckEnd.Refused refusal) → ⊥ }
     {
-        self.steps
-    }
-
-    /// What the lines left.
-    pub(crate) fn state(&self) -> &State
-        ensures { result.now ≡ self.now.state }
-    {
-        &self.state
-    }
-
-    /// Takes a line in, and tells the least reason that hits it, apart from its form. `short` tells
-    /// whether the next line says that a wire is too short. After a fault no further line is to be
-    /// taken in.
-    pub(crate) fn check(
-        &mut self,
-        line: TraceLine,
-        short: bool,
-    ) -> Result<Option<Fault>, AllocError>
-        requires going { self.old.ended ≡ false }
-        requires few { self.old.steps < 16777218 }
-        ensures checked { IfOk result (λ fault. (r : ReachedState) → IsReachedState r self.old.state
-            → IsLineIn r.nodes (line_read line)
-            → Checks r (line_read line) short self.new.state fault) }
-        ensures ended { IfOk result (λ _. self.new.ended ≡ is_last (line_read line)) }
-        ensures steps { IfOk result (λ _. self.new.steps
-            ≡ self.old.steps + length (steps_of (line_read line ∷ []))) }
-    {
-        match line {
-            TraceLine::Begun(line) => {
-                if short {
-                    return Ok(None);
-                }
-                self.state.edit(&line)
-            }
-            TraceLine::Stepped(step) => {
-                self.steps += 1;
-                self.state.step(&step)
-            }
-            TraceLine::Sent(port, chars) => self.state.sent(port, chars),
-            TraceLine::Got(port, chars) => self.state.got(port, chars.as_slice()),
-            TraceLine::Fired(port) => Ok(self.state.fired(port)),
-            TraceLine::Lacked(_) => Ok(None),
-            TraceLine::Ended | TraceLine::Undetected(..) => {
-                self.ended = true;
-                Ok(None)
-            }
+        self.judge(says_short(text))?;
+        self.lines += 1;
+        if self.reader.has_ended() {
+            return Err(hit_at(self.lines, BAD_FORM));
+        }
+        match read_trace_line(alloc, &self.set_up, text) {
+            Ok(line) => self.take_line(line),
+            Err(TraceLineEnd::NoForm) => Err(hit_at(self.lines, BAD_FORM)),
+            Err(TraceLineEnd::NoMemory) => Err(CheckEnd::NoMemory),
         }
     }
+
+    /// No line follows: how many steps the trace has. Unlawful comes exactly if it has not ended, or
+    /// its last line edits a wire and a reason hits it.
+    pub fn end(&mut self) -> Result<u32, CheckEnd>
+        requires few { self.old.lines < 4294967295 }
+        ensures lawful { IfOk result (λ steps. (texts : List (List ℕ)) → HasTaken texts self.old
+            → IsLawful self.old.set_up.known (net_of self.old.set_up) texts steps) }
+        ensures unlawful { (hit : _) → IsErrOf result (CheckEnd.Unlawful hit)
+            → (texts : List (List ℕ)) → HasTaken texts self.old
+            → IsHitAt self.old.set_up texts hit }
+        ensures never_refused { (refusal : _) → IsErrOf result (CheckEnd.Refused refusal) → ⊥ }
+    {
+        self.judge(false)?;
+        if self.reader.has_ended() {
+            return Ok(self.reader.steps());
+        }
+        self.lines += 1;
+        Err(hit_at(self.lines, BAD_FORM))
+    }
+
+    /// Takes in the last line that was taken: an event waits, and any other is judged.
+    fn take_line(&mut self, line: TraceLine) -> Result<(), CheckEnd>
+        requires going { self.old.reader.ended ≡ false }
+        requires few { self.old.reader.steps < self.old.lines }
+        requires alone { self.old.waiting ≡ None }
+        ensures kept { (self.new.set_up ≡ self.old.set_up) × (self.new.lines ≡ self.old.lines) }
+        ensures taken { IfOk result (λ _. (texts : List (List ℕ)) (text : List ℕ)
+            → SpellsLine self.old.set_up.known text (line_read line)
+            → AreReadTo self.old.set_up self.old.reader texts text
+            → AreTaken self.old.set_up self.new.reader (texts ++ text ∷ []) self.new.waiting) }
+        ensures hit { (hit : _) → IsErrOf result (CheckEnd.Unlawful hit)
+            → (hit.line ≡ self.old.lines) × ((texts : List (List ℕ)) (text : List ℕ)
+            → SpellsLine self.old.set_up.known text (line_read line)
+            → AreReadTo self.old.set_up self.old.reader texts text
+            → IsHitNext self.old.set_up texts text hit.reason) }
+        ensures never_refused { (refusal : _) → IsErrOf result (CheckEnd.Refused refusal) → ⊥ }
+    {
+        match line {
+            TraceLine::Begun(event) => {
+                self.waiting = Some(event);
+                Ok(())
+            }
+            _ => self.check(line, false),
+        }
+    }
+
+    /// Judges the event line that waits, by whether the next line says that a wire is too short.
+    fn judge(&mut self, short: bool) -> Result<(), CheckEnd>
+        ensures kept { (self.new.set_up ≡ self.old.set_up) × (self.new.lines ≡ self.old.lines)
+            × (self.new.waiting ≡ None) }
+        ensures read { IfOk result (λ _. (texts rest : List (List ℕ)) → HasTaken texts self.old
+            → short ≡ are_short (as_behind rest)
+            → AreReadBy self.old.set_up self.new.reader texts rest) }
+        ensures hit { (hit : _) → IsErrOf result (CheckEnd.Unlawful hit)
+            → (texts rest : List (List ℕ)) → HasTaken texts self.old
+            → short ≡ are_short (as_behind rest) → IsHitAt self.old.set_up (texts ++ rest) hit }
+        ensures never_refused { (refusal : _) → IsErrOf result (CheckEnd.Refused refusal) → ⊥ }
+    {
+        match self.waiting.take() {
+            Some(event) => self.check(TraceLine::Begun(event), short),
+            None => Ok(()),
+        }
+    }
+
+    /// Takes in a line, whose number is that of the lines that were taken.
+    fn check(&mut self, line: TraceLine, short: bool) -> Result<(), CheckEnd>
+        requires going { self.old.reader.ended ≡ false }
+        requires few { self.old.reader.steps < self.old.lines }
+        requires alone { self.old.waiting ≡ None }
+        ensures kept { (self.new.set_up ≡ self.old.set_up) × (self.new.lines ≡ self.old.lines)
+            × (self.new.waiting ≡ None) }
+        ensures read { IfOk result (λ _.
+            ReadsOne self.old.set_up self.old.reader self.new.reader (line_read line) short) }
+        ensures hit { (hit : _) → IsErrOf result (CheckEnd.Unlawful hit)
+            → (hit.line ≡ self.old.lines)
+            × HitsOne self.old.set_up self.old.reader (line_read line) short hit.reason }
+        ensures never_refused { (refusal : _) → IsErrOf result (CheckEnd.Refused refusal) → ⊥ }
+    {
+        let number = self.lines();
+        match self.reader.check(line, short)? {
+            Some(fault) => Err(hit_at(number, fault.number())),
+            None => Ok(()),
+        }
+    }
+}
+
+/// A reason hits the line with this number.
+fn hit_at(line: u32, reason: u8) -> CheckEnd
+    ensures { result ≡ CheckEnd.Unlawful (record { line = line; reason = reason }) }
+{
+    CheckEnd::Unlawful(Unlawful { line, reason })
 }

@@ -19,9 +19,10 @@ ghost use Rattle.trace_check.specs.Tables.{IsIn};
 ghost use Rattle.trace_check.specs.Verdicts.{ExpectedAt, StopsAt};
 ghost use Rattle.trace_lines.specs.Words.{SpellsLine};
 
-use crate::checker::Checker;
+use crate::reader::Reader;
 use crate::reading::{Verdict, read_lines};
 use crate::state::{State, edit_of};
+use crate::unmet::Unmet;
 use arrayvec::ArrayVec;
 use fabric_script::{Line, PortRef, ScriptEnd, SetUp, read_set_up};
 use rio_chars::Char;
@@ -48,12 +49,14 @@ pub enum Expected {
     /// The priority of a packet that is sent and that the port does not have, and the first packet
     /// of this priority that waits there, if one does.
     Waiting(u8, Option<Packet>),
+    /// The first need of the step that is not met.
+    Needed(Unmet),
 }
 
 /// What would have been lawful at a line of a trace that is not lawful there. The bytes are those
 /// that `check_trace` takes, and the line is the one that it tells, counted from 1. There is an
-/// answer for each line that it tells with the reason 22, 24, 25 or 26, and none for a line that is
-/// lawful or stands behind one that is not.
+/// answer for each line that it tells with a reason of 22 to 26, and none for a line that is lawful
+/// or stands behind one that is not.
 pub fn expect(alloc: Global, bytes: &[u8], line: u32) -> Result<Option<Expected>, AllocError>
     requires { length bytes.now ≤ 16777216 }
     // What is told is so.
@@ -97,7 +100,7 @@ fn expect_in(
     }
 }
 
-impl Checker {
+impl Reader {
     /// What would have been lawful in place of a text, if that is asked.
     pub(crate) fn expected(
         &self,
@@ -155,6 +158,9 @@ impl State {
             → IsStepOf r.nodes (step_read step.now) → IsExplained (fault_number fault)
             → (SparesAt r (Stepped (step_read step.now)) short fault → ⊥) → IsSome result }
     {
+        if let Some(unmet) = self.unmet(step) {
+            return Some(Expected::Needed(unmet));
+        }
         match step {
             NetworkStep::Hold(port, _) => self.next_to_hold(*port),
             NetworkStep::Free(port, _) => self.freed(*port),

@@ -10,7 +10,11 @@ ghost use Rattle.fabric_trace.specs.Runs.{bare, set_up_all, Runs};
 ghost use Rattle.fabric_trace.specs.SetUps.{IsSetUp, MaySetUpAll};
 ghost use Rattle.trace_check.specs.Checks.{PassAll, net_after};
 ghost use Rattle.trace_check.specs.Lawful.{IsLawful, IsUnlawful};
+ghost use Rattle.trace_check.specs.declared.checker.Checker.{Checker as AChecker};
 ghost use Rattle.trace_check.specs.Outcomes.{HasLawful};
+ghost use Rattle.trace_check.specs.SoFar.{IsLawfulSoFar};
+ghost use Rattle.trace_check.specs.Starting.{net_of};
+ghost use Rattle.trace_check.specs.Taken.{HasTaken};
 
 /// No reason of wires, steps, holds, frees and packets sent hits a line of a trace of a script.
 pub fn every_trace_is_lawful()
@@ -32,10 +36,18 @@ pub fn lawful_or_unlawful()
         → IsUnlawful known net texts line reason → ⊥ }
 {}
 
-/// The steps of an input that is lawful are legal in the network that its set-up lines make, and all
-/// laws of legal steps hold of them.
+/// The steps of an input that is lawful are legal in the network that its set-up lines make, and
+/// all laws of legal steps hold of them.
 pub fn lawful_inputs_are_legal()
     ensures { (bytes : List ℕ) (steps : ℕ) (is : HasLawful bytes steps)
         → Lawful (set_up_all bare is.set_up) (steps_of is.lawful.lines)
         (net_after (set_up_all bare is.set_up) is.lawful.lines) }
+{}
+
+/// Lines that a checker has taken are lawful so far: they spell lines that no reason hits, if the
+/// next line says that a wire is too short.
+pub fn taken_lines_are_lawful_so_far()
+    ensures { (checker : AChecker) (texts : List (List ℕ)) → IsOrderly checker.set_up.known
+        → HasTaken texts checker
+        → IsLawfulSoFar checker.set_up.known (net_of checker.set_up) texts }
 {}

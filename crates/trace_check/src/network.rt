@@ -39,7 +39,7 @@ pub(crate) struct Network {
 
 impl Network {
     /// Whether a node is a switch; None if there is no such node.
-    fn is_switch(&self, node: u8) -> Option<bool>
+    pub(crate) fn is_switch(&self, node: u8) -> Option<bool>
         ensures { (nodes : ℕ) (net : ANetwork) → IsNetwork nodes net self.now
             → result ≡ switch_at net node }
     {
@@ -176,7 +176,7 @@ impl Network {
     }
 
     /// Whether one more packet of this priority may stand to be sent.
-    fn has_room_out(&self, port: PortRef, prio: u8) -> bool
+    pub(crate) fn has_room_out(&self, port: PortRef, prio: u8) -> bool
         requires { prio < 4 }
         ensures { (nodes : ℕ) (net : ANetwork) → IsNetwork nodes net self.now → IsIn nodes port
             → result ≡ room_out net port prio }
@@ -215,7 +215,7 @@ impl Network {
     }
 
     /// Where a switch sends a packet, if the node is one.
-    fn next_at(&self, node: u8, packet: &Packet) -> Option<Next>
+    pub(crate) fn next_at(&self, node: u8, packet: &Packet) -> Option<Next>
         ensures value { (nodes : ℕ) (net : ANetwork) → IsNetwork nodes net self.now
             → result ≡ next_at net node packet.now }
         ensures hops_left { (port : ℕ) → result ≡ Some (Next.Port port)
@@ -280,7 +280,7 @@ impl Network {
 
     /// Whether the registers of a packet's node answer it: those of an endpoint, or of a switch
     /// that sends it to them.
-    fn is_for_registers(&self, port: PortRef, packet: &Packet) -> bool
+    pub(crate) fn is_for_registers(&self, port: PortRef, packet: &Packet) -> bool
         ensures { (nodes : ℕ) (net : ANetwork) → IsNetwork nodes net self.now
             → IsTrue result ↔ IsForRegisters net port packet.now }
     {

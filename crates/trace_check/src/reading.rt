@@ -1,6 +1,6 @@
 //! The lines of a trace are read, up to the first that is not lawful or to their end.
 
-ghost use Rattle.std.specs.Prelude.{◌≡◌, ◌+◌, ◌<◌, ◌≤◌, length, option_map, IfOk};
+ghost use Rattle.std.specs.Prelude.{◌≡◌, ◌+◌, ◌<◌, ◌≤◌, ◌∷◌, ℕ, List, length, option_map, IfOk};
 ghost use Rattle.fabric_script.specs.SetUps.{KnownIsReady};
 ghost use Rattle.script_input.specs.Inputs.{texts_ahead, texts_of};
 ghost use Rattle.trace_check.specs.Lawful.{as_behind, fault_number};
@@ -10,9 +10,9 @@ ghost use Rattle.trace_check.specs.States.{fault_of, IsReachedState, ReachedStat
 ghost use Rattle.trace_check.specs.Verdicts.{IsVerdict};
 ghost use Rattle.trace_check.specs.Wires.{are_short};
 
-use crate::checker::Checker;
 use crate::checking::Unlawful;
 use crate::expecting::Expected;
+use crate::reader::Reader;
 use crate::state::Fault;
 use fabric_script::SetUp;
 use script_input::next_line;
@@ -20,7 +20,7 @@ use std::alloc::{AllocError, Global};
 use trace_lines::{TraceLineEnd, read_trace_line};
 
 /// The reason if a line is of no form, or the last line does not come.
-const BAD_FORM: u8 = 21;
+pub(crate) const BAD_FORM: u8 = 21;
 
 /// What the lines of a trace are.
 #[derive(Drop)]
@@ -47,20 +47,20 @@ pub(crate) fn read_lines(
     ensures { IfOk result (IsVerdict set_up.now.known (net_of set_up.now) (texts_of bytes.now) first
         asked) }
 {
-    let mut checker = Checker::new(alloc, set_up)?;
+    let mut reader = Reader::new(alloc, set_up)?;
     let mut number = first;
     let mut ahead = next_line(bytes);
     while let Some((text, left)) = ahead {
         ahead = next_line(left);
-        let expected = checker.expected(alloc, set_up, text, asked == Some(number))?;
-        let hit = checker.read(alloc, set_up, text, is_short(ahead))?;
+        let expected = reader.expected(alloc, set_up, text, asked == Some(number))?;
+        let hit = reader.read(alloc, set_up, text, is_short(ahead))?;
         if let Some(reason) = hit {
             return Ok(hit_at(number, reason, expected));
         }
         number += 1;
     }
-    if checker.has_ended() {
-        Ok(Verdict::Lawful(checker.steps()))
+    if reader.has_ended() {
+        Ok(Verdict::Lawful(reader.steps()))
     } else {
         Ok(hit_at(number, BAD_FORM, None))
     }
@@ -71,9 +71,16 @@ fn is_short(line: Option<(&[u8], &[u8])>) -> bool
     ensures { result ≡ are_short (as_behind (texts_ahead line.entry)) }
 {
     match line {
-        Some((text, _)) => text == b"short".as_slice(),
+        Some((text, _)) => says_short(text),
         None => false,
     }
+}
+
+/// Whether a text says that a wire is too short.
+pub(crate) fn says_short(text: &[u8]) -> bool
+    ensures { (rest : List (List ℕ)) → result ≡ are_short (as_behind (text.now ∷ rest)) }
+{
+    text == b"short".as_slice()
 }
 
 /// The lines are not lawful.
@@ -90,7 +97,7 @@ fn number_of(fault: Option<Fault>) -> Option<u8>
     fault.map(|fault| fault.number())
 }
 
-impl Checker {
+impl Reader {
     /// Takes the text of a line in, and tells the least reason that hits it. `short` tells whether
     /// the next line says that a wire is too short.
     pub(crate) fn read(
@@ -101,7 +108,7 @@ impl Checker {
         short: bool,
     ) -> Result<Option<u8>, AllocError>
         requires ready { KnownIsReady set_up.now.known }
-        requires few { self.old.steps < 16777218 }
+        requires few { self.old.steps < 4294967295 }
         ensures read { IfOk result (λ hit. (r : ReachedState) → IsReachedState r self.old.state
             → r.nodes ≡ nodes_of set_up.now → ReadsNextText set_up.now.known r text.now short
             self.old.ended self.old.steps self.new.ended self.new.steps self.new.state hit) }

@@ -3,6 +3,7 @@
 ghost use Rattle.std.specs.Prelude.{◌≡◌, ◌↔◌, [], false, option_map, unwrap_or, Bool, Some, IfOk, IsTrue, MatchOption};
 ghost use Rattle.std.specs.Option.{option_copied};
 ghost use Rattle.fabric_model.specs.Network.{first_packet};
+ghost use Rattle.fabric_model.specs.Steps.{Needs};
 ghost use Rattle.fabric_trace.specs.Fold.{edit_of, says};
 ghost use Rattle.trace_lines.specs.Lines.{Begun, Fired as AFired, Got as AGot, Sent as ASent, Signed, Stepped};
 ghost use Rattle.trace_check.specs.Checks.{SendMayBe};
@@ -14,12 +15,14 @@ ghost use Rattle.trace_check.specs.Running.{run_of};
 ghost use Rattle.trace_check.specs.Starting.{IsBegun, net_of, nodes_of};
 ghost use Rattle.trace_check.specs.States.{Checks, fault_of, ChecksFree, ChecksHold, IsEditIn, IsLeast, IsReachedState, ReachedState, SparesAt, unreached};
 ghost use Rattle.trace_check.specs.Tables.{IsIn};
+ghost use Rattle.trace_check.specs.Unmet.{IsUnmet};
 
 use crate::hearing::Hearing;
 use crate::links::Links;
 use crate::network::Network;
 use crate::places::place_of;
 use crate::queue::CharQueue;
+use crate::unmet::Unmet;
 use fabric_script::{Line, PortRef, SetUp};
 use link_wires::Edit;
 use rio_chars::Char;
@@ -178,6 +181,16 @@ impl State {
             × (found.1 ≡ first_packet (r.net.waiting port found.0))) }
     {
         self.network.lacking(port, chars)
+    }
+
+    /// The first need of a step that is not met.
+    pub(crate) fn unmet(&self, step: &NetworkStep) -> Option<Unmet>
+        ensures { (r : ReachedState) → IsReachedState r self.now
+            → IsStepOf r.nodes (step_read step.now)
+            → MatchOption result (Needs r.net (step_read step.now))
+            (IsUnmet r.net (step_read step.now)) }
+    {
+        self.network.unmet(step, &self.links)
     }
 
     /// Whether no character is on the wire of a port.

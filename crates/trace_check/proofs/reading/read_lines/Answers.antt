@@ -5,9 +5,9 @@ use Rattle.trace_check.proofs.reading.read_lines.Goals as goal
 
 pub loop-ahead-init : goal.loop-ahead-init
 loop-ahead-init c =
-    rw (c.in_ok-checker.ensures.ended, c.in_ok-checker.ensures.steps)
+    rw (c.in_ok-reader.ensures.ended, c.in_ok-reader.ensures.steps)
     (begin_ahead c.next_line-ahead.ensures.texts c.next_line-ahead.ensures.less
-    c.in_ok-checker.ensures.reached)
+    c.in_ok-reader.ensures.reached)
 
 pub loop-ahead-preserved : goal.loop-ahead-preserved
 loop-ahead-preserved c =
@@ -36,5 +36,5 @@ returns c =
     rw c.hit_at-else-has_ended.ensures (record {
       stops = none_ahead (rw (c.in_default.is, ended) at c.loop-ahead.invariant);
       told = tt;
-      some = λ asked explained. absurd (omega (arith, explained.0));
+      some = λ asked explained. absurd (omega (arith, explained));
     })

@@ -5,7 +5,7 @@ use Rattle.trace_check.proofs.reading.read_lines.Given as goal
 abbrev pub invariant-loop-ahead : goal.invariant-loop-ahead
 invariant-loop-ahead l =
     IsAhead l.fn.set_up.known (net_of l.fn.set_up) l.fn.bytes l.fn.first l.number l.ahead
-    l.checker.ended l.checker.steps l.checker.state
+    l.reader.ended l.reader.steps l.reader.state
 
 abbrev pub decreases-loop-ahead : goal.decreases-loop-ahead
 decreases-loop-ahead l = left_ahead l.ahead
