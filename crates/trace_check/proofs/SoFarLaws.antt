@@ -13,7 +13,7 @@ use Rattle.trace_check.specs.Lawful.{as_behind, Fault, NoSuchStep, NotAllowed, N
 use Rattle.trace_check.specs.SoFar.{HasRead, IsLawfulSoFar}
 use Rattle.trace_check.specs.Starting.{net_of}
 use Rattle.trace_check.specs.States.{ReachedState, SparesAt}
-use Rattle.trace_check.specs.Taken.{HasTaken}
+use Rattle.trace_check.specs.Taken.{HasTakenLines}
 use Rattle.trace_check.proofs.Behind.{text_short}
 use Rattle.trace_check.proofs.Reaching.{other_behind, passes_so}
 use Rattle.trace_check.proofs.StopLaws.{read_more}
@@ -36,7 +36,7 @@ event_spared r event NotAllowed = tt
 event_spared r event NotThere = tt
 
 pub so_far : (checker : Checker) (texts : List (List ℕ)) → IsOrderly checker.set_up.known
-    → HasTaken texts checker
+    → HasTakenLines texts checker
     → IsLawfulSoFar checker.set_up.known (net_of checker.set_up) texts
 so_far checker texts orderly has = by_waiting checker.waiting refl
   where

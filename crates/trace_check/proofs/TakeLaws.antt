@@ -24,7 +24,7 @@ use Rattle.trace_check.specs.Outcomes.{HitsNextText}
 use Rattle.trace_check.specs.SoFar.{AreRead}
 use Rattle.trace_check.specs.Starting.{net_of}
 use Rattle.trace_check.specs.States.{Checks, fault_of, IsLeast, IsLineIn, IsReachedState, reached_after, ReachedState, SparesAt}
-use Rattle.trace_check.specs.Taken.{AreReadBy, AreReadTo, AreTaken, HasTaken, HitsOne, IsHitAt, IsHitIn, IsHitNext, ReadsOne, Waits}
+use Rattle.trace_check.specs.Taken.{AreReadBy, AreReadTo, AreTaken, HasTakenLines, LineIsHit, IsHitAt, IsHitIn, IsHitNext, ReadsOne, EventWaits}
 use Rattle.trace_check.specs.Wires.{are_short, told_wires}
 use Rattle.trace_check.proofs.AnswerLaws.{reads_by}
 use Rattle.trace_check.proofs.LineIn.{line_in}
@@ -139,7 +139,7 @@ module _ (set_up : SetUpLines) (old : Reader) (line : TraceLine) (short : Bool)
       (judged rest checked spelled looks r is nodes))
 
   pub one_hit : (fault : ReadFault) {state : State} → IsChecked old state line short (Some fault)
-      → HitsOne set_up old line short (fault_number (fault_of fault))
+      → LineIsHit set_up old line short (fault_number (fault_of fault))
   one_hit fault checked = λ texts rest text spelled looks are.
       hit_on {short = are_short (as_behind rest)} orderly (going_on set_up old going are) refl (λ r is nodes.
       inr (record {
@@ -154,10 +154,10 @@ module _ (set_up : SetUpLines) (old : Reader) (line : TraceLine) (short : Bool)
 
 pub waits_of : (set_up : SetUpLines) (reader : Reader) (texts : List (List ℕ))
     (waiting : Option Line) (line : Line) → waiting ≡ Some line → AreTaken set_up reader texts waiting
-    → Waits set_up reader texts line
+    → EventWaits set_up reader texts line
 waits_of set_up reader texts None line is taken = absurd cc
 waits_of set_up reader texts (Some other) line is taken =
-    let same : other ≡ line = cc in subst (Waits set_up reader texts) same taken
+    let same : other ≡ line = cc in subst (EventWaits set_up reader texts) same taken
 
 pub none_waits : (set_up : SetUpLines) (reader : Reader) (texts : List (List ℕ))
     (waiting : Option Line) → waiting ≡ None → AreTaken set_up reader texts waiting
@@ -167,7 +167,7 @@ none_waits set_up reader texts (Some line) is taken = absurd cc
 
 -- it is judged by what stands behind it, as far as that says of a wire that it is too short
 abbrev pub IsJudged : Checker → Reader → Bool → Type 0
-IsJudged old reader short = (texts rest : List (List ℕ)) → HasTaken texts old
+IsJudged old reader short = (texts rest : List (List ℕ)) → HasTakenLines texts old
     → short ≡ are_short (as_behind rest) → AreReadBy old.set_up reader texts rest
 
 pub none_judged : (old : Checker) (short : Bool) → old.waiting ≡ None
@@ -184,8 +184,8 @@ event_judged old reader short event is reads = λ texts rest has short_is.
 
 pub event_hit : (old : Checker) (short : Bool) (event : Line) (hit : Unlawful)
     → old.waiting ≡ Some event → hit.line ≡ old.lines
-    → HitsOne old.set_up old.reader (Begun event) short hit.reason
-    → (texts rest : List (List ℕ)) → HasTaken texts old → short ≡ are_short (as_behind rest)
+    → LineIsHit old.set_up old.reader (Begun event) short hit.reason
+    → (texts rest : List (List ℕ)) → HasTakenLines texts old → short ≡ are_short (as_behind rest)
     → IsHitAt old.set_up (texts ++ rest) hit
 event_hit old short event hit is at hits = λ texts rest has short_is.
     let waits = waits_of old.set_up old.reader texts old.waiting event is has.taken in (
@@ -217,14 +217,14 @@ abbrev pub Says : List ℕ → Bool → Type 0
 Says text short = (rest : List (List ℕ)) → short ≡ are_short (as_behind (text ∷ rest))
 
 pub read_to : (old : Checker) (reader : Reader) (short : Bool) (text : List ℕ)
-    (texts : List (List ℕ)) → IsJudged old reader short → Says text short → HasTaken texts old
+    (texts : List (List ℕ)) → IsJudged old reader short → Says text short → HasTakenLines texts old
     → AreReadTo old.set_up reader texts text
 read_to old reader short text texts judged says has = λ rest. judged texts (text ∷ rest) has (says rest)
 
 pub taken_more : (old new : Checker) (text : List ℕ) (texts : List (List ℕ))
-    → new.set_up ≡ old.set_up → new.lines ≡ old.lines + 1 → HasTaken texts old
+    → new.set_up ≡ old.set_up → new.lines ≡ old.lines + 1 → HasTakenLines texts old
     → AreTaken old.set_up new.reader (texts ++ text ∷ []) new.waiting
-    → HasTaken (texts ++ text ∷ []) new
+    → HasTakenLines (texts ++ text ∷ []) new
 taken_more old new text texts same more has taken =
     let count = has.count in
     let longer = length-append texts (text ∷ []) in

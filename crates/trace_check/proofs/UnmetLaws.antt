@@ -12,7 +12,7 @@ use Rattle.trace_check.specs.declared.unmet.Unmet.{Unmet}
 use Rattle.trace_check.specs.declared.unmet.Unmet.TheVariants as U
 use Rattle.trace_check.specs.Networks.{AreKeptLinks}
 use Rattle.trace_check.specs.Tables.{IsIn, table_place}
-use Rattle.trace_check.specs.Unmet.{first_at_peer, IsBehind, IsFew, IsFull, IsUnmet}
+use Rattle.trace_check.specs.Unmet.{first_at_peer, IsBehind, IsFew, IsFull, IsUnmetNeed}
 use Rattle.trace_check.proofs.TableLaws.{place_within}
 
 pub match_map : {A P Q : Type 0} {F G : A → Type 0} (o : Option A) → MatchOption o P F → (P → Q)
@@ -68,42 +68,42 @@ first_by_peer net q packet is = by_peer (peer_in net.links q) refl
 -- ---- what one step needs of what others need
 
 pub few_held : (net : Network) (q : PortRef) (packet : List ℕ) (unmet : Unmet)
-    → IsFew net q (prio_of packet) unmet → IsUnmet net (Linked (Hold q packet)) unmet
+    → IsFew net q (prio_of packet) unmet → IsUnmetNeed net (Linked (Hold q packet)) unmet
 few_held net q packet (U.Buffers free all prio needed) is = is
 few_held net q packet _ is = absurd is
 
 pub full_taken : (net : Network) (n : ℕ) (packet : List ℕ) (unmet : Unmet)
-    → IsFull net (port_of n) packet unmet → IsUnmet net (AtNode (Take n packet)) unmet
+    → IsFull net (port_of n) packet unmet → IsUnmetNeed net (AtNode (Take n packet)) unmet
 full_taken net n packet (U.Place prio) is = is
 full_taken net n packet _ is = absurd is
 
 pub behind_left : (net : Network) (n : ℕ) (packet : List ℕ) (unmet : Unmet)
-    → IsBehind net (port_of n) packet unmet → IsUnmet net (AtNode (Leave n packet)) unmet
+    → IsBehind net (port_of n) packet unmet → IsUnmetNeed net (AtNode (Leave n packet)) unmet
 behind_left net n packet (U.Held prio first) is = is
 behind_left net n packet _ is = absurd is
 
 pub behind_moved : (net : Network) (p q : PortRef) (packet : List ℕ) (unmet : Unmet)
-    → IsBehind net p packet unmet → IsUnmet net (ByDevice (Move p q packet)) unmet
+    → IsBehind net p packet unmet → IsUnmetNeed net (ByDevice (Move p q packet)) unmet
 behind_moved net p q packet (U.Held prio first) is = is
 behind_moved net p q packet _ is = absurd is
 
 pub full_moved : (net : Network) (p q : PortRef) (packet : List ℕ) (unmet : Unmet)
-    → IsFull net q packet unmet → IsUnmet net (ByDevice (Move p q packet)) unmet
+    → IsFull net q packet unmet → IsUnmetNeed net (ByDevice (Move p q packet)) unmet
 full_moved net p q packet (U.Place prio) is = is
 full_moved net p q packet _ is = absurd is
 
 pub behind_dropped : (net : Network) (p : PortRef) (packet : List ℕ) (unmet : Unmet)
-    → IsBehind net p packet unmet → IsUnmet net (ByDevice (Drop p packet)) unmet
+    → IsBehind net p packet unmet → IsUnmetNeed net (ByDevice (Drop p packet)) unmet
 behind_dropped net p packet (U.Held prio first) is = is
 behind_dropped net p packet _ is = absurd is
 
 pub behind_answered : (net : Network) (p : PortRef) (packet response : List ℕ) (unmet : Unmet)
-    → IsBehind net p packet unmet → IsUnmet net (ByDevice (Answer p packet response)) unmet
+    → IsBehind net p packet unmet → IsUnmetNeed net (ByDevice (Answer p packet response)) unmet
 behind_answered net p packet response (U.Held prio first) is = is
 behind_answered net p packet response _ is = absurd is
 
 pub full_answered : (net : Network) (p : PortRef) (packet response : List ℕ) (unmet : Unmet)
-    → IsFull net p response unmet → IsUnmet net (ByDevice (Answer p packet response)) unmet
+    → IsFull net p response unmet → IsUnmetNeed net (ByDevice (Answer p packet response)) unmet
 full_answered net p packet response (U.Place prio) is = is
 full_answered net p packet response _ is = absurd is
 

@@ -22,7 +22,7 @@ use Rattle.trace_check.specs.Reaches.{Reaches}
 use Rattle.trace_check.specs.Running.{Come}
 use Rattle.trace_check.specs.States.{ReachedState, SparesAt}
 use Rattle.trace_lines.specs.Words.{SpellsLine}
-use Rattle.trace_check.specs.Unmet.{IsUnmet}
+use Rattle.trace_check.specs.Unmet.{IsUnmetNeed}
 
 -- the reasons of which it is told what would have been lawful: all but that of the form
 abbrev pub IsExplained : ℕ → Type 0
@@ -70,7 +70,7 @@ IsSo r (Stepped (Linked (Hold q packet))) (E.Came ack first) =
 IsSo r (Stepped (Linked (Free p packet))) (E.Freed n) = n ≡ (r.runs p).allowed
 IsSo r (Signed (Sent p chars)) (E.Waiting prio first) =
     OneIsLacked r.net p prio (says chars) × (first ≡ first_packet (r.net.waiting p prio))
-IsSo r (Stepped step) (E.Needed unmet) = IsUnmet r.net step unmet
+IsSo r (Stepped step) (E.Needed unmet) = IsUnmetNeed r.net step unmet
 IsSo r line expected = ⊥
 
 -- ---- of one text

@@ -12,7 +12,7 @@ use Rattle.trace_check.specs.States.{IsReachedState, ReachedState}
 
 -- The texts spell these lines, the last of which alone ends the trace, and no reason hits any, with
 -- others behind them.
-pub record HasEnded (known : Known) (net : Network) (texts : List (List ℕ)) (lines : List TraceLine)
+pub record TraceHasEnded (known : Known) (net : Network) (texts : List (List ℕ)) (lines : List TraceLine)
     (rest : List (List ℕ)) : Type 0 where
   pub before : List (List ℕ)
   pub text : List ℕ
@@ -29,7 +29,7 @@ pub record HasEnded (known : Known) (net : Network) (texts : List (List ℕ)) (l
 -- or the trace goes on
 abbrev pub HasRead : Known → Network → Bool → List (List ℕ) → List TraceLine → List (List ℕ)
     → Type 0
-HasRead known net true texts lines rest = HasEnded known net texts lines rest
+HasRead known net true texts lines rest = TraceHasEnded known net texts lines rest
 HasRead known net false texts lines rest = SpellFront known texts lines × PassFront net lines rest
 
 -- Texts are lawful so far: they spell lines that no reason hits, of which the last alone may end the

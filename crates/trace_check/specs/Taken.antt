@@ -31,7 +31,7 @@ IsHitNext set_up texts text reason = (rest : List (List ℕ))
 
 -- Of the texts the last spells this event line, which waits for the next one, and those before it
 -- are read.
-pub record Waits (set_up : SetUpLines) (reader : Reader) (texts : List (List ℕ)) (line : Line) :
+pub record EventWaits (set_up : SetUpLines) (reader : Reader) (texts : List (List ℕ)) (line : Line) :
     Type 0 where
   pub front : List (List ℕ)
   pub text : List ℕ
@@ -43,10 +43,10 @@ pub record Waits (set_up : SetUpLines) (reader : Reader) (texts : List (List ℕ
 -- all texts are read, whatever may stand behind them, or the last one waits
 abbrev pub AreTaken : SetUpLines → Reader → List (List ℕ) → Option Line → Type 0
 AreTaken set_up reader texts None = (rest : List (List ℕ)) → AreReadBy set_up reader texts rest
-AreTaken set_up reader texts (Some line) = Waits set_up reader texts line
+AreTaken set_up reader texts (Some line) = EventWaits set_up reader texts line
 
 -- The checker has taken these texts, of which none is hit by a reason so far.
-pub record HasTaken (texts : List (List ℕ)) (checker : Checker) : Type 0 where
+pub record HasTakenLines (texts : List (List ℕ)) (checker : Checker) : Type 0 where
   pub count : checker.lines ≡ length texts
   pub taken : AreTaken checker.set_up checker.reader texts checker.waiting
 
@@ -72,8 +72,8 @@ ReadsOne set_up old new line short = (texts rest : List (List ℕ)) (text : List
     → SpellsLine set_up.known text line → LooksAt line short rest
     → AreReadBy set_up old texts (text ∷ rest) → AreReadBy set_up new (texts ++ text ∷ []) rest
 
-abbrev pub HitsOne : SetUpLines → Reader → TraceLine → Bool → ℕ → Type 0
-HitsOne set_up old line short reason = (texts rest : List (List ℕ)) (text : List ℕ)
+abbrev pub LineIsHit : SetUpLines → Reader → TraceLine → Bool → ℕ → Type 0
+LineIsHit set_up old line short reason = (texts rest : List (List ℕ)) (text : List ℕ)
     → SpellsLine set_up.known text line → LooksAt line short rest
     → AreReadBy set_up old texts (text ∷ rest)
     → IsUnlawful set_up.known (net_of set_up) (texts ++ text ∷ rest) (length texts) reason

@@ -46,31 +46,31 @@ IsFull net p packet (U.Place prio) =
 IsFull net p packet unmet = ⊥
 
 -- The step needs this and does not have it: a row for each kind of step and need.
-abbrev pub IsUnmet : Network → Step → Unmet → Type 0
-IsUnmet net (Linked (Hold q packet)) (U.Waiting prio first) = (prio ≡ prio_of packet)
+abbrev pub IsUnmetNeed : Network → Step → Unmet → Type 0
+IsUnmetNeed net (Linked (Hold q packet)) (U.Waiting prio first) = (prio ≡ prio_of packet)
     × IsAnother (first_at_peer net q (prio_of packet)) packet first
-IsUnmet net (Linked (Hold q packet)) unmet = IsFew net q (prio_of packet) unmet
-IsUnmet net (Linked (Free p packet)) (U.Lent first) =
+IsUnmetNeed net (Linked (Hold q packet)) unmet = IsFew net q (prio_of packet) unmet
+IsUnmetNeed net (Linked (Free p packet)) (U.Lent first) =
     IsAnother (first_packet (net.lent p)) packet first
-IsUnmet net (AtNode (Take n packet)) U.Endpoint = IsEndpoint net n → ⊥
-IsUnmet net (AtNode (Take n packet)) unmet = IsFull net (port_of n) packet unmet
-IsUnmet net (AtNode (Leave n packet)) U.Endpoint = IsEndpoint net n → ⊥
-IsUnmet net (AtNode (Leave n packet)) U.NoRequest = is_request packet ≡ true
-IsUnmet net (AtNode (Leave n packet)) unmet = IsBehind net (port_of n) packet unmet
-IsUnmet net (ByDevice (Move p q packet)) (U.Way way) = (way ≡ next_at net p.node packet)
+IsUnmetNeed net (AtNode (Take n packet)) U.Endpoint = IsEndpoint net n → ⊥
+IsUnmetNeed net (AtNode (Take n packet)) unmet = IsFull net (port_of n) packet unmet
+IsUnmetNeed net (AtNode (Leave n packet)) U.Endpoint = IsEndpoint net n → ⊥
+IsUnmetNeed net (AtNode (Leave n packet)) U.NoRequest = is_request packet ≡ true
+IsUnmetNeed net (AtNode (Leave n packet)) unmet = IsBehind net (port_of n) packet unmet
+IsUnmetNeed net (ByDevice (Move p q packet)) (U.Way way) = (way ≡ next_at net p.node packet)
     × ((q.node ≡ p.node) × (way ≡ Some (Port q.port)) → ⊥)
-IsUnmet net (ByDevice (Move p q packet)) (U.Place prio) = IsFull net q packet (U.Place prio)
-IsUnmet net (ByDevice (Move p q packet)) unmet = IsBehind net p packet unmet
-IsUnmet net (ByDevice (Drop p packet)) (U.Way way) =
+IsUnmetNeed net (ByDevice (Move p q packet)) (U.Place prio) = IsFull net q packet (U.Place prio)
+IsUnmetNeed net (ByDevice (Move p q packet)) unmet = IsBehind net p packet unmet
+IsUnmetNeed net (ByDevice (Drop p packet)) (U.Way way) =
     (way ≡ next_at net p.node packet) × (way ≢ Some Nowhere)
-IsUnmet net (ByDevice (Drop p packet)) unmet = IsBehind net p packet unmet
-IsUnmet net (ByDevice (Answer p packet response)) (U.Way way) =
+IsUnmetNeed net (ByDevice (Drop p packet)) unmet = IsBehind net p packet unmet
+IsUnmetNeed net (ByDevice (Answer p packet response)) (U.Way way) =
     (way ≡ next_at net p.node packet) × (IsForRegisters net p packet → ⊥)
-IsUnmet net (ByDevice (Answer p packet response)) (U.Place prio) =
+IsUnmetNeed net (ByDevice (Answer p packet response)) (U.Place prio) =
     IsFull net p response (U.Place prio)
-IsUnmet net (ByDevice (Answer p packet response)) U.Request = is_request packet ≡ false
-IsUnmet net (ByDevice (Answer p packet response)) U.Response =
+IsUnmetNeed net (ByDevice (Answer p packet response)) U.Request = is_request packet ≡ false
+IsUnmetNeed net (ByDevice (Answer p packet response)) U.Response =
     (Needs net (ByDevice (Answer p packet response)) → ⊥)
     → (response_at net p packet ≡ Some response) × Passes response → ⊥
-IsUnmet net (ByDevice (Answer p packet response)) unmet = IsBehind net p packet unmet
-IsUnmet net step unmet = ⊥
+IsUnmetNeed net (ByDevice (Answer p packet response)) unmet = IsBehind net p packet unmet
+IsUnmetNeed net step unmet = ⊥

@@ -35,7 +35,7 @@ impl Checker {
     ghost use Rattle.trace_lines.specs.Words.{SpellsLine};
     ghost use Rattle.trace_check.specs.Lawful.{as_behind, IsLawful};
     ghost use Rattle.trace_check.specs.Starting.{net_of};
-    ghost use Rattle.trace_check.specs.Taken.{AreReadBy, AreReadTo, AreTaken, HasTaken, HitsOne, IsHitAt, IsHitIn, IsHitNext, IsSetUpOf, ReadsOne};
+    ghost use Rattle.trace_check.specs.Taken.{AreReadBy, AreReadTo, AreTaken, HasTakenLines, LineIsHit, IsHitAt, IsHitIn, IsHitNext, IsSetUpOf, ReadsOne};
     ghost use Rattle.trace_check.specs.Wires.{are_short};
 
     /// A check of a trace of the fabric that these set-up lines make, of at most 16,777,216 bytes,
@@ -44,7 +44,7 @@ impl Checker {
     pub fn new(alloc: Global, script: &[u8]) -> Result<Checker, CheckEnd>
         requires { length script.now ≤ 16777216 }
         ensures made { IfOk result (λ checker. IsSetUpOf script.now checker.set_up) }
-        ensures taken { IfOk result (HasTaken []) }
+        ensures taken { IfOk result (HasTakenLines []) }
         ensures refused { (refusal : _) → IsErrOf result (CheckEnd.Refused refusal)
             → RefusedIn of_set_up script.now refusal.line refusal.reason }
         ensures lawful { (hit : _) → IsErrOf result (CheckEnd.Unlawful hit) → ⊥ }
@@ -72,10 +72,10 @@ impl Checker {
     pub fn take(&mut self, alloc: Global, text: &[u8]) -> Result<(), CheckEnd>
         requires few { self.old.lines < 4294967295 }
         ensures set_up { self.new.set_up ≡ self.old.set_up }
-        ensures lawful { IfOk result (λ _. (texts : List (List ℕ)) → HasTaken texts self.old
-            → HasTaken (texts ++ text.now ∷ []) self.new) }
+        ensures lawful { IfOk result (λ _. (texts : List (List ℕ)) → HasTakenLines texts self.old
+            → HasTakenLines (texts ++ text.now ∷ []) self.new) }
         ensures unlawful { (hit : _) → IsErrOf result (CheckEnd.Unlawful hit)
-            → (texts : List (List ℕ)) → HasTaken texts self.old
+            → (texts : List (List ℕ)) → HasTakenLines texts self.old
             → IsHitIn self.old.set_up (texts ++ text.now ∷ []) hit }
         ensures never_refused { (refusal : _) → IsErrOf result (CheckEnd.Refused refusal) → ⊥ }
     {
@@ -95,10 +95,10 @@ impl Checker {
     /// its last line edits a wire and a reason hits it.
     pub fn end(&mut self) -> Result<u32, CheckEnd>
         requires few { self.old.lines < 4294967295 }
-        ensures lawful { IfOk result (λ steps. (texts : List (List ℕ)) → HasTaken texts self.old
+        ensures lawful { IfOk result (λ steps. (texts : List (List ℕ)) → HasTakenLines texts self.old
             → IsLawful self.old.set_up.known (net_of self.old.set_up) texts steps) }
         ensures unlawful { (hit : _) → IsErrOf result (CheckEnd.Unlawful hit)
-            → (texts : List (List ℕ)) → HasTaken texts self.old
+            → (texts : List (List ℕ)) → HasTakenLines texts self.old
             → IsHitAt self.old.set_up texts hit }
         ensures never_refused { (refusal : _) → IsErrOf result (CheckEnd.Refused refusal) → ⊥ }
     {
@@ -140,11 +140,11 @@ impl Checker {
     fn judge(&mut self, short: bool) -> Result<(), CheckEnd>
         ensures kept { (self.new.set_up ≡ self.old.set_up) × (self.new.lines ≡ self.old.lines)
             × (self.new.waiting ≡ None) }
-        ensures read { IfOk result (λ _. (texts rest : List (List ℕ)) → HasTaken texts self.old
+        ensures read { IfOk result (λ _. (texts rest : List (List ℕ)) → HasTakenLines texts self.old
             → short ≡ are_short (as_behind rest)
             → AreReadBy self.old.set_up self.new.reader texts rest) }
         ensures hit { (hit : _) → IsErrOf result (CheckEnd.Unlawful hit)
-            → (texts rest : List (List ℕ)) → HasTaken texts self.old
+            → (texts rest : List (List ℕ)) → HasTakenLines texts self.old
             → short ≡ are_short (as_behind rest) → IsHitAt self.old.set_up (texts ++ rest) hit }
         ensures never_refused { (refusal : _) → IsErrOf result (CheckEnd.Refused refusal) → ⊥ }
     {
@@ -165,7 +165,7 @@ impl Checker {
             ReadsOne self.old.set_up self.old.reader self.new.reader (line_read line) short) }
         ensures hit { (hit : _) → IsErrOf result (CheckEnd.Unlawful hit)
             → (hit.line ≡ self.old.lines)
-            × HitsOne self.old.set_up self.old.reader (line_read line) short hit.reason }
+            × LineIsHit self.old.set_up self.old.reader (line_read line) short hit.reason }
         ensures never_refused { (refusal : _) → IsErrOf result (CheckEnd.Refused refusal) → ⊥ }
     {
         let number = self.lines();

@@ -14,7 +14,7 @@ ghost use Rattle.trace_check.specs.declared.checker.Checker.{Checker as AChecker
 ghost use Rattle.trace_check.specs.Outcomes.{HasLawful};
 ghost use Rattle.trace_check.specs.SoFar.{IsLawfulSoFar};
 ghost use Rattle.trace_check.specs.Starting.{net_of};
-ghost use Rattle.trace_check.specs.Taken.{HasTaken};
+ghost use Rattle.trace_check.specs.Taken.{HasTakenLines};
 
 /// No reason of wires, steps, holds, frees and packets sent hits a line of a trace of a script.
 pub fn every_trace_is_lawful()
@@ -48,6 +48,6 @@ pub fn lawful_inputs_are_legal()
 /// next line says that a wire is too short.
 pub fn taken_lines_are_lawful_so_far()
     ensures { (checker : AChecker) (texts : List (List ℕ)) → IsOrderly checker.set_up.known
-        → HasTaken texts checker
+        → HasTakenLines texts checker
         → IsLawfulSoFar checker.set_up.known (net_of checker.set_up) texts }
 {}

@@ -15,7 +15,7 @@ ghost use Rattle.trace_check.specs.Running.{run_of};
 ghost use Rattle.trace_check.specs.Starting.{IsBegun, net_of, nodes_of};
 ghost use Rattle.trace_check.specs.States.{Checks, fault_of, ChecksFree, ChecksHold, IsEditIn, IsLeast, IsReachedState, ReachedState, SparesAt, unreached};
 ghost use Rattle.trace_check.specs.Tables.{IsIn};
-ghost use Rattle.trace_check.specs.Unmet.{IsUnmet};
+ghost use Rattle.trace_check.specs.Unmet.{IsUnmetNeed};
 
 use crate::hearing::Hearing;
 use crate::links::Links;
@@ -188,7 +188,7 @@ impl State {
         ensures { (r : ReachedState) → IsReachedState r self.now
             → IsStepOf r.nodes (step_read step.now)
             → MatchOption result (Needs r.net (step_read step.now))
-            (IsUnmet r.net (step_read step.now)) }
+            (IsUnmetNeed r.net (step_read step.now)) }
     {
         self.network.unmet(step, &self.links)
     }

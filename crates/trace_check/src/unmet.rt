@@ -8,7 +8,7 @@ ghost use Rattle.rio_packets.specs.LinkForm.{Passes};
 ghost use Rattle.trace_lines.specs.Reads.{step_read};
 ghost use Rattle.trace_check.specs.Networks.{AreKeptLinks, IsNetwork, IsStepOf};
 ghost use Rattle.trace_check.specs.Tables.{IsIn};
-ghost use Rattle.trace_check.specs.Unmet.{first_at_peer, IsBehind, IsFew, IsFull, IsUnmet};
+ghost use Rattle.trace_check.specs.Unmet.{first_at_peer, IsBehind, IsFew, IsFull, IsUnmetNeed};
 
 use crate::links::Links;
 use crate::network::Network;
@@ -65,7 +65,7 @@ impl Network {
         ensures { (nodes : ℕ) (net : ANetwork) → IsNetwork nodes net self.now
             → AreKeptLinks nodes net.links links.now → IsStepOf nodes (step_read step.now)
             → MatchOption result (Needs net (step_read step.now))
-            (IsUnmet net (step_read step.now)) }
+            (IsUnmetNeed net (step_read step.now)) }
     {
         match step {
             NetworkStep::Hold(port, packet) => self.unmet_hold(*port, packet, links),
@@ -85,7 +85,7 @@ impl Network {
         ensures { (nodes : ℕ) (net : ANetwork) → IsNetwork nodes net self.now
             → AreKeptLinks nodes net.links links.now → IsIn nodes port
             → MatchOption result (Needs net (Linked (Hold port packet.now)))
-            (IsUnmet net (Linked (Hold port packet.now))) }
+            (IsUnmetNeed net (Linked (Hold port packet.now))) }
     {
         let prio = packet.prio();
         if let Some(few) = self.unmet_buffers(port, prio) {
@@ -154,7 +154,7 @@ impl Network {
     fn unmet_free(&self, port: PortRef, packet: &Packet) -> Option<Unmet>
         ensures { (nodes : ℕ) (net : ANetwork) → IsNetwork nodes net self.now → IsIn nodes port
             → MatchOption result (Needs net (Linked (Free port packet.now)))
-            (IsUnmet net (Linked (Free port packet.now))) }
+            (IsUnmetNeed net (Linked (Free port packet.now))) }
     {
         let first = self.first_lent(port);
         if is_first(&first, packet) {
@@ -182,7 +182,7 @@ impl Network {
         ensures { (nodes : ℕ) (net : ANetwork) → IsNetwork nodes net self.now → node < nodes
             → Passes packet.now
             → MatchOption result (Needs net (AtNode (Take node packet.now)))
-            (IsUnmet net (AtNode (Take node packet.now))) }
+            (IsUnmetNeed net (AtNode (Take node packet.now))) }
     {
         if self.is_switch(node) != Some(false) {
             return Some(Unmet::Endpoint);
@@ -199,7 +199,7 @@ impl Network {
     fn unmet_leave(&self, node: u8, packet: &Packet) -> Option<Unmet>
         ensures { (nodes : ℕ) (net : ANetwork) → IsNetwork nodes net self.now → node < nodes
             → MatchOption result (Needs net (AtNode (Leave node packet.now)))
-            (IsUnmet net (AtNode (Leave node packet.now))) }
+            (IsUnmetNeed net (AtNode (Leave node packet.now))) }
     {
         if self.is_switch(node) != Some(false) {
             return Some(Unmet::Endpoint);
@@ -243,7 +243,7 @@ impl Network {
         ensures { (nodes : ℕ) (net : ANetwork) → IsNetwork nodes net self.now
             → IsIn nodes from → IsIn nodes to
             → MatchOption result (Needs net (ByDevice (Move from to packet.now)))
-            (IsUnmet net (ByDevice (Move from to packet.now))) }
+            (IsUnmetNeed net (ByDevice (Move from to packet.now))) }
     {
         let way = self.next_at(from.node, packet);
         if from.node != to.node {
@@ -276,7 +276,7 @@ impl Network {
     fn unmet_drop(&self, port: PortRef, packet: &Packet) -> Option<Unmet>
         ensures { (nodes : ℕ) (net : ANetwork) → IsNetwork nodes net self.now → IsIn nodes port
             → MatchOption result (Needs net (ByDevice (ADrop port packet.now)))
-            (IsUnmet net (ByDevice (ADrop port packet.now))) }
+            (IsUnmetNeed net (ByDevice (ADrop port packet.now))) }
     {
         let way = self.next_at(port.node, packet);
         if way != Some(Next::Nowhere) {
@@ -290,7 +290,7 @@ impl Network {
         ensures { (nodes : ℕ) (net : ANetwork) → IsNetwork nodes net self.now → IsIn nodes port
             → MatchOption result
             (Needs net (ByDevice (Answer port packet.now response.now)))
-            (IsUnmet net (ByDevice (Answer port packet.now response.now))) }
+            (IsUnmetNeed net (ByDevice (Answer port packet.now response.now))) }
     {
         if !self.is_for_registers(port, packet) {
             return Some(Unmet::Way(self.next_at(port.node, packet)));

@@ -1,6 +1,6 @@
 use Rattle.std.proofs.Common.{sym, ◌∙◌, subst, arith}
 use Rattle.trace_lines.specs.Reads.{line_read}
-use Rattle.trace_check.specs.Taken.{HitsOne}
+use Rattle.trace_check.specs.Taken.{LineIsHit}
 use Rattle.trace_check.proofs.TakeLaws.{one_hit, one_read, same_hit}
 use Rattle.trace_check.proofs.checker.Checker.check.Goals as goal
 
@@ -16,7 +16,7 @@ returns-in-Some-clause-hit c = λ hit told.
     let old = c.args.self.now in
     let same = same_hit c.hit_at.result _ c.number.result hit c.hit_at.ensures told in (
       same.0 ∙ c.lines-number.ensures,
-      subst (HitsOne old.set_up old.reader (line_read c.args.line) c.args.short)
+      subst (LineIsHit old.set_up old.reader (line_read c.args.line) c.args.short)
           (sym (same.1 ∙ c.number.ensures))
           (one_hit old.set_up old.reader (line_read c.args.line) c.args.short old.ready.orderly
           c.requires.going c.in-Some.fault (rw c.in-Some.is at c.in_ok-fault.ensures.checked)),
