@@ -27,12 +27,13 @@ static int ends(int status, const char *why) {
   return status;
 }
 
-/* Reads a line, and answers its length, -1 at the end of input, or -2 if it is too long. */
+/* Reads a line, the last one without a line feed too, and answers its length, -1 at the end of input, or -2 if it is too
+   long. */
 static long next_line(void) {
   long length = 0;
   for (int c; (c = getchar()) != EOF && c != '\n'; line[length++] = (char)c)
     if (length == MOST_LINE) return -2;
-  return feof(stdin) ? -1 : length;
+  return length || !feof(stdin) ? length : -1;
 }
 
 /* Writes the answer that waits, and answers whether that failed. */
