@@ -8,6 +8,8 @@ from .trees import PROGRAMS, TOP, run
 # Tables whose rows are words, statuses, reasons and kinds of lines: each is on the manual page of the program.
 PAGES = {"rio_capture": ("captures.md",), "rio": ("running.md", "decode.md", "script-format.md"), "rio_lane": ("lanes.md",),
          "rio_live": ("script-format.md",), "rio_port": ("live.md",), "rio_view": ("pictures.md",)}
+# What begins a line that a program reads is no word of its command: no completion has it.
+READ = {"rio_port": {"got", "turn", "timeout", "send", "take", "state"}}
 HEADS = ("words", "word", "character", "status", "reason", "line", "REASON", "column")
 
 
@@ -63,7 +65,7 @@ def trials_of_words(root, name, page):
     file = root / f"usr/share/bash-completion/completions/{name}"
     script = f'. "{file}"; for COMP_CWORD in 1 2; do COMP_WORDS=({name} ""); _{name}; echo "${{COMPREPLY[@]}}"; done'
     done = run("bash", "-c", script)
-    told = set(done.stdout.decode().split())
+    told = set(done.stdout.decode().split()) | READ.get(name, set())
     yield f"completion of {name}", done.stderr and done.stderr.decode()
     for word in helped(root / f"usr/bin/{name}"):
         yield f"completion of {name}: {word}", word not in told and "it is not completed"
@@ -85,4 +87,4 @@ def trials(root, version):
         yield f"version of {name}.1", f"kigvarp {version}".encode() not in source and "it has another"
         yield from trials_of_manual(name, source)
         yield from trials_of_version(root, name) if name in PROGRAMS else ()
-        yield from trials_of_words(root, name, source.decode().replace("\\-", "-"))
+        yield from trials_of_words(root, name, re.sub(r"\\f.", "", source.decode().replace("\\-", "-")))
