@@ -11,10 +11,10 @@ pub fn each_turn_keeps_apart()
     ensures { TurnsKeepApart }
 {}
 
-/// Whatever turns were made, the next access of a walker changes the lock only of a device whose lock
-/// is FFFF, to its ID, or of one that it keeps, back to FFFF, and then nothing else there. Other
-/// registers it changes only of a device that it keeps. A turn is one access, but in its first turn
-/// a walker makes all that lock its host.
+/// Whatever turns were made, the next access of a walker changes the lock only of a device whose
+/// lock is FFFF, to its ID, or of one that it keeps, back to FFFF, and then nothing else there.
+/// Other registers it changes only of a device that it keeps. A turn is one access, but in its
+/// first turn a walker makes all that lock its host.
 pub fn accesses_change_their_own()
     ensures { AccessesChangeTheirOwn }
 {}
@@ -45,8 +45,8 @@ pub fn lost_is_for_a_greater()
     ensures { LostIsForAGreater }
 {}
 
-/// After any turns a host is lost exactly if a lock that it has read is that of a host with a greater
-/// ID, and it keeps nothing.
+/// After any turns a host is lost exactly if a lock that it has read is that of a host with a
+/// greater ID, and it keeps nothing.
 pub fn lost_hosts_met_a_greater()
     ensures { LostHostsMetAGreater }
 {}

@@ -19,8 +19,8 @@
 //!   `specs/Waiting.antt` when a turn waits or is lost, `specs/Going.antt` how many go on,
 //!   `specs/Numbering.antt` what is numbered, and `specs/Asking.antt` what packets carry.
 //! - The laws are functions with an empty body, from [`each_turn_keeps_apart`] on.
-//! - `specs/Examples.antt` is the least fabric of two hosts, and [`a_first_turn_reads_its_own_lock`]
-//!   the first of the examples.
+//! - `specs/Examples.antt` is the least fabric of two hosts, and
+//!   [`a_first_turn_reads_its_own_lock`] the first of the examples.
 #![tactic(auto)]
 
 mod examples;

@@ -76,7 +76,8 @@ some_answer : (within : Bool) (done failed : Io)
 some_answer true done failed is = absurd (cc)
 some_answer false done failed is = absurd (cc)
 
-unanswered_at : (memory : List ℕ) (io : Io) → (io_number_of io ≡ None) ↔ (answer_to memory io ≡ None)
+unanswered_at : (memory : List ℕ) (io : Io)
+    → (io_number_of io ≡ None) ↔ (answer_to memory io ≡ None)
 unanswered_at memory (NRead tid addr size) = (
   λ none. absurd (cc),
   λ none. absurd (some_answer (is_within memory addr size)

@@ -10,7 +10,7 @@
 //!   what is answered. [`meet_without`] meets one where there is no memory.
 //! - [`write_met`] writes the line that says what became of a packet.
 //! - [`reads_are_what_was_written`], [`answers_are_done_unchanged`] and
-//!   [`answers_tell_what_became`] are laws: each states what holds of all packets, and does nothing.
+//!   [`answers_tell_what_became`] are laws: each says what holds of all packets, and does nothing.
 #![tactic(auto)]
 
 mod laws;

@@ -28,7 +28,8 @@ use Rattle.io_script.proofs.IoLineWords.{take_line}
 -- ---- one text
 
 form_or_none : (word : List ℕ)
-    → ((form : IoForm) × (io_keyword_of form ≡ word)) ⊎ ((form : IoForm) → io_keyword_of form ≢ word)
+    → ((form : IoForm) × (io_keyword_of form ≡ word))
+    ⊎ ((form : IoForm) → io_keyword_of form ≢ word)
 form_or_none word = elim (same_or_not (io_keyword_of F.Memory) word) [
   | inl same ↦ inl (F.Memory, same)
   | inr a ↦ elim (same_or_not (io_keyword_of F.NRead) word) [

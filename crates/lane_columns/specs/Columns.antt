@@ -11,7 +11,8 @@ pub record Column : Type 0 where
 -- the characters of columns, in the order in which they stand in a packet
 abbrev pub chars_of_columns : List Column → List Char
 chars_of_columns [] = []
-chars_of_columns (column ∷ columns) = column.a ∷ column.b ∷ column.c ∷ column.d ∷ chars_of_columns columns
+chars_of_columns (column ∷ columns) =
+    column.a ∷ column.b ∷ column.c ∷ column.d ∷ chars_of_columns columns
 
 -- four characters a column; fewer than four make none
 abbrev pub striped : List Char → List Column

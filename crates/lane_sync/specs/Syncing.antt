@@ -43,7 +43,8 @@ out_goes commas missing after invalid comma =
 -- In sync: the third invalid group loses it, where each 255 valid ones in a row make up for one.
 abbrev pub in_goes : ℕ → ℕ → ℕ → Disparity → Bool → LaneState
 in_goes commas spare more after invalid =
-    if invalid then (if nat_le spare 1 then lane_out commas after else lane_in (spare - 1) 255 after)
+    if invalid
+    then (if nat_le spare 1 then lane_out commas after else lane_in (spare - 1) 255 after)
     else if nat_lt spare 3
     then (if nat_le more 1 then lane_in (spare + 1) 255 after else lane_in spare (more - 1) after)
     else lane_in spare more after
@@ -74,4 +75,5 @@ abbrev pub LaneHearsAll : ℕ → LaneState → List ℕ → LaneState → List 
 LaneHearsAll commas from [] to heard = (to ≡ from) × (heard ≡ [])
 LaneHearsAll commas from (group ∷ groups) to [] = ⊥
 LaneHearsAll commas from (group ∷ groups) to (c ∷ heard) =
-    (next : LaneState) × LaneHears commas from group next c × LaneHearsAll commas next groups to heard
+    (next : LaneState) × LaneHears commas from group next c
+    × LaneHearsAll commas next groups to heard

@@ -6,6 +6,7 @@ pub mod Turning
 pub mod Machine
 pub mod Serving
 pub mod Reversed
+mod HeardInTime
 pub mod InTime
 pub mod Ways
 pub mod Settling

@@ -42,7 +42,8 @@ none_yet s lines first none = go s.undetected refl
   where
     go : (o : Option UndetectedAt) → s.undetected ≡ o → s.undetected ≡ None
     go None is = is
-    go (Some found) is = (let stays = stays_found s lines found first is in absurd (cc (none, stays)))
+    go (Some found) is =
+        (let stays = stays_found s lines found first is in absurd (cc (none, stays)))
 
 acting : (s : Seen) (lines : List TraceLine) → AreKept s → FindsFirst s lines
     → (seen s lines).undetected ≡ None → AreSentActing s lines

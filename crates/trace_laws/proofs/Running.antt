@@ -47,7 +47,8 @@ pub none_first : {s : Seen} {lines : List TraceLine} → Made s lines
     → (seen s lines).undetected ≡ None → s.undetected ≡ None
 none_first {s} (Done is) none = subst (λ l. (seen s l).undetected ≡ None) is none
 none_first {s} (Then first rest is own more) none =
-    none_before own (none_first more (ap (λ (t : Seen). t.undetected) (sym (seen-append s first rest))
+    none_before own (none_first more (ap (λ (t : Seen). t.undetected)
+    (sym (seen-append s first rest))
     ∙ subst (λ l. (seen s l).undetected ≡ None) is none))
 
 -- ---- one part

@@ -5,7 +5,7 @@ ghost use Rattle.trace_laws.specs.ActedSent.{AreSentActing};
 ghost use Rattle.trace_laws.specs.Examples.{retry_sent};
 ghost use Rattle.trace_laws.specs.Retries.{AsksNoneAgain};
 
-/// A line with a packet-retry asks for a packet again. Where an acceptance comes that nobody sent, a
+/// A line with a packet-retry asks for a packet again. If an acceptance comes that nobody sent, a
 /// port acts on what was not sent.
 pub fn laws_of_runs_can_fail()
     ensures retry { AsksNoneAgain near retry_sent → ⊥ }

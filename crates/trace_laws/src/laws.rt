@@ -10,16 +10,16 @@ pub fn links_of_traces_run()
     ensures { LinksOfTracesRun }
 {}
 
-/// If after some lines a port tells its free buffers, and a report of it has reached its peer before
-/// that started a packet, no `sent` line of the port that follows has a packet-retry, also one that
-/// answers a delivery with an event that was not sent.
+/// If after some lines a port tells its free buffers, and a report of it has reached its peer
+/// before that started a packet, no `sent` line of the port that follows has a packet-retry, also
+/// one that answers a delivery with an event that was not sent.
 pub fn told_in_time_asks_none_again()
     ensures { ToldInTimeAsksNoneAgain }
 {}
 
-/// In lines made of parts, by which no event was found that was not sent, all that a port acts on at
-/// a `got` line was sent, in this order, since the last time-out of its link. So it is in the lines
-/// of asks.
+/// In lines made of parts, by which no event was found that was not sent, all that a port acts on
+/// at a `got` line was sent, in this order, since the last time-out of its link. So it is in the
+/// lines of asks.
 pub fn what_is_acted_on_was_sent()
     ensures { UnfoundIsSent }
 {}

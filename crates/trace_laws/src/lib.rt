@@ -8,8 +8,8 @@
 //!
 //! - `specs/LinksRun.antt` says that links run, `specs/Retries.antt` which lines ask for a packet
 //!   again, and `specs/ActedSent.antt` that all that is acted on was sent.
-//! - [`links_of_traces_run`], [`told_in_time_asks_none_again`] and [`what_is_acted_on_was_sent`] are
-//!   the laws, and [`laws_of_runs_can_fail`] has lines of which they do not hold.
+//! - [`links_of_traces_run`], [`told_in_time_asks_none_again`] and [`what_is_acted_on_was_sent`]
+//!   are the laws, and [`laws_of_runs_can_fail`] has lines of which they do not hold.
 #![tactic(auto)]
 
 mod examples;

@@ -220,5 +220,7 @@ contest-stays w after o before old new contest turn mine = record {
         go (inl keeps) = none keeps
         go (inr claims) = apart claims
     stale node none not held apart (Writes keeps same) (inr not_first) = absurd (not_first keeps)
-    stale node none not held apart (Takes free claimed whole) (inr not_first) = absurd (apart claimed)
-    stale node none not held apart (Frees keeps free whole) (inr not_first) = absurd (not_first keeps)
+    stale node none not held apart (Takes free claimed whole) (inr not_first) =
+        absurd (apart claimed)
+    stale node none not held apart (Frees keeps free whole) (inr not_first) =
+        absurd (not_first keeps)

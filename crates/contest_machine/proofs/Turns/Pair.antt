@@ -109,8 +109,8 @@ module _ (host : ℕ) (is_host : host < 2) where
 
   pair_shown : Fits view (registers_of devices)
   pair_shown = record {
-    devices = both (λ node. IsDevice (registers_of devices node)) (endpoint_is_device 5 (omega arith))
-        (endpoint_is_device 7 (omega arith));
+    devices = both (λ node. IsDevice (registers_of devices node))
+        (endpoint_is_device 5 (omega arith)) (endpoint_is_device 7 (omega arith));
     ids = both (λ node. (registers_of devices node).base_id < 256) (omega arith) (omega arith);
     large_ids = both (λ node. (registers_of devices node).large_id < 65536) (omega arith)
         (omega arith);
