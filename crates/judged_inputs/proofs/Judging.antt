@@ -1,5 +1,5 @@
 -- Each input of a check is lawful, or unlawful at a line, or refused.
-use Rattle.std.proofs.Common.{◌≡◌, ℕ, ◌+◌, ◌++◌, true, false, List, [], ◌∷◌, length, refl, ap, subst, append-nil, append_assoc, ◌⊎◌, inl, inr}
+use Rattle.std.proofs.Common.{◌≡◌, ℕ, ◌+◌, ◌++◌, true, List, [], ◌∷◌, length, refl, ap, subst, append-nil, append_assoc, ◌⊎◌, inl, inr}
 use Rattle.std.proofs.lemmas.Bool.{cases_Bool}
 use Rattle.fabric_script.specs.declared.lines.Numbered.{Numbered}
 use Rattle.fabric_script.specs.Known.{Known, IsOrderly, one_event}
@@ -10,50 +10,13 @@ use Rattle.trace_lines.specs.Lines.{TraceLine, steps_of}
 use Rattle.trace_lines.specs.Words.{SpellsLine}
 use Rattle.fabric_trace.specs.Runs.{bare, set_up_all}
 use Rattle.trace_check.specs.Checks.{LinePasses}
-use Rattle.trace_check.specs.Lawful.{as_behind, is_last, BehindLast, HitsLine, HitsNext, IsLawful, IsUnlawful, PassFront, SpellAll, SpellFront, SpellsNone, fault_number}
+use Rattle.trace_check.specs.Lawful.{as_behind, is_last, BehindLast, HitsLine, HitsNext, IsLawful, IsUnlawful, PassFront, SpellFront, SpellsNone, fault_number}
 use Rattle.trace_check.proofs.Fronts.{pass_more}
+use Rattle.trace_check.proofs.StopLaws.{front_more, spell_all}
 use Rattle.script_law.proofs.Inputs.{input_or_refused}
 use Rattle.judged_inputs.specs.Judged.{EndsSomehow}
 use Rattle.judged_inputs.proofs.SpellingChoice.{spells_or_none}
 use Rattle.judged_inputs.proofs.FaultChoice.{passes_or_hit}
-
--- ---- one more line
-
-front_more : {known : Known} {text : List ℕ} {line : TraceLine} (texts : List (List ℕ))
-    (lines : List TraceLine) → SpellFront known texts lines → SpellsLine known text line
-    → is_last line ≡ false → SpellFront known (texts ++ text ∷ []) (lines ++ line ∷ [])
-front_more {line = line} [] lines none spells goes =
-    (line, [], ap (λ (l : List TraceLine). l ++ line ∷ []) none, spells, goes, refl)
-front_more {line = line} (x ∷ texts) lines front spells goes = (
-  front.0,
-  front.1 ++ line ∷ [],
-  ap (λ (l : List TraceLine). l ++ line ∷ []) front.2,
-  front.3,
-  front.4,
-  front_more texts front.1 front.5 spells goes,
-)
-
-spell_all : {known : Known} {text : List ℕ} {line : TraceLine} (before : List (List ℕ))
-    (earlier : List TraceLine) → SpellFront known before earlier → SpellsLine known text line
-    → is_last line ≡ true → SpellAll known (before ++ text ∷ []) (earlier ++ line ∷ [])
-spell_all {line = line} [] earlier none spells last =
-    (line, ap (λ (l : List TraceLine). l ++ line ∷ []) none, spells, last)
-spell_all {line = line} (x ∷ []) earlier front spells last = (
-  front.0,
-  front.1 ++ line ∷ [],
-  ap (λ (l : List TraceLine). l ++ line ∷ []) front.2,
-  front.3,
-  front.4,
-  spell_all [] front.1 front.5 spells last,
-)
-spell_all {line = line} (x ∷ y ∷ before) earlier front spells last = (
-  front.0,
-  front.1 ++ line ∷ [],
-  ap (λ (l : List TraceLine). l ++ line ∷ []) front.2,
-  front.3,
-  front.4,
-  spell_all (y ∷ before) front.1 front.5 spells last,
-)
 
 -- ---- the lines of a trace
 

@@ -7,9 +7,9 @@ use Rattle.lawful_asks.specs.AskTexts.{InputsOfAsksAreLawful}
 use Rattle.lawful_asks.proofs.LawfulAsks.{asks_are_lawful}
 
 pub inputs_are_lawful : InputsOfAsksAreLawful
-inputs_are_lawful bytes lines_read known texts edits names script host tid next lines end none
-    passes asked leads input same_names same_lines texts_are =
+inputs_are_lawful bytes lines_read known texts names script host tid next lines left end passes
+    asked leads input same_names same_lines texts_are =
     has_lawful bytes lines_read known texts (trace_texts names (lines ++ Ended ∷ [])) script
     (length (steps_of lines)) input same_lines texts_are
-    (asks_are_lawful edits names script host tid next lines end known none passes
+    (asks_are_lawful names script host tid next lines left end known passes
     (knows_of bytes lines_read known texts names script input same_names same_lines) asked leads)

@@ -1,5 +1,5 @@
 -- The lines of asks begin no event, and what a port got in them is not empty.
-use Rattle.std.proofs.Common.{◌≡◌, ℕ, zero, suc, ◌==◌, ◌||◌, ◌++◌, List, [], ◌∷◌, None, sym, ap, ◌∙◌}
+use Rattle.std.proofs.Common.{◌≡◌, inl, inr, ℕ, zero, suc, ◌==◌, ◌||◌, ◌++◌, false, List, [], ◌∷◌, None, refl, sym, ap, ◌∙◌}
 use Rattle.rio_chars.specs.declared.chars.Char.{Char}
 use Rattle.maint_registers.specs.Devices.{Registers, is_switch}
 use Rattle.maint_packets.specs.declared.request.Request.{Request}
@@ -20,11 +20,11 @@ use Rattle.fabric_trace.specs.Served.{face_in, IsCollect}
 use Rattle.fabric_trace.proofs.Rounds.Blocks.{by_test}
 use Rattle.lawful_traces.proofs.Gots.{GotsSome, AllGotSome, lines_some, sent_some}
 use Rattle.lawful_traces.proofs.GotsInBlocks.{some_by, takes_some, collected_some, link_some, joined_some, nodes_some}
-use Rattle.fabric_ask.specs.Asks.{CarryAll, CollectsAll, CollectRests, CollectGoes, CollectStops, CollectNodes, Handles, AskRound, holds_some, AskRounds, most_rounds, IsAsk}
+use Rattle.fabric_ask.specs.Asks.{CarryAll, CollectsAll, CollectRests, CollectGoes, CollectStops, CollectNodes, Handles, AskRound, holds_some, AskRounds, Unheld, most_rounds, IsAsk}
 use Rattle.fabric_ask.specs.Noise.{IsCarry, stirred}
 use Rattle.fabric_ask.specs.Travel.{GoesOn}
 use Rattle.fabric_ask.proofs.Crossing.{split}
-use Rattle.fabric_ports.specs.declared.noise.Quiet.{Quiet}
+use Rattle.fabric_ports.specs.Spending.{HasCollected, LastRound, RoundsSpend, AskSpends}
 use Rattle.fabric_maint.specs.Asked.{Asked, AskedNothing, AskedMore, Owns}
 
 -- ---- a link
@@ -149,14 +149,57 @@ ask_some host request noise s lines none is still =
     (rounds_some host most_rounds noise (seen s parts.first) parts.rest none parts.more
     (sym (ap (λ (x : Seen). x.undetected) parts.after) ∙ still)))
 
+-- ---- where no edit is given, none is left
+
+unheld_none : (host n : ℕ) (noise left : List Edit) (s : Seen) (lines : List TraceLine)
+    → noise ≡ [] → Unheld host n noise left s lines → (seen s lines).undetected ≡ None
+    → left ≡ []
+unheld_none host zero noise left s lines none is still = is.1 ∙ none
+unheld_none host (suc k) noise left s lines none is still =
+    let mid = is.0 in
+    let parts = split (AskRound host noise mid s)
+    (λ t rest. (holds_some host t ≡ false) × Unheld host k mid left t rest) s lines is.1 still in
+    let own = round_some host noise mid s parts.first none parts.own parts.still in
+    unheld_none host k mid left (seen s parts.first) parts.rest own.1 parts.more.1
+    (sym (ap (λ (x : Seen). x.undetected) parts.after) ∙ still)
+
+rounds_none : (host n : ℕ) (noise left : List Edit) (s : Seen) (lines : List TraceLine)
+    → noise ≡ [] → RoundsSpend host n noise left s lines → (seen s lines).undetected ≡ None
+    → left ≡ []
+rounds_none host n noise left s lines none (inl is) still =
+    unheld_none host n noise left s lines none is still
+rounds_none host n noise left s lines none (inr (made, mid, less, is)) still =
+    let parts = split (Unheld host made noise mid s) (LastRound host mid left) s lines is still in
+    let t = seen s parts.first in
+    let empty = unheld_none host made noise mid s parts.first none parts.own parts.still in
+    let last = split (AskRound host mid left t) (HasCollected host) t parts.rest parts.more
+    (sym (ap (λ (x : Seen). x.undetected) parts.after) ∙ still) in
+    (round_some host mid left t last.first empty last.own last.still).1
+
+ask_none : (host : ℕ) (request : Request) (noise left : List Edit) (s : Seen)
+    (lines : List TraceLine) → noise ≡ [] → AskSpends host request noise left s lines
+    → (seen s lines).undetected ≡ None → left ≡ []
+ask_none host request noise left s lines none is still =
+    let parts = split (Asks s host request) (RoundsSpend host most_rounds noise left) s lines is
+    still in
+    rounds_none host most_rounds noise left (seen s parts.first) parts.rest none parts.more
+    (sym (ap (λ (x : Seen). x.undetected) parts.after) ∙ still)
+
 -- ---- all asks
 
-pub asked_some : (edits : Quiet → List Edit) → ((noise : Quiet) → edits noise ≡ [])
-    → {host : ℕ} {s : Seen} {tid : ℕ} {lines : List TraceLine} {end : Seen} {next : ℕ}
-    → Asked edits host s tid lines end next → AllGotSome lines
-asked_some edits none (AskedNothing is end_is next_is) = some_by is tt
-asked_some edits none {host} (AskedMore before block u number request asked is still whole end_is
-    next_is) =
-    some_by whole (all-append GotsSome before block (asked_some edits none asked)
-    (ask_some host request (edits is.noise) u block (none is.noise) is.is still))
-asked_some edits none (Owns u device asked kind within end_is) = asked_some edits none asked
+asks_some : {noise : List Edit} → noise ≡ []
+    → {host : ℕ} {s : Seen} {tid : ℕ} {lines : List TraceLine} {left : List Edit} {end : Seen}
+    {next : ℕ} → Asked noise host s tid lines left end next → AllGotSome lines × (left ≡ [])
+asks_some none (AskedNothing is left_is end_is next_is) = (some_by is tt, left_is ∙ none)
+asks_some none {host} {left = left} (AskedMore before block mid u number request asked is spends
+    still whole end_is next_is) =
+    let own = asks_some none asked in (
+      some_by whole (all-append GotsSome before block own.0
+          (ask_some host request mid u block own.1 is.is still)),
+      ask_none host request mid left u block own.1 spends still,
+    )
+asks_some none (Owns u device asked kind within end_is) = asks_some none asked
+
+pub asked_some : {host : ℕ} {s : Seen} {tid : ℕ} {lines : List TraceLine} {left : List Edit}
+    {end : Seen} {next : ℕ} → Asked [] host s tid lines left end next → AllGotSome lines
+asked_some asked = (asks_some refl asked).0

@@ -32,8 +32,8 @@ within_told (Ended ∷ xs) ys s some told = absurd some.0
 within_told (Undetected number q e ∷ xs) ys s some told = absurd some.0
 
 pub asks_are_lawful : AsksAreLawful
-asks_are_lawful edits names script host tid next lines end known none passes knows asked leads =
-    let some = asked_some edits none asked in
+asks_are_lawful names script host tid next lines left end known passes knows asked leads =
+    let some = asked_some asked in
     let net = set_up_all bare script in
     let made : Made (begins net) (lines ++ Ended ∷ []) =
     made-append leads.made (one_part (PartEnds refl)) in

@@ -142,7 +142,7 @@ may_send s net _ same each = tt
 
 -- ---- all of them
 
-line_passes : (net : Network) (before behind : List TraceLine) (line : TraceLine) → IsSetUp net
+pub line_passes : (net : Network) (before behind : List TraceLine) (line : TraceLine) → IsSetUp net
     → Made (begins net) (before ++ line ∷ behind) → EditsTold (begins net) (before ++ line ∷ behind)
     → AreOwned (begins net) (before ++ line ∷ behind)
     → ((p : PortRef) → FreesAllowed p [] 0 (before ++ line ∷ behind))

@@ -27,3 +27,5 @@ pub mod WorkedTexts
 pub mod UnmetLaws
 pub mod TakeLaws
 pub mod SoFarLaws
+pub mod ToldLaws
+pub mod Agreeing

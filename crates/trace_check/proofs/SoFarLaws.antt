@@ -8,7 +8,7 @@ use Rattle.fabric_trace.specs.Fold.{edit_of}
 use Rattle.fabric_trace.specs.Wires.{WireChars}
 use Rattle.trace_lines.specs.Lines.{Begun}
 use Rattle.trace_check.specs.declared.checker.Checker.{Checker}
-use Rattle.trace_check.specs.Checks.{EditFits, LinePasses}
+use Rattle.trace_check.specs.Checks.{EditFits}
 use Rattle.trace_check.specs.Lawful.{as_behind, Fault, NoSuchStep, NotAllowed, NotCome, NotThere, OffWire}
 use Rattle.trace_check.specs.SoFar.{HasRead, IsLawfulSoFar}
 use Rattle.trace_check.specs.Starting.{net_of}

@@ -10,7 +10,6 @@ use Rattle.trace_check.specs.Checks.{LinePasses, PassAll}
 use Rattle.script_input.specs.Inputs.{texts_ahead, texts_of}
 use Rattle.trace_check.specs.Lawful.{as_behind, BehindLast, Fault, fault_number, HitsLine, HitsNext, is_last, IsLawful, IsUnlawful, SpellsNone, NotCome, PassFront, SpellAll, SpellFront}
 use Rattle.trace_check.specs.Outcomes.{HitsNextText, ReadsNextText}
-use Rattle.trace_check.specs.Reaches.{Reaches}
 use Rattle.trace_check.specs.SoFar.{AreRead, HasRead}
 use Rattle.trace_check.specs.States.{fault_of, IsReachedState, reached_after, ReachedState, SparesAt, unreached}
 use Rattle.trace_check.specs.Verdicts.{StopsAt}
@@ -89,7 +88,7 @@ begin_ahead {bytes = bytes} {first} {ahead} texts less reached =
 
 -- ---- one more line
 
-front_more : {known : Known} {text : List ℕ} {line : TraceLine} (texts : List (List ℕ))
+pub front_more : {known : Known} {text : List ℕ} {line : TraceLine} (texts : List (List ℕ))
     (lines : List TraceLine) → SpellFront known texts lines → SpellsLine known text line
     → is_last line ≡ false → SpellFront known (texts ++ text ∷ []) (lines ++ line ∷ [])
 front_more {line = line} [] lines none spells goes =
@@ -195,8 +194,8 @@ on_ahead {known} {net} {steps = steps} {text = text} {left} {ended} {state = sta
       number_is = omega (arith, longer, number_is);
       few = omega (arith, longer, few, few_left);
       are = read_on orderly
-          (subst (λ (l : List (List ℕ)). AreRead known net is.front (text.now ∷ l) ended steps state)
-          texts is.are) short_is reads;
+          (subst (λ (l : List (List ℕ)).
+          AreRead known net is.front (text.now ∷ l) ended steps state) texts is.are) short_is reads;
     }
 
 -- ---- what ends the reading
@@ -298,7 +297,7 @@ none_ahead is = at_ahead is (none_on is.are)
 
 -- ---- the whole trace
 
-spell_all : {known : Known} {text : List ℕ} {line : TraceLine} (before : List (List ℕ))
+pub spell_all : {known : Known} {text : List ℕ} {line : TraceLine} (before : List (List ℕ))
     (earlier : List TraceLine) → SpellFront known before earlier → SpellsLine known text line
     → is_last line ≡ true → SpellAll known (before ++ text ∷ []) (earlier ++ line ∷ [])
 spell_all {line = line} [] earlier none spells last =

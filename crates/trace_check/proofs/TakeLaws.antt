@@ -141,7 +141,8 @@ module _ (set_up : SetUpLines) (old : Reader) (line : TraceLine) (short : Bool)
   pub one_hit : (fault : ReadFault) {state : State} → IsChecked old state line short (Some fault)
       → LineIsHit set_up old line short (fault_number (fault_of fault))
   one_hit fault checked = λ texts rest text spelled looks are.
-      hit_on {short = are_short (as_behind rest)} orderly (going_on set_up old going are) refl (λ r is nodes.
+      hit_on {short = are_short (as_behind rest)} orderly (going_on set_up old going are) refl
+      (λ r is nodes.
       inr (record {
         line = line;
         spelled = spelled;
@@ -153,7 +154,8 @@ module _ (set_up : SetUpLines) (old : Reader) (line : TraceLine) (short : Bool)
 -- ---- the line that waits
 
 pub waits_of : (set_up : SetUpLines) (reader : Reader) (texts : List (List ℕ))
-    (waiting : Option Line) (line : Line) → waiting ≡ Some line → AreTaken set_up reader texts waiting
+    (waiting : Option Line) (line : Line) → waiting ≡ Some line
+    → AreTaken set_up reader texts waiting
     → EventWaits set_up reader texts line
 waits_of set_up reader texts None line is taken = absurd cc
 waits_of set_up reader texts (Some other) line is taken =
@@ -172,7 +174,8 @@ IsJudged old reader short = (texts rest : List (List ℕ)) → HasTakenLines tex
 
 pub none_judged : (old : Checker) (short : Bool) → old.waiting ≡ None
     → IsJudged old old.reader short
-none_judged old short none = λ texts rest has short_is. none_waits old.set_up old.reader texts old.waiting none has.taken rest
+none_judged old short none = λ texts rest has short_is.
+    none_waits old.set_up old.reader texts old.waiting none has.taken rest
 
 pub event_judged : (old : Checker) (reader : Reader) (short : Bool) (event : Line)
     → old.waiting ≡ Some event → ReadsOne old.set_up old.reader reader (Begun event) short
@@ -219,7 +222,8 @@ Says text short = (rest : List (List ℕ)) → short ≡ are_short (as_behind (t
 pub read_to : (old : Checker) (reader : Reader) (short : Bool) (text : List ℕ)
     (texts : List (List ℕ)) → IsJudged old reader short → Says text short → HasTakenLines texts old
     → AreReadTo old.set_up reader texts text
-read_to old reader short text texts judged says has = λ rest. judged texts (text ∷ rest) has (says rest)
+read_to old reader short text texts judged says has = λ rest.
+    judged texts (text ∷ rest) has (says rest)
 
 pub taken_more : (old new : Checker) (text : List ℕ) (texts : List (List ℕ))
     → new.set_up ≡ old.set_up → new.lines ≡ old.lines + 1 → HasTakenLines texts old

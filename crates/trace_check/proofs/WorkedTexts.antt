@@ -1,11 +1,10 @@
 -- The texts of a trace of one packet without event lines are lawful.
-use Rattle.std.proofs.Common.{◌≡◌, ◌≢◌, ◌<◌, ℕ, true, false, codes, take, List, [], ◌∷◌, ◌++◌, refl, sym, ap, ◌∙◌, subst, arith, inl, inr, append-nil, append_assoc}
+use Rattle.std.proofs.Common.{◌≡◌, ◌<◌, ℕ, codes, take, List, [], ◌∷◌, ◌++◌, refl, sym, ap, ◌∙◌, subst, arith, inl, append-nil, append_assoc}
 use Rattle.std.specs.List.{AllByRecursion}
 use Rattle.std.specs.Fmt.{digits}
 use Rattle.std.proofs.lemmas.List.Elements.{All-from_recursion}
 use Rattle.crc_division.specs.Bits.{bits, number}
 use Rattle.crc_division.specs.Division.{division_steps, complemented}
-use Rattle.rio_chars.specs.declared.chars.Char.{Char}
 use Rattle.rio_chars.specs.CharText.{HasByte}
 use Rattle.rio_symbols.specs.Crc5.{field_bits, crc5_message, crc5_of, crc5_value}
 use Rattle.rio_symbols.specs.Spelling.{spelled, is_spelling}
@@ -17,12 +16,18 @@ use Rattle.rio_packets.specs.Register.{fed, shifted, shifted_times}
 use Rattle.rio_packets.specs.LinkForm.{Passes}
 use Rattle.fabric_model.specs.Network.{Network}
 use Rattle.fabric_model.specs.Laws.Examples.{packet}
+use Rattle.fabric_model.specs.Steps.{AtNode, Take}
 use Rattle.fabric_trace.specs.Examples.{near, far, packet_chars, accepted_chars}
-use Rattle.trace_lines.specs.Lines.{TraceLine}
-use Rattle.trace_check.specs.Checks.{LinePasses, PassAll}
-use Rattle.trace_check.specs.Lawful.{SpellAll, IsLawful, SpellFront, PassFront, as_behind, Fault, fault_number, OffWire, NoSuchStep, NotCome, NotAllowed, NotThere, Spares, SpellsNone, HitsLine, IsUnlawful}
+use Rattle.trace_lines.specs.Lines.{Got, Sent, Signed, Stepped, TraceLine}
+use Rattle.trace_check.specs.Checks.{LinePasses}
+use Rattle.trace_check.specs.Lawful.{SpellAll, IsLawful, SpellFront, PassFront, as_behind, Fault}
+use Rattle.trace_check.specs.Lawful.{fault_number, OffWire, NoSuchStep, NotCome, NotAllowed}
+use Rattle.trace_check.specs.Lawful.{NotThere, Spares, SpellsNone, HitsLine, IsUnlawful}
 use Rattle.trace_lines.specs.Words.{SpellsLine}
-use Rattle.trace_check.specs.Examples.{packet_network, packet_known, packet_texts, packet_lines, free_line, freed_early}
+use Rattle.trace_check.specs.Examples.{packet_network, packet_known, packet_on_wire, packet_texts}
+use Rattle.trace_check.specs.Examples.{packet_lines, sent_line, got_line, hold_line, free_line}
+use Rattle.trace_check.specs.Examples.{leave_line, freed_early}
+use Rattle.trace_check.proofs.StopLaws.{front_more, spell_all}
 
 -- none of the reasons hits a line of these, behind others
 PassFrom : Network → List TraceLine → List TraceLine → Type 0
@@ -50,13 +55,23 @@ pass_all net done (l ∷ lines) pass (b ∷ before) line behind is =
     (append_assoc done (l ∷ []) before)
     (pass_all net (done ++ l ∷ []) lines pass.1 before line behind rest))
 
+-- one more
+next : {A B : Type 0} → A → B → A × B
+next first second = (first, second)
+
+below : AllByRecursion (λ b. b < 256) packet
+below =
+    next (omega arith) (next (omega arith) (next (omega arith) (next (omega arith) (
+    next (omega arith) (next (omega arith) (next (omega arith) (next (omega arith) (
+    next (omega arith) (next (omega arith) (next (omega arith) (next (omega arith) tt)))))))))))
+
 passes : Passes packet
 unfolding packet_event carried fed shifted shifted_times
 passes = record {
   fours = refl;
   least = omega arith;
   most = omega arith;
-  range = All-from_recursion (λ b. b < 256) packet (omega arith, (omega arith, (omega arith, (omega arith, (omega arith, (omega arith, (omega arith, (omega arith, (omega arith, (omega arith, (omega arith, (omega arith, tt))))))))))));
+  range = All-from_recursion (λ b. b < 256) packet below;
   origin = omega arith;
   ends = refl;
   middle = λ far. omega (arith, far);
@@ -69,7 +84,13 @@ unfolding run place_after kind spelled is_spelling crc5_value crc5_of crc5_messa
 lines_pass = (
   record { wires = tt; step = (refl, passes, refl); came = tt; allowed = tt; sends = tt },
   (
-    record { wires = tt; step = tt; came = tt; allowed = tt; sends = (tt, (inl (0, omega arith, refl), (tt, tt))) },
+    record {
+      wires = tt;
+      step = tt;
+      came = tt;
+      allowed = tt;
+      sends = (tt, (inl (0, omega arith, refl), (tt, tt)));
+    },
     (
       record {
         wires = record { peer = near; behind = []; peer_is = refl; stands = refl };
@@ -79,7 +100,13 @@ lines_pass = (
         sends = tt;
       },
       (
-        record { wires = tt; step = (near, refl, refl, refl); came = refl; allowed = tt; sends = tt },
+        record {
+          wires = tt;
+          step = (near, refl, refl, refl);
+          came = refl;
+          allowed = tt;
+          sends = tt;
+        },
         (
           record { wires = tt; step = tt; came = tt; allowed = tt; sends = (tt, tt) },
           (
@@ -93,7 +120,13 @@ lines_pass = (
             (
               record { wires = tt; step = refl; came = tt; allowed = omega arith; sends = tt },
               (
-                record { wires = tt; step = (refl, refl, refl); came = tt; allowed = tt; sends = tt },
+                record {
+                  wires = tt;
+                  step = (refl, refl, refl);
+                  came = tt;
+                  allowed = tt;
+                  sends = tt;
+                },
                 (record { wires = tt; step = tt; came = tt; allowed = tt; sends = tt }, tt),
               ),
             ),
@@ -105,70 +138,89 @@ lines_pass = (
 )
 
 packet_bytes : AllByRecursion HasByte packet_chars
-packet_bytes = (omega arith, (omega arith, (omega arith, (omega arith, (omega arith, (omega arith, (omega arith, (omega arith, (omega arith, (omega arith, (omega arith, (omega arith, (omega arith, (omega arith, (omega arith, (omega arith, (omega arith, (omega arith, (omega arith, (omega arith, tt))))))))))))))))))))
+packet_bytes =
+    next (omega arith) (next (omega arith) (next (omega arith) (next (omega arith) (
+    next (omega arith) (next (omega arith) (next (omega arith) (next (omega arith) (
+    next (omega arith) (next (omega arith) (next (omega arith) (next (omega arith) (
+    next (omega arith) (next (omega arith) (next (omega arith) (next (omega arith) (
+    next (omega arith) (next (omega arith) (next (omega arith) (next (omega arith) (
+    tt))))))))))))))))))))
 
 accepted_bytes : AllByRecursion HasByte accepted_chars
 accepted_bytes = (omega arith, (omega arith, (omega arith, (omega arith, tt))))
 
+-- what each text spells
+take_spells : SpellsLine packet_known (codes "take A 000f0201cafe0001a9bb0000")
+    (Stepped (AtNode (Take 0 packet)))
+unfolding digits
+take_spells = record { words = refl; fits = (omega arith, passes) }
+
+sent_spells : SpellsLine packet_known (codes "sent A.0" ++ packet_on_wire) sent_line
+unfolding digits
+sent_spells = record {
+  words = refl;
+  fits = (((omega arith, omega arith, omega arith), refl), (λ is. absurd (cc is)), packet_bytes);
+}
+
+got_spells : SpellsLine packet_known (codes "got B.0" ++ packet_on_wire) got_line
+unfolding digits
+got_spells = record {
+  words = refl;
+  fits = (((omega arith, omega arith, omega arith), refl), (λ is. absurd (cc is)), packet_bytes);
+}
+
+hold_spells : SpellsLine packet_known (codes "hold B.0 000f0201cafe0001a9bb0000") hold_line
+unfolding digits
+hold_spells =
+    record { words = refl; fits = (((omega arith, omega arith, omega arith), refl), passes) }
+
+accept_spells : SpellsLine packet_known (codes "sent B.0 k1c d00 dff d16")
+    (Signed (Sent far accepted_chars))
+unfolding digits
+accept_spells = record {
+  words = refl;
+  fits = (((omega arith, omega arith, omega arith), refl), (λ is. absurd (cc is)), accepted_bytes);
+}
+
+accepted_spells : SpellsLine packet_known (codes "got A.0 k1c d00 dff d16")
+    (Signed (Got near accepted_chars))
+unfolding digits
+accepted_spells = record {
+  words = refl;
+  fits = (((omega arith, omega arith, omega arith), refl), (λ is. absurd (cc is)), accepted_bytes);
+}
+
+free_spells : SpellsLine packet_known (codes "free A.0 000f0201cafe0001a9bb0000") free_line
+unfolding digits
+free_spells =
+    record { words = refl; fits = (((omega arith, omega arith, omega arith), refl), passes) }
+
+leave_spells : SpellsLine packet_known (codes "leave B 000f0201cafe0001a9bb0000") leave_line
+unfolding digits
+leave_spells = record { words = refl; fits = (omega arith, passes) }
+
+-- the first five, and the three behind them
+
+five_spell : SpellFront packet_known (take 5 packet_texts) (take 5 packet_lines)
+five_spell =
+    front_more (take 4 packet_texts) (take 4 packet_lines)
+    (front_more (take 3 packet_texts) (take 3 packet_lines)
+    (front_more (take 2 packet_texts) (take 2 packet_lines)
+    (front_more (take 1 packet_texts) (take 1 packet_lines)
+    (front_more [] [] refl take_spells refl)
+    sent_spells refl) got_spells refl) hold_spells refl) accept_spells refl
+
+eight_spell : SpellFront packet_known (take 8 packet_texts) (take 8 packet_lines)
+eight_spell =
+    front_more (take 7 packet_texts) (take 7 packet_lines)
+    (front_more (take 6 packet_texts) (take 6 packet_lines)
+    (front_more (take 5 packet_texts) (take 5 packet_lines) five_spell
+    accepted_spells refl) free_spells refl) leave_spells refl
+
 texts_spell : SpellAll packet_known packet_texts packet_lines
 unfolding digits
-texts_spell = (
-  _,
-  _,
-  refl,
-  record { words = refl; fits = (omega arith, passes) },
-  refl,
-  (
-    _,
-    _,
-    refl,
-    record { words = refl; fits = (((omega arith, omega arith, omega arith), refl), (λ is. absurd (cc is)), packet_bytes) },
-    refl,
-    (
-      _,
-      _,
-      refl,
-      record { words = refl; fits = (((omega arith, omega arith, omega arith), refl), (λ is. absurd (cc is)), packet_bytes) },
-      refl,
-      (
-        _,
-        _,
-        refl,
-        record { words = refl; fits = (((omega arith, omega arith, omega arith), refl), passes) },
-        refl,
-        (
-          _,
-          _,
-          refl,
-          record { words = refl; fits = (((omega arith, omega arith, omega arith), refl), (λ is. absurd (cc is)), accepted_bytes) },
-          refl,
-          (
-            _,
-            _,
-            refl,
-            record { words = refl; fits = (((omega arith, omega arith, omega arith), refl), (λ is. absurd (cc is)), accepted_bytes) },
-            refl,
-            (
-              _,
-              _,
-              refl,
-              record { words = refl; fits = (((omega arith, omega arith, omega arith), refl), passes) },
-              refl,
-              (
-                _,
-                _,
-                refl,
-                record { words = refl; fits = (omega arith, passes) },
-                refl,
-                (_, refl, record { words = refl; fits = tt }, refl),
-              ),
-            ),
-          ),
-        ),
-      ),
-    ),
-  ),
-)
+texts_spell = spell_all (take 8 packet_texts) (take 8 packet_lines) eight_spell
+    (record { words = refl; fits = tt }) refl
 
 pub texts_lawful : IsLawful packet_known packet_network packet_texts 4
 texts_lawful = record {
@@ -194,19 +246,49 @@ unfolding run place_after kind spelled is_spelling crc5_value crc5_of crc5_messa
 eight_pass = (
   record { wires = tt; step = (refl, passes, refl); came = tt; allowed = tt; sends = tt },
   (
-    record { wires = tt; step = tt; came = tt; allowed = tt; sends = (tt, (inl (0, omega arith, refl), (tt, tt))) },
+    record {
+      wires = tt;
+      step = tt;
+      came = tt;
+      allowed = tt;
+      sends = (tt, (inl (0, omega arith, refl), (tt, tt)));
+    },
     (
-      record { wires = record { peer = near; behind = []; peer_is = refl; stands = refl }; step = tt; came = tt; allowed = tt; sends = tt },
+      record {
+        wires = record { peer = near; behind = []; peer_is = refl; stands = refl };
+        step = tt;
+        came = tt;
+        allowed = tt;
+        sends = tt;
+      },
       (
-        record { wires = tt; step = (near, refl, refl, refl); came = refl; allowed = tt; sends = tt },
+        record {
+          wires = tt;
+          step = (near, refl, refl, refl);
+          came = refl;
+          allowed = tt;
+          sends = tt;
+        },
         (
           record { wires = tt; step = tt; came = tt; allowed = tt; sends = (tt, tt) },
           (
-            record { wires = record { peer = far; behind = []; peer_is = refl; stands = refl }; step = tt; came = tt; allowed = tt; sends = tt },
+            record {
+              wires = record { peer = far; behind = []; peer_is = refl; stands = refl };
+              step = tt;
+              came = tt;
+              allowed = tt;
+              sends = tt;
+            },
             (
               record { wires = tt; step = refl; came = tt; allowed = omega arith; sends = tt },
               (
-                record { wires = tt; step = (refl, refl, refl); came = tt; allowed = tt; sends = tt },
+                record {
+                  wires = tt;
+                  step = (refl, refl, refl);
+                  came = tt;
+                  allowed = tt;
+                  sends = tt;
+                },
                 tt,
               ),
             ),
@@ -224,113 +306,32 @@ unfolding run place_after kind spelled is_spelling crc5_value crc5_of crc5_messa
 five_pass = (
   record { wires = tt; step = (refl, passes, refl); came = tt; allowed = tt; sends = tt },
   (
-    record { wires = tt; step = tt; came = tt; allowed = tt; sends = (tt, (inl (0, omega arith, refl), (tt, tt))) },
+    record {
+      wires = tt;
+      step = tt;
+      came = tt;
+      allowed = tt;
+      sends = (tt, (inl (0, omega arith, refl), (tt, tt)));
+    },
     (
-      record { wires = record { peer = near; behind = []; peer_is = refl; stands = refl }; step = tt; came = tt; allowed = tt; sends = tt },
+      record {
+        wires = record { peer = near; behind = []; peer_is = refl; stands = refl };
+        step = tt;
+        came = tt;
+        allowed = tt;
+        sends = tt;
+      },
       (
-        record { wires = tt; step = (near, refl, refl, refl); came = refl; allowed = tt; sends = tt },
+        record {
+          wires = tt;
+          step = (near, refl, refl, refl);
+          came = refl;
+          allowed = tt;
+          sends = tt;
+        },
         (
           record { wires = tt; step = tt; came = tt; allowed = tt; sends = (tt, tt) },
           tt,
-        ),
-      ),
-    ),
-  ),
-)
-
-eight_spell : SpellFront packet_known (take 8 packet_texts) (take 8 packet_lines)
-unfolding digits
-eight_spell = (
-  _,
-  _,
-  refl,
-  record { words = refl; fits = (omega arith, passes) },
-  refl,
-  (
-    _,
-    _,
-    refl,
-    record { words = refl; fits = (((omega arith, omega arith, omega arith), refl), (λ is. absurd (cc is)), packet_bytes) },
-    refl,
-    (
-      _,
-      _,
-      refl,
-      record { words = refl; fits = (((omega arith, omega arith, omega arith), refl), (λ is. absurd (cc is)), packet_bytes) },
-      refl,
-      (
-        _,
-        _,
-        refl,
-        record { words = refl; fits = (((omega arith, omega arith, omega arith), refl), passes) },
-        refl,
-        (
-          _,
-          _,
-          refl,
-          record { words = refl; fits = (((omega arith, omega arith, omega arith), refl), (λ is. absurd (cc is)), accepted_bytes) },
-          refl,
-          (
-            _,
-            _,
-            refl,
-            record { words = refl; fits = (((omega arith, omega arith, omega arith), refl), (λ is. absurd (cc is)), accepted_bytes) },
-            refl,
-            (
-              _,
-              _,
-              refl,
-              record { words = refl; fits = (((omega arith, omega arith, omega arith), refl), passes) },
-              refl,
-              (
-                _,
-                _,
-                refl,
-                record { words = refl; fits = (omega arith, passes) },
-                refl,
-                refl,
-              ),
-            ),
-          ),
-        ),
-      ),
-    ),
-  ),
-)
-
-five_spell : SpellFront packet_known (take 5 packet_texts) (take 5 packet_lines)
-unfolding digits
-five_spell = (
-  _,
-  _,
-  refl,
-  record { words = refl; fits = (omega arith, passes) },
-  refl,
-  (
-    _,
-    _,
-    refl,
-    record { words = refl; fits = (((omega arith, omega arith, omega arith), refl), (λ is. absurd (cc is)), packet_bytes) },
-    refl,
-    (
-      _,
-      _,
-      refl,
-      record { words = refl; fits = (((omega arith, omega arith, omega arith), refl), (λ is. absurd (cc is)), packet_bytes) },
-      refl,
-      (
-        _,
-        _,
-        refl,
-        record { words = refl; fits = (((omega arith, omega arith, omega arith), refl), passes) },
-        refl,
-        (
-          _,
-          _,
-          refl,
-          record { words = refl; fits = (((omega arith, omega arith, omega arith), refl), (λ is. absurd (cc is)), accepted_bytes) },
-          refl,
-          refl,
         ),
       ),
     ),
@@ -349,11 +350,6 @@ no_end_unlawful = record {
   hits = SpellsNone tt;
   at = refl;
 }
-
-free_spells : SpellsLine packet_known (codes "free A.0 000f0201cafe0001a9bb0000") free_line
-unfolding digits
-free_spells =
-    record { words = refl; fits = (((omega arith, omega arith, omega arith), refl), passes) }
 
 not_allowed : Spares packet_network (take 5 packet_lines) free_line [] NotAllowed → ⊥
 unfolding run
@@ -375,7 +371,8 @@ freed_early_unlawful = record {
   place = 0;
   split = refl;
   spelled = five_spell;
-  pass = front_pass (take 5 packet_lines) (codes "free A.0 000f0201cafe0001a9bb0000" ∷ codes "end" ∷ []) refl five_pass;
+  pass = front_pass (take 5 packet_lines)
+      (codes "free A.0 000f0201cafe0001a9bb0000" ∷ codes "end" ∷ []) refl five_pass;
   hits = HitsLine free_line NotAllowed free_spells not_allowed not_before;
   at = refl;
 }

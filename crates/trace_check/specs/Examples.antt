@@ -78,11 +78,15 @@ abbrev pub packet_known : Known
 packet_known = for_event (known_after (known_after (known_after (nothing_in of_set_up) (codes "A")
     (Endpoint 0 1)) (codes "B") (Endpoint 1 2)) [] (Link near far))
 
+-- the packet on the wire, and its end
+abbrev pub packet_on_wire : List ℕ
+packet_on_wire =
+    codes " k7c d80 df8 d1f d00 d0f d02 d01 dca dfe d00 d01 da9 dbb d00 d00 k7c d80 dfa d18"
+
 abbrev pub packet_texts : List (List ℕ)
 packet_texts =
     codes "take A 000f0201cafe0001a9bb0000"
-    ∷ codes "sent A.0 k7c d80 df8 d1f d00 d0f d02 d01 dca dfe d00 d01 da9 dbb d00 d00 k7c d80 dfa d18"
-    ∷ codes "got B.0 k7c d80 df8 d1f d00 d0f d02 d01 dca dfe d00 d01 da9 dbb d00 d00 k7c d80 dfa d18"
+    ∷ (codes "sent A.0" ++ packet_on_wire) ∷ (codes "got B.0" ++ packet_on_wire)
     ∷ codes "hold B.0 000f0201cafe0001a9bb0000"
     ∷ codes "sent B.0 k1c d00 dff d16"
     ∷ codes "got A.0 k1c d00 dff d16"
@@ -93,8 +97,9 @@ packet_texts =
 
 abbrev pub packet_lines : List TraceLine
 packet_lines =
-    Stepped (AtNode (Take 0 packet)) ∷ sent_line ∷ got_line ∷ hold_line ∷ Signed (Sent far accepted_chars)
-    ∷ Signed (Got near accepted_chars) ∷ free_line ∷ leave_line ∷ Ended ∷ []
+    Stepped (AtNode (Take 0 packet)) ∷ sent_line ∷ got_line ∷ hold_line
+    ∷ Signed (Sent far accepted_chars) ∷ Signed (Got near accepted_chars) ∷ free_line
+    ∷ leave_line ∷ Ended ∷ []
 
 -- the packet is freed before its acceptance came
 abbrev pub freed_early : List (List ℕ)

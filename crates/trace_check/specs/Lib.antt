@@ -16,3 +16,4 @@ pub mod Unmet
 pub mod SoFar
 pub mod Keeping
 pub mod Taken
+pub mod Told

@@ -12,8 +12,8 @@ use Rattle.trace_check.specs.States.{IsReachedState, ReachedState}
 
 -- The texts spell these lines, the last of which alone ends the trace, and no reason hits any, with
 -- others behind them.
-pub record TraceHasEnded (known : Known) (net : Network) (texts : List (List ℕ)) (lines : List TraceLine)
-    (rest : List (List ℕ)) : Type 0 where
+pub record TraceHasEnded (known : Known) (net : Network) (texts : List (List ℕ))
+    (lines : List TraceLine) (rest : List (List ℕ)) : Type 0 where
   pub before : List (List ℕ)
   pub text : List ℕ
   pub earlier : List TraceLine
@@ -32,8 +32,8 @@ abbrev pub HasRead : Known → Network → Bool → List (List ℕ) → List Tra
 HasRead known net true texts lines rest = TraceHasEnded known net texts lines rest
 HasRead known net false texts lines rest = SpellFront known texts lines × PassFront net lines rest
 
--- Texts are lawful so far: they spell lines that no reason hits, of which the last alone may end the
--- trace. An edit at their end is not judged, since the next line may say that its wire is too
+-- Texts are lawful so far: they spell lines that no reason hits, of which the last alone may end
+-- the trace. An edit at their end is not judged, since the next line may say that its wire is too
 -- short; so that line is taken to stand behind them.
 pub record IsLawfulSoFar (known : Known) (net : Network) (texts : List (List ℕ)) : Type 0 where
   pub ended : Bool

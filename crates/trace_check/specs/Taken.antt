@@ -4,6 +4,7 @@ use Rattle.fabric_script.specs.declared.lines.Line.{Line}
 use Rattle.fabric_script.specs.Known.{Known, nothing_in, of_set_up}
 use Rattle.fabric_script.specs.Scripts.{pieces_of, SpellsFrom}
 use Rattle.fabric_script.specs.SetUps.{for_event, SetUpLines}
+use Rattle.script_input.specs.Inputs.{set_up_bytes, texts_behind, texts_of}
 use Rattle.trace_lines.specs.Lines.{Begun, TraceLine}
 use Rattle.trace_lines.specs.Words.{SpellsLine}
 use Rattle.trace_check.specs.declared.checker.Checker.{Checker}
@@ -31,8 +32,8 @@ IsHitNext set_up texts text reason = (rest : List (List ℕ))
 
 -- Of the texts the last spells this event line, which waits for the next one, and those before it
 -- are read.
-pub record EventWaits (set_up : SetUpLines) (reader : Reader) (texts : List (List ℕ)) (line : Line) :
-    Type 0 where
+pub record EventWaits (set_up : SetUpLines) (reader : Reader) (texts : List (List ℕ))
+    (line : Line) : Type 0 where
   pub front : List (List ℕ)
   pub text : List ℕ
   pub split : texts ≡ front ++ text ∷ []
@@ -55,6 +56,11 @@ abbrev pub IsSetUpOf : List ℕ → SetUpLines → Type 0
 IsSetUpOf script set_up = (end : Known)
     × SpellsFrom 1 (nothing_in of_set_up) (pieces_of script) set_up.lines end
     × (set_up.known ≡ for_event end)
+
+-- the set-up lines of an input, and the texts behind the line between
+pub record ArePartsOf (bytes : List ℕ) (set_up : SetUpLines) (texts : List (List ℕ)) : Type 0 where
+  pub made : IsSetUpOf (set_up_bytes bytes) set_up
+  pub behind : texts_behind (texts_of bytes) ≡ Some texts
 
 -- of these texts a reason first hits the line that is told, counted from 1, and it is the least
 abbrev pub IsHitAt : SetUpLines → List (List ℕ) → Unlawful → Type 0

@@ -1,8 +1,7 @@
 -- What a step needs and the plain network does not have: the first need that is not met.
-use Rattle.std.specs.Prelude.{◌≡◌, ◌≢◌, ℕ, ◌-◌, ◌<◌, true, false, List, Option, Some, None, option_and_then}
+use Rattle.std.specs.Prelude.{◌≡◌, ◌≢◌, ℕ, ◌-◌, ◌<◌, true, false, List, Option, Some, option_and_then}
 use Rattle.rio_packets.specs.Fields.{is_request, prio_of}
 use Rattle.rio_packets.specs.LinkForm.{Passes}
-use Rattle.maint_packets.specs.declared.next_hop.Next.{Next}
 use Rattle.maint_packets.specs.declared.next_hop.Next.TheVariants.{Nowhere, Port}
 use Rattle.fabric_script.specs.declared.ports.PortRef.{PortRef}
 use Rattle.fabric_model.specs.Network.{first_packet, held, IsEndpoint, Network, peer_in, port_of, room_out}
@@ -20,8 +19,8 @@ first_at_peer net q prio =
 abbrev pub IsAnother : Option (List ℕ) → List ℕ → Option (List ℕ) → Type 0
 IsAnother first packet told = (told ≡ first) × (first ≢ Some packet)
 
--- So many of so many receive buffers are free, and a packet of the priority needs more: one, and one
--- for each higher priority.
+-- So many of so many receive buffers are free, and a packet of the priority needs more: one, and
+-- one for each higher priority.
 pub record AreTooFew (net : Network) (q : PortRef) (prio free all needed : ℕ) : Type 0 where
   pub free_is : free ≡ net.buffers q - held net q
   pub all_is : all ≡ net.buffers q

@@ -4,6 +4,7 @@ ghost use Rattle.std.specs.Prelude.{◌≡◌, ◌≤◌, ◌<◌, IsTrue, false
 ghost use Rattle.fabric_script.specs.SetUps.{KnownIsReady};
 
 use crate::checking::{CheckEnd, Unlawful};
+use crate::expecting::Expected;
 use crate::reader::Reader;
 use crate::reading::{BAD_FORM, says_short};
 use fabric_script::{Line, SetUp, read_set_up};
@@ -14,13 +15,15 @@ use trace_lines::{TraceLine, TraceLineEnd, read_trace_line};
 /// matched, and no line but an event, which waits for the next line: that one says whether its wire
 /// was too short.
 ///
-/// After an error only that it may be dropped is promised.
+/// After an error [`Checker::expected`] tells what would have been lawful; else only that it may be
+/// dropped is promised.
 #[derive(Drop)]
 pub struct Checker {
     set_up: SetUp,
     reader: Reader,
     waiting: Option<Line>,
     lines: u32,
+    expected: Option<Expected>,
     ghost ready: { KnownIsReady set_up.known },
     ghost few: { reader.steps ≤ lines },
     ghost goes: { IsTrue (is_some waiting) → reader.ended ≡ false },
@@ -35,12 +38,15 @@ impl Checker {
     ghost use Rattle.trace_lines.specs.Words.{SpellsLine};
     ghost use Rattle.trace_check.specs.Lawful.{as_behind, IsLawful};
     ghost use Rattle.trace_check.specs.Starting.{net_of};
-    ghost use Rattle.trace_check.specs.Taken.{AreReadBy, AreReadTo, AreTaken, HasTakenLines, LineIsHit, IsHitAt, IsHitIn, IsHitNext, IsSetUpOf, ReadsOne};
+    ghost use Rattle.trace_check.specs.Taken.{AreReadBy, AreReadTo, AreTaken, HasTakenLines};
+    ghost use Rattle.trace_check.specs.Taken.{IsHitAt, IsHitIn, IsHitNext, LineIsHit};
+    ghost use Rattle.trace_check.specs.Taken.{IsSetUpOf, ReadsOne};
+    ghost use Rattle.trace_check.specs.Told.{IsToldAt, IsToldIn, IsToldNext, LineIsTold};
     ghost use Rattle.trace_check.specs.Wires.{are_short};
 
-    /// A check of a trace of the fabric that these set-up lines make, of at most 16,777,216 bytes,
-    /// before its first line. Refused comes exactly if a reason hits the set-up lines, unless memory
-    /// runs out.
+    /// A check of a trace of the fabric that these set-up lines make, of at most 16,777,216
+    /// bytes, before its first line. Refused comes exactly if a reason hits the set-up lines,
+    /// unless memory runs out.
     pub fn new(alloc: Global, script: &[u8]) -> Result<Checker, CheckEnd>
         requires { length script.now ≤ 16777216 }
         ensures made { IfOk result (λ checker. IsSetUpOf script.now checker.set_up) }
@@ -56,6 +62,7 @@ impl Checker {
             reader,
             waiting: None,
             lines: 0,
+            expected: None,
         })
     }
 
@@ -64,6 +71,14 @@ impl Checker {
         ensures { result ≡ self.now.lines }
     {
         self.lines
+    }
+
+    /// What would have been lawful at the line that was told, after an error of
+    /// [`Checker::take`] or [`Checker::end`] that tells one. It is None for reason 21 alone.
+    pub fn expected(&self) -> &Option<Expected>
+        ensures { result.now ≡ self.now.expected }
+    {
+        &self.expected
     }
 
     /// Takes the next line, without its line feed. Unlawful comes exactly if a reason hits this
@@ -77,29 +92,36 @@ impl Checker {
         ensures unlawful { (hit : _) → IsErrOf result (CheckEnd.Unlawful hit)
             → (texts : List (List ℕ)) → HasTakenLines texts self.old
             → IsHitIn self.old.set_up (texts ++ text.now ∷ []) hit }
+        ensures told { (hit : _) → IsErrOf result (CheckEnd.Unlawful hit)
+            → (texts : List (List ℕ)) → HasTakenLines texts self.old
+            → IsToldIn self.old.set_up (texts ++ text.now ∷ []) hit self.new.expected }
         ensures never_refused { (refusal : _) → IsErrOf result (CheckEnd.Refused refusal) → ⊥ }
     {
         self.judge(says_short(text))?;
         self.lines += 1;
         if self.reader.has_ended() {
-            return Err(hit_at(self.lines, BAD_FORM));
+            return Err(self.bad_form());
         }
         match read_trace_line(alloc, &self.set_up, text) {
             Ok(line) => self.take_line(line),
-            Err(TraceLineEnd::NoForm) => Err(hit_at(self.lines, BAD_FORM)),
+            Err(TraceLineEnd::NoForm) => Err(self.bad_form()),
             Err(TraceLineEnd::NoMemory) => Err(CheckEnd::NoMemory),
         }
     }
 
-    /// No line follows: how many steps the trace has. Unlawful comes exactly if it has not ended, or
-    /// its last line edits a wire and a reason hits it.
+    /// No line follows: how many steps the trace has. Unlawful comes exactly if it has not ended,
+    /// or its last line edits a wire and a reason hits it.
     pub fn end(&mut self) -> Result<u32, CheckEnd>
         requires few { self.old.lines < 4294967295 }
-        ensures lawful { IfOk result (λ steps. (texts : List (List ℕ)) → HasTakenLines texts self.old
+        ensures lawful { IfOk result (λ steps. (texts : List (List ℕ))
+            → HasTakenLines texts self.old
             → IsLawful self.old.set_up.known (net_of self.old.set_up) texts steps) }
         ensures unlawful { (hit : _) → IsErrOf result (CheckEnd.Unlawful hit)
             → (texts : List (List ℕ)) → HasTakenLines texts self.old
             → IsHitAt self.old.set_up texts hit }
+        ensures told { (hit : _) → IsErrOf result (CheckEnd.Unlawful hit)
+            → (texts : List (List ℕ)) → HasTakenLines texts self.old
+            → IsToldAt self.old.set_up texts hit self.new.expected }
         ensures never_refused { (refusal : _) → IsErrOf result (CheckEnd.Refused refusal) → ⊥ }
     {
         self.judge(false)?;
@@ -107,7 +129,18 @@ impl Checker {
             return Ok(self.reader.steps());
         }
         self.lines += 1;
-        Err(hit_at(self.lines, BAD_FORM))
+        Err(self.bad_form())
+    }
+
+    /// The last line that was taken is of no form.
+    fn bad_form(&mut self) -> CheckEnd
+        ensures hit { result ≡ CheckEnd.Unlawful
+            (record { line = self.old.lines; reason = 21 }) }
+        ensures kept { self.new.set_up ≡ self.old.set_up }
+        ensures untold { self.new.expected ≡ None }
+    {
+        self.expected = None;
+        hit_at(self.lines, BAD_FORM)
     }
 
     /// Takes in the last line that was taken: an event waits, and any other is judged.
@@ -125,6 +158,11 @@ impl Checker {
             → SpellsLine self.old.set_up.known text (line_read line)
             → AreReadTo self.old.set_up self.old.reader texts text
             → IsHitNext self.old.set_up texts text hit.reason) }
+        ensures told { (hit : _) → IsErrOf result (CheckEnd.Unlawful hit)
+            → (texts : List (List ℕ)) (text : List ℕ)
+            → SpellsLine self.old.set_up.known text (line_read line)
+            → AreReadTo self.old.set_up self.old.reader texts text
+            → IsToldNext self.old.set_up texts text hit.reason self.new.expected }
         ensures never_refused { (refusal : _) → IsErrOf result (CheckEnd.Refused refusal) → ⊥ }
     {
         match line {
@@ -146,6 +184,9 @@ impl Checker {
         ensures hit { (hit : _) → IsErrOf result (CheckEnd.Unlawful hit)
             → (texts rest : List (List ℕ)) → HasTakenLines texts self.old
             → short ≡ are_short (as_behind rest) → IsHitAt self.old.set_up (texts ++ rest) hit }
+        ensures told { (hit : _) → IsErrOf result (CheckEnd.Unlawful hit)
+            → (texts rest : List (List ℕ)) → HasTakenLines texts self.old
+            → IsToldAt self.old.set_up (texts ++ rest) hit self.new.expected }
         ensures never_refused { (refusal : _) → IsErrOf result (CheckEnd.Refused refusal) → ⊥ }
     {
         match self.waiting.take() {
@@ -166,11 +207,18 @@ impl Checker {
         ensures hit { (hit : _) → IsErrOf result (CheckEnd.Unlawful hit)
             → (hit.line ≡ self.old.lines)
             × LineIsHit self.old.set_up self.old.reader (line_read line) short hit.reason }
+        ensures told { (hit : _) → IsErrOf result (CheckEnd.Unlawful hit)
+            → LineIsTold self.old.set_up self.old.reader (line_read line) hit.reason
+            self.new.expected }
         ensures never_refused { (refusal : _) → IsErrOf result (CheckEnd.Refused refusal) → ⊥ }
     {
         let number = self.lines();
+        let expected = self.reader.state().expected(&line);
         match self.reader.check(line, short)? {
-            Some(fault) => Err(hit_at(number, fault.number())),
+            Some(fault) => {
+                self.expected = expected;
+                Err(hit_at(number, fault.number()))
+            }
             None => Ok(()),
         }
     }

@@ -131,7 +131,7 @@ impl Reader {
 
 impl State {
     /// What would have been lawful in place of a line.
-    fn expected(&self, line: &TraceLine) -> Option<Expected>
+    pub(crate) fn expected(&self, line: &TraceLine) -> Option<Expected>
         ensures told { IfSome result (λ e. (r : ReachedState) → IsReachedState r self.now
             → IsLineIn r.nodes (line_read line.now) → IsSo r (line_read line.now) e) }
         ensures some { (r : ReachedState) (short : Bool) (fault : Fault) → IsReachedState r self.now

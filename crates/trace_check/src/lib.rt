@@ -14,11 +14,13 @@
 //! - `Reaches`, `Expecting`: what the lines before a line reach, and what they let it be;
 //! - `Verdicts`: what is told of the lines of a trace;
 //! - `Unmet`: which need of a step is not met;
-//! - `SoFar`, `Keeping`, `Taken`: what is lawful so far, and what a checker has taken.
+//! - `SoFar`, `Keeping`, `Taken`, `Told`: what is lawful so far, and what a checker has taken and
+//!   tells.
 //!
 //! [`check_trace`] checks a script of set-up lines and a trace. [`Checker`] takes one line after
-//! another, as they come, and answers each. Both take memory for the lines of set-up, the ports,
-//! the packets and characters that are on their way, and the packets that came and are not held.
+//! another, as they come, and answers each; [`a_checker_agrees`] says that both say the same. Both
+//! take memory for the lines of set-up, the ports, the packets and characters that are on their way,
+//! and the packets that came and are not held.
 #![tactic(auto)]
 
 mod building;
@@ -44,7 +46,7 @@ pub use checking::{CheckEnd, Unlawful, check_trace};
 pub use examples::{a_packet_can_be_lawful, a_packet_can_be_unlawful, reasons_can_hit};
 pub use expecting::{Expected, expect};
 pub use laws::{
-    every_trace_is_lawful, lawful_inputs_are_legal, lawful_or_unlawful, lawful_traces_are_legal,
-    taken_lines_are_lawful_so_far,
+    a_checker_agrees, every_trace_is_lawful, lawful_inputs_are_legal, lawful_or_unlawful,
+    lawful_traces_are_legal, taken_lines_are_lawful_so_far,
 };
 pub use unmet::Unmet;

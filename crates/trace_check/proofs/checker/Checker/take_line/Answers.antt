@@ -30,3 +30,7 @@ returns-in_default-clause-hit c = λ hit told.
       λ texts text spelled are rest. hits.1 texts rest text spelled
           (no_look c.args.line rest c.in_default.not-Begun) (are rest),
     )
+
+pub returns-in_default-clause-told : goal.returns-in_default-clause-told
+returns-in_default-clause-told c = λ hit told texts text spelled are rest.
+    c.check.ensures.told hit told texts rest text spelled (are rest)

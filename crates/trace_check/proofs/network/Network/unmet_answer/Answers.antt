@@ -1,4 +1,4 @@
-use Rattle.std.proofs.Common.{◌≡◌, None, true, sym, ◌∙◌, rules, tests}
+use Rattle.std.proofs.Common.{◌≡◌, None, true, rules, tests}
 use Rattle.maint_packets.specs.Requests.{request_of}
 use Rattle.fabric_trace.proofs.Network.Faces.{not_asked}
 use Rattle.trace_check.proofs.UnmetLaws.{behind_answered, full_answered}

@@ -1,6 +1,4 @@
-use Rattle.std.proofs.Common.{◌≡◌, true, Some, None, sym, ap, ◌∙◌, subst, rules, tests}
-use Rattle.std.proofs.lemmas.Option.{same_Some}
-use Rattle.rio_packets.specs.Fields.{prio_of}
+use Rattle.std.proofs.Common.{sym, ap, ◌∙◌, subst}
 use Rattle.fabric_model.specs.Network.{room_in}
 use Rattle.trace_check.specs.Unmet.{first_at_peer, IsFew}
 use Rattle.trace_check.proofs.UnmetLaws.{few_held, first_by_peer}
