@@ -1,1 +1,4 @@
+pub mod FormLaws
 pub mod HintLaws
+pub mod KindLaws
+pub mod MisfitLaws
