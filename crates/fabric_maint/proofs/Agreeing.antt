@@ -9,7 +9,8 @@ use Rattle.fabric_map.proofs.Firsts.{one_first_locked}
 use Rattle.host_enumerate.specs.Ends.{EndsAtLock, IsLockFree}
 use Rattle.host_enumerate.specs.declared.ends.EnumEnd.{EnumEnd}
 use Rattle.host_enumerate.specs.declared.ends.EnumEnd.TheVariants.{LockedBy, Undetected, WriteFault, NoMemory}
-use Rattle.fabric_maint.specs.Enumerated.{IsEnumerated, Agrees}
+use Rattle.host_enumerate.specs.Enumerated.{IsEnumerated}
+use Rattle.fabric_maint.specs.Agreeing.{Agrees}
 
 -- where a device is locked by another host, not all are free of it
 locked_not_free : (topology : Topology) (before after : AllRegisters) (path : List ℕ) (id : ℕ)

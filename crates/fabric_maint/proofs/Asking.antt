@@ -67,12 +67,10 @@ module _ {N K : Type 0} (old : FabricMaint N K) (whole : StandsWhole old) (dest 
       (sym (devices_at t can))
 
   -- the lines of its ask are those of the access
-  pub ask_of : (edits : N → List Edit) (noise : N) (t : Seen) (block : List TraceLine)
-      (asked : Request) → asked ≡ request → access_offset access < 2 ^ 24
-      → CanAsk old.host t [] old.fabric.now → IsAsk old.host asked (edits noise) t block
-      → IsAskOf edits old.host t old.tid asked block
-  ask_of edits noise t block asked is low can ask = record {
-    noise = noise;
+  pub ask_of : (noise : List Edit) (t : Seen) (block : List TraceLine) (asked : Request)
+      → asked ≡ request → access_offset access < 2 ^ 24 → CanAsk old.host t [] old.fabric.now
+      → IsAsk old.host asked noise t block → IsAskOf noise old.host t old.tid asked block
+  ask_of noise t block asked is low can ask = record {
     dest = dest;
     hops = hops;
     access = access;
@@ -107,9 +105,9 @@ module _ {N K : Type 0} (old : FabricMaint N K) (whole : StandsWhole old) (dest 
 
     -- ---- the reply
 
-    module _ (before after : Option (List ℕ)) (noise : List Edit) (t : Seen)
+    module _ (before after : Option (List ℕ)) (noise left : List Edit) (t : Seen)
         (can : CanAsk old.host t [] old.fabric.now) (fabric : Fabric) (response : Response)
-        (replied : Replied (names_of old) before after old.host request noise t [] fabric
+        (replied : Replied (names_of old) before after old.host request noise left t [] fabric
         response) where
       one_port : replied.at ≡ at
       one_port = same_Some replied.at at (sym replied.trip.ends ∙ (trip_at t can).ends)
@@ -188,23 +186,24 @@ module _ {N K : Type 0} (edits : N → List Edit) (written : K → Option (List 
     (asks : asked ≡ request_for id old.tid dest hops access)
     (names : List (List ℕ)) (named : names ≡ names_of old)
     (answers : (t : Seen) (lines : List TraceLine) → CanAsk old.host t lines old.fabric.now
-    → Replied names (written old.sink.now) (written sink) old.host asked (edits old.noise.now) t
-    lines fabric response) where
+    → Replied names (written old.sink.now) (written sink) old.host asked (edits old.noise.now)
+    (edits noise) t lines fabric response) where
   request_is : asked ≡ request_for (registers_in old old.host).base_id old.tid dest hops access
   request_is = asks ∙ ap (λ (i : ℕ). request_for i old.tid dest hops access) id_is
 
   replied : (t : Seen) → CanAsk old.host t [] old.fabric.now → Replied (names_of old)
-      (written old.sink.now) (written sink) old.host asked (edits old.noise.now) t [] fabric
-      response
+      (written old.sink.now) (written sink) old.host asked (edits old.noise.now) (edits noise) t []
+      fabric response
   replied t can = subst (λ (ns : List (List ℕ)). Replied ns (written old.sink.now) (written sink)
-      old.host asked (edits old.noise.now) t [] fabric response) named (answers t [] can)
+      old.host asked (edits old.noise.now) (edits noise) t [] fabric response) named
+      (answers t [] can)
 
   by_request : (t : Seen) → CanAsk old.host t [] old.fabric.now → Replied (names_of old)
       (written old.sink.now) (written sink) old.host
       (request_for (registers_in old old.host).base_id old.tid dest hops access)
-      (edits old.noise.now) t [] fabric response
+      (edits old.noise.now) (edits noise) t [] fabric response
   by_request t can = subst (λ (r : Request). Replied (names_of old) (written old.sink.now)
-      (written sink) old.host r (edits old.noise.now) t [] fabric response) request_is
+      (written sink) old.host r (edits old.noise.now) (edits noise) t [] fabric response) request_is
       (replied t can)
 
   goes_on : (s : Seen) (origin : FabricMaint N K)
@@ -215,9 +214,10 @@ module _ {N K : Type 0} (edits : N → List Edit) (written : K → Option (List 
       record {
         lines = went.lines ++ own.block;
         end = seen went.end own.block;
-        asked = AskedMore went.lines own.block went.end old.tid asked went.asked
-            (ask_of old whole dest hops access edits old.noise.now went.end own.block asked
-            request_is low went.rests.can own.is) own.again.stands.sent refl refl refl;
+        asked = AskedMore went.lines own.block (edits old.noise.now) went.end old.tid asked
+            went.asked (ask_of old whole dest hops access (edits old.noise.now) went.end own.block
+            asked request_is low went.rests.can own.is) own.spends own.again.stands.sent refl refl
+            refl;
         leads = leads_more old.host s went.end went.lines own.block rests.can.stands.ready
             went.leads own.own own.again.stands.made own.again.stands.sent;
         told = told_more (names_of old) (written origin.sink.now) (written old.sink.now)
@@ -257,13 +257,16 @@ module _ {N K : Type 0} (edits : N → List Edit) (written : K → Option (List 
         few = whole.few;
         s = seen whole.s reply.block;
         rests = reply_rests old whole dest hops access at is (written old.sink.now)
-            (written sink) (edits old.noise.now) whole.s whole.rests.can fabric response
+            (written sink) (edits old.noise.now) (edits noise) whole.s whole.rests.can fabric
+            response
             reply;
         topology = reply_topology old whole dest hops access at is (written old.sink.now)
-            (written sink) (edits old.noise.now) whole.s whole.rests.can fabric response
+            (written sink) (edits old.noise.now) (edits noise) whole.s whole.rests.can fabric
+            response
             reply ∙ whole.topology;
         fits = reply_fits old whole dest hops access at is (written old.sink.now)
-            (written sink) (edits old.noise.now) whole.s whole.rests.can fabric response
+            (written sink) (edits old.noise.now) (edits noise) whole.s whole.rests.can fabric
+            response
             reply (topology_in old) whole.fits;
       }
 
@@ -272,12 +275,12 @@ module _ {N K : Type 0} (edits : N → List Edit) (written : K → Option (List 
       → answer_in response (access_offset access)
       ≡ (answered (registers_in old at.node) at.port access).answer
   asked_answer at is = reply_answer old whole dest hops access at is (written old.sink.now)
-      (written sink) (edits old.noise.now) whole.s whole.rests.can fabric response
+      (written sink) (edits old.noise.now) (edits noise) whole.s whole.rests.can fabric response
       (by_request whole.s whole.rests.can)
 
   pub asked_registers : (at : PortRef)
       → IsAnswered (topology_in old) (registers_in old) dest hops access at
       → registers_of fabric.devices.items ≡ after_access (registers_in old) at access
   asked_registers at is = reply_registers old whole dest hops access at is
-      (written old.sink.now) (written sink) (edits old.noise.now) whole.s whole.rests.can
-      fabric response (by_request whole.s whole.rests.can)
+      (written old.sink.now) (written sink) (edits old.noise.now) (edits noise) whole.s
+      whole.rests.can fabric response (by_request whole.s whole.rests.can)

@@ -168,6 +168,7 @@ module _ {N K : Type 0} (edits : N → List Edit) (written : K → Option (List 
           lines = went.lines;
           end = went.end;
           tid = old.tid;
+          noise = old.noise.now;
           asked = went.asked;
           leads = went.leads;
           bytes = own.bytes;
@@ -175,7 +176,7 @@ module _ {N K : Type 0} (edits : N → List Edit) (written : K → Option (List 
               (written sink) (trace_text (names_of old) went.lines) own.bytes went.told
               own.told;
           begun = FrontTold asked own.block own.rest
-              (ask_of old whole dest hops access edits old.noise.now went.end own.block asked
+              (ask_of old whole dest hops access (edits old.noise.now) went.end own.block asked
               request_is low went.rests.can own.is)
               (made_more old.host s went.end went.lines own.block rests.can.stands.ready went.leads
               own_lines.never own_lines.made) own.whole;
@@ -210,7 +211,8 @@ module _ {N K : Type 0} (edits : N → List Edit) (written : K → Option (List 
       ready = whole.rests.can.stands.ready;
       sent = whole.rests.can.stands.sent;
       quiet = whole.rests.quiet;
-      is = ask_of old whole dest hops access edits old.noise.now whole.s exposed.block asked
+      noise = old.noise.now;
+      is = ask_of old whole dest hops access (edits old.noise.now) whole.s exposed.block asked
           request_is low whole.rests.can exposed.is;
       found = exposed.found;
       before = written old.sink.now;

@@ -15,6 +15,6 @@ pub never_met : {N K : Type 0} (edits : N → List Edit) (written : K → Option
 never_met edits written none maint port event met =
     let still = ask_still maint.host met.request met.s met.block (good_of met.ready) met.sent
     met.quiet (subst (λ (given : List Edit). IsAsk maint.host met.request given met.s met.block)
-    (none met.is.noise) met.is.is) in
+    (none met.noise) met.is.is) in
     let bad : None ≡ Some _ = sym still ∙ met.found in
     absurd cc

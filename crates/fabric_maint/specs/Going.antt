@@ -88,12 +88,13 @@ pub record LeadsTo (host : ℕ) (s : Seen) (lines : List TraceLine) (end : Seen)
   pub end_is : end ≡ with_own host device (seen s lines)
 
 -- From a state a host has made asks, to whose lines these laws apply, and the sink was told their
--- text. The fabric stands for the state that they lead to.
+-- text. The wires met the edits of the noise in their order, and it still gives those that no wire
+-- met. The fabric stands for the state that they lead to.
 pub record Went {N K : Type 0} (edits : N → List Edit) (written : K → Option (List ℕ))
     (s : Seen) (old new : FabricMaint N K) : Type 0 where
   pub lines : List TraceLine
   pub end : Seen
-  pub asked : Asked edits new.host s old.tid lines end new.tid
+  pub asked : Asked (edits old.noise.now) new.host s old.tid lines (edits new.noise.now) end new.tid
   pub leads : LeadsTo new.host s lines end
   pub told : Appends (written old.sink.now) (written new.sink.now)
       (trace_text (names_of new) lines)
@@ -107,29 +108,29 @@ pub record Followed {N K : Type 0} (edits : N → List Edit) (written : K → Op
   pub never_falls : faults old.sink.now ≤ faults new.sink.now
   pub went : (s : Seen) → MaintRestsAt old.host s old.fabric.now → Went edits written s old new
 
--- What was told of an ask that has no answer: nothing, or a front of the text of its lines, which
--- may stand in a trace behind those before.
-pub data FrontOfAsk {N : Type 0} (edits : N → List Edit) (host : ℕ) (names : List (List ℕ))
-    (s : Seen)
+-- What was told of an ask that has no answer, with the edits that those before it left: nothing, or
+-- a front of the text of its lines, which may stand in a trace behind those before.
+pub data FrontOfAsk (left : List Edit) (host : ℕ) (names : List (List ℕ)) (s : Seen)
     (before : List TraceLine) (end : Seen) (tid : ℕ) (bytes : List ℕ) : Type 0 where
-  NothingTold : bytes ≡ [] → FrontOfAsk edits host names s before end tid bytes
+  NothingTold : bytes ≡ [] → FrontOfAsk left host names s before end tid bytes
   FrontTold : (request : Request) (block : List TraceLine) (rest : List ℕ)
-      → IsAskOf edits host end tid request block → Made s (before ++ block)
-      → trace_text names block ≡ bytes ++ rest → FrontOfAsk edits host names s before end tid bytes
+      → IsAskOf left host end tid request block → Made s (before ++ block)
+      → trace_text names block ≡ bytes ++ rest → FrontOfAsk left host names s before end tid bytes
 
 -- From a state a host has made asks, and the sink was told their text and then a front of the text
--- of one more, up to where that stopped.
+-- of one more, up to where that stopped. `noise` is what gives the edits of that one.
 pub record WentFront {N K : Type 0} (edits : N → List Edit) (written : K → Option (List ℕ))
     (s : Seen) (old new : FabricMaint N K) : Type 0 where
   pub lines : List TraceLine
   pub end : Seen
   pub tid : ℕ
-  pub asked : Asked edits new.host s old.tid lines end tid
+  pub noise : N
+  pub asked : Asked (edits old.noise.now) new.host s old.tid lines (edits noise) end tid
   pub leads : LeadsTo new.host s lines end
   pub bytes : List ℕ
   pub told : Appends (written old.sink.now) (written new.sink.now)
       (trace_text (names_of new) lines ++ bytes)
-  pub begun : FrontOfAsk edits new.host (names_of new) s lines end tid bytes
+  pub begun : FrontOfAsk (edits noise) new.host (names_of new) s lines end tid bytes
 
 -- From whatever state the first stands for, the host has left off at the second. The count of write
 -- faults of its sink has not fallen.
@@ -142,7 +143,7 @@ pub record FollowedFront {N K : Type 0} (edits : N → List Edit) (written : K �
 
 -- The last lines that the sink was told are those of an ask, from a state in which all links were
 -- at rest and every event that was acted on had been sent. In it this port acted on this event,
--- which was not sent.
+-- which was not sent. The wires met the edits that a value of the noise gives.
 pub record HasMet {N K : Type 0} (edits : N → List Edit) (written : K → Option (List ℕ))
     (maint : FabricMaint N K) (port : PortRef) (event : Event) : Type 0 where
   pub s : Seen
@@ -152,7 +153,8 @@ pub record HasMet {N K : Type 0} (edits : N → List Edit) (written : K → Opti
   pub ready : IsReady s
   pub sent : s.undetected ≡ None
   pub quiet : AreQuiet s.network.links s
-  pub is : IsAskOf edits maint.host s tid request block
+  pub noise : N
+  pub is : IsAskOf (edits noise) maint.host s tid request block
   pub found : (seen s block).undetected ≡ Some (record { port = port; event = event })
   pub before : Option (List ℕ)
   pub told : Appends before (written maint.sink.now) (trace_text (names_of maint) block)

@@ -36,6 +36,7 @@ abandons edits written faults origin maint followed = record {
         lines = went.lines;
         end = went.end;
         tid = maint.tid;
+        noise = maint.noise.now;
         asked = went.asked;
         leads = went.leads;
         bytes = [];

@@ -3,4 +3,4 @@ pub mod Asked
 pub mod AskEnds
 pub mod Going
 pub mod GoingLaws
-pub mod Enumerated
+pub mod Agreeing

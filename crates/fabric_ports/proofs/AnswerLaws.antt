@@ -63,16 +63,16 @@ low_hop {request = request} packet sendable form =
     (Passes-from_form (request_body request) packet form) (read packet sendable form))
 
 -- what was told of an ask, by what left at the host or why it ended
-abbrev pub IsTold : {K : Type 0} → TraceWriter K → TraceWriter K → ℕ → Request → List Edit → Seen
-    → List TraceLine → Fabric → Result (Option (List ℕ)) FabricEnd → Type 0
-IsTold a b host request noise from lines new told =
-    Ran (AskLeaves host request noise told) a b from lines (end_with new told)
+abbrev pub IsTold : {K : Type 0} → TraceWriter K → TraceWriter K → ℕ → Request → List Edit
+    → List Edit → Seen → List TraceLine → Fabric → Result (Option (List ℕ)) FabricEnd → Type 0
+IsTold a b host request noise saved from lines new told =
+    Ran (AskLeaves host request noise saved told) a b from lines (end_with new told)
 
-module _ {K : Type 0} {a b : TraceWriter K} (host : ℕ) (request : Request) (noise : List Edit)
-    (new : Fabric) where
+module _ {K : Type 0} {a b : TraceWriter K} (host : ℕ) (request : Request)
+    (noise saved : List Edit) (new : Fabric) where
   -- some lines were told
   pub told_lines : (told : Result (Option (List ℕ)) FabricEnd) {from : Seen}
-      {lines : List TraceLine} → IsTold a b host request noise from lines new told
+      {lines : List TraceLine} → IsTold a b host request noise saved from lines new told
       → (block : List TraceLine) × Adds a b block
   told_lines (Ok left) ran = (ran.block, ran.ends.0)
   told_lines (Err (Ends.Undetected port event)) ran = (ran.block, ran.ends.0)
@@ -82,17 +82,17 @@ module _ {K : Type 0} {a b : TraceWriter K} (host : ℕ) (request : Request) (no
   -- the lines go to the outbox of before
   pub told_same : (told : Result (Option (List ℕ)) FabricEnd) {old : Fabric}
       → ((from : Seen) (lines : List TraceLine) → CanAsk host from lines old
-      → IsTold a b host request noise from lines new told)
+      → IsTold a b host request noise saved from lines new told)
       → (from : Seen) × (lines : List TraceLine) × CanAsk host from lines old
       → b.outbox.ghost_name ≡ a.outbox.ghost_name
   told_same told tells can = (told_lines told (tells can.0 can.1 can.2)).1.same
 
 module _ (names : List (List ℕ)) (before after : Option (List ℕ)) (host : ℕ) (request : Request)
-    (noise : List Edit) (from : Seen) (lines : List TraceLine) (old new : Fabric) where
+    (noise saved : List Edit) (from : Seen) (lines : List TraceLine) (old new : Fabric) where
   -- an ask ended so
   abbrev pub IsAnswered : Result Response AskEnd → Type 0
   IsAnswered (Ok response) =
-      Replied names before after host request noise from lines new response
+      Replied names before after host request noise saved from lines new response
   IsAnswered (Err end) = AskEnds names before after host request noise from lines end
 
   module _ {K : Type 0} (a b : TraceWriter K)
@@ -105,7 +105,7 @@ module _ (names : List (List ℕ)) (before after : Option (List ℕ)) (host : �
     reads packet form = read packet sendable form
 
     module _ (left : Option (List ℕ))
-        (ran : IsTold a b host request noise from lines new (Ok left))
+        (ran : IsTold a b host request noise saved from lines new (Ok left))
         (told : Appends before after (trace_text names ran.block)) where
       abbrev block : List TraceLine
       block = ran.block
@@ -187,11 +187,12 @@ module _ (names : List (List ℕ)) (before after : Option (List ℕ)) (host : �
             (laid_heard (seen from lines).network.registers (seen from lines).network.links host
             trip.0 request can.laid))
 
-        response_came : Replied names before after host request noise from lines new home
+        response_came : Replied names before after host request noise saved from lines new home
         response_came = record {
           block = ran.block;
           told = told;
           is = ask;
+          spends = ran.is.1.1;
           again = record {
             stands = ran.ends.1;
             clear = subst (λ (x : Seen). IsClear x.network) (sym joined) replied.clear;
@@ -217,12 +218,12 @@ module _ (names : List (List ℕ)) (before after : Option (List ℕ)) (host : �
 
     -- the lines were told whole
     told_whole : (left : Option (List ℕ))
-        → (ran : IsTold a b host request noise from lines new (Ok left))
+        → (ran : IsTold a b host request noise saved from lines new (Ok left))
         → Appends before after (trace_text names ran.block)
         → IsAnswered (response_or_end (response_in left))
-    told_whole None ran told = nothing_came None ran told ran.is.1
+    told_whole None ran told = nothing_came None ran told ran.is.1.0
     told_whole (Some packet) ran told =
-        came (Some packet) ran told packet ran.is.1.0 ran.is.1.1
+        came (Some packet) ran told packet ran.is.1.0.0 ran.is.1.0.1
 
     front_more : (front rest : List TraceLine)
         → AppendsFront before after (trace_text names front)
@@ -250,7 +251,7 @@ module _ (names : List (List ℕ)) (before after : Option (List ℕ)) (host : �
 
     -- all that was told was written
     pub told_answers : (told : Result (Option (List ℕ)) FabricEnd)
-        → IsTold a b host request noise from lines new told
+        → IsTold a b host request noise saved from lines new told
         → ((block : List TraceLine) → Adds a b block
         → Appends before after (trace_text names block))
         → IsAnswered (ask_answer told)
@@ -288,7 +289,7 @@ module _ (names : List (List ℕ)) (before after : Option (List ℕ)) (host : �
 
     -- a write failed
     pub told_fails : (told : Result (Option (List ℕ)) FabricEnd)
-        → IsTold a b host request noise from lines new told
+        → IsTold a b host request noise saved from lines new told
         → ((block : List TraceLine) → Adds a b block
         → AppendsFront before after (trace_text names block))
         → AskedTextFront names before after host request noise from lines

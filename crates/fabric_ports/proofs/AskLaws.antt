@@ -35,6 +35,7 @@ use Rattle.fabric_ports.specs.Events.{Did, answer_taken}
 use Rattle.fabric_ports.specs.Fetching.{RoundsLeave, AskLeaves}
 use Rattle.fabric_ports.specs.Places.{IsEndpointAt}
 use Rattle.fabric_ports.specs.Ran.{Ran, end_with}
+use Rattle.fabric_ports.specs.Spending.{RoundsSpend}
 use Rattle.fabric_ports.specs.declared.answers.FabricEnd.{FabricEnd}
 use Rattle.fabric_ports.specs.declared.answers.Happened.{Happened}
 use Rattle.fabric_ports.specs.declared.fabric.Fabric.{Fabric}
@@ -119,14 +120,14 @@ module _ {K : Type 0} (host : ℕ) (request : Request) where
       }
 
   -- and then the rounds are made
-  pub asked_whole : (noise : List Edit) {a b c : TraceWriter K} {from : Seen}
+  pub asked_whole : (noise saved : List Edit) {a b c : TraceWriter K} {from : Seen}
       {lines : List TraceLine} {mid : Fabric} (new : Fabric)
       (told : Result (Option (List ℕ)) FabricEnd)
       → (first : Ran (λ s block. Asks s host request block) a b from lines (Ok mid))
-      → Ran (RoundsLeave host most_rounds noise told) b c from (lines ++ first.block)
+      → Ran (RoundsLeave host most_rounds noise saved told) b c from (lines ++ first.block)
       (end_with new told)
-      → Ran (AskLeaves host request noise told) a c from lines (end_with new told)
-  asked_whole noise {from = from} {lines = lines} new told first second =
+      → Ran (AskLeaves host request noise saved told) a c from lines (end_with new told)
+  asked_whole noise saved {from = from} {lines = lines} new told first second =
       ran_joined (λ x y own still more. (
         (
           x,
@@ -138,8 +139,19 @@ module _ {K : Type 0} (host : ℕ) (request : Request) where
               (sym still)
               more.0,
         ),
-        if_ok told (λ left. leaves_behind host left x y
-            (none_of host x (asking host (seen from lines) request x own).apart.nothing)) more.1,
+        if_ok told (λ packet ends. (
+          leaves_behind host packet x y
+              (none_of host x (asking host (seen from lines) request x own).apart.nothing) ends.0,
+          (
+            x,
+            y,
+            refl,
+            own,
+            subst (λ (f : Option UndetectedAt). Follows f
+                (RoundsSpend host most_rounds noise saved (seen (seen from lines) x)) NamesNothing
+                y) (sym still) ends.1,
+          ),
+        )) more.1,
       ))
       first second
 

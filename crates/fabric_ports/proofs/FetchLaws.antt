@@ -1,5 +1,5 @@
 -- Rounds of an ask, one after another, until the host holds a packet.
-use Rattle.std.proofs.Common.{◌≡◌, ℕ, zero, suc, ◌+◌, ◌<◌, Bool, true, false, List, [], ◌++◌, Option, Some, None, MatchBool, refl, sym, ap, ◌∙◌, subst, arith, append-nil, append_assoc, Ok, Err}
+use Rattle.std.proofs.Common.{◌≡◌, ◌⊎◌, inl, inr, ℕ, zero, suc, ◌+◌, ◌<◌, Bool, true, false, List, [], ◌++◌, Option, Some, None, MatchBool, refl, sym, ap, ◌∙◌, subst, arith, append-nil, append_assoc, Ok, Err}
 use Rattle.trace_lines.specs.AddsLaws.{Adds-then}
 use Rattle.trace_lines.specs.declared.writer.TraceWriter.{TraceWriter}
 use Rattle.link_wires.specs.declared.edits.Edit.{Edit}
@@ -22,6 +22,7 @@ use Rattle.fabric_ports.specs.Carrying.{WithLeft}
 use Rattle.fabric_ports.specs.Events.{Did, answer_collected}
 use Rattle.fabric_ports.specs.Fetching.{left_of, RoundsLeave}
 use Rattle.fabric_ports.specs.Ran.{Kind, Ran}
+use Rattle.fabric_ports.specs.Spending.{HasCollected, LastRound, RoundsSpend}
 use Rattle.fabric_ports.specs.Standing.{Stands}
 use Rattle.fabric_ports.specs.declared.answers.FabricEnd.{FabricEnd}
 use Rattle.fabric_ports.specs.declared.answers.FabricEnd.TheVariants.{Undetected, Failed, NoMemory}
@@ -135,6 +136,18 @@ rounds_held host m noise left s first rest still round collect = (
   ),
 )
 
+last_round : (host : ℕ) (noise left : List Edit) (s : Seen) (first rest : List TraceLine)
+    → (seen s first).undetected ≡ None → RoundTo host true noise left s first
+    → IsCollect (seen s first).network host rest → LastRound host noise left s (first ++ rest)
+last_round host noise left s first rest still round collect = (
+  first,
+  rest,
+  refl,
+  round.0,
+  subst (λ (f : Option UndetectedAt). Follows f (HasCollected host (seen s first)) NamesNothing
+      rest) (sym still) (round.1, collect),
+)
+
 -- ---- what follows a round
 
 -- lines behind a round: none if something was found
@@ -198,7 +211,7 @@ module _ {K : Type 0} (host : ℕ) where
       (k n : ℕ) (noise left : List Edit) → k ≡ n → Stands from lines old
       → IsEndpoint (seen from lines).network host
       → Ran (Unheld host k noise left) a b from lines (Ok new)
-      → Ran (RoundsLeave host n noise (Ok None)) a b from lines (Ok new)
+      → Ran (RoundsLeave host n noise left (Ok None)) a b from lines (Ok new)
   fetched_none {from = from} {lines = lines} k n noise left same stands is ran =
       let s = seen from lines in
       let many : k + 0 ≡ n = omega (arith, same) in
@@ -209,8 +222,11 @@ module _ {K : Type 0} (host : ℕ) where
           subst (λ j. AskRounds host j noise s ran.block) many
               (rounds_behind host k 0 noise left s ran.block stands.sent
               (both_nothing (Unheld host k noise left) s ran.block ran.is)),
-          nothing_leaves host ran.block
-              (unheld_apart host k noise left s ran.block good stands.sent is ran.is).nothing,
+          (
+            nothing_leaves host ran.block
+                (unheld_apart host k noise left s ran.block good stands.sent is ran.is).nothing,
+            inl (subst (λ j. Unheld host j noise left s ran.block) same ran.is),
+          ),
         );
         ends = ran.ends;
       }
@@ -225,7 +241,7 @@ module _ {K : Type 0} (host : ℕ) where
       → Did (λ block. IsCollect (seen from ((lines ++ first.block) ++ round.block)).network host
       block × (happened ≡ answer_collected block)) c d
       (seen from ((lines ++ first.block) ++ round.block)) new
-      → Ran (RoundsLeave host n noise (Ok (left_of happened))) a d from lines (Ok new)
+      → Ran (RoundsLeave host n noise last (Ok (left_of happened))) a d from lines (Ok new)
   fetched {from = from} {lines = lines} {new = new} k n noise left last happened less stands is
       first round some did =
       let s = seen from lines in
@@ -241,10 +257,13 @@ module _ {K : Type 0} (host : ℕ) where
       let endpoint = subst (λ (x : Seen). IsEndpoint x.network host) (sym t_is)
       (stays_endpoint s host first.block is) in
       let rest = round.block ++ did.block in
-      let rounds = rounds_held host count.0 left last t round.block did.block
-      (still_behind here round.block round.ends.1)
-      (round.is, sym (ap (holds_some host) u_is) ∙ some)
-      (subst (λ (x : Seen). IsCollect x.network host did.block) u_is did.is.0) in
+      let collect : IsCollect (seen t round.block).network host did.block =
+      subst (λ (x : Seen). IsCollect x.network host did.block) u_is did.is.0 in
+      let to_it : RoundTo host true left last t round.block =
+      (round.is, sym (ap (holds_some host) u_is) ∙ some) in
+      let calm = still_behind here round.block round.ends.1 in
+      let rounds = rounds_held host count.0 left last t round.block did.block calm to_it collect in
+      let ended = last_round host left last t round.block did.block calm to_it collect in
       let all : AskRounds host (k + suc count.0) noise s (first.block ++ rest) =
       rounds_behind host k (suc count.0) noise left s (first.block ++ rest) stands.sent (
         first.block,
@@ -256,19 +275,38 @@ module _ {K : Type 0} (host : ℕ) where
             (sym (still_behind lines first.block first.ends.1))
             (subst (λ (x : Seen). AskRounds host (suc count.0) left x rest) t_is rounds),
       ) in
+      let spends : RoundsSpend host n noise last s (first.block ++ rest) = inr (
+        k,
+        left,
+        less,
+        (
+          first.block,
+          rest,
+          refl,
+          first.is,
+          subst (λ (f : Option UndetectedAt). Follows f (LastRound host left last
+              (seen s first.block)) NamesNothing rest)
+              (sym (still_behind lines first.block first.ends.1))
+              (subst (λ (x : Seen). LastRound host left last x rest) t_is ended),
+        ),
+      ) in
       let stays = did_stands round.ends.1 did
       (collect_lines_made (seen from there) host did.block u_good round.ends.1.sent did.is.0) in
       record {
         block = first.block ++ rest;
         is = (
           subst (λ j. AskRounds host j noise s (first.block ++ rest)) count.1 all,
-          leaves_behind host (left_of happened) first.block rest
-              (nothing_leaves host first.block (unheld_apart host k noise left s first.block good
-              stands.sent is first.is).nothing)
-              (leaves_behind host (left_of happened) round.block did.block
-              (nothing_leaves host round.block (round_apart host left last t round.block t_good
-              first.ends.1.sent endpoint round.is).nothing)
-              (left_leaves (seen from there).network host did.block happened did.is.0 did.is.1)),
+          (
+            leaves_behind host (left_of happened) first.block rest
+                (nothing_leaves host first.block (unheld_apart host k noise left s first.block good
+                stands.sent is first.is).nothing)
+                (leaves_behind host (left_of happened) round.block did.block
+                (nothing_leaves host round.block (round_apart host left last t round.block t_good
+                first.ends.1.sent endpoint round.is).nothing)
+                (left_leaves (seen from there).network host did.block happened did.is.0
+                did.is.1)),
+            spends,
+          ),
         );
         ends = (
           Adds-then first.ends.0 (Adds-then round.ends.0 did.adds),
@@ -323,7 +361,7 @@ module _ {K : Type 0} (host : ℕ) where
       → IsEndpoint (seen from lines).network host
       → (first : Ran (Unheld host k noise left) a b from lines (Ok mid))
       → Ran (WithLeft (AskRound host left)) b c from (lines ++ first.block) (Err end)
-      → Ran (RoundsLeave host n noise (Err end)) a c from lines (Err end)
+      → Ran (RoundsLeave host n noise [] (Err end)) a c from lines (Err end)
   fetch_ends {from = from} {lines = lines} k n noise left {end = end} less stands is first ends =
       let count = rounds_left k n less in
       let endpoint = subst (λ (x : Seen). IsEndpoint x.network host)

@@ -26,9 +26,10 @@ use Rattle.fabric_ports.proofs.AnswerLaws.{IsSendable, IsTold, IsAnswered, told_
 -- ---- through an outbox that is flushed
 
 module _ {K : Type 0} {a b : TraceWriter K} {c : Outgoing} {host : ℕ} (request : Request)
-    (noise : List Edit) {old : Fabric} (new : Fabric) (told : Result (Option (List ℕ)) FabricEnd)
+    (noise saved : List Edit) {old : Fabric} (new : Fabric)
+    (told : Result (Option (List ℕ)) FabricEnd)
     (tells : (from : Seen) (lines : List TraceLine) → CanAsk host from lines old
-    → IsTold a b host request noise from lines new told)
+    → IsTold a b host request noise saved from lines new told)
     (op : IsGoodOp request.op) (prio : request.prio < 4)
     (empty : a.outbox.now.waiting ≡ []) (flushed : Writes b.outbox.now c []) where
   sendable : IsSendable request
@@ -43,41 +44,42 @@ module _ {K : Type 0} {a b : TraceWriter K} {c : Outgoing} {host : ℕ} (request
   pub all_told : c.failed ≡ false → c.waiting ≡ [] → (result : Result Response AskEnd)
       → result ≡ ask_answer told → (from : Seen) (lines : List TraceLine)
       → CanAsk host from lines old
-      → IsAnswered a.names.now a.outbox.now.written c.written host request noise from lines old new
-      result
+      → IsAnswered a.names.now a.outbox.now.written c.written host request noise saved from lines
+      old new result
   all_told went none result is from lines can =
       subst
-      (IsAnswered a.names.now a.outbox.now.written c.written host request noise from lines old new)
+      (IsAnswered a.names.now a.outbox.now.written c.written host request noise saved from lines
+      old new)
       (sym is)
-      (told_answers a.names.now a.outbox.now.written c.written host request noise from lines old
-      new a b can sendable told (tells from lines can)
+      (told_answers a.names.now a.outbox.now.written c.written host request noise saved from lines
+      old new a b can sendable told (tells from lines can)
       (λ block own. Writes-whole a.outbox.now c (trace_text a.names.now block) empty
       (flushed_lines own) went none))
 
   pub front_told : (from : Seen) (lines : List TraceLine) → CanAsk host from lines old
       → AskedTextFront a.names.now a.outbox.now.written c.written host request noise from lines
   front_told from lines can =
-      told_fails a.names.now a.outbox.now.written c.written host request noise from lines old new a
-      b can sendable told (tells from lines can)
+      told_fails a.names.now a.outbox.now.written c.written host request noise saved from lines old
+      new a b can sendable told (tells from lines can)
       (λ block own. Writes-front a.outbox.now c (trace_text a.names.now block) empty
       (flushed_lines own))
 
 -- ---- by the kind of the answer
 
 module _ (names : List (List ℕ)) (before after : Option (List ℕ)) (host : ℕ) (request : Request)
-    (noise : List Edit) (old new : Fabric) where
+    (noise saved : List Edit) (old new : Fabric) where
   pub ok_replied : (result : Result Response AskEnd)
       → ((from : Seen) (lines : List TraceLine) → CanAsk host from lines old
-      → IsAnswered names before after host request noise from lines old new result)
+      → IsAnswered names before after host request noise saved from lines old new result)
       → IfOk result (λ response. (from : Seen) (lines : List TraceLine)
       → CanAsk host from lines old
-      → Replied names before after host request noise from lines new response)
+      → Replied names before after host request noise saved from lines new response)
   ok_replied (Ok response) is = is
   ok_replied (Err end) is = tt
 
   pub err_ended : (result : Result Response AskEnd)
       → ((from : Seen) (lines : List TraceLine) → CanAsk host from lines old
-      → IsAnswered names before after host request noise from lines old new result)
+      → IsAnswered names before after host request noise saved from lines old new result)
       → IfErr result (λ end. (from : Seen) (lines : List TraceLine)
       → CanAsk host from lines old
       → AskEnds names before after host request noise from lines end)

@@ -26,6 +26,7 @@ pub mod LeaveLaws
 pub mod LinkLaws
 pub mod NewLaws
 pub mod NodeLaws
+pub mod NoiseLaws
 pub mod NumberLaws
 pub mod OwnLaws
 pub mod PlaceLaws

@@ -19,6 +19,7 @@ use Rattle.fabric_ask.specs.Course.{IsLaid}
 use Rattle.fabric_ask.specs.Only.{IsClear}
 use Rattle.fabric_ask.specs.Own.{NeverAnswers}
 use Rattle.fabric_ask.specs.Quiet.{AreQuiet}
+use Rattle.fabric_ports.specs.Spending.{AskSpends}
 use Rattle.fabric_ports.specs.Standing.{Stands}
 use Rattle.fabric_ports.specs.declared.asking.AskEnd.{AskEnd}
 use Rattle.fabric_ports.specs.declared.asking.AskEnd.TheVariants.{Unanswered, Undetected, WriteFault, NoMemory}
@@ -45,14 +46,16 @@ abbrev pub Returns : Network → ℕ → Request → PortRef → Type 0
 Returns net host request at = IsRoundTrip net.registers net.links host request at
 
 -- The lines of an ask were written. By the tables the request goes to the device of a port, and
--- this is the response of that device as it comes back. The fabric stands for the lines with those
--- of the ask, and the host may ask again. The host's own registers answered nothing.
+-- this is the response of that device as it comes back. `left` are the edits of the noise that are
+-- left. The fabric stands for the lines with those of the ask, and the host may ask again. The
+-- host's own registers answered nothing.
 pub record Replied (names : List (List ℕ)) (written written_after : Option (List ℕ)) (host : ℕ)
-    (request : Request) (noise : List Edit) (from : Seen) (lines : List TraceLine)
+    (request : Request) (noise left : List Edit) (from : Seen) (lines : List TraceLine)
     (fabric : Fabric) (response : Response) : Type 0 where
   pub block : List TraceLine
   pub told : Appends written written_after (trace_text names block)
   pub is : IsAsk host request noise (seen from lines) block
+  pub spends : AskSpends host request noise left (seen from lines) block
   pub again : CanAsk host from (lines ++ block) fabric
   pub quiet : AreQuiet (seen from (lines ++ block)).network.links (seen from (lines ++ block))
   pub at : PortRef

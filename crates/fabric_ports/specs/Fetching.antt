@@ -14,6 +14,7 @@ use Rattle.fabric_ports.specs.declared.answers.Happened.TheVariants.{Left}
 use Rattle.fabric_ports.specs.declared.asking.AskEnd.{AskEnd}
 use Rattle.fabric_ports.specs.declared.asking.AskEnd.TheVariants.{Unanswered, Undetected, WriteFault, NoMemory}
 use Rattle.fabric_ports.specs.Ran.{Kind}
+use Rattle.fabric_ports.specs.Spending.{RoundsSpend, AskSpends}
 
 -- ---- what leaves at the host
 
@@ -37,15 +38,16 @@ Leaves host None lines = NoneLeaves host lines
 Leaves host (Some packet) lines =
     (front : List TraceLine) × (lines ≡ front ++ Stepped (AtNode (Leave host packet)) ∷ [])
 
--- The lines of at most so many rounds, and of an ask; and what leaves in them if the call came to
--- its end.
-abbrev pub RoundsLeave : ℕ → ℕ → List Edit → Result (Option (List ℕ)) FabricEnd → Kind
-RoundsLeave host rounds noise told s lines =
-    AskRounds host rounds noise s lines × IfOk told (λ left. Leaves host left lines)
+-- The lines of at most so many rounds, and of an ask; and if the call came to its end, what leaves
+-- in them, and which edits are left.
+abbrev pub RoundsLeave : ℕ → ℕ → List Edit → List Edit → Result (Option (List ℕ)) FabricEnd → Kind
+RoundsLeave host rounds noise left told s lines = AskRounds host rounds noise s lines
+    × IfOk told (λ packet. Leaves host packet lines × RoundsSpend host rounds noise left s lines)
 
-abbrev pub AskLeaves : ℕ → Request → List Edit → Result (Option (List ℕ)) FabricEnd → Kind
-AskLeaves host request noise told s lines =
-    IsAsk host request noise s lines × IfOk told (λ left. Leaves host left lines)
+abbrev pub AskLeaves : ℕ → Request → List Edit → List Edit → Result (Option (List ℕ)) FabricEnd
+    → Kind
+AskLeaves host request noise left told s lines = IsAsk host request noise s lines
+    × IfOk told (λ packet. Leaves host packet lines × AskSpends host request noise left s lines)
 
 -- ---- what is answered
 

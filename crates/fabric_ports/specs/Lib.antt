@@ -10,6 +10,8 @@ pub mod Switching
 pub mod Acting
 pub mod Carrying
 pub mod Gathering
+pub mod Spending
 pub mod Asking
 pub mod OwnRegisters
 pub mod Fetching
+pub mod Responses

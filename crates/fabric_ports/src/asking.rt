@@ -57,6 +57,8 @@ impl Fabric {
     /// noise makes its edits of the wires that have characters, the link settles; then each switch
     /// makes its steps, and each endpoint but the host collects.
     ///
+    /// With a response the noise still gives the edits that no wire met, and no others.
+    ///
     /// If every event that was acted on was sent, `Unanswered` comes exactly if by the route tables
     /// the request goes to no other device, or the response of that device does not come back to
     /// the host. `Undetected` comes exactly if a port acted on an event that was not sent, and
@@ -83,7 +85,7 @@ impl Fabric {
         ensures replied { IfOk result (λ response. (from : Seen) (lines : List TraceLine)
             → CanAsk host from lines self.old → Replied names.now
             (K.written sink.old) (K.written sink.new) host request.now (N.edits noise.old)
-            from lines self.new response) }
+            (N.edits noise.new) from lines self.new response) }
         ensures ended { IfErr result (λ end. (from : Seen) (lines : List TraceLine)
             → CanAsk host from lines self.old → AskEnds names.now
             (K.written sink.old) (K.written sink.new) host request.now (N.edits noise.old)
@@ -126,7 +128,7 @@ impl Fabric {
         ensures replied { IfOk result (λ response. (from : Seen) (lines : List TraceLine)
             → CanAsk host from lines self.old → Replied names.now
             outbox.old.written outbox.new.written host request.now
-            (N.edits noise.old) from lines self.new response) }
+            (N.edits noise.old) (N.edits noise.new) from lines self.new response) }
         ensures ended { IfErr result (λ end. (from : Seen) (lines : List TraceLine)
             → CanAsk host from lines self.old → AskEnds names.now
             outbox.old.written outbox.new.written host request.now
@@ -164,7 +166,7 @@ impl Fabric {
         requires dest { request.now.large ≡ false → request.now.dest < 256 }
         requires source { request.now.large ≡ false → request.now.source < 256 }
         ensures { (from : Seen) (lines : List TraceLine) → CanAsk host from lines self.old
-            → Ran (AskLeaves host request.now (N.edits noise.old) result)
+            → Ran (AskLeaves host request.now (N.edits noise.old) (N.edits noise.new) result)
             writer.old writer.new from lines (end_with self.new result) }
     {
         self.send(host, write_request(request), writer);
@@ -185,7 +187,8 @@ impl Fabric {
         requires named { length self.old.devices.items ≤ length writer.old.names.now }
         requires few { length writer.old.names.now ≤ 256 }
         requires endpoint { IsEndpointAt self.old.devices.items host }
-        ensures { FabricRan (RoundsLeave host rounds (N.edits noise.old) result)
+        ensures { FabricRan
+            (RoundsLeave host rounds (N.edits noise.old) (N.edits noise.new) result)
             self.old writer.old writer.new (end_with self.new result) }
     {
         for _ in 0..rounds {

@@ -12,6 +12,7 @@
 //! - [`Happened`] and [`FabricEnd`]: what an event answers
 //! - [`AskEnd`]: why an ask has no answer
 //! - [`Noise`] and [`Quiet`]: who changes what is on the wires while a host asks
+//! - [`noise_leaves_responses`] is a law: a noise changes no response
 #![tactic(auto)]
 
 mod actions;
@@ -24,6 +25,7 @@ mod events;
 mod fabric;
 mod gathering;
 mod idle;
+mod laws;
 mod nodes;
 mod noise;
 mod own_registers;
@@ -34,4 +36,5 @@ mod switches;
 pub use answers::{FabricEnd, Happened};
 pub use asking::AskEnd;
 pub use fabric::Fabric;
+pub use laws::noise_leaves_responses;
 pub use noise::{Noise, Quiet};

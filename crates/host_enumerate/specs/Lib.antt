@@ -9,6 +9,7 @@ pub mod Checking
 pub mod TakingIn
 pub mod Founds
 pub mod Ends
+pub mod Enumerated
 pub mod Carrying
 pub mod Devised
 pub mod Hosts

@@ -5,12 +5,13 @@ ghost use Rattle.fabric_map.specs.Walked.{onward, after_all_paths};
 ghost use Rattle.fabric_map.specs.Routes.{AllRegisters};
 ghost use Rattle.fabric_map.specs.Ways.{IsOpened};
 ghost use Rattle.fabric_map.specs.Locked.{IsNext};
-ghost use Rattle.fabric_map.specs.Numbered.{paths_of, IsNumbered};
+ghost use Rattle.fabric_map.specs.Numbered.{paths_of};
 ghost use Rattle.host_enumerate.specs.Asking.{IsAskable};
 ghost use Rattle.host_enumerate.specs.Underway.{AreUntagged, IsUnderway};
 ghost use Rattle.host_enumerate.specs.TakingIn.{IsTried};
 ghost use Rattle.host_enumerate.specs.Founds.{HasFound, IsFoundBehind, tried_after};
-ghost use Rattle.host_enumerate.specs.Ends.{IsEnded, EndsAtLock, IsLockFree};
+ghost use Rattle.host_enumerate.specs.Ends.{IsEnded};
+ghost use Rattle.host_enumerate.specs.Enumerated.{IsEnumerated};
 ghost use Rattle.host_enumerate.specs.Carrying.{IsNumbering, WalkWent};
 
 use crate::asking::read;
@@ -192,14 +193,11 @@ pub fn enumerate<M: Maint>(alloc: Global, maint: &mut M) -> Result<Map, EnumEnd>
     requires whole { M.IsWhole maint.old }
     requires untagged { AreUntagged (M.topology maint.old) (M.registers maint.old) }
     requires host { (M.registers maint.old (M.topology maint.old).host).base_id < 255 }
-    ensures numbered { IfOk result (λ map. IsNumbered (M.topology maint.old) map.devices.items
-        map.entries.items (M.registers maint.old) (M.registers maint.new)) }
-    ensures free { OnOk result (IsLockFree (M.topology maint.old) (M.registers maint.old)) }
+    ensures enumerated { IsEnumerated (M.topology maint.old) (M.registers maint.old)
+        (M.registers maint.new) result }
     ensures end { IfErr result (IsEnded (M.undetected maint.old, M.undetected maint.new)
         (M.faults maint.old, M.faults maint.new) (M.IsMet maint.new) (λ path id. M.IsWhole maint.new
-        × ((origin : _) → M.Follows origin maint.old → M.Follows origin maint.new)
-        × EndsAtLock (M.topology maint.old) (M.registers maint.old) (M.registers maint.new)
-        path id)) }
+        × ((origin : _) → M.Follows origin maint.old → M.Follows origin maint.new))) }
     ensures topology { M.topology maint.new ≡ M.topology maint.old }
     ensures follows { OnOk result ((origin : _) → M.Follows origin maint.old
         → M.Follows origin maint.new) }

@@ -1,6 +1,7 @@
 use Rattle.std.proofs.Common.{◌∙◌, sym, ap, subst}
 use Rattle.fabric_map.specs.Numbered.{entries_of, IsNumbered}
-use Rattle.host_enumerate.proofs.Carrying.{end_of_walk}
+use Rattle.host_enumerate.specs.Enumerated.{IsEnumerated}
+use Rattle.host_enumerate.proofs.Carrying.{end_of_walk, enumerated_so, enumerated_none}
 use Rattle.host_enumerate.proofs.Numbering.{OwnIdRead, AllNumbered, can_read, id_fits, underway_first, is_numbered, is_free}
 use Rattle.host_enumerate.proofs.walk.enumerate.Given.{Over}
 use Rattle.host_enumerate.proofs.walk.enumerate.Goals.{In_ok-own_id, In_ok-devices}
@@ -53,19 +54,21 @@ number_devices-requires-clause-begun g c = (
 pub returns-in_err-devices-clause-end : goal.returns-in_err-devices-clause-end
 returns-in_err-devices-clause-end g c =
     end_of_walk c.in_ok-own_id.ensures.went c.from_residual-in_err-devices.result
+    c.from_residual-in_err-devices.ensures.1 c.in_err-devices.ensures.went
+
+pub returns-in_err-devices-clause-enumerated : goal.returns-in_err-devices-clause-enumerated
+returns-in_err-devices-clause-enumerated g c =
+    enumerated_so c.in_ok-own_id.ensures.went c.from_residual-in_err-devices.result
     c.from_residual-in_err-devices.ensures.1
-    (underway_first (own g (goal.at.returns-in_err-devices-clause-end g c).In_ok-own_id))
+    (underway_first (own g (goal.at.returns-in_err-devices-clause-enumerated g c).In_ok-own_id))
     c.in_err-devices.ensures.went
 
-pub returns-clause-numbered : goal.returns-clause-numbered
-returns-clause-numbered g c =
-    let at = goal.at.returns-clause-numbered g c in
-    subst (λ l. IsNumbered (g.M.Maint.topology c.args.maint.now) c.in_ok-devices.devices.items l
-    (g.M.Maint.registers c.args.maint.now) (g.M.Maint.registers c.number_devices.new.maint))
-    (sym (c.in_ok-entries.ensures ∙ ap entries_of c.as_slice.ensures.value))
-    (is_numbered (own g at.In_ok-own_id) (all g at.In_ok-devices))
-
-pub returns-clause-free : goal.returns-clause-free
-returns-clause-free g c =
-    let at = goal.at.returns-clause-free g c in
-    is_free (own g at.In_ok-own_id) (all g at.In_ok-devices)
+pub returns-clause-enumerated : goal.returns-clause-enumerated
+returns-clause-enumerated g c =
+    let at = goal.at.returns-clause-enumerated g c in (
+      subst (λ l. IsNumbered (g.M.Maint.topology c.args.maint.now) c.in_ok-devices.devices.items l
+          (g.M.Maint.registers c.args.maint.now) (g.M.Maint.registers c.number_devices.new.maint))
+          (sym (c.in_ok-entries.ensures ∙ ap entries_of c.as_slice.ensures.value))
+          (is_numbered (own g at.In_ok-own_id) (all g at.In_ok-devices)),
+      is_free (own g at.In_ok-own_id) (all g at.In_ok-devices),
+    )

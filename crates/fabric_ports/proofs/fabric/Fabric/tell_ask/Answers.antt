@@ -52,5 +52,5 @@ returns g c = λ from lines can.
     let first = asked c.args.host c.args.request.now
     c.write_request.result c.send.result can c.write_request.ensures.form
     (c.send.ensures (seen from lines) can.stands.shows can.stands.sent) in
-    asked_whole c.args.host c.args.request.now _ _ c.fetch.result first
+    asked_whole c.args.host c.args.request.now _ _ _ c.fetch.result first
     (c.fetch.ensures from (lines ++ first.block) first.ends.1)
