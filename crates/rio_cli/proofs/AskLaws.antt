@@ -1,5 +1,5 @@
 -- What a host that has followed from its first state has asked and written.
-use Rattle.std.proofs.Common.{◌≡◌, ◌≤◌, ℕ, List, ◌++◌, Option, Result, Ok, Err, OnOk, OnErr, IfOk, IfErr, refl, sym, ap, subst}
+use Rattle.std.proofs.Common.{◌≡◌, ◌≤◌, ℕ, List, [], ◌++◌, Option, Result, Ok, Err, OnOk, OnErr, IfErr, refl, sym, ap, subst}
 use Rattle.std.specs.Result.{IsErrOf}
 use Rattle.std.specs.Io.KnownBytes.{Appends}
 use Rattle.fabric_script.specs.declared.lines.Numbered.{Numbered}
@@ -9,6 +9,7 @@ use Rattle.fabric_map.specs.Plain.{registers_of}
 use Rattle.fabric_map.specs.Numbered.{IsNumbered}
 use Rattle.fabric_map.specs.declared.map.Map.{Map}
 use Rattle.host_enumerate.specs.Ends.{EndsAtLock, IsEnded, IsLockFree}
+use Rattle.host_enumerate.specs.Enumerated.{IsEnumerated}
 use Rattle.host_enumerate.specs.declared.ends.EnumEnd.{EnumEnd}
 use Rattle.host_enumerate.specs.declared.ends.EnumEnd.TheVariants.{LockedBy, Undetected, WriteFault, NoMemory}
 use Rattle.fabric_trace.specs.Runs.{start}
@@ -41,8 +42,8 @@ module _ {K : Type 0} (written : K → Option (List ℕ)) (faults : K → ℕ)
         asked = record {
           end = went.end;
           tid = last.tid;
-          asked = subst (λ h. Asked no_edits h (start lines) 0 went.lines went.end last.tid) here
-              (subst (λ n. Asked no_edits last.host (start lines) n went.lines went.end last.tid)
+          asked = subst (λ h. Asked [] h (start lines) 0 went.lines [] went.end last.tid) here
+              (subst (λ n. Asked [] last.host (start lines) n went.lines [] went.end last.tid)
               new.first went.asked);
           leads = subst (λ h. LeadsTo h (start lines) went.lines went.end) here went.leads;
           after_is = ap registers_of (sym went.rests.can.stands.shows.registers);
@@ -62,16 +63,16 @@ module _ {K : Type 0} (written : K → Option (List ℕ)) (faults : K → ℕ)
         trace = left.lines;
         end = left.end;
         tid = left.tid;
-        asked = subst (λ h. Asked no_edits h (start lines) 0 left.lines left.end left.tid) here
-            (subst (λ n. Asked no_edits last.host (start lines) n left.lines left.end left.tid)
+        asked = subst (λ h. Asked [] h (start lines) 0 left.lines [] left.end left.tid) here
+            (subst (λ n. Asked [] last.host (start lines) n left.lines [] left.end left.tid)
             new.first left.asked);
         leads = subst (λ h. LeadsTo h (start lines) left.lines left.end) here left.leads;
         part = left.bytes;
         told = subst (λ (ns : List (List ℕ)). Appends (written first.sink.now)
             (written last.sink.now) (trace_text ns left.lines ++ left.bytes)) names left.told;
-        begun = subst (λ h. FrontOfAsk no_edits h (names_of first) (start lines) left.lines left.end
+        begun = subst (λ h. FrontOfAsk [] h (names_of first) (start lines) left.lines left.end
             left.tid left.bytes) here
-            (subst (λ (ns : List (List ℕ)). FrontOfAsk no_edits last.host ns (start lines)
+            (subst (λ (ns : List (List ℕ)). FrontOfAsk [] last.host ns (start lines)
             left.lines left.end left.tid left.bytes) names left.begun);
       }
 
@@ -83,7 +84,6 @@ module _ {K : Type 0} (written : K → Option (List ℕ)) (faults : K → ℕ)
 
   abbrev AtLock : List ℕ → ℕ → Type 0
   AtLock path id = StandsWhole last × Follows
-      × EndsAtLock (topology_in first) (registers_in first) (registers_in last) path id
 
   abbrev Ends : EnumEnd → Type 0
   Ends = IsEnded (first.undetected, last.undetected) (faults first.sink.now, faults last.sink.now)
@@ -95,32 +95,30 @@ module _ {K : Type 0} (written : K → Option (List ℕ)) (faults : K → ℕ)
   by_lines P is = subst (P (topology_in first)) new.registers is
 
   pub maps : (result : Result Map EnumEnd)
-      → IfOk result (λ map. IsNumbered (topology_in first) map.devices.items map.entries.items
-      (registers_in first) (registers_in last))
-      → OnOk result (IsLockFree (topology_in first) (registers_in first))
+      → IsEnumerated (topology_in first) (registers_in first) (registers_in last) result
       → IfErr result Ends → OnOk result Follows
       → OnErr result ((origin : FabricMaint Quiet K)
       → Followed no_edits written faults origin first
       → FollowedFront no_edits written faults origin last)
       → Maps (names_of first) lines host (written first.sink.now) (written last.sink.now) result
-  maps (Ok map) numbered free end follows leaves = (
+  maps (Ok map) is end follows leaves = (
     registers_in last,
     told_asks (follows first new.follows),
     record {
       numbered = by_lines (λ t r. IsNumbered t map.devices.items map.entries.items r
-          (registers_in last)) numbered;
-      free = by_lines IsLockFree free;
+          (registers_in last)) is.0;
+      free = by_lines IsLockFree is.1;
     },
   )
-  maps (Err (LockedBy path id)) numbered free end follows leaves = (
+  maps (Err (LockedBy path id)) is end follows leaves = (
     registers_in last,
     told_asks (end.0.1 first new.follows),
-    by_lines (λ t r. EndsAtLock t r (registers_in last) path id) end.0.2,
+    by_lines (λ t r. EndsAtLock t r (registers_in last) path id) is,
   )
-  maps (Err (Undetected port event)) numbered free end follows leaves =
+  maps (Err (Undetected port event)) is end follows leaves =
       never_met no_edits written (λ noise. refl) last port event end.0
-  maps (Err WriteFault) numbered free end follows leaves = told_front (leaves first new.follows)
-  maps (Err NoMemory) numbered free end follows leaves = told_front (leaves first new.follows)
+  maps (Err WriteFault) is end follows leaves = told_front (leaves first new.follows)
+  maps (Err NoMemory) is end follows leaves = told_front (leaves first new.follows)
 
   pub falls_never : (result : Result Map EnumEnd) → OnOk result Follows
       → OnErr result ((origin : FabricMaint Quiet K)

@@ -11,6 +11,7 @@ use Rattle.rio_cli.specs.declared.command.Command.{Command}
 use Rattle.rio_cli.specs.declared.command.Command.TheVariants.{Decode, Check, Io, Enumerate, Contest}
 use Rattle.rio_cli.specs.declared.status.Status.{Status}
 use Rattle.rio_cli.specs.declared.status.Status.TheVariants.{Done, Words, Script, ReadFault, WriteFault, NoMemory, Undetected, TooLong, Locked, Unlawful}
+use Rattle.check_words.specs.Forms.{IsFormWhy}
 use Rattle.check_words.specs.Hints.{hint_text}
 use Rattle.refusal_words.specs.Advising.{IsWhy}
 use Rattle.refusal_words.specs.Citing.{excerpt_of}
@@ -30,11 +31,17 @@ citation_of (Contest first second seed) [] =
     codes ": contest " ++ first ++ codes " " ++ second ++ codes " " ++ decimal seed
 citation_of command text = excerpt_of text
 
--- What is said of a text that is refused for this reason: what in it is to blame, or the reason.
-abbrev pub IsWhyOf : Command → List ℕ → ℕ → List ℕ → Type 0
-IsWhyOf Decode text reason why = IsCharsWhy text why
-IsWhyOf Io text reason why = why ≡ reason_text Io reason
-IsWhyOf command text reason why = IsWhy text (reason_text command reason) why
+-- What is said of a line that is refused for this reason: what in its text is to blame, or the
+-- reason; of a line that is none of a trace, why it is none.
+abbrev pub IsWhyOf : Command → List ℕ → ℕ → ℕ → List ℕ → Type 0
+IsWhyOf Decode bytes line reason why = IsCharsWhy (input_line_text bytes line) why
+IsWhyOf Io bytes line reason why = why ≡ reason_text Io reason
+IsWhyOf Check bytes line reason why =
+    (reason ≡ 21 → IsFormWhy bytes line (input_line_text bytes (line - 1))
+    (input_line_text bytes line) why)
+    × ((reason ≡ 21 → ⊥) → IsWhy (input_line_text bytes line) (reason_text Check reason) why)
+IsWhyOf command bytes line reason why =
+    IsWhy (input_line_text bytes line) (reason_text command reason) why
 
 -- What would have been lawful at the line is told of a trace, exactly if it is not lawful there for
 -- a reason that explains itself so.
@@ -49,12 +56,12 @@ abbrev pub place_text : Command → ℕ → ℕ → List ℕ
 place_text Check line reason = if leb 21 reason then lines_text line else []
 place_text command line reason = []
 
--- What is said of a refusal: a line that says what would have been lawful, and cites the line that is
--- refused; and how to see it, if it is one of a trace.
+-- What is said of a refusal: a line that says what would have been lawful, and cites the line that
+-- is refused; and how to see it, if it is one of a trace.
 pub record Explains (command : Command) (bytes : List ℕ) (line reason : ℕ) (message : List ℕ) :
     Type 0 where
   pub why : List ℕ
-  pub is_why : IsWhyOf command (input_line_text bytes line) reason why
+  pub is_why : IsWhyOf command bytes line reason why
   pub expected : Option Expected
   pub is_expected : IsExpectedBy command bytes line reason expected
   pub says : message ≡ codes "rio: line " ++ decimal line ++ codes ": " ++ why

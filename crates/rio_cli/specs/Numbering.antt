@@ -88,7 +88,7 @@ pub record HasAsked (lines : List Numbered) (host : ℕ) (trace : List TraceLine
     : Type 0 where
   pub end : Seen
   pub tid : ℕ
-  pub asked : Asked no_edits host (start lines) 0 trace end tid
+  pub asked : Asked [] host (start lines) 0 trace [] end tid
   pub leads : LeadsTo host (start lines) trace end
   pub after_is : after ≡ registers_of end.network.registers
 
@@ -105,11 +105,11 @@ pub record ToldAsksFront (names : List (List ℕ)) (lines : List Numbered) (host
   pub trace : List TraceLine
   pub end : Seen
   pub tid : ℕ
-  pub asked : Asked no_edits host (start lines) 0 trace end tid
+  pub asked : Asked [] host (start lines) 0 trace [] end tid
   pub leads : LeadsTo host (start lines) trace end
   pub part : List ℕ
   pub told : Appends written written_after (trace_text names trace ++ part)
-  pub begun : FrontOfAsk no_edits host names (start lines) trace end tid part
+  pub begun : FrontOfAsk [] host names (start lines) trace end tid part
 
 -- ---- what it answers
 

@@ -7,8 +7,8 @@
 //! status is the number of what `answer` answers, and a line on standard error says in words what
 //! is to be said of it.
 //!
-//! - `run`: the whole program, over any source, sink and sink of messages; `main` gives it the words
-//!   and the standard streams by `start` of `program_start`, and does nothing more.
+//! - `run`: the whole program, over any source, sink and sink of messages; `main` gives it the
+//!   words and the standard streams by `start` of `program_start`, and does nothing more.
 //! - `answer` and `rio`: what the words ask for is done; `CommandAnswer`, `Status`, `Refusal` and
 //!   `Command`.
 //! - `inputs_are_judged_once`, `every_text_is_characters_or_refused`: laws of inputs.

@@ -5,11 +5,14 @@ ghost use Rattle.rio_cli.specs.Messages.{input_line_text, citation_of, place_tex
 
 use crate::command::Command;
 use crate::texts::reason_text;
-use check_words::push_hint;
+use check_words::{push_form, push_hint, trace_reason};
 use refusal_words::{push_excerpt, push_number, push_why};
 use rio_words::{push_bad_word, push_lines};
 use std::alloc::{AllocError, Global};
 use trace_check::{Expected, expect};
+
+/// The number of the reason of a line that is none of a trace.
+const NO_FORM: u8 = 21;
 
 /// The line of an input that is refused or not lawful, counted from 1, and the number of the
 /// reason, by what was asked for; and what is said of it in words: one line of text.
@@ -43,7 +46,7 @@ impl Refusal {
         message.extend_from_slice(b"rio: line ")?;
         push_number(&mut message, line)?;
         message.extend_from_slice(b": ")?;
-        push_why_refused(alloc, &mut message, &command, text, reason)?;
+        push_why_refused(alloc, &mut message, &command, bytes, line, reason)?;
         push_hint(alloc, &mut message, &expected)?;
         push_citation(&mut message, &command, text)?;
         message.extend_from_slice(b"\n")?;
@@ -116,19 +119,43 @@ fn push_why_refused(
     alloc: Global,
     message: &mut Vec<u8>,
     command: &Command,
-    text: &[u8],
+    bytes: &[u8],
+    line: u32,
     reason: u8,
 ) -> Result<(), AllocError>
-    ensures { OnOk result ((why : List ℕ) × IsWhyOf command.now text.now reason why
+    requires { length bytes.now ≤ most_input }
+    ensures { OnOk result ((why : List ℕ) × IsWhyOf command.now bytes.now line reason why
         × (message.new.items ≡ message.old.items ++ why)) }
 {
+    let text = line_at(bytes, line);
     match command {
         Command::Decode => push_bad_word(message, text),
         Command::Io => message.extend_from_slice(reason_text(command, reason)),
-        Command::Replay | Command::Check | Command::Enumerate(_) | Command::Contest { .. } => {
+        Command::Check => push_why_checked(alloc, message, bytes, line, reason),
+        Command::Replay | Command::Enumerate(_) | Command::Contest { .. } => {
             push_why(alloc, message, text, reason, reason_text(command, reason))
         }
     }
+}
+
+/// The same, of a line of set-up lines and a trace.
+fn push_why_checked(
+    alloc: Global,
+    message: &mut Vec<u8>,
+    bytes: &[u8],
+    line: u32,
+    reason: u8,
+) -> Result<(), AllocError>
+    requires { length bytes.now ≤ most_input }
+    ensures { OnOk result ((why : List ℕ) × IsWhyOf Command.Check bytes.now line reason why
+        × (message.new.items ≡ message.old.items ++ why)) }
+{
+    let text = line_at(bytes, line);
+    if reason == NO_FORM {
+        let before = line_at(bytes, line.saturating_sub(1));
+        return push_form(alloc, message, bytes, line, before, text);
+    }
+    push_why(alloc, message, text, reason, trace_reason(reason))
 }
 
 /// The text of a line of the input, and nothing for a line behind the last.

@@ -18,8 +18,8 @@ returns-clause-same g c =
 pub returns-clause-maps : goal.returns-clause-maps
 returns-clause-maps g c =
     maps g.K.Sink.written g.K.Sink.faults c.args.maint.now c.enumerate.new.maint c.requires
-    c.enumerate.result c.enumerate.ensures.numbered c.enumerate.ensures.free
-    c.enumerate.ensures.end c.enumerate.ensures.follows c.enumerate.ensures.leaves
+    c.enumerate.result c.enumerate.ensures.enumerated c.enumerate.ensures.end
+    c.enumerate.ensures.follows c.enumerate.ensures.leaves
 
 pub returns-clause-rose : goal.returns-clause-rose
 returns-clause-rose g c =
