@@ -66,6 +66,44 @@ def time_out(program):
     a.end(), b.end()
 
 
+def clocks(program):
+    """In each clock a character comes and one goes, and what is begun goes on to its end."""
+    a, b = Port(program, 8), Port(program, 8)
+    idle = "given" + 20 * " kbc"
+    equal("idle", a.ask("clock" + 20 * " kbc"), [idle])
+    equal("no clock", a.ask("clock"), ["given"])
+    a.ask("send 0 15 1 2 cafe0001")
+    equal("burst", a.ask("clock" + 20 * " kbc"), ["given " + BURST])
+    equal("one clock", b.ask("clock k7c"), ["given kbc"])
+    equal("held", b.ask("clock " + BURST[4:] + " kbc"),
+          ["hold " + PACKET, "given" + 18 * " kbc" + " " + ACCEPTED[:7]])
+    equal("on", b.ask("clock kbc"), ["given " + ACCEPTED[8:11]])
+    equal("a turn leaves what waits", b.ask("turn 1"), [])
+    equal("the end", b.ask("clock kbc kbc"), ["given " + ACCEPTED[12:] + " kbc"])
+    equal("freed", a.ask("clock " + ACCEPTED + " kbc"), ["free " + PACKET, "given" + 5 * " kbc"])
+    equal("at rest", a.ask("state"), AT_REST)
+    a.ask("send 0 15 1 2 cafe0001")
+    equal("an answer within a burst", a.ask("clock kbc inv" + 18 * " kbc"),
+          ["given " + BURST.replace("d00 d0f", "d08 d0f")])
+    equal("comes behind it", a.ask("clock kbc kbc kbc kbc kbc"), ["given k1c d40 d2f d0e kbc"])
+    a.end(), b.end()
+
+
+def reset(program):
+    """A new port forgets packets, states and what waits, and keeps its buffers."""
+    port = Port(program, 4)
+    port.ask("got " + BURST)
+    port.ask("send 0 15 1 2 cafe0001")
+    port.ask("clock kbc kbc inv")
+    equal("reset", port.ask("reset"), [])
+    equal("new", port.ask("state"), AT_REST)
+    equal("nothing held", port.ask("take"), ["empty"])
+    equal("nothing waits", port.ask("clock kbc kbc"), ["given kbc kbc"])
+    equal("held again", port.ask("got " + BURST)[0], "hold " + PACKET)
+    equal("buffers", port.ask("got " + BURST.replace("d00 d0f", "d08 d0f"))[0][:8], "sent k1c")
+    port.end()
+
+
 BYTES = "9 word 6 must be bytes of two lower-case hexadecimal digits each, or a hyphen for none"
 CHARACTER = "must be d or k and two lower-case hexadecimal digits, or inv"
 LENGTH = ("10 the packet has a length that is not allowed: its data is an even number of bytes, at most 268 (266 after "
@@ -73,7 +111,7 @@ LENGTH = ("10 the packet has a length that is not allowed: its data is an even n
 # Lines behind what is said of them: the sentences are those of `rio replay`, and the reasons those of a script.
 REFUSED = {
     "1 no kind of line begins with this word": ["", "foo", "TAKE", "send8 0 15 1 2 -", "SEND16 0 15 1 2 -", "# take"],
-    "1 this kind of line has 0 words after the first": ["take 1", "state ", "timeout 1"],
+    "1 this kind of line has 0 words after the first": ["take 1", "state ", "timeout 1", "reset 1"],
     "1 this kind of line has 1 words after the first": ["turn", "turn 1 1", "turn x 1"],
     "1 this kind of line has 5 words after the first": [
         "send", "send 1 2 3", "send 9 15 1 2", "send 0 15 1 2 00 00", "send16", "send16 0 15 1 2"],
@@ -89,7 +127,7 @@ REFUSED = {
     "2 word 5 must be a number from 0 to 255 in decimal": ["send 0 0 1 256 -"],
     "2 word 4 must be a number from 0 to 65535 in decimal": ["send16 0 0 65536 2 -", "send16 0 0 01 2 -"],
     "2 word 5 must be a number from 0 to 65535 in decimal": ["send16 0 0 1 65536 -"],
-    "9 word 2 " + CHARACTER: ["got k1", "got kBC", "got ", "got  d00"],
+    "9 word 2 " + CHARACTER: ["got k1", "got kBC", "got ", "got  d00", "clock k1", "clock "],
     "9 word 3 " + CHARACTER: ["got k1c  d00", "got d00 ", "got d00 x x"],
     "9 word 402 " + CHARACTER: ["got" + 400 * " d00" + " d0"],
     BYTES: ["send 0 15 1 2 ", "send 0 15 1 2 0", "send 0 15 1 2 0G", "send16 0 15 1 2 0"],
@@ -132,5 +170,5 @@ def bytes_and_readers(program):
 
 
 if __name__ == "__main__":
-    for case in (one_packet, room, ids_of_16_bits, time_out, refused, ends, long_lines, bytes_and_readers):
+    for case in (one_packet, room, ids_of_16_bits, time_out, clocks, reset, refused, ends, long_lines, bytes_and_readers):
         case(sys.argv[1])

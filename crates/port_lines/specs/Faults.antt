@@ -88,6 +88,7 @@ request_fault_text (Word at wanted) =
     codes "word " ++ decimal at ++ codes " must be " ++ word_kind_text wanted
 request_fault_text Length = script_reason 10
 
--- what is said of a line that has a fault: what its bytes show, whatever its words ask, or the fault
+-- what is said of a line that has a fault: what its bytes show, whatever its words ask, or the
+-- fault
 abbrev pub IsRequestWhy : List ℕ → RequestFault → List ℕ → Type 0
 IsRequestWhy line fault why = IsPlainWhy line why ⊎ (why ≡ request_fault_text fault)

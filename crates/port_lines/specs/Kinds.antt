@@ -3,7 +3,7 @@ use Rattle.std.specs.Prelude.{ℕ, Bool, true, false, List, [], ◌∷◌, codes
 use Rattle.fabric_script.specs.declared.advice.WordKind.{WordKind}
 use Rattle.fabric_script.specs.declared.advice.WordKind.TheVariants.{Number, Bytes, Character}
 use Rattle.port_lines.specs.declared.kinds.RequestKind.{RequestKind}
-use Rattle.port_lines.specs.declared.kinds.RequestKind.TheVariants.{Got, Turn, TimeOut, Send, Send16, Take, State}
+use Rattle.port_lines.specs.declared.kinds.RequestKind.TheVariants.{Got, Turn, TimeOut, Send, Send16, Take, State, Reset, Clock}
 
 -- the first word of a line with a packet, by whether its IDs have 16 bits
 abbrev pub send_word : Bool → List ℕ
@@ -18,6 +18,8 @@ request_keyword Send = send_word false
 request_keyword Send16 = send_word true
 request_keyword Take = codes "take"
 request_keyword State = codes "state"
+request_keyword Reset = codes "reset"
+request_keyword Clock = codes "clock"
 
 -- the greatest device ID of 8 bits, and of 16 bits
 abbrev pub most_id : Bool → ℕ
@@ -43,3 +45,5 @@ request_fields Send behind = packet_fields false
 request_fields Send16 behind = packet_fields true
 request_fields Take behind = []
 request_fields State behind = []
+request_fields Reset behind = []
+request_fields Clock behind = map (λ word. Character) behind

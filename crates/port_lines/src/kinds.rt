@@ -20,6 +20,10 @@ pub(crate) enum RequestKind {
     Take,
     /// The state is told.
     State,
+    /// The port becomes new.
+    Reset,
+    /// Characters came, one a clock.
+    Clock,
 }
 
 /// The kind of line that begins with this word.
@@ -36,6 +40,8 @@ pub(crate) fn kind_named(word: &[u8]) -> Option<RequestKind>
         b"send16" => Some(RequestKind::Send16),
         b"take" => Some(RequestKind::Take),
         b"state" => Some(RequestKind::State),
+        b"reset" => Some(RequestKind::Reset),
+        b"clock" => Some(RequestKind::Clock),
         _ => None,
     }
 }

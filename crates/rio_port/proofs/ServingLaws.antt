@@ -2,37 +2,37 @@
 use Rattle.std.proofs.Common.{◌≡◌, ◌≢◌, ℕ, ◌+◌, Option, List, [], ◌∷◌, ◌++◌, refl, sym, ap, ◌∙◌, subst, append-nil, append_assoc}
 use Rattle.std.specs.Io.KnownBytes.{Consumes}
 use Rattle.rio_chars.specs.Written.{Outgoing, Writes}
-use Rattle.link_port.specs.Ports.{PortState}
 use Rattle.live_lines.specs.Lines.{IsLine, with_feed}
 use Rattle.live_lines.specs.Serving.{end_status}
 use Rattle.live_lines.specs.declared.input.LineEnd.{LineEnd}
 use Rattle.live_lines.specs.declared.input.LineEnd.TheVariants.{End, Fault, TooLong, NoMemory}
 use Rattle.live_lines.specs.declared.status.LiveStatus.TheVariants.{Undetected}
 use Rattle.live_lines.proofs.ServingLaws.{Going, Going-begin, Going-line, Going-told, Going-read}
-use Rattle.port_lines.specs.Answers.{PortAnswer, saying, after_text}
+use Rattle.port_lines.specs.Answers.{ClockedAnswer, standing_at, behind_text}
+use Rattle.port_lines.specs.Clocks.{ClockedState}
 use Rattle.port_lines.specs.Lines.{AnswersLine, PortAnswersLines}
 
 -- a line more is answered
-pub AnswersLines-more : (port : PortState) (lines : List (List ℕ)) (line : List ℕ)
-    (so_far next : PortAnswer) → PortAnswersLines port lines so_far
-    → AnswersLine so_far.port line next
-    → PortAnswersLines port (lines ++ line ∷ []) (after_text so_far.text next)
+pub AnswersLines-more : (port : ClockedState) (lines : List (List ℕ)) (line : List ℕ)
+    (so_far next : ClockedAnswer) → PortAnswersLines port lines so_far
+    → AnswersLine so_far.stands line next
+    → PortAnswersLines port (lines ++ line ∷ []) (behind_text so_far.text next)
 AnswersLines-more port [] line so_far next h k = (
   next,
-  saying next.port [],
-  subst (λ p. AnswersLine p line next) (ap (λ (a : PortAnswer). a.port) h) k,
+  standing_at next.stands [],
+  subst (λ p. AnswersLine p line next) (ap (λ (a : ClockedAnswer). a.stands) h) k,
   refl,
-  ap (saying next.port)
-      (ap (λ (a : PortAnswer). a.text ++ next.text) h ∙ sym (append-nil next.text)),
+  ap (standing_at next.stands)
+      (ap (λ (a : ClockedAnswer). a.text ++ next.text) h ∙ sym (append-nil next.text)),
 )
 AnswersLines-more port (other ∷ lines) line so_far next h k = (
   h.0,
-  after_text h.1.text next,
+  behind_text h.1.text next,
   h.2,
-  AnswersLines-more h.0.port lines line h.1 next h.3
-      (subst (λ p. AnswersLine p line next) (ap (λ (a : PortAnswer). a.port) h.4) k),
-  ap (λ (a : PortAnswer). saying next.port (a.text ++ next.text)) h.4
-      ∙ ap (saying next.port) (append_assoc h.0.text h.1.text next.text),
+  AnswersLines-more h.0.stands lines line h.1 next h.3
+      (subst (λ p. AnswersLine p line next) (ap (λ (a : ClockedAnswer). a.stands) h.4) k),
+  ap (λ (a : ClockedAnswer). standing_at next.stands (a.text ++ next.text)) h.4
+      ∙ ap (standing_at next.stands) (append_assoc h.0.text h.1.text next.text),
 )
 
 -- there is no further line, which is no event that was not sent
@@ -43,33 +43,33 @@ end_is_sent TooLong same = absurd cc
 end_is_sent NoMemory same = absurd cc
 
 -- Lines were served so far, and these bytes were read behind the last one.
-pub record Served (begun out : Outgoing) (port now : PortState) (left left_now : Option (List ℕ))
+pub record Served (begun out : Outgoing) (port now : ClockedState) (left left_now : Option (List ℕ))
     (pending : List ℕ) (count : ℕ) (read_faults read_faults_now : ℕ) : Type 0 where
   pub lines : List (List ℕ)
-  pub answer : PortAnswer
+  pub answer : ClockedAnswer
   pub answers : PortAnswersLines port lines answer
-  pub stands : now ≡ answer.port
+  pub stands : now ≡ answer.stands
   pub going : Going begun out left left_now pending count read_faults read_faults_now lines
       answer.text
 
-module _ (begun : Outgoing) (port : PortState) (left : Option (List ℕ)) (read_faults : ℕ) where
+module _ (begun : Outgoing) (port : ClockedState) (left : Option (List ℕ)) (read_faults : ℕ) where
   pub Served-begin : (pending : List ℕ) → pending ≡ []
       → Served begun begun port port left left pending 0 read_faults read_faults
   Served-begin pending none = record {
     lines = [];
-    answer = saying port [];
+    answer = standing_at port [];
     answers = refl;
     stands = refl;
     going = Going-begin begun left read_faults pending none;
   }
 
   -- a line more was read and answered
-  pub Served-line : {out next : Outgoing} {now after : PortState}
+  pub Served-line : {out next : Outgoing} {now after : ClockedState}
       {left_now left_next : Option (List ℕ)} (pending pending_next line taken : List ℕ)
-      {count : ℕ} (read_faults_now read_faults_next : ℕ) (answer : PortAnswer)
+      {count : ℕ} (read_faults_now read_faults_next : ℕ) (answer : ClockedAnswer)
       → Served begun out port now left left_now pending count read_faults read_faults_now
       → Consumes left_now left_next taken → pending ++ taken ≡ with_feed line ++ pending_next
-      → IsLine line → AnswersLine now line answer → after ≡ answer.port
+      → IsLine line → AnswersLine now line answer → after ≡ answer.stands
       → Writes out next answer.text → read_faults_next ≡ read_faults_now
       → Served begun next port after left left_next pending_next (count + 1)
       read_faults read_faults_next
@@ -77,7 +77,7 @@ module _ (begun : Outgoing) (port : PortState) (left : Option (List ℕ)) (read_
       {count} read_faults_now read_faults_next answer h more is good answers stands told same =
       record {
         lines = h.lines ++ line ∷ [];
-        answer = after_text h.answer.text answer;
+        answer = behind_text h.answer.text answer;
         answers =
             AnswersLines-more port h.lines line h.answer answer h.answers
             (subst (λ p. AnswersLine p line answer) h.stands answers);
@@ -91,7 +91,7 @@ module _ (begun : Outgoing) (port : PortState) (left : Option (List ℕ)) (read_
       }
 
   -- bytes were read that are no line, and the port stays
-  pub Served-read : {out : Outgoing} {now : PortState} {left_now left_next : Option (List ℕ)}
+  pub Served-read : {out : Outgoing} {now : ClockedState} {left_now left_next : Option (List ℕ)}
       (pending taken rest : List ℕ) {count : ℕ} (read_faults_now read_faults_next : ℕ)
       → Served begun out port now left left_now pending count read_faults read_faults_now
       → Consumes left_now left_next taken → pending ++ taken ≡ rest

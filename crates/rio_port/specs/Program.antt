@@ -3,14 +3,14 @@ use Rattle.std.specs.Prelude.{◌≡◌, ◌≢◌, ℕ, ◌≤◌, ◌-◌, ◌
 use Rattle.std.specs.Fmt.{decimal}
 use Rattle.std.specs.Io.KnownBytes.{Keeps}
 use Rattle.rio_chars.specs.Unless.{WritesUnless}
-use Rattle.link_port.specs.Prelude.{PortState, new_port}
 use Rattle.live_lines.specs.declared.status.LiveStatus.{LiveStatus}
 use Rattle.live_lines.specs.declared.status.LiveStatus.TheVariants.{Words, Undetected}
 use Rattle.live_lines.specs.Asked.{AnswersQuestion}
 use Rattle.program_start.specs.Questions.{AsksNoQuestion}
 use Rattle.live_lines.specs.Serving.{ServesLines}
 use Rattle.live_lines.specs.Statuses.{status_value, message_of}
-use Rattle.port_lines.specs.Answers.{PortAnswer}
+use Rattle.port_lines.specs.Answers.{ClockedAnswer}
+use Rattle.port_lines.specs.Clocks.{ClockedState, new_clocked}
 use Rattle.port_lines.specs.Lines.{PortAnswersLines}
 
 -- the words after the program's name ask for a port of so many buffers
@@ -23,13 +23,13 @@ abbrev pub AskNoBuffers : List (List ℕ) → Type 0
 AskNoBuffers words = (buffers : ℕ) → ¬ AskBuffers words buffers
 
 -- From this port on, lines were served: those that were read, each behind the one before it, up to
--- where it ended. What was written is their answers. A port that is alone acts on whatever comes, so
--- it never ends with an event that was not sent.
-pub record ServesFrom (port : PortState) (status : LiveStatus) (left left_after : Option (List ℕ))
+-- where it ended. What was written is their answers. A port that is alone acts on whatever comes,
+-- so it never ends with an event that was not sent.
+pub record ServesFrom (port : ClockedState) (status : LiveStatus) (left left_after : Option (List ℕ))
     (read_faults read_faults_after : ℕ) (written written_after : Option (List ℕ))
     (write_faults write_faults_after : ℕ) : Type 0 where
   pub lines : List (List ℕ)
-  pub answer : PortAnswer
+  pub answer : ClockedAnswer
   pub answers : PortAnswersLines port lines answer
   pub ends : status ≢ Undetected
   pub serves : ServesLines (2 ^ 64 - 1) status left left_after read_faults read_faults_after
@@ -44,11 +44,13 @@ port_help = codes "usage: rio_port [BUFFERS] < LINES\n\n"
     ++ codes "One end of a link, with 4 to 30 receive buffers, or 8. Each line is answered before the\n"
     ++ codes "next is read. An answer ends with the line ok.\n\n"
     ++ codes "got CHARS                             characters come from its wire\n"
+    ++ codes "clock CHARS                           in each clock a character comes and one is given\n"
     ++ codes "turn N                                N turns to send a packet or a symbol\n"
     ++ codes "timeout                               it has waited too long for an answer\n"
     ++ codes "send PRIO FTYPE SOURCE DEST HEX       a packet is to be sent; send16 has IDs of 16 bits\n"
     ++ codes "take                                  the next held packet is given out\n"
-    ++ codes "state                                 its state is told\n\n"
+    ++ codes "state                                 its state is told\n"
+    ++ codes "reset                                 it becomes new\n\n"
     ++ codes "docs/live.md says what is answered, and docs/characters.md how characters are written.\n"
 
 -- nothing was read
@@ -65,7 +67,7 @@ PortDid words status left left_after read_faults read_faults_after written writt
     (AnswersQuestion (codes "rio_port") port_help words status written written_after write_faults
     write_faults_after × LeavesInput left left_after read_faults read_faults_after)
     ⊎ (((buffers : ℕ) × AskBuffers words buffers × AsksNoQuestion words
-    × ServesFrom (new_port false buffers) status left left_after read_faults read_faults_after
+    × ServesFrom (new_clocked false buffers) status left left_after read_faults read_faults_after
     written written_after write_faults write_faults_after)
     ⊎ (AskNoBuffers words × AsksNoQuestion words × (status ≡ Words)
     × Keeps written written_after × (write_faults_after ≡ write_faults)

@@ -24,11 +24,13 @@ One end of a link, with 4 to 30 receive buffers, or 8. Each line is answered bef
 next is read. An answer ends with the line ok.
 
 got CHARS                             characters come from its wire
+clock CHARS                           in each clock a character comes and one is given
 turn N                                N turns to send a packet or a symbol
 timeout                               it has waited too long for an answer
 send PRIO FTYPE SOURCE DEST HEX       a packet is to be sent; send16 has IDs of 16 bits
 take                                  the next held packet is given out
 state                                 its state is told
+reset                                 it becomes new
 
 docs/live.md says what is answered, and docs/characters.md how characters are written.
 ";

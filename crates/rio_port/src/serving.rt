@@ -1,16 +1,15 @@
 //! A port that answers line by line.
 ghost use Rattle.std.specs.Prelude.{◌≡◌, ◌≤◌, [], false, OnOk, OnErr};
 ghost use Rattle.rio_chars.specs.Written.{Writes};
-ghost use Rattle.link_port.specs.Ports.{new_port};
 ghost use Rattle.port_lines.specs.Lines.{AnswersLine};
-ghost use Rattle.port_lines.specs.Answers.{PortAnswer};
+ghost use Rattle.port_lines.specs.Answers.{ClockedAnswer};
+ghost use Rattle.port_lines.specs.Clocks.{new_clocked};
 ghost use Rattle.rio_port.specs.Program.{ServesFrom};
 
-use link_port::Port;
 use live_lines::{LineReader, LiveStatus};
-use port_lines::{answer, read_request};
-use rio_chars::{Outbox, Sink, Source, TextBuffer};
-use std::alloc::{AllocError, Global};
+use port_lines::{ClockedPort, answer, read_request};
+use rio_chars::{NoMemory, Outbox, Sink, Source, TextBuffer};
+use std::alloc::Global;
 
 /// Reads lines, and answers each before the next is asked for, with a port of 4 to 30 buffers that
 /// does not tell them.
@@ -22,11 +21,11 @@ pub fn serve<S: Source, K: Sink>(
 ) -> LiveStatus
     requires least { 4 ≤ buffers }
     requires most { buffers ≤ 30 }
-    ensures { ServesFrom (new_port false buffers) result (S.left source.old) (S.left source.new)
+    ensures { ServesFrom (new_clocked false buffers) result (S.left source.old) (S.left source.new)
         (S.faults source.old) (S.faults source.new) (K.written sink.old) (K.written sink.new)
         (K.faults sink.old) (K.faults sink.new) }
 {
-    let Ok(mut port) = Port::new(alloc, buffers) else {
+    let Ok(mut port) = ClockedPort::new(alloc, buffers, false) else {
         return LiveStatus::NoMemory;
     };
     let Ok(mut input) = LineReader::new(alloc) else {
@@ -44,7 +43,7 @@ pub fn serve<S: Source, K: Sink>(
 /// Reads lines, and answers each before the next is asked for.
 fn serve_lines<S: Source, K: Sink>(
     alloc: Global,
-    port: &mut Port,
+    port: &mut ClockedPort,
     input: &mut LineReader,
     source: &mut S,
     outbox: &mut Outbox<K>,
@@ -78,19 +77,19 @@ fn serve_lines<S: Source, K: Sink>(
 /// nothing is done.
 fn answer_line<K: Sink>(
     alloc: Global,
-    port: &mut Port,
+    port: &mut ClockedPort,
     line: &[u8],
     outbox: &mut Outbox<K>,
-) -> Result<(), AllocError>
-    ensures answer { OnOk result ((answer : PortAnswer) × AnswersLine port.old line.now answer
-        × (port.new ≡ answer.port)
+) -> Result<(), NoMemory>
+    ensures answer { OnOk result ((answer : ClockedAnswer) × AnswersLine port.old line.now answer
+        × (port.new ≡ answer.stands)
         × Writes outbox.old outbox.new answer.text) }
     ensures written { OnOk result (outbox.new.waiting ≡ []) }
     ensures port { OnErr result (port.new ≡ port.old) }
     ensures outbox { OnErr result (outbox.new ≡ outbox.old) }
 {
     let asked = read_request(alloc, line)?;
-    answer(port, asked, outbox);
+    answer(alloc, port, asked, outbox)?;
     outbox.flush();
     Ok(())
 }

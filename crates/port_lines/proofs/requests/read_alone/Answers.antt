@@ -1,6 +1,7 @@
 use Rattle.std.proofs.Common.{◌≤◌, length, sym, ap, subst, arith}
 use Rattle.fabric_script.specs.Words.{words_left}
-use Rattle.port_lines.proofs.RequestLaws.{other_count, some_left}
+use Rattle.port_lines.proofs.FaultLaws.{other_count}
+use Rattle.port_lines.proofs.RequestLaws.{some_left}
 use Rattle.port_lines.proofs.requests.read_alone.Goals as goal
 
 pub returns-in-Some : goal.returns-in-Some

@@ -1,5 +1,5 @@
 use Rattle.fabric_script.specs.Words.{words_left}
-use Rattle.port_lines.proofs.RequestLaws.{got_fault}
+use Rattle.port_lines.proofs.FaultLaws.{got_fault}
 use Rattle.port_lines.proofs.requests.read_got.Goals as goal
 
 pub returns-in-Err : goal.returns-in-Err

@@ -1,5 +1,5 @@
 use Rattle.std.proofs.Common.{◌<◌, ◌^◌, refl, rules, arith}
-use Rattle.port_lines.proofs.RequestLaws.{number_outside}
+use Rattle.port_lines.proofs.FaultLaws.{number_outside}
 use Rattle.port_lines.proofs.words.number_at.Goals as goal
 
 pub returns-in_default : goal.returns-in_default

@@ -11,7 +11,7 @@ returns-clause-answer g c =
     λ text. Writes c.args.outbox.now c.flush.new.self text in (
       given,
       record { asked = c.in_ok-asked.asked; reads = c.in_ok-asked.ensures; is = refl },
-      c.answer.ensures.port,
+      c.in_ok-answer.ensures.stands,
       subst Whole (append-nil given.text)
-          (Writes-then given.text [] c.answer.ensures.text c.flush.ensures.written),
+          (Writes-then given.text [] c.in_ok-answer.ensures.text c.flush.ensures.written),
     )

@@ -1,0 +1,92 @@
+"""The lines of rio_live's own: what is written while quiet is what rio replay writes, without the lines with characters.
+
+usage: own.py FABRIC RIO    FABRIC: rio_live, RIO: rio. The status is 0 if all is as wanted.
+"""
+import subprocess
+import sys
+
+from streams import equal
+from two_ports import Port
+
+TREE = [
+    "endpoint A 1", "endpoint B 2", "endpoint C 3", "switch S 4", "link A.0 S.0", "link B.0 S.1", "link C.0 S.2",
+    "route S 1 0", "route S 2 1", "route S 3 2", "credits S.1",
+]
+EVENTS = [
+    "read A 0 2 255 7 000068", "write A 0 3 255 8 00006c 0000beef", "send B 3 11 1 cafe0001", "run 1", "run 3",
+    "alter B.0 0 d00", "send C 0 15 2 cafe0002", "pump C.0 1", "insert C.0 3 kbc", "run 4", "collect A", "run 2",
+]
+
+
+def replayed(rio, lines):
+    """The trace of a script, without its last line."""
+    text = "".join(line + "\n" for line in lines)
+    trace = subprocess.run([rio, "replay"], input=text, capture_output=True, text=True, timeout=60, check=True).stdout
+    return trace.splitlines()[:-1]
+
+
+def answered(fabric, lines):
+    """The lines of the answers, one after another."""
+    return [told for line in lines for told in fabric.ask(line)]
+
+
+def without_characters(lines):
+    return [line for line in lines if not line.startswith(("sent ", "got "))]
+
+
+def is_quiet(program, rio):
+    """Quiet answers lack the lines with characters, and no others."""
+    whole = replayed(rio, TREE + EVENTS)
+    fabric = Port(program)
+    equal("quiet", answered(fabric, ["quiet", "quiet"] + TREE + EVENTS), without_characters(whole))
+    fabric = Port(program)
+    told = answered(fabric, TREE)
+    for place, event in enumerate(EVENTS):
+        told += fabric.ask("quiet" if place % 2 else "loud") + fabric.ask(event)
+    here = 0
+    for place, event in enumerate(EVENTS):
+        start = whole.index("> " + event, here)
+        here = next((at for at in range(start + 1, len(whole)) if whole[at].startswith("> ")), len(whole))
+        block = whole[start:here]
+        block = without_characters(block) if place % 2 else block
+        equal(event, told[: len(block)], block)
+        told = told[len(block) :]
+    equal("no more is told", told, [])
+    equal("a quiet end", fabric.end(), 0)
+
+
+def refusals(program):
+    """What is refused, and that it changes nothing."""
+    fabric = Port(program)
+    for line in TREE:
+        equal(line, fabric.ask(line), [])
+    for line, why in [
+        ("quiet A", "1 no kind of line begins with this word"),
+        (" loud", "1 the line begins with a space"),
+        ("QUIET", "1 no kind of line begins with this word"),
+    ]:
+        told = fabric.ask(line)
+        equal(line, [told[0][: len("refused " + why)], len(told)], ["refused " + why, 1])
+    equal("all is told still", fabric.ask("send A 0 15 2 cafe0001")[0], "> send A 0 15 2 cafe0001")
+    equal("and with characters", fabric.ask("pump A.0 1")[1].split()[0], "sent")
+    equal("the end", fabric.end(), 0)
+
+
+def undetected(program):
+    """An event that was acted on and not sent ends the answer of a run, which is the last."""
+    fabric = Port(program)
+    lines = ["endpoint A 1", "endpoint B 2", "link A.0 B.0", "quiet"]
+    edits = ["insert A.0 %d %s" % place for place in enumerate(["k1c", "d00", "dff", "d16"])]
+    answered(fabric, lines + edits)
+    equal("it ends", fabric.ask("run 5"), ["> run 5", "undetected 9 B.0 symbol 0 0 31 7 0"])
+    equal("with its status", fabric.end(), 7)
+
+
+def main(program, rio):
+    is_quiet(program, rio)
+    refusals(program)
+    undetected(program)
+
+
+if __name__ == "__main__":
+    main(*sys.argv[1:])
