@@ -134,9 +134,9 @@ class Bench:
             self.ask("timeout")
 
 
-def main(words):
+def main(words, kind=Bench):
     program, packets, faults, seed = words + ["rio_port", "300", "2", "1"][len(words):]
-    bench = Bench(program, float(faults), random.Random(int(seed)))
+    bench = kind(program, float(faults), random.Random(int(seed)))
     sys.stdout.write(SET_UP)
     for number in range(int(packets)):
         bench.offer(number)

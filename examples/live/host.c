@@ -103,10 +103,11 @@ static void finish(void) {
     while (fgets(line, sizeof line, from_fabric)) continue;
 }
 
-/* Sets the fabric up by the lines of standard input, and notes its endpoints. */
+/* Sets the fabric up by the lines of standard input, and notes its endpoints. No answer has characters. */
 static void set_up(void) {
     char line[256], name[16];
     unsigned id;
+    say("quiet");
     while (fgets(line, sizeof line, stdin)) {
         line[strcspn(line, "\n")] = 0;
         say(line);

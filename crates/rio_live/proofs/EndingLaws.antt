@@ -9,9 +9,8 @@ use Rattle.live_lines.specs.declared.status.LiveStatus.TheVariants as ends_with
 use Rattle.live_lines.specs.Lines.{LinesStop}
 use Rattle.live_lines.specs.Serving.{ServesLines, end_status}
 use Rattle.live_lines.proofs.ServingLaws.{Going-read, Going-told, Going-stops, Going-done, Going-fault}
-use Rattle.live_fabric.specs.declared.live.Live.{Live}
-use Rattle.live_fabric.specs.Lines.{Taken, nothing_taken, AnswersLines}
-use Rattle.live_fabric.specs.Holding.{LiveHolds}
+use Rattle.live_fabric.specs.declared.session.Session.{Session}
+use Rattle.live_fabric.specs.Sessions.{SessionHeld, nothing_held, AnswersSession, SessionHolds}
 use Rattle.rio_live.specs.Ending.{LinesStopped}
 use Rattle.rio_live.specs.Program.{Closes, LiveServes}
 use Rattle.live_fabric.proofs.TakenLaws.{is_sent}
@@ -19,23 +18,23 @@ use Rattle.rio_live.proofs.ServingLaws.{Course, with_nothing}
 
 module _ (begun : Outgoing) (left : Option (List ℕ)) (read_faults : ℕ) where
   -- there is no further line, and not since the input ended
-  pub Course-stops : {out : Outgoing} {live : Live} {left_now left_last : Option (List ℕ)}
+  pub Course-stops : {out : Outgoing} {session : Session} {left_now left_last : Option (List ℕ)}
       (pending taken : List ℕ) {count : ℕ} (read_faults_now read_faults_last : ℕ) (end : LineEnd)
       → (end ≡ stops_at.End → ⊥)
-      → Course begun out live left left_now pending count read_faults read_faults_now
+      → Course begun out session left left_now pending count read_faults read_faults_now
       → begun.waiting ≡ [] → out.failed ≡ false → out.waiting ≡ []
       → Consumes left_now left_last taken
       → LinesStop end left_last read_faults_now read_faults_last (pending ++ taken)
       → LiveServes (end_status end) left left_last read_faults read_faults_last
       begun.written out.written begun.faults out.faults
-  Course-stops {out} {live} {left_now} {left_last} pending taken {count} read_faults_now
+  Course-stops {out} {session} {left_now} {left_last} pending taken {count} read_faults_now
       read_faults_last end other h clear fine empty more stops = record {
         lines = h.lines;
         text = h.text;
-        taken = h.taken;
+        held = h.held;
         last = [];
         answers = h.answers;
-        trace = h.holds.trace;
+        trace = h.holds.live.trace;
         closes = by_end end _ other;
         serves =
             with_nothing begun left read_faults out (end_status end) h.lines h.text
@@ -45,16 +44,18 @@ module _ (begun : Outgoing) (left : Option (List ℕ)) (read_faults : ℕ) where
       }
     where
       by_end : (e : LineEnd) (behind : List ℕ) → (e ≡ stops_at.End → ⊥)
-          → Closes (end_status e) h.taken (length h.lines + 1) behind []
+          → Closes (end_status e) h.held (length h.lines + 1) behind []
       by_end stops_at.End behind other = absurd (other refl)
-      by_end stops_at.Fault behind other = (is_sent live h.taken h.holds, refl)
-      by_end stops_at.TooLong behind other = (is_sent live h.taken h.holds, refl)
-      by_end stops_at.NoMemory behind other = (is_sent live h.taken h.holds, inl refl)
+      by_end stops_at.Fault behind other = (is_sent session.live h.held.taken h.holds.live, refl)
+      by_end stops_at.TooLong behind other = (is_sent session.live h.held.taken h.holds.live, refl)
+      by_end stops_at.NoMemory behind other =
+          (is_sent session.live h.held.taken h.holds.live, inl refl)
 
   -- the last line of the trace was told
   closes_trace : {left_last : Option (List ℕ)} {read_faults_last : ℕ} (next : Outgoing)
-      (live : Live) (status : LiveStatus) (lines : List (List ℕ)) (text : List ℕ) (taken : Taken)
-      → AnswersLines nothing_taken 1 lines text taken → LiveHolds live taken
+      (session : Session) (status : LiveStatus) (lines : List (List ℕ)) (text : List ℕ)
+      (held : SessionHeld)
+      → AnswersSession nothing_held 1 lines text held → SessionHolds session held
       → (next.failed ≡ true
       → ServesLines (2 ^ 32 - 1) ends_with.WriteFault left left_last read_faults read_faults_last
       begun.written next.written begun.faults next.faults lines (text ++ codes "end\n"))
@@ -64,11 +65,11 @@ module _ (begun : Outgoing) (left : Option (List ℕ)) (read_faults : ℕ) where
       → status ≡ (if next.failed then ends_with.WriteFault else ends_with.Done)
       → LiveServes status left left_last read_faults read_faults_last
       begun.written next.written begun.faults next.faults
-  closes_trace {left_last} {read_faults_last} next live status lines text taken answers holds
+  closes_trace {left_last} {read_faults_last} next session status lines text held answers holds
       fault done is = by_failed next.failed refl
     where
       as_serves : (s : LiveStatus)
-          → ((behind : List ℕ) → Closes s taken (length lines + 1) behind (codes "end\n"))
+          → ((behind : List ℕ) → Closes s held (length lines + 1) behind (codes "end\n"))
           → ServesLines (2 ^ 32 - 1) s left left_last read_faults read_faults_last
           begun.written next.written begun.faults next.faults lines (text ++ codes "end\n")
           → LiveServes s left left_last read_faults read_faults_last
@@ -76,10 +77,10 @@ module _ (begun : Outgoing) (left : Option (List ℕ)) (read_faults : ℕ) where
       as_serves s closes serves = record {
         lines = lines;
         text = text;
-        taken = taken;
+        held = held;
         last = codes "end\n";
         answers = answers;
-        trace = holds.trace;
+        trace = holds.live.trace;
         closes = closes serves.behind;
         serves = serves;
       }
@@ -96,13 +97,14 @@ module _ (begun : Outgoing) (left : Option (List ℕ)) (read_faults : ℕ) where
           subst (λ s. LiveServes s left left_last read_faults read_faults_last
           begun.written next.written begun.faults next.faults)
           (sym (is ∙ ap (λ f. if f then ends_with.WriteFault else ends_with.Done) fine))
-          (as_serves ends_with.Done (λ behind. (is_sent live taken holds, refl)) (done fine))
+          (as_serves ends_with.Done
+          (λ behind. (is_sent session.live held.taken holds.live, refl)) (done fine))
 
   -- the input ended
-  pub Course-ends : {out next : Outgoing} {live : Live} {left_now left_last : Option (List ℕ)}
+  pub Course-ends : {out next : Outgoing} {session : Session} {left_now left_last : Option (List ℕ)}
       (pending taken : List ℕ) {count : ℕ} (read_faults_now read_faults_last : ℕ)
       (status : LiveStatus)
-      → Course begun out live left left_now pending count read_faults read_faults_now
+      → Course begun out session left left_now pending count read_faults read_faults_now
       → begun.waiting ≡ [] → begun.failed ≡ false → next.waiting ≡ []
       → Consumes left_now left_last taken
       → LinesStop stops_at.End left_last read_faults_now read_faults_last (pending ++ taken)
@@ -110,12 +112,12 @@ module _ (begun : Outgoing) (left : Option (List ℕ)) (read_faults : ℕ) where
       → status ≡ (if next.failed then ends_with.WriteFault else ends_with.Done)
       → LiveServes status left left_last read_faults read_faults_last
       begun.written next.written begun.faults next.faults
-  Course-ends {out} {next} {live} pending taken read_faults_now read_faults_last status h clear
+  Course-ends {out} {next} {session} pending taken read_faults_now read_faults_last status h clear
       fresh empty more stops told is =
       let ended =
       Going-told begun left read_faults pending read_faults_now h.lines h.text
       (codes "end\n") h.going told in
-      closes_trace next live status h.lines h.text h.taken h.answers h.holds
+      closes_trace next session status h.lines h.text h.held h.answers h.holds
       (λ failed. Going-fault begun left read_faults (2 ^ 32 - 1)
       (pending ++ taken) read_faults_last h.lines (h.text ++ codes "end\n")
       (Going-read begun left read_faults pending taken (pending ++ taken)
@@ -128,18 +130,18 @@ module _ (begun : Outgoing) (left : Option (List ℕ)) (read_faults : ℕ) where
       is
 
   -- there is no further line
-  pub Course-closed : (next : Outgoing) {out : Outgoing} {live : Live}
+  pub Course-closed : (next : Outgoing) {out : Outgoing} {session : Session}
       {left_now left_last : Option (List ℕ)}
       (pending taken : List ℕ) {count : ℕ} (read_faults_now read_faults_last : ℕ)
       (end : LineEnd) (status : LiveStatus)
-      → Course begun out live left left_now pending count read_faults read_faults_now
+      → Course begun out session left left_now pending count read_faults read_faults_now
       → begun.waiting ≡ [] → begun.failed ≡ false → out.failed ≡ false
       → out.waiting ≡ [] → Consumes left_now left_last taken
       → LinesStop end left_last read_faults_now read_faults_last (pending ++ taken)
       → LinesStopped end out next status
       → LiveServes status left left_last read_faults read_faults_last
       begun.written next.written begun.faults next.faults
-  Course-closed next {out} {live} {left_now} {left_last} pending taken {count}
+  Course-closed next {out} {session} {left_now} {left_last} pending taken {count}
       read_faults_now read_faults_last end status h clear fresh fine empty more = by_end end
     where
       other : (e : LineEnd) → (e ≡ stops_at.End → ⊥)
@@ -171,19 +173,20 @@ module _ (begun : Outgoing) (left : Option (List ℕ)) (read_faults : ℕ) where
           other stops_at.NoMemory (λ is. absurd cc) stops (stopped.0, stopped.1)
 
   -- the most lines were served
-  pub Course-done : {out next : Outgoing} {live : Live} {left_now : Option (List ℕ)}
+  pub Course-done : {out next : Outgoing} {session : Session} {left_now : Option (List ℕ)}
       (pending : List ℕ) {count : ℕ} (read_faults_now : ℕ) (status : LiveStatus)
-      → Course begun out live left left_now pending count read_faults read_faults_now
+      → Course begun out session left left_now pending count read_faults read_faults_now
       → begun.waiting ≡ [] → begun.failed ≡ false → next.waiting ≡ []
       → count ≡ 2 ^ 32 - 1 → Writes out next (codes "end\n")
       → status ≡ (if next.failed then ends_with.WriteFault else ends_with.Done)
       → LiveServes status left left_now read_faults read_faults_now
       begun.written next.written begun.faults next.faults
-  Course-done {out} {next} {live} pending read_faults_now status h clear fresh empty all told is =
+  Course-done {out} {next} {session} pending read_faults_now status h clear fresh empty all told
+      is =
       let ended =
       Going-told begun left read_faults pending read_faults_now h.lines h.text
       (codes "end\n") h.going told in
-      closes_trace next live status h.lines h.text h.taken h.answers h.holds
+      closes_trace next session status h.lines h.text h.held h.answers h.holds
       (λ failed. Going-fault begun left read_faults (2 ^ 32 - 1) pending
       read_faults_now h.lines (h.text ++ codes "end\n") ended clear fresh failed)
       (λ fine. Going-done begun left read_faults (2 ^ 32 - 1) pending

@@ -8,21 +8,20 @@ use Rattle.live_lines.specs.Lines.{IsLine, with_feed}
 use Rattle.live_lines.specs.Serving.{ServesLines}
 use Rattle.live_lines.proofs.ServingLaws.{Going, Going-begin, Going-line, Going-told, served_none}
 use Rattle.live_fabric.specs.declared.answers.AfterLine.TheVariants as Goings
-use Rattle.live_fabric.specs.declared.live.Live.{Live}
-use Rattle.live_fabric.specs.Lines.{Taken, nothing_taken, Outcome, ReadsAs, taken_after, answer_text, AnswersLines}
-use Rattle.live_fabric.specs.Holding.{LiveHolds}
-use Rattle.live_fabric.specs.Answers.{LineAnswered}
+use Rattle.live_fabric.specs.declared.session.Session.{Session}
+use Rattle.live_fabric.specs.Sessions.{SessionHeld, nothing_held, SessionHolds, SessionAnswered, LineAnswers, AnswersSession}
 use Rattle.rio_live.specs.Program.{LiveServes}
-use Rattle.live_fabric.proofs.TakenLaws.{nothing_is_trace, is_sent, answers_more}
+use Rattle.live_fabric.proofs.TakenLaws.{nothing_is_trace, is_sent}
+use Rattle.live_fabric.proofs.SessionLaws.{session_more}
 
 -- Lines were served so far, and these bytes were read behind the last one.
-pub record Course (begun out : Outgoing) (live : Live) (left left_now : Option (List ℕ))
+pub record Course (begun out : Outgoing) (session : Session) (left left_now : Option (List ℕ))
     (pending : List ℕ) (count : ℕ) (read_faults read_faults_now : ℕ) : Type 0 where
   pub lines : List (List ℕ)
   pub text : List ℕ
-  pub taken : Taken
-  pub answers : AnswersLines nothing_taken 1 lines text taken
-  pub holds : LiveHolds live taken
+  pub held : SessionHeld
+  pub answers : AnswersSession nothing_held 1 lines text held
+  pub holds : SessionHolds session held
   pub going : Going begun out left left_now pending count read_faults read_faults_now lines text
 
 -- what is said of an answer that is no error, by which one it is
@@ -37,7 +36,7 @@ pub serves_none : (left written : Option (List ℕ)) (read_faults write_faults :
 serves_none left written read_faults write_faults = record {
   lines = [];
   text = [];
-  taken = nothing_taken;
+  held = nothing_held;
   last = [];
   answers = (refl, refl);
   trace = nothing_is_trace;
@@ -46,22 +45,23 @@ serves_none left written read_faults write_faults = record {
 }
 
 module _ (begun : Outgoing) (left : Option (List ℕ)) (read_faults : ℕ) where
-  pub Course-begin : (live : Live) (pending : List ℕ) → LiveHolds live nothing_taken → pending ≡ []
-      → Course begun begun live left left pending 0 read_faults read_faults
-  Course-begin live pending holds none = record {
+  pub Course-begin : (session : Session) (pending : List ℕ)
+      → SessionHolds session nothing_held → pending ≡ []
+      → Course begun begun session left left pending 0 read_faults read_faults
+  Course-begin session pending holds none = record {
     lines = [];
     text = [];
-    taken = nothing_taken;
+    held = nothing_held;
     answers = (refl, refl);
     holds = holds;
     going = Going-begin begun left read_faults pending none;
   }
 
   -- a line more was read, and a text told of it
-  pub line_told : {out next : Outgoing} {live : Live} {left_now left_next : Option (List ℕ)}
+  pub line_told : {out next : Outgoing} {session : Session} {left_now left_next : Option (List ℕ)}
       (pending pending_next line taken more : List ℕ) {count : ℕ}
       (read_faults_now read_faults_next : ℕ)
-      → (h : Course begun out live left left_now pending count read_faults read_faults_now)
+      → (h : Course begun out session left left_now pending count read_faults read_faults_now)
       → Consumes left_now left_next taken → pending ++ taken ≡ with_feed line ++ pending_next
       → IsLine line → Writes out next more
       → read_faults_next ≡ read_faults_now
@@ -76,38 +76,35 @@ module _ (begun : Outgoing) (left : Option (List ℕ)) (read_faults : ℕ) where
       told
 
   -- it is answered
-  pub with_answer : {out : Outgoing} {live : Live} {left_now : Option (List ℕ)}
-      (pending line : List ℕ) {count : ℕ} (read_faults_now : ℕ) (outcome : Outcome)
-      → (h : Course begun out live left left_now pending count read_faults read_faults_now)
-      → ReadsAs h.taken line outcome
-      → AnswersLines nothing_taken 1 (h.lines ++ line ∷ [])
-      (h.text ++ answer_text h.taken (count + 1) line outcome)
-      (taken_after h.taken (count + 1) line outcome)
-  with_answer {out} {live} pending line {count} read_faults_now outcome h reads =
+  pub with_answer : {out : Outgoing} {session : Session} {left_now : Option (List ℕ)}
+      (pending line more : List ℕ) {count : ℕ} (read_faults_now : ℕ) (next : SessionHeld)
+      → (h : Course begun out session left left_now pending count read_faults read_faults_now)
+      → LineAnswers h.held (count + 1) line more next
+      → AnswersSession nothing_held 1 (h.lines ++ line ∷ []) (h.text ++ more) next
+  with_answer {out} {session} pending line more {count} read_faults_now next h answers =
       let counted = h.going.counted in
-      answers_more nothing_taken 1 h.lines line h.text h.taken (count + 1) outcome h.answers
-      (omega arith) (is_sent live h.taken h.holds) reads
+      session_more nothing_held 1 h.lines line h.text h.held (count + 1) more next h.answers
+      (omega arith) (is_sent session.live h.held.taken h.holds.live) answers
 
-  pub Course-line : {out next : Outgoing} {live live_next : Live}
+  pub Course-line : {out next : Outgoing} {session session_next : Session}
       {left_now left_next : Option (List ℕ)} (pending pending_next line taken : List ℕ)
       {count : ℕ} (read_faults_now read_faults_next : ℕ)
-      → (h : Course begun out live left left_now pending count read_faults read_faults_now)
+      → (h : Course begun out session left left_now pending count read_faults read_faults_now)
       → Consumes left_now left_next taken → pending ++ taken ≡ with_feed line ++ pending_next
       → IsLine line → read_faults_next ≡ read_faults_now
-      → LineAnswered h.taken (count + 1) line out next live_next Goings.On
-      → Course begun next live_next left left_next pending_next (count + 1)
+      → SessionAnswered h.held (count + 1) line out next session_next Goings.On
+      → Course begun next session_next left left_next pending_next (count + 1)
       read_faults read_faults_next
   Course-line pending pending_next line taken {count} read_faults_now read_faults_next h read is
       good same a = record {
         lines = h.lines ++ line ∷ [];
-        text = h.text ++ answer_text h.taken (count + 1) line a.outcome;
-        taken = taken_after h.taken (count + 1) line a.outcome;
-        answers = with_answer pending line read_faults_now a.outcome h a.reads;
+        text = h.text ++ a.text;
+        held = a.next;
+        answers = with_answer pending line a.text read_faults_now a.next h a.answers;
         holds = a.goes;
         going =
-            line_told pending pending_next line taken
-            (answer_text h.taken (count + 1) line a.outcome) read_faults_now read_faults_next h
-            read is good a.told same;
+            line_told pending pending_next line taken a.text read_faults_now read_faults_next h read
+            is good a.told same;
       }
 
   -- what is said of a text, and of it with nothing behind it

@@ -1,5 +1,5 @@
 -- What the whole program does.
-use Rattle.std.specs.Prelude.{◌≡◌, ◌≢◌, ◌⊎◌, ◌+◌, ◌-◌, ◌^◌, ℕ, List, [], ◌∷◌, ◌++◌, length, Option, Some, Bool, false, codes, if◌then◌else◌}
+use Rattle.std.specs.Prelude.{◌≡◌, ◌≢◌, ◌⊎◌, ◌+◌, ◌-◌, ◌^◌, ℕ, List, [], ◌++◌, length, Option, Some, Bool, false, codes}
 use Rattle.std.specs.Io.KnownBytes.{Keeps}
 use Rattle.rio_chars.specs.Unless.{WritesUnless}
 use Rattle.fabric_trace.specs.Known.{UndetectedAt}
@@ -8,54 +8,55 @@ use Rattle.live_lines.specs.declared.status.LiveStatus.TheVariants.{Done, Words,
 use Rattle.live_lines.specs.Lines.{IsLine, with_feed}
 use Rattle.live_lines.specs.Serving.{ServesLines}
 use Rattle.live_lines.specs.Statuses.{status_value, message_of}
-use Rattle.live_fabric.specs.Lines.{Taken, nothing_taken, seen_so_far, IsSent, AnswersLines, IsAnswerFront}
+use Rattle.live_fabric.specs.Lines.{seen_so_far, IsSent}
+use Rattle.live_fabric.specs.Sessions.{SessionHeld, nothing_held, AnswersSession, IsSessionFront}
 use Rattle.live_fabric.specs.Holding.{IsTrace}
 use Rattle.program_start.specs.Questions.{AsksNoQuestion}
 use Rattle.live_lines.specs.Asked.{AnswersQuestion}
 
 -- the bytes that were read begin with this line, and the text is a front of its answer
-pub record CutAt (taken : Taken) (number : ℕ) (behind text : List ℕ) : Type 0 where
+pub record CutAt (held : SessionHeld) (number : ℕ) (behind text : List ℕ) : Type 0 where
   pub line : List ℕ
   pub rest : List ℕ
   pub is_line : IsLine line
   pub first : behind ≡ with_feed line ++ rest
-  pub front : IsAnswerFront taken number line text
+  pub front : IsSessionFront held number line text
 
 -- The text is a front of the answer of the line that was read next, which has this number, or
 -- nothing. These are the bytes that were read behind the last line that is answered.
-abbrev pub IsFurtherFront : Taken → ℕ → List ℕ → List ℕ → Type 0
-IsFurtherFront taken number behind text =
-    IsSent taken × ((text ≡ []) ⊎ CutAt taken number behind text)
+abbrev pub IsFurtherFront : SessionHeld → ℕ → List ℕ → List ℕ → Type 0
+IsFurtherFront held number behind text =
+    IsSent held.taken × ((text ≡ []) ⊎ CutAt held number behind text)
 
 -- What is written behind the answers, by how it ended: `end` if the input ended, and if memory ran
 -- out within an event, a front of its answer. It ends with `Undetected` exactly behind an event
 -- that was acted on and not sent.
-abbrev pub Closes : LiveStatus → Taken → ℕ → List ℕ → List ℕ → Type 0
-Closes Done taken number behind text = IsSent taken × (text ≡ codes "end\n")
-Closes Words taken number behind text = ⊥
-Closes ReadFault taken number behind text = IsSent taken × (text ≡ [])
-Closes TooLong taken number behind text = IsSent taken × (text ≡ [])
-Closes Undetected taken number behind text =
-    ((found : UndetectedAt) × ((seen_so_far taken).undetected ≡ Some found)) × (text ≡ [])
-Closes NoMemory taken number behind text = IsFurtherFront taken number behind text
-Closes WriteFault taken number behind text =
-    (text ≡ []) ⊎ ((text ≡ codes "end\n") ⊎ IsFurtherFront taken number behind text)
+abbrev pub Closes : LiveStatus → SessionHeld → ℕ → List ℕ → List ℕ → Type 0
+Closes Done held number behind text = IsSent held.taken × (text ≡ codes "end\n")
+Closes Words held number behind text = ⊥
+Closes ReadFault held number behind text = IsSent held.taken × (text ≡ [])
+Closes TooLong held number behind text = IsSent held.taken × (text ≡ [])
+Closes Undetected held number behind text =
+    ((found : UndetectedAt) × ((seen_so_far held.taken).undetected ≡ Some found)) × (text ≡ [])
+Closes NoMemory held number behind text = IsFurtherFront held number behind text
+Closes WriteFault held number behind text =
+    (text ≡ []) ⊎ ((text ≡ codes "end\n") ⊎ IsFurtherFront held number behind text)
 
 -- Lines were served: those that were read, each behind the one before it, up to where it ended.
--- What was written is their answers, and what is written behind them. The blocks in the answers are
--- the trace of the lines that were taken.
+-- What was written is their answers, and what is written behind them. The blocks of the events are
+-- the trace of the lines that were taken; an answer leaves out what its session does.
 pub record LiveServes (status : LiveStatus) (left left_after : Option (List ℕ))
     (read_faults read_faults_after : ℕ) (written written_after : Option (List ℕ))
     (write_faults write_faults_after : ℕ) : Type 0 where
   pub lines : List (List ℕ)
   pub text : List ℕ
-  pub taken : Taken
+  pub held : SessionHeld
   pub last : List ℕ
-  pub answers : AnswersLines nothing_taken 1 lines text taken
-  pub trace : IsTrace taken
+  pub answers : AnswersSession nothing_held 1 lines text held
+  pub trace : IsTrace held.taken
   pub serves : ServesLines (2 ^ 32 - 1) status left left_after read_faults read_faults_after
       written written_after write_faults write_faults_after lines (text ++ last)
-  pub closes : Closes status taken (length lines + 1) serves.behind last
+  pub closes : Closes status held (length lines + 1) serves.behind last
 
 -- how the program is used, in a line and on several
 abbrev pub live_usage : List ℕ
@@ -65,7 +66,8 @@ abbrev pub live_help : List ℕ
 live_help = codes "usage: rio_live < LINES\n\n"
     ++ codes "Each line is answered before the next is read. An answer ends with the line ok.\n\n"
     ++ codes "endpoint, switch, link and such   set a fabric up\n"
-    ++ codes "send, pump, settle and such       are events, told as rio replay tells them\n\n"
+    ++ codes "send, pump, settle and such       are events, told as rio replay tells them\n"
+    ++ codes "quiet and loud                    leave characters out of answers, or not\n\n"
     ++ codes "docs/live.md says what is answered, and man rio has the lines.\n"
 
 -- nothing was read

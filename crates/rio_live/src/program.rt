@@ -19,6 +19,7 @@ Each line is answered before the next is read. An answer ends with the line ok.
 
 endpoint, switch, link and such   set a fabric up
 send, pump, settle and such       are events, told as rio replay tells them
+quiet and loud                    leave characters out of answers, or not
 
 docs/live.md says what is answered, and man rio has the lines.
 ";

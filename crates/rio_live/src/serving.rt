@@ -2,13 +2,11 @@
 ghost use Rattle.std.specs.Prelude.{◌≡◌, [], false, IfOk, OnErr, codes, if◌then◌else◌};
 ghost use Rattle.rio_chars.specs.Written.{Writes};
 ghost use Rattle.live_lines.specs.declared.status.LiveStatus.TheVariants as ends_with;
-ghost use Rattle.live_fabric.specs.Lines.{Taken, nothing_taken};
-ghost use Rattle.live_fabric.specs.Holding.{LiveHolds};
-ghost use Rattle.live_fabric.specs.Answers.{LineAnswered, AnswersFront};
+ghost use Rattle.live_fabric.specs.Sessions.{SessionHeld, nothing_held, SessionHolds, SessionAnswered, SessionBreaks};
 ghost use Rattle.rio_live.specs.Ending.{LinesStopped};
 ghost use Rattle.rio_live.specs.Program.{LiveServes};
 
-use live_fabric::{AfterLine, BrokenOff, Live, answer};
+use live_fabric::{AfterLine, BrokenOff, Session};
 use live_lines::{LineEnd, LineReader, LiveStatus};
 use rio_chars::{Outbox, Sink, Source, TextBuffer};
 use std::alloc::Global;
@@ -21,7 +19,7 @@ pub fn serve<S: Source, K: Sink>(alloc: Global, source: &mut S, sink: &mut K) ->
         (S.faults source.new) (K.written sink.old) (K.written sink.new) (K.faults sink.old)
         (K.faults sink.new) }
 {
-    let Ok(mut live) = Live::new(alloc) else {
+    let Ok(mut session) = Session::new(alloc) else {
         return LiveStatus::NoMemory;
     };
     let Ok(mut input) = LineReader::new(alloc) else {
@@ -31,7 +29,7 @@ pub fn serve<S: Source, K: Sink>(alloc: Global, source: &mut S, sink: &mut K) ->
         return LiveStatus::NoMemory;
     };
     let mut outbox = Outbox::new(&mut buffer, sink);
-    let status = serve_lines(alloc, &mut live, &mut input, source, &mut outbox);
+    let status = serve_lines(alloc, &mut session, &mut input, source, &mut outbox);
     outbox.into_sink();
     status
 }
@@ -39,12 +37,12 @@ pub fn serve<S: Source, K: Sink>(alloc: Global, source: &mut S, sink: &mut K) ->
 /// Reads lines, and answers each before the next is asked for.
 fn serve_lines<S: Source, K: Sink>(
     alloc: Global,
-    live: &mut Live,
+    session: &mut Session,
     input: &mut LineReader,
     source: &mut S,
     outbox: &mut Outbox<K>,
 ) -> LiveStatus
-    requires holds { LiveHolds live.old nothing_taken }
+    requires holds { SessionHolds session.old nothing_held }
     requires input { input.old ≡ [] }
     requires fine { outbox.old.failed ≡ false }
     requires empty { outbox.old.waiting ≡ [] }
@@ -60,7 +58,7 @@ fn serve_lines<S: Source, K: Sink>(
             return end_lines(end, outbox);
         }
         number += 1;
-        let answered = answer_line(alloc, live, number, line.as_slice(), outbox);
+        let answered = answer_line(alloc, session, number, line.as_slice(), outbox);
         if outbox.failed() {
             return LiveStatus::WriteFault;
         }
@@ -77,20 +75,20 @@ fn serve_lines<S: Source, K: Sink>(
 /// Answers a line, and writes what there is of the answer unless a write fails.
 fn answer_line<K: Sink>(
     alloc: Global,
-    live: &mut Live,
+    session: &mut Session,
     number: u32,
     line: &[u8],
     outbox: &mut Outbox<K>,
 ) -> Result<AfterLine, BrokenOff>
-    requires { (taken : Taken) × LiveHolds live.old taken }
-    ensures answered { IfOk result (λ going. (taken : Taken) → LiveHolds live.old taken
-        → LineAnswered taken number line.now outbox.old outbox.new live.new going) }
-    ensures breaks { OnErr result ((taken : Taken) → LiveHolds live.old taken
-        → AnswersFront taken number line.now outbox.old outbox.new) }
+    requires { (held : SessionHeld) × SessionHolds session.old held }
+    ensures answered { IfOk result (λ going. (held : SessionHeld) → SessionHolds session.old held
+        → SessionAnswered held number line.now outbox.old outbox.new session.new going) }
+    ensures breaks { OnErr result ((held : SessionHeld) → SessionHolds session.old held
+        → SessionBreaks held number line.now outbox.old outbox.new) }
     ensures empty { outbox.new.waiting ≡ [] }
     ensures same { outbox.new.sink ≡ outbox.old.sink }
 {
-    let answered = answer(alloc, live, number, line, outbox);
+    let answered = session.answer(alloc, number, line, outbox);
     outbox.flush();
     answered
 }

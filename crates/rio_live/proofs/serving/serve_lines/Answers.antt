@@ -1,8 +1,6 @@
 use Rattle.std.proofs.Common.{◌≡◌, ◌+◌, ◌-◌, ◌^◌, refl, sym, ◌∙◌, arith}
 use Rattle.live_fabric.specs.declared.answers.AfterLine.TheVariants as Goings
-use Rattle.live_fabric.specs.Lines.{Taken}
-use Rattle.live_fabric.specs.Holding.{LiveHolds}
-use Rattle.live_fabric.specs.Answers.{LineAnswered}
+use Rattle.live_fabric.specs.Sessions.{SessionHeld, SessionHolds, SessionAnswered}
 use Rattle.rio_live.proofs.ServingLaws.{as_ok, Course-begin, Course-line}
 use Rattle.rio_live.proofs.EndingLaws.{Course-closed, Course-done}
 use Rattle.rio_live.proofs.FailingLaws.{Course-undetected, Course-no_memory, Course-failed}
@@ -12,7 +10,7 @@ pub loop-number-init : goal.loop-number-init
 loop-number-init g c = record {
   course =
       Course-begin c.args.outbox.now
-      (g.S.Source.left c.args.source.now) (g.S.Source.faults c.args.source.now) c.args.live.now
+      (g.S.Source.left c.args.source.now) (g.S.Source.faults c.args.source.now) c.args.session.now
       c.args.input.now c.requires.holds c.requires.input;
   same = refl;
   fine = c.requires.fine;
@@ -37,7 +35,7 @@ returns-then-failed-clause-serves g c =
     let breaks = rw c.as_slice.ensures.value at c.answer_line-answered.ensures.breaks in
     Course-failed c.args.outbox.now
     (g.S.Source.left c.args.source.now) (g.S.Source.faults c.args.source.now)
-    c.answer_line-answered.new.outbox c.answer_line-answered.new.live
+    c.answer_line-answered.new.outbox c.answer_line-answered.new.session
     c.loop-number.input c.read_line.new.self c.read_line.new.line.items read.0
     (g.S.Source.faults c.loop-number.source) (g.S.Source.faults c.read_line.new.source)
     c.answer_line-answered.result h.course c.requires.empty c.requires.fine
@@ -50,10 +48,10 @@ loop-number-preserved g c =
     let read = c.in_default.ensures.read in
     let answered =
     as_ok
-    (λ going. (t : Taken) → LiveHolds c.loop-number.live t
-    → LineAnswered t (c.loop-number.number + 1)
+    (λ going. (t : SessionHeld) → SessionHolds c.loop-number.session t
+    → SessionAnswered t (c.loop-number.number + 1)
     c.read_line.new.line.items c.loop-number.outbox c.answer_line-answered.new.outbox
-    c.answer_line-answered.new.live going)
+    c.answer_line-answered.new.session going)
     c.answer_line-answered.result c.in-Ok-On.field-0 Goings.On c.in-Ok-On.is
     (rw c.in-Ok-On.is at c.in-Ok-On.field-0-is)
     (rw c.as_slice.ensures.value at c.answer_line-answered.ensures.answered) in
@@ -64,7 +62,7 @@ loop-number-preserved g c =
           c.loop-number.input c.read_line.new.self c.read_line.new.line.items read.0
           (g.S.Source.faults c.loop-number.source) (g.S.Source.faults c.read_line.new.source)
           h.course read.1 read.2 c.in_default.ensures.line c.in_default.ensures.counts
-          (answered h.course.taken h.course.holds);
+          (answered h.course.held h.course.holds);
       same = c.answer_line-answered.ensures.same ∙ h.same;
       fine = sym c.failed.ensures ∙ c.if-failed.false;
       empty = c.answer_line-answered.ensures.empty;
@@ -76,10 +74,10 @@ returns-in-Ok-Undetected-clause-serves g c =
     let read = c.in_default.ensures.read in
     let answered =
     as_ok
-    (λ going. (t : Taken) → LiveHolds c.loop-number.live t
-    → LineAnswered t (c.loop-number.number + 1)
+    (λ going. (t : SessionHeld) → SessionHolds c.loop-number.session t
+    → SessionAnswered t (c.loop-number.number + 1)
     c.read_line.new.line.items c.loop-number.outbox c.answer_line-answered.new.outbox
-    c.answer_line-answered.new.live going)
+    c.answer_line-answered.new.session going)
     c.answer_line-answered.result c.in-Ok-Undetected.field-0 Goings.Undetected c.in-Ok-Undetected.is
     (rw c.in-Ok-Undetected.is at c.in-Ok-Undetected.field-0-is)
     (rw c.as_slice.ensures.value at c.answer_line-answered.ensures.answered) in
@@ -89,7 +87,7 @@ returns-in-Ok-Undetected-clause-serves g c =
     (g.S.Source.faults c.loop-number.source) (g.S.Source.faults c.read_line.new.source)
     h.course c.requires.empty (sym c.failed.ensures ∙ c.if-failed.false)
     c.answer_line-answered.ensures.empty read.1 read.2 c.in_default.ensures.line
-    c.in_default.ensures.counts (answered h.course.taken h.course.holds)
+    c.in_default.ensures.counts (answered h.course.held h.course.holds)
 
 pub returns-in-Err-answered-clause-serves : goal.returns-in-Err-answered-clause-serves
 returns-in-Err-answered-clause-serves g c =
@@ -102,7 +100,7 @@ returns-in-Err-answered-clause-serves g c =
     (g.S.Source.faults c.loop-number.source) (g.S.Source.faults c.read_line.new.source)
     h.course c.requires.empty (sym c.failed.ensures ∙ c.if-failed.false)
     c.answer_line-answered.ensures.empty read.1 read.2 c.in_default.ensures.line
-    c.in_default.ensures.counts (breaks h.course.taken h.course.holds)
+    c.in_default.ensures.counts (breaks h.course.held h.course.holds)
 
 pub returns-clause-serves : goal.returns-clause-serves
 returns-clause-serves g c =

@@ -4,7 +4,7 @@ use Rattle.rio_live.proofs.serving.serve_lines.Given as goal
 
 abbrev pub invariant-loop-number : goal.invariant-loop-number
 invariant-loop-number g l = record {
-  course : Course l.initial.outbox l.outbox l.live
+  course : Course l.initial.outbox l.outbox l.session
       (g.S.Source.left l.initial.source) (g.S.Source.left l.source) l.input l.number
       (g.S.Source.faults l.initial.source) (g.S.Source.faults l.source);
   same : l.outbox.sink ≡ l.initial.outbox.sink;
