@@ -1,0 +1,5 @@
+pub mod ReadingLaws
+pub mod SettingLaws
+pub mod TracingLaws
+pub mod InputLaws
+pub mod TellingLaws

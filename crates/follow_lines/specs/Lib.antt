@@ -1,0 +1,3 @@
+pub mod FollowEnds
+pub mod Telling
+pub mod Following

@@ -1,0 +1,54 @@
+//! `rio_follow [tell]`: a check of a trace that keeps up. It reads set-up lines, a line `---` and
+//! the lines of a trace from standard input, and judges each line before it reads the next. At the
+//! first line that is not lawful it says so, and ends.
+//!
+//! Promised: what is said is so of the lines that were read: a lawful trace of so many steps, or
+//! the first line that a reason hits, whatever more may come; and the lines before it were lawful
+//! so far. Left out: how fast lines come.
+//!
+//! - `run`: the whole program, over any source, sink and sink of messages; `main` gives it the
+//!   words and the standard streams by `start_lines` of `live_lines`, and does nothing more.
+//! - `follow`: the same without the words. What it does is `follow_all` of `follow_lines`.
+//!
+//! If the system does not give the arguments, the status is 1 and nothing is written.
+#![tactic(auto)]
+
+mod following;
+mod program;
+mod why;
+
+pub use following::follow;
+use live_lines::start_lines;
+use program::asked;
+pub use program::run;
+use program_start::Program;
+use rio_chars::{Sink, Source};
+use std::alloc::Global;
+use std::process::ExitCode;
+
+/// The program, as it is started.
+struct RioFollow;
+
+impl Program for RioFollow {
+    fn waits_for(&self, words: &[String]) -> &'static [u8] {
+        match asked(words) {
+            Some(_) => b"rio_follow: waiting for set-up lines and a trace; Ctrl-D ends them\n",
+            None => b"",
+        }
+    }
+
+    fn run<S: Source, K: Sink, M: Sink>(
+        &self,
+        alloc: Global,
+        words: &[String],
+        source: &mut S,
+        sink: &mut K,
+        messages: &mut M,
+    ) -> u8 {
+        run(alloc, words, source, sink, messages)
+    }
+}
+
+fn main(rt: HostRuntime) -> ExitCode {
+    start_lines(&rt, &RioFollow)
+}

@@ -1,0 +1,102 @@
+//! The whole program, but for where its words and its streams come from.
+ghost use Rattle.std.specs.Prelude.{map, ℕ, Bool, MatchOption, codes, true, false, if◌then◌else◌, ◌≡◌};
+ghost use Rattle.std.specs.String.{string_bytes};
+ghost use Rattle.follow_lines.specs.declared.ends.FollowEnd.TheVariants as F;
+ghost use Rattle.rio_follow.specs.Program.{AskFollow, FollowDid, FollowRan};
+
+use crate::following::follow;
+use follow_lines::{FollowEnd, end_number, end_words};
+use program_start::{answer_question, question_of};
+use rio_chars::{Sink, Source, write_unless};
+use std::alloc::Global;
+
+/// How the program is used.
+const HELP: &[u8] = b"usage: rio_follow [tell] < LINES
+
+Reads set-up lines, a line --- and the lines of a trace, and judges each line before
+the next is read. At the first line that is not lawful it says which and why, and ends.
+
+lawful STEPS             the input has ended, and all lines are a lawful trace
+unlawful LINE REASON     this line is not lawful, or it is missing
+refused LINE REASON      the set-up lines are refused
+tell                     and ok for the line --- and for each line behind it
+
+docs/checking.md has the reasons, and man rio the lines.
+";
+
+/// FollowsAll a trace as the words behind the program's name ask for, and answers the exit status.
+/// `--help` and `--version` are answered. What there is to say of the end is said in one line to
+/// `messages`. A line that cannot be said changes nothing.
+pub fn run<S: Source, K: Sink, M: Sink>(
+    alloc: Global,
+    words: &[String],
+    source: &mut S,
+    sink: &mut K,
+    messages: &mut M,
+) -> u8
+    ensures { FollowRan (map string_bytes words.now) result
+        S.left S.faults source.old source.new
+        K.written K.faults sink.old sink.new }
+{
+    let end = follow_words(alloc, words, source, sink, messages);
+    write_unless(false, messages, end_words(end));
+    end_number(end)
+}
+
+/// FollowsAll a trace as the words ask for, or answers what else they ask.
+fn follow_words<S: Source, K: Sink, M: Sink>(
+    alloc: Global,
+    words: &[String],
+    source: &mut S,
+    sink: &mut K,
+    messages: &mut M,
+) -> FollowEnd
+    ensures { FollowDid (map string_bytes words.now) result (S.left source.old)
+        (S.left source.new)
+        (S.faults source.old) (S.faults source.new) (K.written sink.old) (K.written sink.new)
+        (K.faults sink.old) (K.faults sink.new) }
+{
+    if let Some(question) = question_of(words) {
+        return told(answer_question(sink, b"rio_follow", HELP, question));
+    }
+    match asked(words) {
+        Some(tell) => follow(alloc, tell, source, sink, messages),
+        None => FollowEnd::Words,
+    }
+}
+
+/// How it ended, by whether a write failed.
+fn told(failed: bool) -> FollowEnd
+    ensures { result ≡ (if failed then F.WriteFault else F.Done) }
+{
+    if failed {
+        FollowEnd::WriteFault
+    } else {
+        FollowEnd::Done
+    }
+}
+
+/// Whether the words ask that `ok` is told; None if they ask for nothing.
+pub(crate) fn asked(words: &[String]) -> Option<bool>
+    ensures { MatchOption result
+        ((tell : Bool) → ¬ AskFollow (map string_bytes words.now) tell)
+        (λ tell. AskFollow (map string_bytes words.now) tell) }
+{
+    match words {
+        [] => Some(false),
+        [word] => asked_by(word.as_str().as_bytes()),
+        _ => None,
+    }
+}
+
+/// The same of one word.
+fn asked_by(word: &[u8]) -> Option<bool>
+    ensures { MatchOption result
+        ((tell : Bool) → ¬ ((word.now ≡ codes "tell") × (tell ≡ true)))
+        (λ tell. (word.now ≡ codes "tell") × (tell ≡ true)) }
+{
+    match word {
+        b"tell" => Some(true),
+        _ => None,
+    }
+}

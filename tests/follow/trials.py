@@ -1,0 +1,241 @@
+"""Runs rio_follow. The last line is 'N passed, M failed'.
+
+usage: python3 tests/follow/trials.py PROGRAM RIO [FILE ..]    FILE: inputs of rio check: both programs answer the same
+"""
+import os
+import random
+import select
+import subprocess
+import sys
+import time
+from pathlib import Path
+
+HERE = Path(__file__).resolve().parent
+TOP = HERE.parent.parent
+PROGRAM, RIO = sys.argv[1:3]
+
+SET_UP = b"endpoint A 1\nendpoint B 2\nlink A.0 B.0\n---\n"
+PACKET = b"000f0201cafe0001a9bb0000"
+SENT = b"k7c d80 df8 d1f d00 d0f d02 d01 dca dfe d00 d01 da9 dbb d00 d00 k7c d80 dfa d18"
+TRACE = [b"take A " + PACKET, b"sent A.0 " + SENT, b"got B.0 " + SENT, b"hold B.0 " + PACKET, b"sent B.0 k1c d00 dff d16",
+         b"got A.0 k1c d00 dff d16", b"free A.0 " + PACKET, b"leave B " + PACKET]
+HELD = 0.1  # seconds within which a line is answered
+
+
+def run(text, *words):
+    """What a run over this input answers: its status, what it wrote, and what it said."""
+    done = subprocess.run([PROGRAM, *words], input=text, capture_output=True, timeout=120, check=False)
+    return done.returncode, done.stdout, done.stderr
+
+
+class Open:
+    """A run whose input stays open."""
+
+    def __init__(self, *words):
+        self.process = subprocess.Popen([PROGRAM, *words], stdin=subprocess.PIPE, stdout=subprocess.PIPE,
+                                        stderr=subprocess.PIPE, bufsize=0)
+
+    def give(self, text):
+        self.process.stdin.write(text)
+
+    def wait(self, size, seconds=HELD):
+        """So many bytes of what is written, or fewer if they do not come within so many seconds."""
+        got, until = b"", time.monotonic() + seconds
+        while len(got) < size:
+            left = until - time.monotonic()
+            if left <= 0 or not select.select([self.process.stdout], [], [], left)[0]:
+                break
+            more = os.read(self.process.stdout.fileno(), size - len(got))
+            if not more:
+                break
+            got += more
+        return got
+
+    def end(self):
+        """The status, with the rest of what was written."""
+        self.process.stdin.close()
+        rest = self.process.stdout.read()
+        self.process.stderr.read()
+        return self.process.wait(60), rest
+
+
+def cases():
+    """The cases of rio check: the answers are equal, and a line that is refused or not lawful is said."""
+    for file in sorted((TOP / "tests/check").glob("*.words")):
+        text = file.with_suffix(".in").read_bytes()
+        wanted = int(file.with_suffix(".status").read_text()), file.with_suffix(".out").read_bytes()
+        status, wrote, said = run(text)
+        number = wrote.split()[1] if status else b""
+        says = said.startswith(b"rio_follow: line " + number + b": ") and said.count(b"\n") == 1 if status else not said
+        yield file.stem, (status, wrote) == wanted and says
+        # With tell there are the answers ok before it, one for the line between and each line that was taken.
+        status, wrote, said = run(text, "tell")
+        oks = 0
+        while wrote.startswith(b"ok\n"):
+            oks, wrote = oks + 1, wrote[3:]
+        yield f"{file.stem}, tell", (status, wrote) == wanted and oks == wanted_oks(text, wanted)
+
+
+def wanted_oks(text, wanted):
+    """How many lines are answered ok: all behind the set-up that come before the one at which the verdict comes."""
+    lines = text.split(b"\n")
+    if lines[-1] == b"":
+        lines.pop()
+    if wanted[1].startswith(b"refused "):
+        return 0
+    before = lines.index(b"---")
+    if wanted[0] == 0:
+        return len(lines) - before
+    at = int(wanted[1].split()[1]) - 1  # the place of the line that is told, from 0
+    if at < len(lines) and lines[at].startswith((b"> alter ", b"> insert ", b"> erase ")):
+        at += 1  # an edit is judged when the next line has come, unless it is of no form
+        if wanted[1].endswith(b" 21\n"):
+            at -= 1
+    return min(at, len(lines)) - before
+
+
+def open_streams():
+    """Lines that are answered while the input stays open."""
+    it = Open("tell")
+    it.give(SET_UP)
+    yield "the line between is answered", it.wait(3, 10) == b"ok\n"
+    late = [line for line in TRACE if it.give(line + b"\n") or it.wait(3) != b"ok\n"]
+    yield "each line is answered before the next comes", not late
+    it.give(b"end\n")
+    yield "the last line is answered", it.wait(3) == b"ok\n"
+    yield "the end of input is answered", it.end() == (0, b"lawful 4\n")
+
+    it = Open()
+    it.give(SET_UP + b"\n".join(TRACE[:2]) + b"\n")
+    yield "nothing is said while all is lawful", it.wait(1, 0.3) == b""
+    it.give(b"got B.0 d00\n")
+    yield "a wrong line is answered while the input stays open", it.wait(14) == b"unlawful 7 22\n"
+    yield "and the program has ended", it.process.wait(10) == 10
+
+    it = Open("tell")
+    it.give(SET_UP + b"\n".join(TRACE[:2]) + b"\n")
+    it.wait(9, 10)
+    it.give(b"> alter A.0 99 d00\n")
+    yield "an edit outside the wire is answered ok at once", it.wait(3) == b"ok\n"
+    it.give(b"got B.0 k7c\n")
+    yield "and is told when the next line has come, under its own number", it.wait(14) == b"unlawful 7 22\n"
+    it.end()
+
+    it = Open("tell")
+    it.give(SET_UP + b"\n".join(TRACE[:2]) + b"\n> alter A.0 99 d00\n")
+    it.wait(12, 10)
+    it.give(b"short\n")
+    yield "an edit that a line short takes back is taken", it.wait(3) == b"ok\n"
+    it.end()
+
+    it = Open()
+    it.give(b"endpoint A 1\nendpoint A 2\n---\n")
+    yield "set-up lines are refused at the line between", it.wait(12, 10) == b"refused 2 4\n"
+    yield "and the program has ended then", it.process.wait(10) == 3
+
+
+def ends():
+    """Ends that no case shows."""
+    whole = SET_UP + b"\n".join(TRACE) + b"\nend"
+    yield "the last line needs no line feed", run(whole)[:2] == (0, b"lawful 4\n")
+    yield "a line behind the last", run(whole + b"\nend\n")[:2] == (10, b"unlawful 14 21\n")
+    yield "nothing", run(b"")[:2] == (3, b"refused 1 15\n")
+    yield "other words", run(b"", "play")[0] == 2 and run(b"", "tell", "tell")[0] == 2
+    long = b"#" * 4_194_304
+    yield "a line of 4,194,304 bytes", run(SET_UP + long + b"\n")[:2] == (10, b"unlawful 5 21\n")
+    yield "and one more", run(SET_UP + long + b"#\n")[0] == 8
+    yield "set-up lines of 4,194,304 bytes", run(long[:-1] + b"\n---\n")[:2] == (10, b"unlawful 3 21\n")
+    yield "and one more, in several lines", run(b"#\n" * 2_097_152 + b"\n---\n")[0] == 8
+
+
+def replayed(kind, count):
+    """The lines of a trace that rio replay writes, without the last, and its set-up lines."""
+    script = subprocess.run(["sh", str(TOP / "tests/large"), kind, str(count)], capture_output=True, check=True).stdout
+    trace = subprocess.run([RIO, "replay"], input=script, capture_output=True, check=True).stdout
+    return b"".join(line + b"\n" for line in script.split(b"\n")[:3]) + b"---\n", trace[: trace.rindex(b"end\n")]
+
+
+def long_streams():
+    """Traces of more bytes than rio check takes. A link that has carried 32 packets and settled is as it was at first, so its
+    trace may come again and again."""
+    set_up, body = replayed("script", 1024)
+    size = 64_000_000
+    times = size // len(body) + 1
+    it = subprocess.Popen([PROGRAM], stdin=subprocess.PIPE, stdout=subprocess.PIPE, stderr=subprocess.PIPE)
+    it.stdin.write(set_up)
+    for _ in range(times):
+        it.stdin.write(body)
+    it.stdin.flush()
+    with open(f"/proc/{it.pid}/status", encoding="ascii") as status:
+        most = next(int(line.split()[1]) for line in status if line.startswith("VmHWM"))
+    wrote = it.communicate(b"end\n")[0]
+    yield "64 MB of a trace", (it.returncode, wrote) == (0, b"lawful %d\n" % (4 * 1024 * times))
+    yield f"in less than 8 MB: {most} KB", most < 8192
+    hold = next(line for line in body.split(b"\n") if line.startswith(b"hold "))
+    status, wrote, _ = run(set_up + body * 8 + hold + b"\nend\n")
+    line = set_up.count(b"\n") + 8 * body.count(b"\n") + 1
+    yield "a packet held again behind 40 MB", status == 10 and wrote.startswith(b"unlawful %d " % line)
+
+
+def examples():
+    """The traces of the examples are lawful."""
+    for script in sorted(TOP.glob("examples/*.script")):
+        sets = subprocess.run(["grep", "-E", "^(endpoint|switch|link|buffers|route|default|lock|large|credits) ", str(script)],
+                              capture_output=True, check=True).stdout
+        trace = script.with_suffix(".trace").read_bytes()
+        wanted = run_rio(sets + b"---\n" + trace)
+        yield f"{script.stem}", run(sets + b"---\n" + trace)[:2] == wanted
+
+
+def changed(lines, chance):
+    """Lines with one of them gone, twice there, swapped with the next, put elsewhere, or with another character in it."""
+    lines, at = list(lines), chance.randrange(len(lines))
+    kind = chance.randrange(5)
+    if kind == 0:
+        del lines[at]
+    elif kind == 1:
+        lines.insert(at, lines[at])
+    elif kind == 2:
+        lines[at : at + 2] = reversed(lines[at : at + 2])
+    elif kind == 3:
+        lines.insert(chance.randrange(len(lines)), lines.pop(at))
+    elif lines[at]:
+        place = chance.randrange(len(lines[at]))
+        lines[at] = lines[at][:place] + bytes([chance.choice(b"0123456789abcdef .")]) + lines[at][place + 1 :]
+    return lines
+
+
+def changes():
+    """Inputs of the cases with small changes: rio check and rio_follow answer the same."""
+    chance = random.Random(1)
+    for file in sorted((TOP / "tests/check").glob("*.in")):
+        lines = file.read_bytes().split(b"\n")
+        texts = [b"\n".join(changed(lines, chance)) for _ in range(4)]
+        yield f"{file.stem}, changed", all(run(text)[:2] == run_rio(text) for text in texts)
+
+
+def given(files):
+    """Any inputs, as another program makes them."""
+    for file in files:
+        text = Path(file).read_bytes()
+        yield file, run(text)[:2] == run_rio(text)
+
+
+def run_rio(text):
+    done = subprocess.run([RIO, "check"], input=text, capture_output=True, timeout=120, check=False)
+    return done.returncode, done.stdout
+
+
+def main():
+    passed = failed = 0
+    files = sys.argv[3:]
+    for trials in [given(files)] if files else [it() for it in (cases, open_streams, ends, examples, changes, long_streams)]:
+        for name, good in trials:
+            passed, failed = passed + bool(good), failed + (not good)
+            if not good:
+                print(f"{name}: not as it must be")
+    print(f"{passed} passed, {failed} failed")
+    return min(failed, 1)
+
+
+sys.exit(main())
