@@ -1,0 +1,21 @@
+//! The lines of a scenario, by which a device is asked, and the answers that the tables give.
+//!
+//! Promised: a line stands for characters of the wire, good or bad, or it is a line of a port as it
+//! is. The answer that a device has to give is not written in a scenario: it is that of the tables,
+//! at the state where a port stands that was asked the lines before.
+//!
+//! Left out: where a device is, and where its answers come from.
+//!
+//! - `read_stimulus`: what a line asks of a device; `write_stimulus`: the line that it is asked
+//! - [`TextSink`] and `expect`: the answer that the tables give, in memory
+#![tactic(auto)]
+
+mod expected;
+mod items;
+mod stimuli;
+mod symbols;
+mod text_sink;
+
+pub use expected::expect;
+pub use stimuli::{read_stimulus, write_stimulus};
+pub use text_sink::TextSink;

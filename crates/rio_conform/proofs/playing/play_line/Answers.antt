@@ -1,0 +1,34 @@
+use Rattle.std.proofs.Common.{[], refl, sym, ◌∙◌, subst, append-nil}
+use Rattle.rio_chars.specs.Written.{Writes}
+use Rattle.rio_chars.proofs.WrittenLaws.{Writes-then}
+use Rattle.conform_lines.specs.Stimuli.{stimulus_text}
+use Rattle.rio_conform.specs.Plays.{played_by}
+use Rattle.rio_conform.proofs.PlayLaws.{Fails-answer, Fails-request}
+use Rattle.rio_conform.proofs.playing.play_line.Goals as goal
+
+pub returns-in-Err-clause-fails : goal.returns-in-Err-clause-fails
+returns-in-Err-clause-fails g c =
+    Fails-request c.in-Err.failing c.args.line.now c.args.trial.now.port _ _ _ _
+    c.in-Err.ensures.fails
+
+pub returns-in-Ok-answer_line-clause-right : goal.returns-in-Ok-answer_line-clause-right
+returns-in-Ok-answer_line-clause-right g c =
+    let line = c.args.line.now in
+    let request = c.in-Ok.request in
+    let text = stimulus_text line request in
+    record {
+      played = played_by c.args.trial.now.port line request;
+      is = (request, c.in-Ok.ensures.reads, refl);
+      stands = c.in-Ok-answer_line.ensures.port;
+      told =
+          subst (Writes c.args.outbox.now c.flush.new.self) (append-nil text)
+          (Writes-then text [] c.write_stimulus.ensures c.flush.ensures.written);
+      fine = sym c.failed.ensures ∙ c.if-failed.false;
+      empty = c.flush.ensures.empty;
+      came = c.in-Ok-answer_line.ensures.right;
+    }
+
+pub returns-in-Err-answer_line-clause-fails : goal.returns-in-Err-answer_line-clause-fails
+returns-in-Err-answer_line-clause-fails g c =
+    Fails-answer c.in-Err-answer_line.failing c.args.line.now c.args.trial.now.port c.in-Ok.request
+    _ _ _ _ c.in-Ok.ensures.reads c.in-Err-answer_line.ensures.fails

@@ -1,0 +1,4 @@
+pub mod Answers
+pub mod Plays
+pub mod Report
+pub mod Program

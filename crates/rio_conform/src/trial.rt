@@ -1,0 +1,39 @@
+//! What a scenario needs while it is played.
+ghost use Rattle.std.specs.Prelude.{◌≡◌, ◌≤◌, [], false, IfOk};
+ghost use Rattle.port_lines.specs.Clocks.{new_clocked};
+
+use conform_lines::TextSink;
+use live_lines::LineReader;
+use port_lines::ClockedPort;
+use rio_chars::{NoMemory, TextBuffer};
+use std::alloc::Global;
+
+/// The port that gives the right answers, and room for the answers of it and of the device.
+#[derive(Drop)]
+pub(crate) struct Trial {
+    pub(crate) port: ClockedPort,
+    pub(crate) input: LineReader,
+    pub(crate) expected: TextSink,
+    pub(crate) came: Vec<u8>,
+    pub(crate) line: Vec<u8>,
+    pub(crate) buffer: TextBuffer,
+}
+
+impl Trial {
+    /// A new port of 4 to 30 buffers that does not tell them, and no bytes of the device.
+    pub(crate) fn new(alloc: Global, buffers: u8) -> Result<Trial, NoMemory>
+        requires least { 4 ≤ buffers }
+        requires most { buffers ≤ 30 }
+        ensures port { IfOk result (λ trial. trial.port ≡ new_clocked false buffers) }
+        ensures input { IfOk result (λ trial. trial.input ≡ []) }
+    {
+        Ok(Trial {
+            port: ClockedPort::new(alloc, buffers, false)?,
+            input: LineReader::new(alloc)?,
+            expected: TextSink::new(alloc),
+            came: Vec::new(alloc),
+            line: Vec::new(alloc),
+            buffer: TextBuffer::new(alloc)?,
+        })
+    }
+}
