@@ -1,4 +1,5 @@
-/* Kigvarp from C: one end of a RapidIO serial link, and a whole simulated fabric. docs/library.md shows each call.
+/* Kigvarp from C: one end of a RapidIO serial link, a whole simulated fabric, a check of traces, and what characters say.
+ * docs/library.md shows each call.
  *
  * A handle is zeroed before its first use: struct kigvarp_port port = {0}; It is closed then. Each call of a closed handle
  * answers KIGVARP_CLOSED, and a second close is safe. What a caller owes, and nothing checks:
@@ -31,17 +32,28 @@ enum {
   KIGVARP_EMPTY = 5,      /* no packet is held: nothing was done */
   KIGVARP_NO_MEMORY = 6,  /* memory was refused: nothing was done, but the text of the line before is gone */
   KIGVARP_UNDETECTED = 7, /* a port acted on what was not sent, as the text says: the fabric is spent */
-  KIGVARP_CUT = 8,        /* memory was refused while the answer was told: a front of it waits. A port went on as the answer
-                             says; a fabric is spent */
-  KIGVARP_SPENT = 9       /* the fabric answers no further line: nothing was done */
+  KIGVARP_CUT = 8,        /* memory was refused while a line was answered: a front of the answer waits. A port went on as the
+                             answer says; a fabric or a checker is spent */
+  KIGVARP_SPENT = 9,      /* the fabric or the checker answers no further line: nothing was done */
+  KIGVARP_BAD = 10,       /* the characters are no symbol, or the bytes carry no packet: nothing was done */
+  KIGVARP_UNLAWFUL = 11,  /* a reason hits a line of the trace: the checker is spent */
+  KIGVARP_REFUSED = 12    /* a reason hits a line of the set-up: nothing was done */
 };
+
+/* A status in words, or "no status". */
+static inline const char *kigvarp_status_words(uint32_t status) {
+  static const char *const words[] = {"ok",         "closed", "argument", "open", "full",     "empty",  "no memory",
+                                      "undetected", "cut",    "spent",    "bad",  "unlawful", "refused"};
+  return status < sizeof words / sizeof *words ? words[status] : "no status";
+}
 
 /* Room that calls need, in characters or bytes. */
 enum {
   KIGVARP_ANSWER = 4,   /* the characters of an answer */
   KIGVARP_TURN = 284,   /* the most characters of a turn */
   KIGVARP_PACKET = 276, /* the most bytes of a packet */
-  KIGVARP_RUN = 65536   /* the most characters of a run */
+  KIGVARP_RUN = 65536,  /* the most characters of a run */
+  KIGVARP_READ = 4194304 /* the most characters that are read at once */
 };
 
 /* A character of the wire: 0x000 to 0x0ff is data, 0x100 to 0x1ff is special, and any other number is no character, as
@@ -50,6 +62,7 @@ typedef uint16_t kigvarp_char;
 
 struct kigvarp_port { void *at; size_t open; };
 struct kigvarp_fabric { void *at; size_t open; };
+struct kigvarp_checker { void *at; size_t open; };
 
 /* What a character did: the length of the packet that was accepted, or 0; how many packets were freed; how many characters
    are to be sent, and these, with zeros behind them. */
@@ -64,6 +77,34 @@ struct kigvarp_header { uint8_t prio, ftype, large; uint16_t source, dest; };
 /* The state of a port. output: 0 ok, 1 retry-stopped, 2 error-stopped, 3 failed. input: 0 ok, 1 retry-stopped,
    2 error-stopped. outstanding: how many packets. waiting: 1 if a packet is to be sent that is not outstanding. */
 struct kigvarp_state { uint32_t output, input, outstanding, waiting; };
+
+/* The fields of a control symbol: 0 to 7, 31, 31, 7 and 7. */
+struct kigvarp_symbol { uint8_t stype0, parameter0, parameter1, stype1, cmd; };
+
+/* What an event is. */
+enum {
+  KIGVARP_IS_SYMBOL = 1, /* a control symbol */
+  KIGVARP_IS_PACKET = 2, /* a packet */
+  KIGVARP_IS_BAD = 3     /* characters that are neither */
+};
+
+/* What characters say: the place of the character that completes it, counted from 0; what it is; of a packet the ackID, how
+   many bytes it has, and these with an ackID of 0; of a symbol its fields; of what is neither the cause. All else is 0. */
+struct kigvarp_event {
+  uint32_t place, kind, length;
+  struct kigvarp_symbol symbol;
+  uint8_t ack, cause, bytes[KIGVARP_PACKET];
+};
+
+/* What a run of characters says: how many events, and 1 if it ends within a symbol or a packet. */
+struct kigvarp_reading { uint32_t events, cut; };
+
+/* What the bytes of a packet say: the ackID, 0 to 31, the priority, the transport type, 0 if IDs have 8 bits and 1 if they
+   have 16, the format type, and the IDs, which are 0 if the transport type is 2 or 3. */
+struct kigvarp_packet { uint8_t ack, prio, tt, ftype; uint16_t source, dest; };
+
+/* The line that a reason hits, counted from 1, and the least reason that hits it, or zeros. */
+struct kigvarp_hit { uint32_t line, reason; };
 
 /* ---- a port */
 
@@ -115,6 +156,45 @@ uint32_t kigvarp_fabric_line(struct kigvarp_fabric *fabric, const uint8_t *line,
 
 /* Takes the text that waits, as much of it as has room: count is how many bytes, and 0 if no more waits. */
 uint32_t kigvarp_fabric_text(struct kigvarp_fabric *fabric, uint8_t *out, size_t room, size_t *count);
+
+/* ---- a check of a trace */
+
+/* Opens a checker of a trace of the fabric that these set-up lines make, of at most 16777216 bytes. KIGVARP_REFUSED: hit tells
+   which of them a reason hits. */
+uint32_t kigvarp_checker_open(struct kigvarp_checker *checker, const uint8_t *script, size_t length, struct kigvarp_hit *hit);
+
+/* Closes a checker, and gives its memory back. */
+uint32_t kigvarp_checker_close(struct kigvarp_checker *checker);
+
+/* Takes the next line of a trace, without its line feed: the lines so far are lawful. KIGVARP_UNLAWFUL: hit tells which line of
+   the trace a reason hits, this one, or the one before if that edits a wire. */
+uint32_t kigvarp_checker_take(struct kigvarp_checker *checker, const uint8_t *line, size_t length, struct kigvarp_hit *hit);
+
+/* No line follows: the lines are a lawful trace of so many steps. KIGVARP_UNLAWFUL is as above, of the last line or the one that
+   lacks. */
+uint32_t kigvarp_checker_end(struct kigvarp_checker *checker, struct kigvarp_hit *hit, uint32_t *steps);
+
+/* ---- what characters and bytes say */
+
+/* Reads length characters, at most KIGVARP_READ, as rio decode does, and writes what they say to events, as many as room has
+   places for. did tells how many there are. */
+uint32_t kigvarp_decode(const kigvarp_char *characters, size_t length, struct kigvarp_event *events, size_t room,
+                        struct kigvarp_reading *did);
+
+/* Writes the four characters of a symbol. Room is at least 4. */
+uint32_t kigvarp_symbol_write(const struct kigvarp_symbol *symbol, kigvarp_char *out, size_t room);
+
+/* Tells the symbol that four characters say. */
+uint32_t kigvarp_symbol_read(const kigvarp_char *characters, size_t length, struct kigvarp_symbol *symbol);
+
+/* Writes the bytes of the packet that has these fields, these bytes behind them, and this ackID, with its CRC: count is how many
+   they are. Room is at least KIGVARP_PACKET. */
+uint32_t kigvarp_packet_write(const struct kigvarp_header *header, uint8_t ack, const uint8_t *rest, size_t length, uint8_t *out,
+                              size_t room, size_t *count);
+
+/* Tells the ackID and the fields of the packet that bytes carry. Behind the IDs, at byte 4, or 6 if they have 16 bits, stand its
+   data, one CRC or two, and a pad: how many bytes of data there are is said by the format type. */
+uint32_t kigvarp_packet_read(const uint8_t *bytes, size_t length, struct kigvarp_packet *packet);
 
 #ifdef __cplusplus
 }

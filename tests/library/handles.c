@@ -1,6 +1,7 @@
 /* Tries each call on a closed handle, opening and closing twice, and arguments out of range, which change nothing. */
 #include "kigvarp.h"
 #include <stdio.h>
+#include <stdlib.h>
 #include <string.h>
 
 static int failed;
@@ -13,9 +14,10 @@ static void want(int well, const char *what) {
 
 static struct kigvarp_port port;
 static struct kigvarp_fabric fabric;
+static struct kigvarp_checker checker;
 static const uint8_t line[] = "state";
 static kigvarp_char wire[KIGVARP_TURN], run[KIGVARP_ANSWER];
-static uint8_t bytes[KIGVARP_PACKET];
+static uint8_t bytes[KIGVARP_PACKET], packet[KIGVARP_PACKET];
 static size_t count;
 static struct kigvarp_char_did did;
 static struct kigvarp_run_did run_did;
@@ -56,6 +58,62 @@ static void closed_fabric(void) {
   want(kigvarp_fabric_line(&fabric, line, 5) == KIGVARP_CLOSED, "no line of a closed fabric");
   want(kigvarp_fabric_text(&fabric, bytes, sizeof bytes, &count) == KIGVARP_CLOSED, "no text of a closed fabric");
   want(untouched() && !fabric.open && !fabric.at, "a closed fabric changes nothing");
+}
+
+static void closed_checker(void) {
+  struct kigvarp_hit hit = {7, 7};
+  uint32_t steps = 7;
+  want(kigvarp_checker_close(&checker) == KIGVARP_CLOSED, "a closed checker is not closed");
+  want(kigvarp_checker_take(&checker, line, 5, &hit) == KIGVARP_CLOSED, "no line of a closed checker");
+  want(kigvarp_checker_end(&checker, &hit, &steps) == KIGVARP_CLOSED, "no end of a closed checker");
+  want(hit.line == 7 && hit.reason == 7 && steps == 7 && !checker.open && !checker.at, "a closed checker changes nothing");
+}
+
+/* A checker that is open is not opened, and one that has ended takes no line. */
+static void checkers(void) {
+  struct kigvarp_hit hit = {7, 7};
+  uint32_t steps = 7;
+  want(kigvarp_checker_open(&checker, line, 0, &hit) == KIGVARP_OK && !hit.line, "a checker of an empty fabric opens");
+  hit.line = 7;
+  want(kigvarp_checker_open(&checker, line, 0, &hit) == KIGVARP_OPEN && hit.line == 7, "an open checker is not opened");
+  want(kigvarp_checker_end(&checker, &hit, &steps) == KIGVARP_UNLAWFUL && hit.line == 1 && hit.reason == 21, "no end came");
+  want(kigvarp_checker_end(&checker, &hit, &steps) == KIGVARP_SPENT && !hit.line && !steps, "it has ended");
+  want(kigvarp_checker_take(&checker, line, 5, &hit) == KIGVARP_SPENT, "and takes no line");
+  want(kigvarp_checker_close(&checker) == KIGVARP_OK, "an open checker is closed");
+}
+
+static uint32_t writes(struct kigvarp_header it, uint8_t ack, size_t length, size_t room) {
+  return kigvarp_packet_write(&it, ack, bytes, length, room ? packet : bytes, room, &count);
+}
+
+/* Fields, lengths and rooms that no symbol and no packet has: nothing is written. */
+static void words_out_of_range(void) {
+  struct kigvarp_symbol symbol = {2, 3, 5, 7, 8}, was = symbol;
+  struct kigvarp_packet told = {1, 2, 3, 4, 5, 6};
+  fill();
+  want(kigvarp_symbol_write(&symbol, wire, 4) == KIGVARP_ARGUMENT, "cmd 8");
+  symbol.cmd = 0;
+  want(kigvarp_symbol_write(&symbol, wire, 3) == KIGVARP_ARGUMENT, "a symbol in too little room");
+  want(kigvarp_symbol_read(wire, 4, &was) == KIGVARP_BAD && was.cmd == 8, "no symbol");
+  want(kigvarp_symbol_read(wire, 3, &was) == KIGVARP_BAD && kigvarp_symbol_read(wire, 5, &was) == KIGVARP_BAD, "three and five");
+  want(writes(header, 32, 4, KIGVARP_PACKET) == KIGVARP_ARGUMENT && !count, "ackID 32");
+  want(writes(header, 0, 3, KIGVARP_PACKET) == KIGVARP_ARGUMENT, "an odd length");
+  want(writes(header, 0, 270, KIGVARP_PACKET) == KIGVARP_ARGUMENT, "a length of a byte pair too many");
+  want(writes(header, 0, 4, KIGVARP_PACKET - 1) == KIGVARP_ARGUMENT, "a packet in too little room");
+  want(writes((struct kigvarp_header){4, 15, 0, 1, 2}, 0, 4, KIGVARP_PACKET) == KIGVARP_ARGUMENT && !packet[0], "priority 4");
+  want(kigvarp_packet_read(bytes, 12, &told) == KIGVARP_BAD && told.ack == 1 && told.dest == 6, "no packet");
+  want(untouched(), "nothing is written");
+}
+
+/* More characters than are read at once. */
+static void reading_too_long(void) {
+  kigvarp_char *chars = calloc(KIGVARP_READ + 1, sizeof *chars);
+  struct kigvarp_reading did = {7, 7};
+  struct kigvarp_event event = {0};
+  if (!chars) return;
+  want(kigvarp_decode(chars, KIGVARP_READ + 1, &event, 1, &did) == KIGVARP_ARGUMENT && !did.events && !event.kind, "too many");
+  want(kigvarp_decode(chars, KIGVARP_READ, &event, 1, &did) == KIGVARP_OK && did.events == 1 && event.kind == 3, "all are read");
+  free(chars);
 }
 
 static uint32_t sends(struct kigvarp_header it, size_t length) {
@@ -118,12 +176,19 @@ static void texts(void) {
 }
 
 int main(void) {
+  want(!strcmp(kigvarp_status_words(KIGVARP_REFUSED), "refused"), "a status has words");
+  want(!strcmp(kigvarp_status_words(KIGVARP_REFUSED + 1), "no status"), "and what is none has others");
   closed_port();
   closed_fabric();
+  closed_checker();
+  checkers();
+  words_out_of_range();
+  reading_too_long();
   out_of_range();
   full();
   texts();
   closed_port();
   closed_fabric();
+  closed_checker();
   return failed;
 }

@@ -85,6 +85,34 @@ static int lines(int is_fabric, long number) {
   return reached;
 }
 
+static const char SET_UP[] = "endpoint A 1\nendpoint B 2\nlink A.0 B.0\n";
+static const char *const TRACE[] = {"> send A 0 15 2 cafe0001",
+                                    "take A 000f0201cafe0001a9bb0000",
+                                    "sent A.0 k7c d80 df8 d1f d00 d0f d02 d01 dca dfe d00 d01 da9 dbb d00 d00 k7c d80 dfa d18",
+                                    "end", 0};
+
+/* A checker that is refused memory is not opened, or has ended, and takes no line; else its answers are as they were. */
+static int checks(long number) {
+  struct kigvarp_checker checker = {0};
+  struct kigvarp_hit hit;
+  uint32_t steps = 0;
+  asked = 0, refused = number;
+  uint32_t status = kigvarp_checker_open(&checker, (const uint8_t *)SET_UP, sizeof SET_UP - 1, &hit);
+  if (status) {
+    want(status == KIGVARP_NO_MEMORY && kigvarp_checker_close(&checker) == KIGVARP_CLOSED, "not opened, and closed", number);
+    return 1;
+  }
+  for (int at = 0; TRACE[at] && !status; at++)
+    status = kigvarp_checker_take(&checker, (const uint8_t *)TRACE[at], strlen(TRACE[at]), &hit);
+  if (!status) status = kigvarp_checker_end(&checker, &hit, &steps);
+  want(status == KIGVARP_OK || status == KIGVARP_CUT, "a status of memory", number);
+  want(status == KIGVARP_OK ? steps == 1 : !steps && !hit.line, "the steps, or none", number);
+  want(kigvarp_checker_take(&checker, (const uint8_t *)"end", 3, &hit) == KIGVARP_SPENT, "it has ended", number);
+  int reached = asked > number;
+  want(kigvarp_checker_close(&checker) == KIGVARP_OK, "closed once", number);
+  return reached;
+}
+
 int main(void) {
   long tried = 0;
   for (int is_fabric = 0; is_fabric < 2; is_fabric++) {
@@ -97,6 +125,8 @@ int main(void) {
     for (later = 0; later < 2; later++)
       for (long number = 0; lines(is_fabric, number); number++) tried++;
   }
+  for (later = 0; later < 2; later++)
+    for (long number = 0; checks(number); number++) tried++;
   printf("%ld refusals\n", tried);
   return failed || tried < 40;
 }

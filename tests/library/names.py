@@ -1,4 +1,5 @@
-"""The functions of the header are those of the archive, and no others of the shared library are seen.
+"""The functions of the header are those of the archive, and no others of the shared library are seen. The words of a status are
+those of its name.
 
 usage: names.py HEADER FOLDER    FOLDER: where the archive and the shared library stand
 """
@@ -26,7 +27,11 @@ def same(what, found, wanted_names):
         sys.exit(f"{what}: {sorted(found ^ wanted_names)} stand in one alone")
 
 
-header = set(re.findall(r"^uint32_t (kigvarp_\w+)\(", Path(sys.argv[1]).read_text(), re.M))
+text = Path(sys.argv[1]).read_text()
+header = set(re.findall(r"^uint32_t (kigvarp_\w+)\(", text, re.M))
+statuses = re.findall(r"^  KIGVARP_(\w+) = (\d+)", text.split("/* What a call answers. */")[1].split("};")[0], re.M)
+words = re.findall(r'"([a-z ]+)"', text.split("words[] = {")[1].split("};")[0])
+same("words", {(name.lower().replace("_", " "), int(number)) for name, number in statuses}, set(zip(words, range(99))))
 archive, shared = (Path(sys.argv[2]) / name for name in ("libkigvarp.a", "libkigvarp.so.0"))
 same("archive", {name for name in defined(archive) if name.startswith("kigvarp_")}, header)
 if shared.exists():

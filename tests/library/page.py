@@ -47,6 +47,9 @@ same("packet", run(compiled("packet", packet_code)), [packet])
 by_library, by_pipes = boot_host(host_code)
 same("boot host", by_library, by_pipes)
 same("many lines", len(by_pipes) > 5, True)
-python = re.search(r"```python\n(.*?)```", PAGE, re.S)[1]
-same("Python", run(sys.executable, "-c", python),
-     [f"{packet} 1", *(TOP / "examples/first.trace").read_text().splitlines()[:-1]])
+by_ports, by_words = (run(sys.executable, "-c", python) for python in re.findall(r"```python\n(.*?)```", PAGE, re.S))
+same("Python", by_ports, [f"{packet} 1", *(TOP / "examples/first.trace").read_text().splitlines()[:-1]])
+events = [line.split(" packet ") for line in (TOP / "examples/packet.lines").read_text().splitlines()[:-1]]
+same("events", [line.split()[0] for line in by_words[:-2]], [event[0].split()[0] for event in events])
+same("symbol and packet", by_words[-2].split()[-1], packet)
+same("trace", by_words[-1], "4 steps")

@@ -3,8 +3,7 @@ use Rattle.std.proofs.Common.{◌≡◌, ℕ, List, [], ◌∷◌, length, refl,
 use Rattle.library_calls.specs.declared.status.CallStatus.{CallStatus}
 use Rattle.library_calls.specs.declared.status.CallStatus.TheVariants.{Done, Closed}
 use Rattle.library_calls.specs.Statuses.{call_number}
-use Rattle.kigvarp_c.specs.Calls.{Calls}
-use Rattle.kigvarp_c.specs.Handles.{OpensBy, ClosesBy}
+use Rattle.kigvarp_c.specs.Calls.{Calls, OpensBy, ClosesBy}
 
 module _ {X : Type 0} where
   -- a closed handle

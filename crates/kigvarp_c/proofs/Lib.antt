@@ -1,3 +1,4 @@
 pub mod AsPortBox
 pub mod AsFabricBox
+pub mod AsCheckerBox
 pub mod CallLaws

@@ -1,10 +1,8 @@
 -- What C owes of a handle, and what opening and closing does.
 use Rattle.std.specs.Prelude.{◌≡◌, ◌≤◌, ℕ, not, ◌==◌, List, [], ◌∷◌, length, All}
-use Rattle.link_port.specs.Ports.{new_port}
 use Rattle.library_calls.specs.declared.status.CallStatus.{CallStatus}
-use Rattle.library_calls.specs.declared.status.CallStatus.TheVariants.{Done, Closed, Argument, Open, NoMemory}
-use Rattle.library_calls.specs.Statuses.{call_number}
-use Rattle.library_calls.specs.PortsSeen.{PortSeen, opened_port}
+use Rattle.library_calls.specs.declared.status.CallStatus.TheVariants.{Done, Argument, NoMemory}
+use Rattle.library_calls.specs.PortsSeen.{PortSeen, new_seen}
 use Rattle.library_calls.specs.FabricsSeen.{FabricSeen, FabricHolds, IsOpenedFabric}
 use Rattle.kigvarp_c.specs.declared.port.KigvarpPort.{KigvarpPort}
 use Rattle.kigvarp_c.specs.declared.fabric.KigvarpFabric.{KigvarpFabric}
@@ -26,7 +24,7 @@ IsBufferCount buffers = (4 ≤ buffers) × (buffers ≤ 30)
 -- refused
 abbrev pub OpensPort : ℕ → ℕ → CallStatus → List PortSeen → Type 0
 OpensPort buffers tells Done after = IsBufferCount buffers
-    × (after ≡ opened_port (new_port (not (tells == 0)) buffers) ∷ [])
+    × (after ≡ new_seen (not (tells == 0)) buffers ∷ [])
 OpensPort buffers tells Argument after = (IsBufferCount buffers → ⊥) × (after ≡ [])
 OpensPort buffers tells NoMemory after = IsBufferCount buffers × (after ≡ [])
 OpensPort buffers tells _ after = ⊥
@@ -36,14 +34,3 @@ abbrev pub OpensFabric : CallStatus → List FabricSeen → Type 0
 OpensFabric Done after = (fabric : FabricSeen) × (after ≡ fabric ∷ []) × IsOpenedFabric fabric
 OpensFabric NoMemory after = after ≡ []
 OpensFabric _ after = ⊥
-
--- What opening does, by the number that it answers: an open handle stays as it is.
-abbrev pub OpensBy : {X : Type 0} → (CallStatus → List X → Type 0) → List X → ℕ → List X → Type 0
-OpensBy Opens [] number after = (status : CallStatus) × (number ≡ call_number status) × Opens
-    status after
-OpensBy Opens (old ∷ others) number after = (number ≡ call_number Open) × (after ≡ old ∷ others)
-
--- What closing does: the handle is closed, and a closed one is told of.
-abbrev pub ClosesBy : {X : Type 0} → List X → ℕ → List X → Type 0
-ClosesBy [] number after = (number ≡ call_number Closed) × (after ≡ [])
-ClosesBy (old ∷ others) number after = (number ≡ call_number Done) × (after ≡ [])

@@ -2,8 +2,8 @@
 ghost use Rattle.std.specs.Prelude.{◌≡◌, ◌∷◌, [], List, MatchOption, IfSome};
 ghost use Rattle.library_calls.specs.FabricsSeen.{FabricSeen, FabricHolds, FabricTextTaken};
 ghost use Rattle.library_calls.specs.FabricLines.{FabricLineDid};
-ghost use Rattle.kigvarp_c.specs.Handles.{IsFabricHandle, OpensFabric, OpensBy, ClosesBy};
-ghost use Rattle.kigvarp_c.specs.Calls.{Calls, Always};
+ghost use Rattle.kigvarp_c.specs.Handles.{IsFabricHandle, OpensFabric};
+ghost use Rattle.kigvarp_c.specs.Calls.{Calls, Always, OpensBy, ClosesBy};
 
 use crate::fabric_handle::FabricHandle;
 use crate::parts::Parts;
@@ -67,7 +67,7 @@ pub extern "C" fn kigvarp_fabric_open(alloc: Global, fabric: &mut KigvarpFabric)
     call_number(CallStatus::Done)
 }
 
-/// ClosesBy a fabric, and gives its memory back.
+/// Closes a fabric, and gives its memory back.
 #[unsafe(no_mangle)]
 pub extern "C" fn kigvarp_fabric_close(alloc: Global, fabric: &mut KigvarpFabric) -> u32
     requires { IsFabricHandle fabric.old }

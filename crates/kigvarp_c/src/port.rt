@@ -1,7 +1,8 @@
 //! A port that C holds: opened, closed, and taken out of its handle for a call.
 ghost use Rattle.std.specs.Prelude.{◌≡◌, ◌∷◌, [], List, MatchOption};
 ghost use Rattle.library_calls.specs.PortsSeen.{PortSeen};
-ghost use Rattle.kigvarp_c.specs.Handles.{IsPortHandle, OpensPort, OpensBy, ClosesBy};
+ghost use Rattle.kigvarp_c.specs.Handles.{IsPortHandle, OpensPort};
+ghost use Rattle.kigvarp_c.specs.Calls.{OpensBy, ClosesBy};
 
 use crate::parts::Parts;
 use crate::port_handle::PortHandle;
@@ -70,7 +71,7 @@ pub extern "C" fn kigvarp_port_open(
     call_number(CallStatus::Done)
 }
 
-/// ClosesBy a port, and gives its memory back.
+/// Closes a port, and gives its memory back.
 #[unsafe(no_mangle)]
 pub extern "C" fn kigvarp_port_close(alloc: Global, port: &mut KigvarpPort) -> u32
     requires { IsPortHandle port.old }

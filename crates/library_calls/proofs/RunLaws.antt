@@ -1,6 +1,5 @@
 -- Characters are taken one after another, and their answers are written one behind another.
-use Rattle.std.proofs.Common.{◌≡◌, ℕ, suc, ◌+◌, ◌*◌, ◌≤◌, ◌-◌, List, [], ◌∷◌, ◌++◌, Option, Some, None, option_to_list, length, get_or, take, drop, refl, sym, ap, ◌∙◌, append_assoc, append-nil, arith, length-append}
-use Rattle.std.proofs.lemmas.Grind.{common_steps}
+use Rattle.std.proofs.Common.{◌≡◌, ℕ, suc, ◌+◌, ◌*◌, ◌≤◌, ◌-◌, List, [], ◌∷◌, ◌++◌, Option, Some, None, option_to_list, length, take, drop, refl, sym, ap, ◌∙◌, append_assoc, append-nil, arith, length-append}
 use Rattle.std.proofs.lemmas.List.{take_at, drop_at, drop-drop}
 use Rattle.rio_symbols.specs.Fields.{Fields}
 use Rattle.link_port.specs.Ports.{PortState}
@@ -137,11 +136,3 @@ IsRunWithin-more acted all count less h is adds one =
       freed = omega (arith, h.freed, adds.freed, adds.few, one);
       sent = omega (arith, h.sent, adds.sent, adds.short, one);
     }
-
--- the first of some numbers, and those behind it
-pub first_number : (left : List ℕ) (d : ℕ) → 1 ≤ length left
-    → left ≡ get_or left 0 d ∷ take (length left - 1) (drop 1 left)
-first_number [] d some = absurd (omega arith)
-first_number (n ∷ left) d some =
-    let all : take (length (n ∷ left) - 1) left ≡ left = grind (arith, common_steps) in
-    ap (λ (ns : List ℕ). n ∷ ns) (sym all)

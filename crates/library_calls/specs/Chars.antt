@@ -2,7 +2,6 @@
 use Rattle.std.specs.Prelude.{◌≡◌, ◌<◌, ◌≤◌, ◌+◌, ◌*◌, ℕ, Bool, if◌then◌else◌, List, [], ◌∷◌, length, Option, Some, None, option_to_list}
 use Rattle.std.specs.List.{flat_map}
 use Rattle.rio_symbols.specs.Fields.{Fields}
-use Rattle.link_model.specs.Prelude.{symbol_chars_of}
 use Rattle.link_port.specs.Steps.{Acted, takes}
 use Rattle.link_port.specs.Streams.{Streamed}
 use Rattle.link_port.specs.Streams.{takes_each}
@@ -11,7 +10,7 @@ use Rattle.library_calls.specs.declared.status.CallStatus.{CallStatus}
 use Rattle.library_calls.specs.declared.status.CallStatus.TheVariants.{Done, Argument}
 use Rattle.library_calls.specs.declared.told.CharDid.{CharDid}
 use Rattle.library_calls.specs.declared.told.RunDid.{RunDid}
-use Rattle.library_calls.specs.Wires.{wire_char, wire_chars, char_wires}
+use Rattle.library_calls.specs.Wires.{wire_char, wire_chars, char_wires, symbol_wires}
 use Rattle.library_calls.specs.Rooms.{laid_over, laid_at}
 use Rattle.library_calls.specs.PortsSeen.{PortSeen, seen_at}
 
@@ -23,10 +22,6 @@ held_length (Some packet) = length packet
 -- the packet, if it was accepted
 abbrev pub held_if : Bool → List ℕ → Option (List ℕ)
 held_if held packet = if held then Some packet else None
-
--- the characters of an answer
-abbrev pub symbol_wires : Fields → List ℕ
-symbol_wires symbol = char_wires (symbol_chars_of symbol)
 
 -- those of the answer of one character, if there is one
 abbrev pub reply_wires : Option Fields → List ℕ

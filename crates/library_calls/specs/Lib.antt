@@ -1,6 +1,10 @@
 pub mod Wires
 pub mod Rooms
 pub mod Statuses
+pub mod Headers
+pub mod Readings
+pub mod Words
+pub mod Checks
 pub mod PortsSeen
 pub mod PortLines
 pub mod Chars

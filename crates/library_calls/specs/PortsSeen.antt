@@ -1,20 +1,39 @@
 -- What contracts see of an open port.
-use Rattle.std.specs.Prelude.{◌≡◌, ℕ, List, [], drop}
+use Rattle.std.specs.Prelude.{◌≡◌, ℕ, Bool, List, [], drop}
+use Rattle.rio_chars.specs.declared.chars.Char.{Char}
 use Rattle.link_port.specs.Ports.{PortState}
+use Rattle.port_lines.specs.Clocks.{ClockedState, new_clocked}
 use Rattle.library_calls.specs.Rooms.{TextTaken}
 
--- the port, and the text that was told and is not taken yet
+-- the port, how many buffers it is made with, the characters that clocks have not given yet, and
+-- the text that was told and is not taken yet
 pub record PortSeen : Type 0 where
   pub port : PortState
+  pub buffers : ℕ
+  pub waiting : List Char
   pub text : List ℕ
 
+-- a port of which this was told
+abbrev pub port_told : ClockedState → List ℕ → PortSeen
+port_told at text =
+    record { port = at.port; buffers = at.buffers; waiting = at.waiting; text = text }
+
 -- a port of which nothing was told
-abbrev pub opened_port : PortState → PortSeen
-opened_port port = record { port = port; text = [] }
+abbrev pub opened_port : ClockedState → PortSeen
+opened_port at = port_told at []
+
+-- a new port
+abbrev pub new_seen : Bool → ℕ → PortSeen
+new_seen tells buffers = opened_port (new_clocked tells buffers)
+
+-- the port, as lines see it
+abbrev pub clocked_seen : PortSeen → ClockedState
+clocked_seen seen =
+    record { port = seen.port; buffers = seen.buffers; waiting = seen.waiting }
 
 -- the port went on, and its text waits as before
 abbrev pub seen_at : PortSeen → PortState → PortSeen
-seen_at seen port = record { port = port; text = seen.text }
+seen_at seen port = record seen { port = port }
 
 -- a front of the text that waits was taken
 abbrev pub PortTextTaken : List ℕ → List ℕ → ℕ → PortSeen → PortSeen → Type 0

@@ -2,7 +2,7 @@
 use Rattle.std.specs.Prelude.{◌≡◌, ℕ, List, ◌++◌, length, min, take, drop}
 
 -- the front of the room was written over, and what stood behind it stands there still
-abbrev pub laid_over : List ℕ → List ℕ → List ℕ
+abbrev pub laid_over : {X : Type 0} → List X → List X → List X
 laid_over front room = front ++ drop (length front) room
 
 -- the same behind so many places that stay

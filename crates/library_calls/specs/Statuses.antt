@@ -1,7 +1,7 @@
 -- The number of what a call answers.
 use Rattle.std.specs.Prelude.{ℕ}
 use Rattle.library_calls.specs.declared.status.CallStatus.{CallStatus}
-use Rattle.library_calls.specs.declared.status.CallStatus.TheVariants.{Done, Closed, Argument, Open, Full, Empty, NoMemory, Undetected, Cut, Spent}
+use Rattle.library_calls.specs.declared.status.CallStatus.TheVariants.{Done, Closed, Argument, Open, Full, Empty, NoMemory, Undetected, Cut, Spent, Bad, Unlawful, Refused}
 
 abbrev pub call_number : CallStatus → ℕ
 call_number Done = 0
@@ -14,3 +14,6 @@ call_number NoMemory = 6
 call_number Undetected = 7
 call_number Cut = 8
 call_number Spent = 9
+call_number Bad = 10
+call_number Unlawful = 11
+call_number Refused = 12

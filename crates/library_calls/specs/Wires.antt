@@ -3,6 +3,7 @@
 use Rattle.std.specs.Prelude.{ℕ, ◌+◌, ◌-◌, nat_lt, if◌then◌else◌, List, map}
 use Rattle.rio_chars.specs.declared.chars.Char.{Char}
 use Rattle.rio_chars.specs.declared.chars.Char.TheVariants.{Data, Special, Invalid}
+use Rattle.link_model.specs.Prelude.{Fields, symbol_chars_of}
 
 -- the character of a number
 abbrev pub wire_char : ℕ → Char
@@ -21,3 +22,7 @@ wire_chars numbers = map wire_char numbers
 
 abbrev pub char_wires : List Char → List ℕ
 char_wires chars = map char_wire chars
+
+-- the characters that are sent for a symbol
+abbrev pub symbol_wires : Fields → List ℕ
+symbol_wires symbol = char_wires (symbol_chars_of symbol)

@@ -13,20 +13,30 @@
 #![tactic(auto)]
 
 mod acting;
+mod checks;
 mod laws;
 mod open_fabric;
 mod open_port;
 mod port_chars;
 mod port_packets;
+mod readings;
+mod rooms;
 mod runs;
 mod status;
 mod text_sink;
 mod told;
 mod wires;
+mod words;
 
-pub use laws::numbers_are_characters;
+pub use checks::OpenChecker;
+pub use laws::{numbers_are_characters, written_words_are_read};
 pub use open_fabric::OpenFabric;
 pub use open_port::OpenPort;
+pub use readings::decode;
 pub use status::{CallStatus, call_number};
-pub use told::{CharDid, PacketHeader, RunDid, StateTold};
+pub use told::{
+    CharDid, EventTold, HitTold, PacketHeader, PacketTold, ReadingTold, RunDid, StateTold,
+    SymbolTold,
+};
 pub use wires::{char_wire, wire_char};
+pub use words::{read_packet, read_symbol, write_packet, write_symbol};

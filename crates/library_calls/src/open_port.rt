@@ -1,16 +1,14 @@
 //! An open port, and its lines.
-ghost use Rattle.std.specs.Prelude.{◌≡◌, ◌≤◌, [], IfOk, OnOk, OnErr, drop};
-ghost use Rattle.link_port.specs.Ports.{new_port};
+ghost use Rattle.std.specs.Prelude.{◌≡◌, ◌≤◌, [], IfOk, OnErr, OnOk, drop};
 ghost use Rattle.port_lines.specs.Lines.{asked_answer};
-ghost use Rattle.library_calls.specs.PortsSeen.{opened_port, PortTextTaken};
+ghost use Rattle.library_calls.specs.PortsSeen.{new_seen, PortTextTaken};
 ghost use Rattle.library_calls.specs.PortLines.{PortLineDid, WritesBut};
 
 use crate::acting::Came;
 use crate::status::CallStatus;
 use crate::text_sink::TextSink;
 use arrayvec::ArrayVec;
-use link_port::Port;
-use port_lines::{PortRequest, RequestRefusal, answer, read_request};
+use port_lines::{ClockedPort, PortRequest, RequestRefusal, answer, read_request};
 use rio_chars::{NoMemory, Outbox, Sink, TextBuffer};
 use rio_packets::Packet;
 use std::alloc::Global;
@@ -19,7 +17,7 @@ use std::marker::Model;
 /// A port, the text that it told and that is not taken yet, and the room that its calls need.
 #[derive(Drop)]
 pub struct OpenPort {
-    pub(crate) port: Port,
+    pub(crate) clocked: ClockedPort,
     pub(crate) came: Came,
     sink: TextSink,
     /// How many bytes of it were taken.
@@ -34,7 +32,9 @@ impl Model for OpenPort {
     ghost Value = { PortSeen };
 
     ghost view = { λ opened. record {
-      port = opened.port;
+      port = opened.clocked.port;
+      buffers = opened.clocked.buffers;
+      waiting = opened.clocked.waiting;
       text = drop opened.taken opened.sink.text.items;
     } };
 }
@@ -44,15 +44,10 @@ impl OpenPort {
     pub fn new(alloc: Global, buffers: u8, tells: bool) -> Result<OpenPort, NoMemory>
         requires least { 4 ≤ buffers }
         requires most { buffers ≤ 30 }
-        ensures { IfOk result (λ opened. opened ≡ opened_port (new_port tells buffers)) }
+        ensures { IfOk result (λ opened. opened ≡ new_seen tells buffers) }
     {
-        let port = if tells {
-            Port::telling(alloc, buffers)?
-        } else {
-            Port::new(alloc, buffers)?
-        };
         Ok(OpenPort {
-            port,
+            clocked: ClockedPort::new(alloc, buffers, tells)?,
             came: Came {
                 packet: Packet::default(),
                 freed: ArrayVec::new(),
@@ -72,7 +67,17 @@ impl OpenPort {
         let Ok(asked) = read_request(alloc, line) else {
             return CallStatus::NoMemory;
         };
-        if tell(&mut self.port, asked, &mut self.buffer, &mut self.sink) {
+        let Ok(cut) = tell(
+            alloc,
+            &mut self.clocked,
+            asked,
+            &mut self.buffer,
+            &mut self.sink,
+        ) else {
+            self.sink.clear();
+            return CallStatus::NoMemory;
+        };
+        if cut {
             CallStatus::Cut
         } else {
             CallStatus::Done
@@ -87,36 +92,41 @@ impl OpenPort {
     }
 }
 
-/// Does what is asked for and tells the answer, and answers whether a write failed.
+/// Does what is asked for and tells the answer, and answers whether a write failed. If memory is
+/// not given, nothing is done.
 fn tell<K: Sink>(
-    port: &mut Port,
+    alloc: Global,
+    clocked: &mut ClockedPort,
     asked: Result<PortRequest, RequestRefusal>,
     buffer: &mut TextBuffer,
     sink: &mut K,
-) -> bool
-    ensures port { port.new ≡ (asked_answer port.old asked).port }
-    ensures text { WritesBut result (K.written sink.old) (K.written sink.new)
-        (asked_answer port.old asked).text }
+) -> Result<bool, NoMemory>
+    ensures port { OnOk result (clocked.new ≡ (asked_answer clocked.old asked).stands) }
+    ensures text { IfOk result (λ failed. WritesBut failed (K.written sink.old)
+        (K.written sink.new) (asked_answer clocked.old asked).text) }
+    ensures same { OnErr result (clocked.new ≡ clocked.old) }
 {
     let mut outbox = Outbox::new(buffer, sink);
-    let failed = tell_whole(port, asked, &mut outbox);
+    let failed = tell_whole(alloc, clocked, asked, &mut outbox);
     outbox.into_sink();
     failed
 }
 
 /// The same through an outbox.
 fn tell_whole<K: Sink>(
-    port: &mut Port,
+    alloc: Global,
+    clocked: &mut ClockedPort,
     asked: Result<PortRequest, RequestRefusal>,
     outbox: &mut Outbox<K>,
-) -> bool
+) -> Result<bool, NoMemory>
     requires { outbox.old.waiting ≡ [] }
-    ensures port { port.new ≡ (asked_answer port.old asked).port }
-    ensures text { WritesBut result outbox.old.written outbox.new.written
-        (asked_answer port.old asked).text }
+    ensures port { OnOk result (clocked.new ≡ (asked_answer clocked.old asked).stands) }
+    ensures text { IfOk result (λ failed. WritesBut failed outbox.old.written
+        outbox.new.written (asked_answer clocked.old asked).text) }
+    ensures clocked { OnErr result (clocked.new ≡ clocked.old) }
     ensures same { outbox.new.sink ≡ outbox.old.sink }
 {
-    answer(port, asked, outbox);
+    answer(alloc, clocked, asked, outbox)?;
     outbox.flush();
-    outbox.failed()
+    Ok(outbox.failed())
 }

@@ -28,7 +28,7 @@ impl OpenPort {
     pub fn take(&mut self, number: u16, did: &mut CharDid)
         ensures { CharTakes number did.new self.old self.new }
     {
-        let done = take_char(&mut self.port, wire_char(number), &mut self.came);
+        let done = take_char(&mut self.clocked.port, wire_char(number), &mut self.came);
         did.held = held_length(done.held, &self.came.packet);
         did.freed = self.came.freed.len() as u32;
         did.chars = [0; ANSWER];
@@ -48,7 +48,7 @@ impl OpenPort {
         if numbers.len() > RUN || room.len() < ANSWER * numbers.len() {
             return CallStatus::Argument;
         }
-        *did = take_run(&mut self.port, numbers, room, &mut self.came);
+        *did = take_run(&mut self.clocked.port, numbers, room, &mut self.came);
         CallStatus::Done
     }
 
@@ -61,8 +61,8 @@ impl OpenPort {
         if room.len() < TURN {
             return CallStatus::Argument;
         }
-        let sending = self.port.start_turn();
-        *count = put_sending(&self.port, sending, room);
+        let sending = self.clocked.port.start_turn();
+        *count = put_sending(&self.clocked.port, sending, room);
         CallStatus::Done
     }
 
@@ -70,7 +70,7 @@ impl OpenPort {
     pub fn time_out(&mut self)
         ensures { PortTimesOut self.old self.new }
     {
-        self.port.time_out();
+        self.clocked.port.time_out();
     }
 }
 

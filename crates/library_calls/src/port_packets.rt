@@ -1,18 +1,16 @@
 //! Packets of an open port, and its state.
-ghost use Rattle.std.specs.Prelude.{◌≡◌, ◌≤◌, ◌<◌, ◌↔◌, length, IfSome, IsTrue, MatchOption};
-ghost use Rattle.link_buffers.specs.Prelude.{highest, list_at};
-ghost use Rattle.library_calls.specs.Packets.{HeaderFits, PacketSends, PacketCollects, fields_of_header};
-ghost use Rattle.library_calls.specs.Rooms.{laid_over};
+ghost use Rattle.std.specs.Prelude.{◌≡◌};
+ghost use Rattle.library_calls.specs.Packets.{PacketSends, PacketCollects};
 ghost use Rattle.library_calls.specs.States.{TellsState, out_number as out_number_of, in_number as in_number_of};
 
 use crate::open_port::OpenPort;
+use crate::rooms::put_bytes;
 use crate::status::CallStatus;
 use crate::told::{PacketHeader, StateTold};
-use link_port::{InKind, OutKind, Port, PortFace};
-use rio_packets::{Header, Packet, build};
-
-/// The most bytes of a packet.
-const PACKET: usize = 276;
+use crate::words::{PACKET, header_of};
+use link_port::{InKind, OutKind, PortFace};
+use port_lines::highest_held;
+use rio_packets::build;
 
 impl OpenPort {
     /// Puts the packet of these fields, and these bytes behind them, to those to be sent. Nothing
@@ -26,10 +24,10 @@ impl OpenPort {
         let Ok(packet) = build(&header, rest) else {
             return CallStatus::Argument;
         };
-        if !self.port.out_room(packet.prio()) {
+        if !self.clocked.port.out_room(packet.prio()) {
             return CallStatus::Full;
         }
-        self.port.out_put(packet);
+        self.clocked.port.out_put(packet);
         CallStatus::Done
     }
 
@@ -42,13 +40,13 @@ impl OpenPort {
         if room.len() < PACKET {
             return CallStatus::Argument;
         }
-        let Some(prio) = highest_held(&self.port) else {
+        let Some(prio) = highest_held(&self.clocked.port) else {
             return CallStatus::Empty;
         };
-        let Some(packet) = self.port.in_pop(prio) else {
+        let Some(packet) = self.clocked.port.in_pop(prio) else {
             unreachable!();
         };
-        *count = put_bytes(&packet, room);
+        *count = put_bytes(packet.bytes(), room);
         CallStatus::Done
     }
 
@@ -56,71 +54,11 @@ impl OpenPort {
     pub fn state(&self, told: &mut StateTold)
         ensures { TellsState self.now.port told.new }
     {
-        told.output = out_number(self.port.out_kind());
-        told.input = in_number(self.port.in_kind());
-        told.outstanding = u32::from(self.port.outstanding());
-        told.waiting = u32::from(self.port.waiting());
+        told.output = out_number(self.clocked.port.out_kind());
+        told.input = in_number(self.clocked.port.in_kind());
+        told.outstanding = u32::from(self.clocked.port.outstanding());
+        told.waiting = u32::from(self.clocked.port.waiting());
     }
-}
-
-/// The fields of a packet, if each has its width.
-fn header_of(header: &PacketHeader) -> Option<Header>
-    ensures { MatchOption result (¬ HeaderFits header.now)
-        (λ made. HeaderFits header.now × (made ≡ fields_of_header header.now)) }
-{
-    let large = header.large != 0;
-    if header.prio >= 4 || header.ftype >= 16 {
-        return None;
-    }
-    if !large && (header.source >= 256 || header.dest >= 256) {
-        return None;
-    }
-    Some(Header {
-        prio: header.prio,
-        ftype: header.ftype,
-        dest: header.dest,
-        source: header.source,
-        large,
-    })
-}
-
-/// Writes the bytes of a packet into a room, and answers how many they are.
-fn put_bytes(packet: &Packet, room: &mut [u8]) -> usize
-    requires { 276 ≤ length room.old }
-    ensures count { result ≡ length packet.now }
-    ensures room { room.new ≡ laid_over packet.now room.old }
-{
-    let bytes = packet.bytes();
-    let count = bytes.len();
-    room[..count].copy_from_slice(bytes);
-    count
-}
-
-/// The highest priority that has a held packet.
-fn highest_held(port: &Port) -> Option<u8>
-    ensures value { result ≡ highest port.now.received.lists }
-    ensures below { IfSome result (λ prio. prio < 4) }
-    ensures some { IfSome result (λ prio. 0 < length (list_at port.now.received.lists prio)) }
-{
-    if holds(port, 3) {
-        Some(3)
-    } else if holds(port, 2) {
-        Some(2)
-    } else if holds(port, 1) {
-        Some(1)
-    } else if holds(port, 0) {
-        Some(0)
-    } else {
-        None
-    }
-}
-
-/// Whether a priority has a held packet.
-fn holds(port: &Port, prio: u8) -> bool
-    requires { prio < 4 }
-    ensures { IsTrue result ↔ (0 < length (list_at port.now.received.lists prio)) }
-{
-    port.in_head(prio).is_some()
 }
 
 /// The number of a state of the output half.

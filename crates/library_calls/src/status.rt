@@ -22,11 +22,17 @@ pub enum CallStatus {
     NoMemory,
     /// A port acted on an event that was not sent, which the answer tells. The fabric is spent.
     Undetected,
-    /// Memory was refused while an answer was told: a front of it waits. A port went on as the
-    /// answer says; a fabric is spent.
+    /// Memory was refused while a line was answered: a front of the answer waits. A port went on as
+    /// the answer says; a fabric or a checker is spent.
     Cut,
-    /// The fabric answers no further line. Nothing was done.
+    /// The fabric or the checker answers no further line. Nothing was done.
     Spent,
+    /// The characters are no symbol, or the bytes carry no packet. Nothing was done.
+    Bad,
+    /// A reason hits a line of a trace. The checker is spent.
+    Unlawful,
+    /// A reason hits a line of a set-up. Nothing was done.
+    Refused,
 }
 
 /// The number of a status.
@@ -44,5 +50,8 @@ pub fn call_number(status: CallStatus) -> u32
         CallStatus::Undetected => 7,
         CallStatus::Cut => 8,
         CallStatus::Spent => 9,
+        CallStatus::Bad => 10,
+        CallStatus::Unlawful => 11,
+        CallStatus::Refused => 12,
     }
 }

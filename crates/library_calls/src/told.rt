@@ -53,3 +53,77 @@ pub struct StateTold {
     /// 1 if a packet is to be sent that is not outstanding, or 0.
     pub waiting: u32,
 }
+
+/// The fields of a control symbol.
+#[repr(C)]
+#[derive(Clone, Copy)]
+pub struct SymbolTold {
+    /// 0 to 7.
+    pub stype0: u8,
+    /// 0 to 31.
+    pub parameter0: u8,
+    /// 0 to 31.
+    pub parameter1: u8,
+    /// 0 to 7.
+    pub stype1: u8,
+    /// 0 to 7.
+    pub cmd: u8,
+}
+
+/// What characters say.
+#[repr(C)]
+#[derive(Clone, Copy)]
+pub struct EventTold {
+    /// The place of the character that completed it, counted from 0.
+    pub place: u32,
+    /// 1 for a control symbol, 2 for a packet, 3 for what is neither.
+    pub kind: u32,
+    /// How many bytes the packet has, or 0.
+    pub length: u32,
+    /// The symbol, or zeros.
+    pub symbol: SymbolTold,
+    /// The ackID that the packet was sent with, or 0.
+    pub ack: u8,
+    /// The cause of what is neither, or 0.
+    pub cause: u8,
+    /// The bytes of the packet with ackID 0, and zeros behind them.
+    pub bytes: [u8; 276],
+}
+
+/// What a run of characters says.
+#[repr(C)]
+#[derive(Clone, Copy)]
+pub struct ReadingTold {
+    /// How many events.
+    pub events: u32,
+    /// 1 if the run ends within a symbol or a packet, or 0.
+    pub cut: u32,
+}
+
+/// What the bytes of a packet say.
+#[repr(C)]
+#[derive(Clone, Copy)]
+pub struct PacketTold {
+    /// The ackID, 0 to 31.
+    pub ack: u8,
+    /// The priority, 0 to 3.
+    pub prio: u8,
+    /// The transport type, 0 to 3: 0 if the IDs have 8 bits, and 1 if they have 16.
+    pub tt: u8,
+    /// The format type, 0 to 15.
+    pub ftype: u8,
+    /// The source ID, or 0 if the transport type is 2 or 3.
+    pub source: u16,
+    /// The destination ID, or 0 if the transport type is 2 or 3.
+    pub dest: u16,
+}
+
+/// The line that a reason hits.
+#[repr(C)]
+#[derive(Clone, Copy)]
+pub struct HitTold {
+    /// The number of the line, counted from 1, or 0.
+    pub line: u32,
+    /// The number of the least reason that hits it, or 0.
+    pub reason: u32,
+}

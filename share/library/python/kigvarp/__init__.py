@@ -1,4 +1,4 @@
-"""A simulated RapidIO fabric and a port of a link, over the library libkigvarp.
+"""A simulated RapidIO fabric, a port of a link, a check of traces, and what characters say, over the library libkigvarp.
 
     from kigvarp import Port
 
@@ -10,10 +10,13 @@
 The library is looked for at KIGVARP_LIBRARY, beside this package, and where the system has its libraries. docs/library.md
 says what each call does and what is proved of it.
 """
+from .checker import Checker
 from .fabric import Fabric
-from .library import Closed, KigvarpError, NotAsked, OutOfMemory, Spent, Status
+from .library import Broken, Closed, KigvarpError, NotAsked, OutOfMemory, Refused, Spent, Status, Unlawful
 from .port import CharDid, Port, RunDid, State
 from .text import char_text, chars_of, text_of
+from .words import Bad, Event, Packet, Reading, Symbol, decode
 
-__all__ = ["CharDid", "Closed", "Fabric", "KigvarpError", "NotAsked", "OutOfMemory", "Port", "RunDid", "Spent", "State",
-           "Status", "char_text", "chars_of", "text_of"]
+__all__ = ["Bad", "Broken", "CharDid", "Checker", "Closed", "Event", "Fabric", "KigvarpError", "NotAsked", "OutOfMemory",
+           "Packet", "Port", "Reading", "Refused", "RunDid", "Spent", "State", "Status", "Symbol", "Unlawful", "char_text",
+           "chars_of", "decode", "text_of"]

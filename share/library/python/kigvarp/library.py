@@ -10,6 +10,8 @@ ANSWER = 4
 TURN = 284
 PACKET = 276
 RUN = 65536
+READ = 4194304
+SCRIPT = 16777216
 
 # How many bytes of an answer are taken at once.
 PIECE = 1 << 16
@@ -28,6 +30,9 @@ class Status(IntEnum):
     UNDETECTED = 7
     CUT = 8
     SPENT = 9
+    BAD = 10
+    UNLAWFUL = 11
+    REFUSED = 12
 
 
 class KigvarpError(Exception):
@@ -40,7 +45,7 @@ class KigvarpError(Exception):
 
 
 class Closed(KigvarpError):
-    """The port or the fabric is closed."""
+    """The port, the fabric or the checker is closed."""
 
 
 class NotAsked(KigvarpError, ValueError):
@@ -52,11 +57,33 @@ class OutOfMemory(KigvarpError, MemoryError):
 
 
 class Spent(KigvarpError):
-    """The fabric answers no further line: `text` is the last answer if this line ended it."""
+    """The fabric or the checker answers no further line: `text` is the last answer if this line ended a fabric."""
+
+
+class Broken(KigvarpError, ValueError):
+    """The characters are no symbol, or the bytes carry no packet."""
+
+
+class Hit(KigvarpError):
+    """A reason hits a line: `line` is its number, counted from 1, and `reason` the least reason that hits it."""
+
+    def __init__(self, status: Status, line: int, reason: int) -> None:
+        super().__init__(status)
+        self.args = (f"{self.args[0]} {line} {reason}",)
+        self.line = line
+        self.reason = reason
+
+
+class Refused(Hit):
+    """A reason hits a line of the set-up."""
+
+
+class Unlawful(Hit):
+    """A reason hits a line of the trace."""
 
 
 ERRORS = {Status.CLOSED: Closed, Status.ARGUMENT: NotAsked, Status.NO_MEMORY: OutOfMemory, Status.CUT: OutOfMemory,
-          Status.UNDETECTED: Spent, Status.SPENT: Spent}
+          Status.UNDETECTED: Spent, Status.SPENT: Spent, Status.BAD: Broken}
 
 
 class Handle(ctypes.Structure):
@@ -92,6 +119,38 @@ class StateC(ctypes.Structure):
                 ("waiting", ctypes.c_uint32)]
 
 
+class SymbolC(ctypes.Structure):
+    """struct kigvarp_symbol"""
+
+    _fields_ = [(name, ctypes.c_uint8) for name in ("stype0", "parameter0", "parameter1", "stype1", "cmd")]
+
+
+class EventC(ctypes.Structure):
+    """struct kigvarp_event"""
+
+    _fields_ = [("place", ctypes.c_uint32), ("kind", ctypes.c_uint32), ("length", ctypes.c_uint32), ("symbol", SymbolC),
+                ("ack", ctypes.c_uint8), ("cause", ctypes.c_uint8), ("bytes", ctypes.c_uint8 * PACKET)]
+
+
+class ReadingC(ctypes.Structure):
+    """struct kigvarp_reading"""
+
+    _fields_ = [("events", ctypes.c_uint32), ("cut", ctypes.c_uint32)]
+
+
+class PacketC(ctypes.Structure):
+    """struct kigvarp_packet"""
+
+    _fields_ = [("ack", ctypes.c_uint8), ("prio", ctypes.c_uint8), ("tt", ctypes.c_uint8), ("ftype", ctypes.c_uint8),
+                ("source", ctypes.c_uint16), ("dest", ctypes.c_uint16)]
+
+
+class HitC(ctypes.Structure):
+    """struct kigvarp_hit"""
+
+    _fields_ = [("line", ctypes.c_uint32), ("reason", ctypes.c_uint32)]
+
+
 BYTES = ctypes.c_char_p
 ROOM = ctypes.c_void_p
 SIZE = ctypes.c_size_t
@@ -113,6 +172,19 @@ CALLS = {
     "fabric_close": (),
     "fabric_line": (BYTES, SIZE),
     "fabric_text": (ROOM, SIZE, ctypes.POINTER(SIZE)),
+    "checker_open": (BYTES, SIZE, ctypes.POINTER(HitC)),
+    "checker_close": (),
+    "checker_take": (BYTES, SIZE, ctypes.POINTER(HitC)),
+    "checker_end": (ctypes.POINTER(HitC), ctypes.POINTER(ctypes.c_uint32)),
+}
+
+# All arguments of each call without a handle.
+PLAIN = {
+    "decode": (ROOM, SIZE, ctypes.POINTER(EventC), SIZE, ctypes.POINTER(ReadingC)),
+    "symbol_write": (ctypes.POINTER(SymbolC), ROOM, SIZE),
+    "symbol_read": (ROOM, SIZE, ctypes.POINTER(SymbolC)),
+    "packet_write": (ctypes.POINTER(HeaderC), ctypes.c_uint8, BYTES, SIZE, ROOM, SIZE, ctypes.POINTER(SIZE)),
+    "packet_read": (BYTES, SIZE, ctypes.POINTER(PacketC)),
 }
 
 
@@ -127,9 +199,10 @@ def library_file() -> str:
 def load() -> ctypes.CDLL:
     """The library, whose calls know their arguments."""
     loaded = ctypes.CDLL(library_file())
-    for name, arguments in CALLS.items():
+    handled = {name: (ctypes.POINTER(Handle), *arguments) for name, arguments in CALLS.items()}
+    for name, arguments in (handled | PLAIN).items():
         call = getattr(loaded, f"kigvarp_{name}")
-        call.argtypes = (ctypes.POINTER(Handle), *arguments)
+        call.argtypes = arguments
         call.restype = ctypes.c_uint32
     return loaded
 
@@ -137,23 +210,50 @@ def load() -> ctypes.CDLL:
 LIBRARY = load()
 
 
-class Held:
-    """What is open until it is closed: a port or a fabric, which answers lines."""
+def well(status: int) -> None:
+    """Raises what a status says that is not well."""
+    if status:
+        raise ERRORS.get(Status(status), KigvarpError)(Status(status))
+
+
+class Handled:
+    """What is open until it is closed."""
 
     kind = ""
 
-    def __init__(self, *arguments: int) -> None:
+    def __init__(self) -> None:
         self._handle = Handle()
+
+    def _call(self, name: str, *arguments: object) -> Status:
+        return Status(getattr(LIBRARY, f"kigvarp_{self.kind}_{name}")(self._handle, *arguments))
+
+    def close(self) -> None:
+        """Closes it, and gives its memory back. A second close does nothing."""
+        self._call("close")
+
+    def __enter__(self):
+        return self
+
+    def __exit__(self, *how: object) -> None:
+        self.close()
+
+    def __del__(self) -> None:
+        if getattr(self, "_handle", None) is not None:
+            self.close()
+
+
+class Held(Handled):
+    """A port or a fabric, which answers lines."""
+
+    def __init__(self, *arguments: int) -> None:
+        super().__init__()
         self._count = SIZE()
         self._line = getattr(LIBRARY, f"kigvarp_{self.kind}_line")
         self._text = getattr(LIBRARY, f"kigvarp_{self.kind}_text")
         self._done(self._call("open", *arguments))
 
-    def _call(self, name: str, *arguments: object) -> Status:
-        return Status(getattr(LIBRARY, f"kigvarp_{self.kind}_{name}")(self._handle, *arguments))
-
     def _done(self, status: int) -> None:
-        """Raises what a status says that is not well."""
+        """Raises what a status says that is not well, with the text that waits."""
         if status:
             fault = Status(status)
             text = "" if fault in (Status.CLOSED, Status.ARGUMENT, Status.OPEN) else self._answer()
@@ -171,17 +271,3 @@ class Held:
         text = line.encode()
         self._done(self._line(self._handle, text, len(text)))
         return self._answer().splitlines()[:-1]
-
-    def close(self) -> None:
-        """Closes it, and gives its memory back. A second close does nothing."""
-        self._call("close")
-
-    def __enter__(self):
-        return self
-
-    def __exit__(self, *how: object) -> None:
-        self.close()
-
-    def __del__(self) -> None:
-        if getattr(self, "_handle", None) is not None:
-            self.close()

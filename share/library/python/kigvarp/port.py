@@ -4,6 +4,7 @@ from array import array
 from typing import Iterable, NamedTuple, Optional
 
 from .library import ANSWER, LIBRARY, PACKET, RUN, TURN, CharDidC, HeaderC, Held, RunDidC, StateC, Status
+from .words import wires
 
 OUTPUTS = ("ok", "retry-stopped", "error-stopped", "failed")
 INPUTS = OUTPUTS[:3]
@@ -40,10 +41,6 @@ class State(NamedTuple):
     waiting: bool
 
 
-def _wires(numbers: Iterable[int]) -> "array[int]":
-    return numbers if isinstance(numbers, array) and numbers.typecode == "H" else array("H", numbers)
-
-
 class Port(Held):
     """A port of 4 to 30 receive buffers, which tells its free buffers or does not.
 
@@ -70,17 +67,17 @@ class Port(Held):
 
     def got(self, numbers: Iterable[int]) -> RunDid:
         """Takes a run of characters, of any length."""
-        wires = _wires(numbers)
+        chars = wires(numbers)
         held, freed, sent = 0, 0, array("H")
-        for start in range(0, len(wires), RUN):
-            did, answers = self._got(wires[start:start + RUN] if len(wires) > RUN else wires)
+        for start in range(0, len(chars), RUN):
+            did, answers = self._got(chars[start:start + RUN] if len(chars) > RUN else chars)
             held, freed, sent = held + did.held, freed + did.freed, sent + answers
         return RunDid(held, freed, sent)
 
-    def _got(self, wires: "array[int]") -> "tuple[RunDidC, array[int]]":
+    def _got(self, chars: "array[int]") -> "tuple[RunDidC, array[int]]":
         """Takes a run that is short enough for one call."""
-        room = array("H", bytes(2 * ANSWER * len(wires)))
-        self._done(LIBRARY.kigvarp_port_got(self._handle, wires.buffer_info()[0], len(wires), room.buffer_info()[0],
+        room = array("H", bytes(2 * ANSWER * len(chars)))
+        self._done(LIBRARY.kigvarp_port_got(self._handle, chars.buffer_info()[0], len(chars), room.buffer_info()[0],
                                             len(room), self._run))
         return self._run, room[:self._run.sent]
 

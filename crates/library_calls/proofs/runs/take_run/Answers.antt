@@ -3,7 +3,8 @@ use Rattle.link_port.specs.Ports.{PortState}
 use Rattle.link_port.specs.Steps.{takes}
 use Rattle.link_port.specs.Streams.{Streamed, followed, takes_each}
 use Rattle.library_calls.specs.Wires.{wire_char, wire_chars}
-use Rattle.library_calls.proofs.RunLaws.{IsRun, IsRun-begin, IsRun-end, IsRunWithin-more, each-next, each-none, first_number}
+use Rattle.library_calls.proofs.ReadingLaws.{first_number}
+use Rattle.library_calls.proofs.RunLaws.{IsRun, IsRun-begin, IsRun-end, IsRunWithin-more, each-next, each-none}
 use Rattle.library_calls.proofs.runs.take_run.Goals as goal
 
 pub loop-left-init : goal.loop-left-init
