@@ -126,13 +126,20 @@ def pkgconfig(made):
     return text
 
 
+def manual(name, made):
+    """The manual page of a program, or of the library."""
+    return packed(said_by(str(TOP / "packaging/manual"), name, made.version, f"{made.date:%Y-%m-%d}").encode())
+
+
 def written(made):
     """What the programs of this folder write: of the pages, of the license and of the gate."""
     yield "usr/lib/x86_64-linux-gnu/pkgconfig/kigvarp.pc", pkgconfig(made).encode()
     for name in ("rio", *pages.SYNOPSES):
         yield f"{COMPLETIONS}/{name}", said_by(str(TOP / "packaging/completion"), name).encode()
-        page = said_by(str(TOP / "packaging/manual"), name, made.version, f"{made.date:%Y-%m-%d}")
-        yield f"usr/share/man/man1/{name}.1.gz", packed(page.encode())
+        yield f"usr/share/man/man1/{name}.1.gz", manual(name, made)
+    yield "usr/share/man/man3/kigvarp.3.gz", manual("kigvarp", made)
+    for name in pages.declarations():
+        yield f"usr/share/man/man3/{name}.3.gz", packed(b".so man3/kigvarp.3\n")
     yield f"{DOC}/changelog.gz", packed("\n".join(changelog(made)).encode())
     yield f"{DOC}/made-from.txt", origin(made).encode()
     yield "usr/share/lintian/overrides/kigvarp", overrides().encode()

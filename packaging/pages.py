@@ -18,6 +18,8 @@ SYNOPSES = {
         "rio_capture pair [--set-up FILE] [--lines FILE] PORT PORT CHARS PLACES CHARS PLACES",
         "rio_capture FORM --help",
     ),
+    "rio_conform": ("rio_conform BUFFERS NAME LINE ..",),
+    "rio_follow": ("rio_follow [tell]",),
     "rio_lane": tuple(f"rio_lane {task} [COMMAS]" for task in ("groups", "chars", "bits", "sent", "got"))
     + tuple(f"rio_lane --lanes 4 {task} [COMMAS]" for task in ("groups", "chars")),
     "rio_port": ("rio_port [BUFFERS]",),
@@ -101,10 +103,18 @@ def commands():
     return [words for row in found for words in row]
 
 
+def declarations():
+    """The functions of the library for C, as its header declares them: the name of each, and its whole declaration."""
+    text = (TOP / "share/library/kigvarp.h").read_text(encoding="utf-8")
+    return {it[1]: " ".join(it[0].split()) for it in re.finditer(r"^uint32_t (\w+)\([^;]*\);", text, re.M)}
+
+
 def synopsis(program):
     """The ways in which a program is called."""
     if program == "rio":
         return tuple(f"rio {words}" for words in commands())
+    if program == "kigvarp":
+        return ("#include <kigvarp.h>", *declarations().values())
     return SYNOPSES[program]
 
 

@@ -7,10 +7,16 @@ from .trees import PROGRAMS, TOP, run
 
 # Tables whose rows are words, statuses, reasons and kinds of lines: each is on the manual page of the program.
 PAGES = {"rio_capture": ("captures.md",), "rio": ("running.md", "decode.md", "script-format.md"), "rio_lane": ("lanes.md",),
+         "rio_follow": (), "rio_conform": ("conformance.md",),
          "rio_live": ("script-format.md",), "rio_port": ("live.md",), "rio_view": ("pictures.md",)}
+# The library has one manual page for all its calls.
+LIBRARY = {"kigvarp": ("library.md",)}
 # What begins a line that a program reads is no word of its command: no completion has it.
-READ = {"rio_port": {"got", "turn", "timeout", "send", "take", "state"}}
-HEADS = ("words", "word", "character", "status", "reason", "line", "REASON", "column")
+READ = {"rio_port": {"got", "turn", "timeout", "send", "take", "state", "clock", "reset"},
+        "rio_conform": {"accepted", "packet", "part", "data"}, "rio_live": {"quiet", "loud"},
+        "rio_follow": {"lawful", "unlawful", "refused"}}
+HEADS = ("words", "word", "character", "status", "reason", "line", "REASON", "column", "call of a port", "call of a fabric",
+         "call of a checker", "call without a handle")
 
 
 def rows_of(page):
@@ -30,7 +36,7 @@ def rows_of(page):
 def trials_of_rows(name, text):
     """The manual page has each row of the tables."""
     flat = " ".join(text.split())
-    for page in PAGES[name]:
+    for page in (PAGES | LIBRARY)[name]:
         for first, *others in rows_of(page):
             tag = r"^ *" + re.sub(r"\\? ", r"\\s+", re.escape(first)) + r"(\s|$)"
             yield f"{page}: {first}", not re.search(tag, text, re.M) and f"begins no line of {name}.1"
@@ -80,8 +86,22 @@ def trials_of_version(root, name):
     yield f"version of {name}", f"{name} {number}, proved with rattle-kit" not in told and told
 
 
+def trials_of_library(root):
+    """The manual page of the library has all calls and statuses, and each call leads to it."""
+    place = root / "usr/share/man/man3"
+    source = gzip.decompress((place / "kigvarp.3.gz").read_bytes())
+    yield from trials_of_manual("kigvarp", source)
+    header = (root / "usr/include/kigvarp.h").read_text()
+    for name in re.findall(r"^uint32_t (kigvarp_\w+)\(", header, re.M):
+        yield f"manual of {name}", not (place / f"{name}.3.gz").exists() and "it is not there"
+        yield f"{name} in kigvarp.3", name.encode() not in source and "it is not there"
+    for name in re.findall(r"^  (KIGVARP_\w+) = \d+,? +/\*", header.split("Room that")[0], re.M):
+        yield f"{name} in kigvarp.3", name.encode() not in source and "it is not there"
+
+
 def trials(root, version):
     """What is said of each program that is unpacked here."""
+    yield from trials_of_library(root)
     for name in PAGES:
         source = gzip.decompress((root / f"usr/share/man/man1/{name}.1.gz").read_bytes())
         yield f"version of {name}.1", f"kigvarp {version}".encode() not in source and "it has another"

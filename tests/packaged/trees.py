@@ -13,7 +13,8 @@ DATE = 1767322800
 RESULT = "34 passed, 0 failed"
 
 # The programs: the name of each, and its crate.
-PROGRAMS = {"rio": "rio_cli", "rio_lane": "rio_lane", "rio_live": "rio_live", "rio_port": "rio_port", "rio_view": "rio_view"}
+PROGRAMS = {"rio": "rio_cli", "rio_conform": "rio_conform", "rio_follow": "rio_follow", "rio_lane": "rio_lane",
+            "rio_live": "rio_live", "rio_port": "rio_port", "rio_view": "rio_view"}
 
 # What the log of a gate has of a crate that was proved, and of one that was kept; what stands between them is left out.
 LOG = ("rt: rio_chars proved\nrt: rio_view is kept: an earlier run on this machine proved the same\n"
