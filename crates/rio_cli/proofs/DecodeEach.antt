@@ -1,24 +1,13 @@
 -- Each input of `decode` is characters, or one of its lines is the first that has another word.
-use Rattle.std.proofs.Common.{◌≡◌, ◌≢◌, ℕ, zero, suc, ◌+◌, ◌<◌, ◌≤◌, Bool, true, false, ◌⊎◌, inl, inr, List, [], ◌∷◌, ◌++◌, length, refl, ap, subst, arith}
-use Rattle.std.specs.Bool.{Decides}
+use Rattle.std.proofs.Common.{◌≡◌, ◌≢◌, ℕ, ◌+◌, ◌<◌, ◌⊎◌, inl, inr, List, [], ◌∷◌, ◌++◌, length, refl, ap}
 use Rattle.std.specs.List.{flat_map}
-use Rattle.std.specs.Str.{bytes_eq}
-use Rattle.std.proofs.lemmas.Bool.{cases_lt}
-use Rattle.std.proofs.lemmas.Bool.Decides.{not_from_Decides}
-use Rattle.std.proofs.lemmas.Slice.Eq.{bytes_eq-Decides}
 use Rattle.rio_chars.specs.CharText.{char_text_of, HasByte}
 use Rattle.rio_chars.specs.Lines.{text_lines}
 use Rattle.rio_chars.specs.declared.chars.Char.{Char}
 use Rattle.rio_chars.specs.declared.chars.Char.TheVariants.{Data, Special, Invalid}
+use Rattle.script_law.proofs.Choosing.{first_or_none, same_or_not}
 use Rattle.rio_cli.specs.Decoding.{words_in_line, AreTexts, AreSpelled, SpellsChars, BadWordAt}
 use Rattle.rio_cli.proofs.WordLaws.{AreTexts-append}
-
-same_or_not : (xs ys : List ℕ) → (xs ≡ ys) ⊎ (xs ≢ ys)
-same_or_not xs ys = by_test (bytes_eq xs ys) (bytes_eq-Decides xs ys)
-  where
-    by_test : (b : Bool) → Decides b (xs ≡ ys) → (xs ≡ ys) ⊎ (xs ≢ ys)
-    by_test true tells = inl (tells.0 refl)
-    by_test false tells = inr (not_from_Decides false tells refl)
 
 -- the word is the text of a character of a byte, or of none
 abbrev OfByte : (ℕ → Char) → List ℕ → ℕ → Type 0
@@ -29,22 +18,11 @@ OfNoByte kind word bound = (byte : ℕ) → byte < bound → word ≢ char_text_
 
 byte_or_none : (kind : ℕ → Char) (word : List ℕ) (bound : ℕ)
     → OfByte kind word bound ⊎ OfNoByte kind word bound
-byte_or_none kind word zero = inr (λ byte below e. absurd (omega arith))
-byte_or_none kind word (suc bound) = elim (byte_or_none kind word bound) [
-  | inl found ↦ let below = found.1 in inl (found.0, omega arith, found.2)
-  | inr none ↦ elim (same_or_not word (char_text_of (kind bound))) [
-    | inl same ↦ inl (bound, omega arith, same)
-    | inr other ↦ inr (λ byte below e. not_here byte below none other e (cases_lt byte bound))
-  ]
-]
-  where
-    not_here : (byte : ℕ) → byte < suc bound → OfNoByte kind word bound
-        → word ≢ char_text_of (kind bound) → word ≡ char_text_of (kind byte)
-        → (byte < bound) ⊎ (bound ≤ byte) → ⊥
-    not_here byte below none other e (inl before) = none byte before e
-    not_here byte below none other e (inr behind) =
-        let last : byte ≡ bound = omega arith in
-        other (subst (λ b. word ≡ char_text_of (kind b)) last e)
+byte_or_none kind word bound = elim (first_or_none (λ byte. word ≡ char_text_of (kind byte))
+    (λ byte. same_or_not word (char_text_of (kind byte))) bound) [
+      | inl found ↦ inl (found.n, found.below, found.is)
+      | inr none ↦ inr none
+    ]
 
 -- the word is the text of a character
 abbrev IsText : List ℕ → Type 0

@@ -13,5 +13,7 @@ mod SpacedWords
 pub mod WordLaws
 pub mod DecodeLaws
 pub mod DecodeEach
+pub mod HostEach
+pub mod InputEach
 pub mod SoakLaws
 pub mod HintLaws

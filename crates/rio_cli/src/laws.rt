@@ -5,6 +5,8 @@ ghost use Rattle.rio_cli.specs.Decoding.{SpellsChars, BadWordAt};
 ghost use Rattle.rio_cli.specs.Outputs.{InputIsAccepted, InputIsRefused};
 ghost use Rattle.rio_cli.specs.declared.command.Command.{Command as Asked};
 
+use io_script::every_io_text_is_a_script_or_refused;
+
 /// An input that is refused has one line and one reason, and is not accepted; characters are
 /// spelled by words that spell no others.
 pub fn inputs_are_judged_once()
@@ -23,3 +25,11 @@ pub fn every_text_is_characters_or_refused()
     ensures { (bytes : List ℕ) → ((chars : List Char) × SpellsChars bytes chars)
         ⊎ ((line : ℕ) × BadWordAt bytes line) }
 {}
+
+/// Each input of each command, however long, is accepted, or is refused at a line for a reason.
+pub fn every_input_is_accepted_or_refused()
+    ensures { (command : Asked) (bytes : List ℕ) → InputIsAccepted command bytes
+        ⊎ ((line : ℕ) × (reason : ℕ) × InputIsRefused command bytes line reason) }
+{
+    every_io_text_is_a_script_or_refused();
+}

@@ -11,7 +11,8 @@
 //!   words and the standard streams by `start` of `program_start`, and does nothing more.
 //! - `answer` and `rio`: what the words ask for is done; `CommandAnswer`, `Status`, `Refusal` and
 //!   `Command`.
-//! - `inputs_are_judged_once`, `every_text_is_characters_or_refused`: laws of inputs.
+//! - `every_input_is_accepted_or_refused`, `inputs_are_judged_once`,
+//!   `every_text_is_characters_or_refused`: laws of inputs.
 //!
 //! If the system does not give the arguments, the status is 1 and nothing is written.
 #![tactic(auto)]
@@ -38,7 +39,9 @@ mod words;
 pub use answer::CommandAnswer;
 use awaiting::awaited;
 pub use command::Command;
-pub use laws::{every_text_is_characters_or_refused, inputs_are_judged_once};
+pub use laws::{
+    every_input_is_accepted_or_refused, every_text_is_characters_or_refused, inputs_are_judged_once,
+};
 pub use program::run;
 use program_start::{Program, start};
 pub use refusal::Refusal;
