@@ -1,6 +1,6 @@
 """Runs rio_follow. The last line is 'N passed, M failed'.
 
-usage: python3 tests/follow/trials.py PROGRAM RIO [FILE ..]    FILE: inputs of rio check: both programs answer the same
+usage: python3 tests/follow/trials.py PROGRAM RIO
 """
 import os
 import random
@@ -8,10 +8,11 @@ import select
 import subprocess
 import sys
 import time
-from pathlib import Path
+from xml.etree import ElementTree
 
-HERE = Path(__file__).resolve().parent
-TOP = HERE.parent.parent
+sys.dont_write_bytecode = True
+from pair import TOP, answered, changed, differ, inputs  # noqa: E402
+
 PROGRAM, RIO = sys.argv[1:3]
 
 SET_UP = b"endpoint A 1\nendpoint B 2\nlink A.0 B.0\n---\n"
@@ -24,8 +25,7 @@ HELD = 0.1  # seconds within which a line is answered
 
 def run(text, *words):
     """What a run over this input answers: its status, what it wrote, and what it said."""
-    done = subprocess.run([PROGRAM, *words], input=text, capture_output=True, timeout=120, check=False)
-    return done.returncode, done.stdout, done.stderr
+    return answered(PROGRAM, text, *words)
 
 
 class Open:
@@ -60,17 +60,16 @@ class Open:
 
 
 def cases():
-    """The cases of rio check: the answers are equal, and a line that is refused or not lawful is said."""
+    """The cases of rio check: the answers and the words are equal, but for the program's name."""
     for file in sorted((TOP / "tests/check").glob("*.words")):
         text = file.with_suffix(".in").read_bytes()
         wanted = int(file.with_suffix(".status").read_text()), file.with_suffix(".out").read_bytes()
-        status, wrote, said = run(text)
-        number = wrote.split()[1] if status else b""
-        says = said.startswith(b"rio_follow: line " + number + b": ") and said.count(b"\n") == 1 if status else not said
-        yield file.stem, (status, wrote) == wanted and says
+        err = file.with_suffix(".err")
+        says = b"rio_follow:" + err.read_bytes().partition(b"\n")[0][4:] + b"\n" if err.exists() else b""
+        yield file.stem, run(text) == (*wanted, says)
         # With tell there are the answers ok before it, one for the line between and each line that was taken.
         status, wrote, said = run(text, "tell")
-        oks = 0
+        oks = 0 if said == says else -1
         while wrote.startswith(b"ok\n"):
             oks, wrote = oks + 1, wrote[3:]
         yield f"{file.stem}, tell", (status, wrote) == wanted and oks == wanted_oks(text, wanted)
@@ -92,6 +91,70 @@ def wanted_oks(text, wanted):
         if wanted[1].endswith(b" 21\n"):
             at -= 1
     return min(at, len(lines)) - before
+
+
+FAULT = b"got B.0 d00"
+REPORT = b"""TAP version 14
+1..1
+not ok 1 - the trace is lawful
+  ---
+  verdict: unlawful 12 22
+  reason: |
+    these characters are not at the front of the wire, or the edit is not within it; the wire is empty: got B.0 d00
+  ports: 2
+  links: 1
+  lines: 8
+  steps:
+    take A: 1
+    hold B.0: 1
+    free A.0: 1
+  before: |
+    5: take A 000f0201cafe0001a9bb0000
+    6: sent A.0 k7c d80 df8 d1f d00 d0f d02 d01 dca dfe d00 d01 da9 dbb d00 d00 k7c d80 dfa d18
+    7: got B.0 k7c d80 df8 d1f d00 d0f d02 d01 dca dfe d00 d01 da9 dbb d00 d00 k7c d80 dfa d18
+    8: hold B.0 000f0201cafe0001a9bb0000
+    9: sent B.0 k1c d00 dff d16
+    10: got A.0 k1c d00 dff d16
+    11: free A.0 000f0201cafe0001a9bb0000
+  line: |
+    12: got B.0 d00
+  ...
+"""
+
+
+def reports():
+    """Reports: standard output stays as it is, and standard error is TAP, of which JUnit XML is made."""
+    said = run(SET_UP + b"\n".join([*TRACE[:7], FAULT]) + b"\n", "--report", "tap")
+    yield "a report of a line that is not lawful", said == (10, b"unlawful 12 22\n", REPORT)
+    case = junit(REPORT).find("testcase/failure")
+    yield "the same for a server", case.get("message") == "unlawful 12 22" and "the wire is empty" in case.text
+
+    status, wrote, said = run(SET_UP + b"\n".join([*TRACE, b"end"]) + b"\n", "tell", "--report", "tap")
+    yield "the answers beside a report", (status, wrote) == (0, b"ok\n" * 10 + b"lawful 4\n")
+    head = b"TAP version 14\n1..1\nok 1 - the trace is lawful\n  ---\n  verdict: lawful 4\n  ports: 2\n  links: 1\n  lines: 9\n"
+    yield "a report of a lawful trace", said.startswith(head) and said.endswith(b"\n    leave B: 1\n  ...\n")
+    suite = junit(said)
+    yield "the same for a server, of a lawful trace", suite.get("failures") == suite.get("errors") == "0" \
+        and "verdict: lawful 4" in suite.find("testcase/system-out").text
+
+    text = SET_UP + b"sent A.0 d00\n" * 30 + b"got A.0 " + b"d00 " * 59 + b"d00\n"
+    lines = run(text, "--report", "tap")[2].split(b"\n")
+    at = lines.index(b"  before: |")
+    yield "twenty lines before it", (lines[at + 1], lines[at + 21]) == (b"    15: sent A.0 d00", b"  line: |")
+    yield "each cut at 200 bytes", lines[at + 22] == b"    35: got A.0 " + b"d00 " * 48 + b" ..."
+
+    status, wrote, said = run(b"endpoint A 1\nendpoint A 2\n---\n", "--report", "tap")
+    yield "a report of set-up lines", wrote == b"refused 2 4\n" and b"\n  verdict: refused 2 4\n  reason: |\n    a node of" in said
+    status, wrote, said = run(SET_UP + b"#" * 4_194_305 + b"\n", "--report", "tap")
+    yield "a report of no verdict", (status, wrote) == (8, b"") and said.split(b"\n")[2].startswith(b"Bail out! rio_follow: ")
+    fault = junit(said).find("testcase/error")
+    yield "the same for a server, of no verdict", "4194304" in fault.get("message")
+
+
+def junit(report):
+    """The JUnit XML of a report."""
+    done = subprocess.run([TOP / "share/conformance/junit", "rio_follow"], input=report, capture_output=True, check=True)
+    return ElementTree.fromstring(done.stdout)
 
 
 def open_streams():
@@ -140,7 +203,8 @@ def ends():
     yield "the last line needs no line feed", run(whole)[:2] == (0, b"lawful 4\n")
     yield "a line behind the last", run(whole + b"\nend\n")[:2] == (10, b"unlawful 14 21\n")
     yield "nothing", run(b"")[:2] == (3, b"refused 1 15\n")
-    yield "other words", run(b"", "play")[0] == 2 and run(b"", "tell", "tell")[0] == 2
+    for words in ("play", "tell tell", "--report", "--report xml", "tap --report", "--report tap tell", "tell --report tap tell"):
+        yield f"other words: {words}", run(b"", *words.split())[0] == 2
     long = b"#" * 4_194_304
     yield "a line of 4,194,304 bytes", run(SET_UP + long + b"\n")[:2] == (10, b"unlawful 5 21\n")
     yield "and one more", run(SET_UP + long + b"#\n")[0] == 8
@@ -179,30 +243,8 @@ def long_streams():
 
 def examples():
     """The traces of the examples are lawful."""
-    for script in sorted(TOP.glob("examples/*.script")):
-        sets = subprocess.run(["grep", "-E", "^(endpoint|switch|link|buffers|route|default|lock|large|credits) ", str(script)],
-                              capture_output=True, check=True).stdout
-        trace = script.with_suffix(".trace").read_bytes()
-        wanted = run_rio(sets + b"---\n" + trace)
-        yield f"{script.stem}", run(sets + b"---\n" + trace)[:2] == wanted
-
-
-def changed(lines, chance):
-    """Lines with one of them gone, twice there, swapped with the next, put elsewhere, or with another character in it."""
-    lines, at = list(lines), chance.randrange(len(lines))
-    kind = chance.randrange(5)
-    if kind == 0:
-        del lines[at]
-    elif kind == 1:
-        lines.insert(at, lines[at])
-    elif kind == 2:
-        lines[at : at + 2] = reversed(lines[at : at + 2])
-    elif kind == 3:
-        lines.insert(chance.randrange(len(lines)), lines.pop(at))
-    elif lines[at]:
-        place = chance.randrange(len(lines[at]))
-        lines[at] = lines[at][:place] + bytes([chance.choice(b"0123456789abcdef .")]) + lines[at][place + 1 :]
-    return lines
+    for name, text in inputs():
+        yield name, not differ(PROGRAM, RIO, text)
 
 
 def changes():
@@ -211,26 +253,21 @@ def changes():
     for file in sorted((TOP / "tests/check").glob("*.in")):
         lines = file.read_bytes().split(b"\n")
         texts = [b"\n".join(changed(lines, chance)) for _ in range(4)]
-        yield f"{file.stem}, changed", all(run(text)[:2] == run_rio(text) for text in texts)
+        yield f"{file.stem}, changed", not any(differ(PROGRAM, RIO, text) for text in texts)
 
 
-def given(files):
-    """Any inputs, as another program makes them."""
-    for file in files:
-        text = Path(file).read_bytes()
-        yield file, run(text)[:2] == run_rio(text)
-
-
-def run_rio(text):
-    done = subprocess.run([RIO, "check"], input=text, capture_output=True, timeout=120, check=False)
-    return done.returncode, done.stdout
+def drawings():
+    """Traces of the examples with changes, drawn by tests/follow/same: rio check and rio_follow answer the same."""
+    programs = os.environ | {"RIO_FOLLOW": PROGRAM, "RIO": RIO}
+    for words in (["60", "2"], [str(TOP / "examples")]):
+        done = subprocess.run([TOP / "tests/follow/same", *words], capture_output=True, text=True, env=programs, check=False)
+        yield f"same {' '.join(words)}: {done.stdout}", done.stdout.endswith(" passed, 0 failed\n") and done.stdout[0] != "0"
 
 
 def main():
     passed = failed = 0
-    files = sys.argv[3:]
-    for trials in [given(files)] if files else [it() for it in (cases, open_streams, ends, examples, changes, long_streams)]:
-        for name, good in trials:
+    for trials in (cases, reports, open_streams, ends, examples, changes, drawings, long_streams):
+        for name, good in trials():
             passed, failed = passed + bool(good), failed + (not good)
             if not good:
                 print(f"{name}: not as it must be")

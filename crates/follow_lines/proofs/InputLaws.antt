@@ -10,6 +10,7 @@ use Rattle.trace_check.specs.declared.checker.Checker.{Checker}
 use Rattle.trace_check.specs.declared.checking.CheckEnd.{CheckEnd}
 use Rattle.trace_check.specs.declared.checking.CheckEnd.TheVariants as C
 use Rattle.trace_check.specs.declared.checking.Unlawful.{Unlawful}
+use Rattle.trace_check.specs.declared.expecting.Expected.{Expected}
 use Rattle.trace_check.specs.Taken.{HasTakenLines, IsSetUpOf}
 use Rattle.trace_check.proofs.SoFarLaws.{so_far}
 use Rattle.follow_lines.specs.declared.ends.FollowEnd.{FollowEnd}
@@ -34,7 +35,8 @@ are_refused script (C.Refused refusal) hits never = hits refusal refl
 are_refused script (C.Unlawful hit) hits never = absurd (never hit refl)
 are_refused script C.NoMemory hits never = tt
 
-module _ (tell : Bool) (left left_mid : Option (List ℕ)) (faults faults_mid : ℕ)
+module _ (tell : Bool) (expected : Option Expected) (left left_mid : Option (List ℕ))
+    (faults faults_mid : ℕ)
     (script pending_mid : List ℕ) (out : Outgoing) (fine : out.failed ≡ false)
     (empty : out.waiting ≡ []) where
   is_written : (end : FollowEnd) (lines : List (List ℕ)) (behind : List ℕ)
@@ -53,7 +55,7 @@ module _ (tell : Bool) (left left_mid : Option (List ℕ)) (faults faults_mid : 
   -- not all set-up lines were read
   pub set_up_stops : (end : FollowEnd)
       → ReadsSetUp (Err end) script [] pending_mid left left_mid faults faults_mid
-      → FollowsInput tell (Err end) left left_mid faults faults_mid out out
+      → FollowsInput tell (Err end) expected left left_mid faults faults_mid out out
   set_up_stops end h = record {
     lines = h.lines;
     behind = h.behind;
@@ -71,7 +73,7 @@ module _ (tell : Bool) (left left_mid : Option (List ℕ)) (faults faults_mid : 
       → RefusedIn of_set_up script refusal.line refusal.reason
       ⊎ ((read.parted ≡ false) × ((set_up : SetUpLines) × IsSetUpOf script set_up)
       × (refusal ≡ record { line = read.lines + 1; reason = 15 }))
-      → FollowsInput tell (Err (F.Refused refusal)) left left_mid faults faults_mid out out
+      → FollowsInput tell (Err (F.Refused refusal)) expected left left_mid faults faults_mid out out
   refused read refusal h why =
       let is = h.says.0 in
       record {
@@ -103,7 +105,7 @@ module _ (tell : Bool) (left left_mid : Option (List ℕ)) (faults faults_mid : 
   pub set_up_refused : (read : SetUpRead) (end : FollowEnd)
       → ReadsSetUp (Ok read) script [] pending_mid left left_mid faults faults_mid
       → AreRefused script end
-      → FollowsInput tell (Err end) left left_mid faults faults_mid out out
+      → FollowsInput tell (Err end) expected left left_mid faults faults_mid out out
   set_up_refused read (F.Refused refusal) h hit = refused read refusal h (inl hit)
   set_up_refused read F.NoMemory h hit = record {
     lines = h.lines;
@@ -129,11 +131,12 @@ module _ (tell : Bool) (left left_mid : Option (List ℕ)) (faults faults_mid : 
       → ReadsSetUp (Ok read) script [] pending_mid left left_mid faults faults_mid
       → IsSetUpOf script set_up → read.parted ≡ false
       → refusal ≡ record { line = read.lines + 1; reason = 15 }
-      → FollowsInput tell (Err (F.Refused refusal)) left left_mid faults faults_mid out out
+      → FollowsInput tell (Err (F.Refused refusal)) expected left left_mid faults faults_mid out out
   not_parted read refusal set_up h is parted same =
       refused read refusal h (inr (parted, (set_up, is), same))
 
-module _ (tell : Bool) (left left_mid : Option (List ℕ)) (faults faults_mid : ℕ)
+module _ (tell : Bool) (expected : Option Expected) (left left_mid : Option (List ℕ))
+    (faults faults_mid : ℕ)
     (script pending_mid : List ℕ) (out : Outgoing) where
   -- the set-up lines, the line between, and the lines of the trace
   pub with_trace : (read : SetUpRead) (set_up : SetUpLines) (verdict : Result ℕ FollowEnd)
@@ -141,9 +144,9 @@ module _ (tell : Bool) (left left_mid : Option (List ℕ)) (faults faults_mid : 
       → ReadsSetUp (Ok read) script [] pending_mid left left_mid faults faults_mid
       → IsSetUpOf script set_up → read.parted ≡ true → before ≡ read.lines + 1
       → Writes out mid (ok_text tell)
-      → FollowsTrace set_up before tell verdict pending_mid left_mid left_after faults_mid
+      → FollowsTrace set_up before tell verdict expected pending_mid left_mid left_after faults_mid
       faults_after mid out_after
-      → FollowsInput tell verdict left left_after faults faults_after out out_after
+      → FollowsInput tell verdict expected left left_after faults faults_after out out_after
   with_trace read set_up verdict before left_after faults_after mid out_after h is parted counted
       ok k =
       let set = h.says.0 in
@@ -169,7 +172,8 @@ module _ (tell : Bool) (left left_mid : Option (List ℕ)) (faults faults_mid : 
           is_set_up = subst (λ s. IsSetUpOf s set_up) set.script_is is;
           more = k.told;
           told_is = refl;
-          says = subst (λ n. TraceSays set_up n tell verdict k.texts k.told left_after k.behind)
+          says = subst (λ n. TraceSays set_up n tell verdict expected k.texts k.told left_after
+              k.behind)
               (counted ∙ ap (λ n. n + 1) set.count) k.says;
         };
         writes = Writes-then (ok_text tell) k.told ok k.writes;
@@ -181,7 +185,7 @@ module _ (tell : Bool) (left left_mid : Option (List ℕ)) (faults faults_mid : 
       → ReadsSetUp (Ok read) script [] pending_mid left left_mid faults faults_mid
       → IsSetUpOf script checker.set_up → HasTakenLines [] checker → read.parted ≡ true
       → Writes out mid (ok_text tell) → mid.failed ≡ true
-      → FollowsInput tell (Err F.WriteFault) left left_mid faults faults_mid out mid
+      → FollowsInput tell (Err F.WriteFault) expected left left_mid faults faults_mid out mid
   with_fault read checker mid h is has parted ok failed =
       with_trace read checker.set_up (Err F.WriteFault) (read.lines + 1) left_mid faults_mid mid
       mid h is parted refl ok

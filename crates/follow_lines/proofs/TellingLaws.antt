@@ -4,6 +4,7 @@ use Rattle.std.proofs.KnownBytes.{Appends-nil}
 use Rattle.rio_chars.specs.Written.{Outgoing, Writes}
 use Rattle.rio_chars.proofs.WrittenLaws.{Writes-then, Writes-whole, Writes-front, Writes-rose}
 use Rattle.live_lines.specs.Serving.{WritesAll}
+use Rattle.trace_check.specs.declared.expecting.Expected.{Expected}
 use Rattle.follow_lines.specs.declared.ends.FollowEnd.{FollowEnd}
 use Rattle.follow_lines.specs.declared.ends.FollowEnd.TheVariants as F
 use Rattle.follow_lines.specs.FollowEnds.{end_of_verdict}
@@ -75,14 +76,14 @@ not_fault (Err F.TooManyLines) end mid out last written told fine (inl is) same 
 
 -- the lines were read, and the verdict is told
 pub follows_told : (tell : Bool) (verdict : Result ℕ FollowEnd) (end : FollowEnd)
-    (left left_after : Option (List ℕ)) (faults faults_after : ℕ) (begun mid out : Outgoing)
-    (last : List ℕ) → begun.failed ≡ false → begun.waiting ≡ []
-    → FollowsInput tell verdict left left_after faults faults_after begun mid
+    (expected : Option Expected) (left left_after : Option (List ℕ)) (faults faults_after : ℕ)
+    (begun mid out : Outgoing) (last : List ℕ) → begun.failed ≡ false → begun.waiting ≡ []
+    → FollowsInput tell verdict expected left left_after faults faults_after begun mid
     → TellsVerdict verdict end last → Writes mid out last → HasWritten verdict end out
-    → FollowsAll tell end left left_after faults faults_after begun.written out.written begun.faults
-    out.faults
-follows_told tell verdict end left left_after faults faults_after begun mid out last fresh clear h
-    tells told written = record {
+    → FollowsAll tell end expected left left_after faults faults_after begun.written out.written
+    begun.faults out.faults
+follows_told tell verdict end expected left left_after faults faults_after begun mid out last fresh
+    clear h tells told written = record {
       verdict = verdict;
       lines = h.lines;
       behind = h.behind;
@@ -122,10 +123,11 @@ follows_told tell verdict end left left_after faults faults_after begun mid out 
         [ inl is ↦ inl is | inr memory ↦ inr (inr memory) ]
 
 -- nothing was read or written, since memory was not given
-pub follows_none : (tell : Bool) (left written : Option (List ℕ)) (read_faults write_faults : ℕ)
-    → FollowsAll tell F.NoMemory left left read_faults read_faults written written write_faults
-    write_faults
-follows_none tell left written read_faults write_faults = record {
+pub follows_none : (tell : Bool) (expected : Option Expected) (left written : Option (List ℕ))
+    (read_faults write_faults : ℕ)
+    → FollowsAll tell F.NoMemory expected left left read_faults read_faults written written
+    write_faults write_faults
+follows_none tell expected left written read_faults write_faults = record {
   verdict = Err F.NoMemory;
   lines = [];
   behind = [];

@@ -13,9 +13,11 @@ use Rattle.trace_check.specs.declared.checker.Checker.{Checker}
 use Rattle.trace_check.specs.declared.checking.CheckEnd.{CheckEnd}
 use Rattle.trace_check.specs.declared.checking.CheckEnd.TheVariants as C
 use Rattle.trace_check.specs.declared.checking.Unlawful.{Unlawful}
+use Rattle.trace_check.specs.declared.expecting.Expected.{Expected}
 use Rattle.trace_check.specs.Lawful.{IsLawful}
 use Rattle.trace_check.specs.Starting.{net_of}
 use Rattle.trace_check.specs.Taken.{HasTakenLines, IsHitAt, IsHitIn}
+use Rattle.trace_check.specs.Told.{IsToldAt, IsToldIn}
 use Rattle.trace_check.proofs.SoFarLaws.{so_far}
 use Rattle.follow_lines.specs.declared.ends.FollowEnd.{FollowEnd}
 use Rattle.follow_lines.specs.declared.ends.FollowEnd.TheVariants as F
@@ -34,10 +36,12 @@ no_end a is = absurd cc
 
 -- not since the input ended
 pub stops_early : (before : ℕ) (checker : Checker) (end : LineEnd) (e : FollowEnd)
-    → end_of_lines end ≡ Some e → EndJudged before checker end (Err e)
-stops_early before checker L.End e is = absurd cc
-stops_early before checker L.Fault e is =
-    subst (λ (x : FollowEnd). EndJudged before checker L.Fault (Err x)) (same_end F.ReadFault e is)
+    (expected : Option Expected) → end_of_lines end ≡ Some e
+    → EndJudged before checker end (Err e) expected
+stops_early before checker L.End e expected is = absurd cc
+stops_early before checker L.Fault e expected is =
+    subst (λ (x : FollowEnd). EndJudged before checker L.Fault (Err x) expected)
+    (same_end F.ReadFault e is)
     record {
       says =
           λ tell texts left faults faults_after behind has stop. (
@@ -46,8 +50,8 @@ stops_early before checker L.Fault e is =
           );
       is_written = λ out fine empty. (fine, empty);
     }
-stops_early before checker L.TooLong e is =
-    subst (λ (x : FollowEnd). EndJudged before checker L.TooLong (Err x))
+stops_early before checker L.TooLong e expected is =
+    subst (λ (x : FollowEnd). EndJudged before checker L.TooLong (Err x) expected)
     (same_end F.LineTooLong e is)
     record {
       says =
@@ -57,8 +61,8 @@ stops_early before checker L.TooLong e is =
           );
       is_written = λ out fine empty. (fine, empty);
     }
-stops_early before checker L.NoMemory e is =
-    subst (λ (x : FollowEnd). EndJudged before checker L.NoMemory (Err x))
+stops_early before checker L.NoMemory e expected is =
+    subst (λ (x : FollowEnd). EndJudged before checker L.NoMemory (Err x) expected)
     (same_end F.NoMemory e is)
     record {
       says =
@@ -71,11 +75,11 @@ stops_early before checker L.NoMemory e is =
 
 -- the input ended, and all lines are a lawful trace
 pub stops_lawful : (before : ℕ) (checker : Checker) (end : LineEnd) (steps : ℕ)
-    → end_of_lines end ≡ None
+    (expected : Option Expected) → end_of_lines end ≡ None
     → ((texts : List (List ℕ)) → HasTakenLines texts checker
     → IsLawful checker.set_up.known (net_of checker.set_up) texts steps)
-    → EndJudged before checker end (Ok steps)
-stops_lawful before checker L.End steps is lawful = record {
+    → EndJudged before checker end (Ok steps) expected
+stops_lawful before checker L.End steps expected is lawful = record {
   says =
       λ tell texts left faults faults_after behind has stop. (
         (lawful texts has, refl),
@@ -83,18 +87,21 @@ stops_lawful before checker L.End steps is lawful = record {
       );
   is_written = λ out fine empty. (fine, empty);
 }
-stops_lawful before checker L.Fault steps is lawful = absurd (no_end F.ReadFault is)
-stops_lawful before checker L.TooLong steps is lawful = absurd (no_end F.LineTooLong is)
-stops_lawful before checker L.NoMemory steps is lawful = absurd (no_end F.NoMemory is)
+stops_lawful before checker L.Fault steps expected is lawful = absurd (no_end F.ReadFault is)
+stops_lawful before checker L.TooLong steps expected is lawful = absurd (no_end F.LineTooLong is)
+stops_lawful before checker L.NoMemory steps expected is lawful = absurd (no_end F.NoMemory is)
 
 -- the input ended, and a reason hits a line
-ended_hit : (before : ℕ) (checker : Checker) (e : CheckEnd)
+ended_hit : (before : ℕ) (checker : Checker) (e : CheckEnd) (expected : Option Expected)
     → ((refusal : Refusal) → e ≡ C.Refused refusal → ⊥)
     → ((hit : Unlawful) → e ≡ C.Unlawful hit → (texts : List (List ℕ))
     → HasTakenLines texts checker → IsHitAt checker.set_up texts hit)
-    → EndJudged before checker L.End (Err (end_of_check before e))
-ended_hit before checker (C.Refused refusal) never hits = absurd (never refusal refl)
-ended_hit before checker C.NoMemory never hits = record {
+    → ((hit : Unlawful) → e ≡ C.Unlawful hit → (texts : List (List ℕ))
+    → HasTakenLines texts checker → IsToldAt checker.set_up texts hit expected)
+    → EndJudged before checker L.End (Err (end_of_check before e)) expected
+ended_hit before checker (C.Refused refusal) expected never hits tells =
+    absurd (never refusal refl)
+ended_hit before checker C.NoMemory expected never hits tells = record {
   says =
       λ tell texts left faults faults_after behind has stop. (
         (so_far checker texts checker.ready.orderly has, refl),
@@ -102,7 +109,7 @@ ended_hit before checker C.NoMemory never hits = record {
       );
   is_written = λ out fine empty. (fine, empty);
 }
-ended_hit before checker (C.Unlawful hit) never hits = record {
+ended_hit before checker (C.Unlawful hit) expected never hits tells = record {
   says =
       λ tell texts left faults faults_after behind has stop. (
         record {
@@ -113,6 +120,7 @@ ended_hit before checker (C.Unlawful hit) never hits = record {
             ended = (stop.0, stop.1);
             so_far = so_far checker texts checker.ready.orderly has;
             hits = hits hit refl texts has;
+            explained = tells hit refl texts has;
             told_is = refl;
           };
         },
@@ -122,15 +130,21 @@ ended_hit before checker (C.Unlawful hit) never hits = record {
 }
 
 pub stops_hit : (before : ℕ) (checker : Checker) (end : LineEnd) (e : CheckEnd)
-    → end_of_lines end ≡ None
+    (expected : Option Expected) → end_of_lines end ≡ None
     → ((refusal : Refusal) → e ≡ C.Refused refusal → ⊥)
     → ((hit : Unlawful) → e ≡ C.Unlawful hit → (texts : List (List ℕ))
     → HasTakenLines texts checker → IsHitAt checker.set_up texts hit)
-    → EndJudged before checker end (Err (end_of_check before e))
-stops_hit before checker L.End e is never hits = ended_hit before checker e never hits
-stops_hit before checker L.Fault e is never hits = absurd (no_end F.ReadFault is)
-stops_hit before checker L.TooLong e is never hits = absurd (no_end F.LineTooLong is)
-stops_hit before checker L.NoMemory e is never hits = absurd (no_end F.NoMemory is)
+    → ((hit : Unlawful) → e ≡ C.Unlawful hit → (texts : List (List ℕ))
+    → HasTakenLines texts checker → IsToldAt checker.set_up texts hit expected)
+    → EndJudged before checker end (Err (end_of_check before e)) expected
+stops_hit before checker L.End e expected is never hits tells =
+    ended_hit before checker e expected never hits tells
+stops_hit before checker L.Fault e expected is never hits tells =
+    absurd (no_end F.ReadFault is)
+stops_hit before checker L.TooLong e expected is never hits tells =
+    absurd (no_end F.LineTooLong is)
+stops_hit before checker L.NoMemory e expected is never hits tells =
+    absurd (no_end F.NoMemory is)
 
 -- ---- lines that are taken
 
@@ -175,7 +189,8 @@ module _ (set_up : SetUpLines) (before : ℕ) (tell : Bool) (begun : Outgoing) (
       (so_far checker h.texts checker.ready.orderly h.has)
 
   -- a line more was read and taken
-  pub Following-line : {out : Outgoing} (next : Outgoing) {checker : Checker} (checker_next : Checker)
+  pub Following-line : {out : Outgoing} (next : Outgoing) {checker : Checker}
+      (checker_next : Checker)
       {now : List ℕ} (now_next line taken : List ℕ) {left_now left_next : Option (List ℕ)}
       {faults_now faults_next : ℕ}
       → Following set_up tell begun out checker pending now left left_now faults faults_now
@@ -215,14 +230,15 @@ module _ (set_up : SetUpLines) (before : ℕ) (tell : Bool) (begun : Outgoing) (
   -- no further line comes
   pub Following-ends : {out : Outgoing} {checker : Checker} {now : List ℕ}
       {left_now left_next : Option (List ℕ)} {faults_now faults_next : ℕ} (taken : List ℕ)
-      (end : LineEnd) (verdict : Result ℕ FollowEnd)
+      (end : LineEnd) (verdict : Result ℕ FollowEnd) (expected : Option Expected)
       → Following set_up tell begun out checker pending now left left_now faults faults_now
       → Consumes left_now left_next taken
       → LinesStop end left_next faults_now faults_next (now ++ taken)
-      → out.failed ≡ false → out.waiting ≡ [] → EndJudged before checker end verdict
-      → FollowsTrace set_up before tell verdict pending left left_next faults faults_next begun out
+      → out.failed ≡ false → out.waiting ≡ [] → EndJudged before checker end verdict expected
+      → FollowsTrace set_up before tell verdict expected pending left left_next faults faults_next
+      begun out
   Following-ends {out} {checker} {now} {left_now} {left_next} {faults_now} {faults_next} taken end
-      verdict h read stop fine empty judged =
+      verdict expected h read stop fine empty judged =
       let says = judged.says tell h.texts left_next faults_now faults_next (now ++ taken) h.has
       stop in
       record {
@@ -232,8 +248,8 @@ module _ (set_up : SetUpLines) (before : ℕ) (tell : Bool) (begun : Outgoing) (
         reads = with_bytes taken h read;
         stops = subst (λ n. ReadingStops verdict left_next n faults_next (now ++ taken)) h.counts
             says.1;
-        says = subst (λ s. TraceSays s before tell verdict h.texts (oks_text tell h.texts)
-            left_next (now ++ taken)) h.same says.0;
+        says = subst (λ s. TraceSays s before tell verdict expected h.texts
+            (oks_text tell h.texts) left_next (now ++ taken)) h.same says.0;
         writes = h.told;
         is_written = judged.is_written out fine empty;
       }
@@ -241,19 +257,21 @@ module _ (set_up : SetUpLines) (before : ℕ) (tell : Bool) (begun : Outgoing) (
   -- a line was read and not taken
   pub Following-hit : {out : Outgoing} {checker : Checker} {now : List ℕ} (now_next line : List ℕ)
       {left_now left_next : Option (List ℕ)} {faults_now faults_next : ℕ} (taken : List ℕ)
-      (e : CheckEnd)
+      (e : CheckEnd) (expected : Option Expected)
       → Following set_up tell begun out checker pending now left left_now faults faults_now
       → Consumes left_now left_next taken → now ++ taken ≡ with_feed line ++ now_next
       → IsLine line → faults_next ≡ faults_now → out.failed ≡ false → out.waiting ≡ []
       → ((refusal : Refusal) → e ≡ C.Refused refusal → ⊥)
       → ((hit : Unlawful) → e ≡ C.Unlawful hit → (texts : List (List ℕ))
       → HasTakenLines texts checker → IsHitIn checker.set_up (texts ++ line ∷ []) hit)
-      → FollowsTrace set_up before tell (Err (end_of_check before e)) pending left left_next faults
-      faults_next begun out
-  Following-hit now_next line taken (C.Refused refusal) h read is good same fine empty never hits =
-      absurd (never refusal refl)
-  Following-hit {out} {checker} {now} now_next line taken C.NoMemory h read is good same fine empty
-      never hits = record {
+      → ((hit : Unlawful) → e ≡ C.Unlawful hit → (texts : List (List ℕ))
+      → HasTakenLines texts checker → IsToldIn checker.set_up (texts ++ line ∷ []) hit expected)
+      → FollowsTrace set_up before tell (Err (end_of_check before e)) expected pending left
+      left_next faults faults_next begun out
+  Following-hit now_next line taken (C.Refused refusal) expected h read is good same fine empty
+      never hits tells = absurd (never refusal refl)
+  Following-hit {out} {checker} {now} now_next line taken C.NoMemory expected h read is good same
+      fine empty never hits tells = record {
         texts = h.texts;
         behind = now ++ taken;
         told = oks_text tell h.texts;
@@ -263,8 +281,8 @@ module _ (set_up : SetUpLines) (before : ℕ) (tell : Bool) (begun : Outgoing) (
         writes = h.told;
         is_written = (fine, empty);
       }
-  Following-hit {out} {checker} {now} now_next line {left_now} {left_next} taken (C.Unlawful hit) h
-      read is good same fine empty never hits = record {
+  Following-hit {out} {checker} {now} now_next line {left_now} {left_next} taken (C.Unlawful hit)
+      expected h read is good same fine empty never hits tells = record {
         texts = h.texts ++ line ∷ [];
         behind = now_next;
         told = oks_text tell h.texts;
@@ -282,6 +300,8 @@ module _ (set_up : SetUpLines) (before : ℕ) (tell : Bool) (begun : Outgoing) (
             so_far = are_so_far h;
             hits = subst (λ s. IsHitIn s (h.texts ++ line ∷ []) hit) h.same
                 (hits hit refl h.texts h.has);
+            explained = subst (λ s. IsToldIn s (h.texts ++ line ∷ []) hit expected) h.same
+                (tells hit refl h.texts h.has);
             told_is = refl;
           };
         };
@@ -291,12 +311,12 @@ module _ (set_up : SetUpLines) (before : ℕ) (tell : Bool) (begun : Outgoing) (
 
   -- `ok` was not written
   pub Following-fault : {out : Outgoing} {checker : Checker} {now : List ℕ}
-      {left_now : Option (List ℕ)} {faults_now : ℕ}
+      {left_now : Option (List ℕ)} {faults_now : ℕ} (expected : Option Expected)
       → Following set_up tell begun out checker pending now left left_now faults faults_now
       → out.failed ≡ true
-      → FollowsTrace set_up before tell (Err F.WriteFault) pending left left_now faults faults_now
-      begun out
-  Following-fault {out} {checker} {now} h failed = record {
+      → FollowsTrace set_up before tell (Err F.WriteFault) expected pending left left_now faults
+      faults_now begun out
+  Following-fault {out} {checker} {now} expected h failed = record {
     texts = h.texts;
     behind = now;
     told = oks_text tell h.texts;
@@ -309,12 +329,12 @@ module _ (set_up : SetUpLines) (before : ℕ) (tell : Bool) (begun : Outgoing) (
 
   -- more lines were taken than are counted
   pub Following-many : {out : Outgoing} {checker : Checker} {now : List ℕ}
-      {left_now : Option (List ℕ)} {faults_now : ℕ}
+      {left_now : Option (List ℕ)} {faults_now : ℕ} (expected : Option Expected)
       → Following set_up tell begun out checker pending now left left_now faults faults_now
       → checker.lines ≡ 2 ^ 32 - 1 → out.failed ≡ false → out.waiting ≡ []
-      → FollowsTrace set_up before tell (Err F.TooManyLines) pending left left_now faults
+      → FollowsTrace set_up before tell (Err F.TooManyLines) expected pending left left_now faults
       faults_now begun out
-  Following-many {out} {checker} {now} h all fine empty = record {
+  Following-many {out} {checker} {now} expected h all fine empty = record {
     texts = h.texts;
     behind = now;
     told = oks_text tell h.texts;

@@ -41,7 +41,7 @@ end_value (F.Unlawful line reason) = 10
 -- what is said of an end, but for why lines are refused or not lawful
 abbrev pub end_words : FollowEnd → List ℕ
 end_words F.Done = []
-end_words F.Words = codes "usage: rio_follow [tell]\n"
+end_words F.Words = codes "usage: rio_follow [tell] [--report tap]\n"
 end_words (F.Refused refusal) = []
 end_words F.ReadFault = codes "rio_follow: standard input cannot be read\n"
 end_words F.WriteFault = codes "rio_follow: standard output cannot be written\n"

@@ -1,5 +1,5 @@
 -- Which lines were read, and what is so of them.
-use Rattle.std.specs.Prelude.{◌≡◌, ◌≢◌, ℕ, ◌+◌, ◌-◌, ◌<◌, ◌^◌, ◌⊎◌, Bool, true, false, codes, List, [], ◌∷◌, ◌++◌, All, length, take, Option, Result, Ok, Err}
+use Rattle.std.specs.Prelude.{◌≡◌, ◌≢◌, ℕ, ◌+◌, ◌-◌, ◌<◌, ◌^◌, ◌⊎◌, Bool, true, false, codes, List, [], ◌∷◌, ◌++◌, All, length, take, Option, Some, None, Result, Ok, Err}
 use Rattle.std.specs.List.{flat_map}
 use Rattle.std.specs.Io.KnownBytes.{Consumes, IsAtEnd}
 use Rattle.rio_chars.specs.Faults.{Rose}
@@ -15,10 +15,12 @@ use Rattle.live_lines.specs.Lines.{IsLine, HasNoFeed, LinesStop, with_feed, most
 use Rattle.live_lines.specs.Serving.{WritesAll}
 use Rattle.trace_check.specs.declared.checker.Checker.{Checker}
 use Rattle.trace_check.specs.declared.checking.Unlawful.{Unlawful}
+use Rattle.trace_check.specs.declared.expecting.Expected.{Expected}
 use Rattle.trace_check.specs.Lawful.{IsLawful}
 use Rattle.trace_check.specs.SoFar.{IsLawfulSoFar}
 use Rattle.trace_check.specs.Starting.{net_of}
 use Rattle.trace_check.specs.Taken.{HasTakenLines, IsHitAt, IsHitIn, IsSetUpOf}
+use Rattle.trace_check.specs.Told.{IsToldAt, IsToldIn}
 use Rattle.follow_lines.specs.declared.ends.FollowEnd.{FollowEnd}
 use Rattle.follow_lines.specs.declared.ends.FollowEnd.TheVariants as F
 use Rattle.follow_lines.specs.declared.setting.SetUpRead.{SetUpRead}
@@ -56,59 +58,64 @@ abbrev pub AreLawfulSoFar : SetUpLines → List (List ℕ) → Type 0
 AreLawfulSoFar set_up texts = IsLawfulSoFar set_up.known (net_of set_up) texts
 
 -- The lines before the last are lawful so far, and a reason hits the last, or the one before it if
--- that edits a wire: this line and this reason, whatever more may come. `ok` is told of the lines
--- before the last.
+-- that edits a wire: this line and this reason, whatever more may come; and this would have been
+-- lawful there. `ok` is told of the lines before the last.
 pub record LastIsHit (set_up : SetUpLines) (tell : Bool) (texts : List (List ℕ)) (told : List ℕ)
-    (hit : Unlawful) : Type 0 where
+    (hit : Unlawful) (expected : Option Expected) : Type 0 where
   pub front : List (List ℕ)
   pub last : List ℕ
   pub split : texts ≡ front ++ last ∷ []
   pub so_far : AreLawfulSoFar set_up front
   pub hits : IsHitIn set_up texts hit
+  pub explained : IsToldIn set_up texts hit expected
   pub told_is : told ≡ oks_text tell front
 
 -- No further line comes, and all are lawful so far. A reason hits the line that does not come, or
--- the last one if that edits a wire.
+-- the last one if that edits a wire; and this would have been lawful there.
 pub record EndIsHit (set_up : SetUpLines) (tell : Bool) (texts : List (List ℕ)) (told : List ℕ)
-    (left : Option (List ℕ)) (behind : List ℕ) (hit : Unlawful) : Type 0 where
+    (left : Option (List ℕ)) (behind : List ℕ) (hit : Unlawful) (expected : Option Expected)
+    : Type 0 where
   pub ended : InputHasEnded left behind
   pub so_far : AreLawfulSoFar set_up texts
   pub hits : IsHitAt set_up texts hit
+  pub explained : IsToldAt set_up texts hit expected
   pub told_is : told ≡ oks_text tell texts
 
--- Of lines of a trace behind so many others a reason hits this one.
+-- Of lines of a trace behind so many others a reason hits this one, and this would have been lawful
+-- there.
 pub record TraceIsHit (set_up : SetUpLines) (before : ℕ) (tell : Bool) (texts : List (List ℕ))
-    (told : List ℕ) (left : Option (List ℕ)) (behind : List ℕ) (line reason : ℕ) : Type 0 where
+    (told : List ℕ) (left : Option (List ℕ)) (behind : List ℕ) (line reason : ℕ)
+    (expected : Option Expected) : Type 0 where
   pub hit : Unlawful
   pub line_is : line ≡ before + hit.line
   pub reason_is : reason ≡ hit.reason
-  pub hits : LastIsHit set_up tell texts told hit
-      ⊎ EndIsHit set_up tell texts told left behind hit
+  pub hits : LastIsHit set_up tell texts told hit expected
+      ⊎ EndIsHit set_up tell texts told left behind hit expected
 
 -- all that were read are lawful so far, and `ok` is told of each
 abbrev pub AreFollowed : SetUpLines → Bool → List (List ℕ) → List ℕ → Type 0
 AreFollowed set_up tell texts told =
     AreLawfulSoFar set_up texts × (told ≡ oks_text tell texts)
 
--- What is so of lines of a trace, behind so many others, with this verdict; and what was told of
--- them before it.
-abbrev pub TraceSays : SetUpLines → ℕ → Bool → Result ℕ FollowEnd → List (List ℕ) → List ℕ
-    → Option (List ℕ) → List ℕ → Type 0
-TraceSays set_up before tell (Ok steps) texts told left behind =
+-- What is so of lines of a trace, behind so many others, with this verdict; what would have been
+-- lawful at the line of a verdict that is not; and what was told of them before it.
+abbrev pub TraceSays : SetUpLines → ℕ → Bool → Result ℕ FollowEnd → Option Expected
+    → List (List ℕ) → List ℕ → Option (List ℕ) → List ℕ → Type 0
+TraceSays set_up before tell (Ok steps) expected texts told left behind =
     IsLawful set_up.known (net_of set_up) texts steps × (told ≡ oks_text tell texts)
-TraceSays set_up before tell (Err (F.Unlawful line reason)) texts told left behind =
-    TraceIsHit set_up before tell texts told left behind line reason
-TraceSays set_up before tell (Err F.ReadFault) texts told left behind =
+TraceSays set_up before tell (Err (F.Unlawful line reason)) expected texts told left behind =
+    TraceIsHit set_up before tell texts told left behind line reason expected
+TraceSays set_up before tell (Err F.ReadFault) expected texts told left behind =
     AreFollowed set_up tell texts told
-TraceSays set_up before tell (Err F.WriteFault) texts told left behind =
+TraceSays set_up before tell (Err F.WriteFault) expected texts told left behind =
     AreFollowed set_up tell texts told
-TraceSays set_up before tell (Err F.NoMemory) texts told left behind =
+TraceSays set_up before tell (Err F.NoMemory) expected texts told left behind =
     AreFollowed set_up tell texts told
-TraceSays set_up before tell (Err F.LineTooLong) texts told left behind =
+TraceSays set_up before tell (Err F.LineTooLong) expected texts told left behind =
     AreFollowed set_up tell texts told
-TraceSays set_up before tell (Err F.TooManyLines) texts told left behind =
+TraceSays set_up before tell (Err F.TooManyLines) expected texts told left behind =
     AreFollowed set_up tell texts told × (length texts ≡ 2 ^ 32 - 1)
-TraceSays set_up before tell (Err end) texts told left behind = ⊥
+TraceSays set_up before tell (Err end) expected texts told left behind = ⊥
 
 -- an outbox whose text was written, unless the verdict is that a write failed
 abbrev pub IsWritten : Result ℕ FollowEnd → Outgoing → Type 0
@@ -117,24 +124,26 @@ IsWritten verdict out = (out.failed ≡ false) × (out.waiting ≡ [])
 
 -- Behind so many lines, lines of a trace were read, and this is so of them with this verdict.
 pub record FollowsTrace (set_up : SetUpLines) (before : ℕ) (tell : Bool)
-    (verdict : Result ℕ FollowEnd) (pending : List ℕ) (left left_after : Option (List ℕ))
-    (faults faults_after : ℕ) (out out_after : Outgoing) : Type 0 where
+    (verdict : Result ℕ FollowEnd) (expected : Option Expected) (pending : List ℕ)
+    (left left_after : Option (List ℕ)) (faults faults_after : ℕ) (out out_after : Outgoing)
+    : Type 0 where
   pub texts : List (List ℕ)
   pub behind : List ℕ
   pub told : List ℕ
   pub reads : ReadsLines pending left left_after texts behind
   pub stops : ReadingStops verdict left_after faults faults_after behind
-  pub says : TraceSays set_up before tell verdict texts told left_after behind
+  pub says : TraceSays set_up before tell verdict expected texts told left_after behind
   pub writes : Writes out out_after told
   pub is_written : IsWritten verdict out_after
 
 -- What is so of lines that a checker has taken, if no further line comes.
 pub record EndJudged (before : ℕ) (checker : Checker) (end : LineEnd)
-    (verdict : Result ℕ FollowEnd) : Type 0 where
+    (verdict : Result ℕ FollowEnd) (expected : Option Expected) : Type 0 where
   pub says : (tell : Bool) (texts : List (List ℕ)) (left : Option (List ℕ))
       (faults faults_after : ℕ) (behind : List ℕ) → HasTakenLines texts checker
       → LinesStop end left faults faults_after behind
-      → TraceSays checker.set_up before tell verdict texts (oks_text tell texts) left behind
+      → TraceSays checker.set_up before tell verdict expected texts (oks_text tell texts) left
+      behind
       × ReadingStops verdict left faults faults_after behind
   pub is_written : (out : Outgoing) → out.failed ≡ false → out.waiting ≡ []
       → IsWritten verdict out
@@ -185,8 +194,9 @@ SetUpSays verdict lines left behind = ⊥
 
 -- The lines are set-up lines that no reason hits, a line `---`, and lines of a trace, of which this
 -- is so. `ok` is told of the line between, and this text behind it.
-pub record TraceFollowed (tell : Bool) (verdict : Result ℕ FollowEnd) (lines : List (List ℕ))
-    (told : List ℕ) (left : Option (List ℕ)) (behind : List ℕ) : Type 0 where
+pub record TraceFollowed (tell : Bool) (verdict : Result ℕ FollowEnd)
+    (expected : Option Expected) (lines : List (List ℕ)) (told : List ℕ)
+    (left : Option (List ℕ)) (behind : List ℕ) : Type 0 where
   pub before : List (List ℕ)
   pub texts : List (List ℕ)
   pub split : lines ≡ before ++ codes "---" ∷ texts
@@ -195,14 +205,14 @@ pub record TraceFollowed (tell : Bool) (verdict : Result ℕ FollowEnd) (lines :
   pub is_set_up : IsSetUpOf (lines_bytes before) set_up
   pub more : List ℕ
   pub told_is : told ≡ ok_text tell ++ more
-  pub says : TraceSays set_up (length before + 1) tell verdict texts more left behind
+  pub says : TraceSays set_up (length before + 1) tell verdict expected texts more left behind
 
 -- what is so of all lines that were read, and what was told of them before the verdict
-abbrev pub LinesSay : Bool → Result ℕ FollowEnd → List (List ℕ) → List ℕ → Option (List ℕ)
-    → List ℕ → Type 0
-LinesSay tell verdict lines told left behind =
+abbrev pub LinesSay : Bool → Result ℕ FollowEnd → Option Expected → List (List ℕ) → List ℕ
+    → Option (List ℕ) → List ℕ → Type 0
+LinesSay tell verdict expected lines told left behind =
     ((told ≡ []) × SetUpSays verdict lines left behind)
-    ⊎ TraceFollowed tell verdict lines told left behind
+    ⊎ TraceFollowed tell verdict expected lines told left behind
 
 -- So many set-up lines were read, and their bytes are these.
 pub record AreSetUpRead (read : SetUpRead) (script : List ℕ) (lines : List (List ℕ))
@@ -238,7 +248,7 @@ set_up_ended lines L.TooLong = Err F.LineTooLong
 set_up_ended lines L.NoMemory = Err F.NoMemory
 
 -- All lines of the input were read, up to the verdict, and this is so of them.
-pub record FollowsInput (tell : Bool) (verdict : Result ℕ FollowEnd)
+pub record FollowsInput (tell : Bool) (verdict : Result ℕ FollowEnd) (expected : Option Expected)
     (left left_after : Option (List ℕ)) (faults faults_after : ℕ) (out out_after : Outgoing)
     : Type 0 where
   pub lines : List (List ℕ)
@@ -246,7 +256,7 @@ pub record FollowsInput (tell : Bool) (verdict : Result ℕ FollowEnd)
   pub told : List ℕ
   pub reads : ReadsLines [] left left_after lines behind
   pub stops : ReadingStops verdict left_after faults faults_after behind
-  pub says : LinesSay tell verdict lines told left_after behind
+  pub says : LinesSay tell verdict expected lines told left_after behind
   pub writes : Writes out out_after told
   pub is_written : IsWritten verdict out_after
 
@@ -271,10 +281,17 @@ pub record HasWritten (verdict : Result ℕ FollowEnd) (end : FollowEnd) (out : 
     pub fault : out.failed ≡ true → end ≡ F.WriteFault
     pub fine : out.failed ≡ false → (end ≡ end_of_verdict verdict) ⊎ (end ≡ F.NoMemory)
 
--- Lines were read, and this is so of them. What was told of them was written.
-pub record FollowsAll (tell : Bool) (end : FollowEnd) (left left_after : Option (List ℕ))
-    (read_faults read_faults_after : ℕ) (written written_after : Option (List ℕ))
-    (write_faults write_faults_after : ℕ) : Type 0 where
+-- what a checker tells would have been lawful at the line that it refused
+abbrev pub expected_by : Option Checker → Option Expected
+expected_by None = None
+expected_by (Some checker) = checker.expected
+
+-- Lines were read, and this is so of them; and this would have been lawful at the line that is not.
+-- What was told of them was written.
+pub record FollowsAll (tell : Bool) (end : FollowEnd) (expected : Option Expected)
+    (left left_after : Option (List ℕ)) (read_faults read_faults_after : ℕ)
+    (written written_after : Option (List ℕ)) (write_faults write_faults_after : ℕ)
+    : Type 0 where
   pub verdict : Result ℕ FollowEnd
   pub lines : List (List ℕ)
   pub behind : List ℕ
@@ -282,7 +299,7 @@ pub record FollowsAll (tell : Bool) (end : FollowEnd) (left left_after : Option 
   pub last : List ℕ
   pub reads : ReadsLines [] left left_after lines behind
   pub stops : ReadingStops verdict left_after read_faults read_faults_after behind
-  pub says : LinesSay tell verdict lines told left_after behind
+  pub says : LinesSay tell verdict expected lines told left_after behind
   pub tells : TellsVerdict verdict end last
   pub writes : WritesToEnd end written written_after write_faults write_faults_after (told ++ last)
   pub ends : (end ≡ end_of_verdict verdict) ⊎ ((end ≡ F.WriteFault) ⊎ (end ≡ F.NoMemory))

@@ -1,3 +1,4 @@
 pub mod FollowEnds
-pub mod Telling
 pub mod Following
+pub mod Noting
+pub mod Telling

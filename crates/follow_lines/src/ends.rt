@@ -91,7 +91,7 @@ pub fn end_words(end: FollowEnd) -> &'static [u8]
 {
     match end {
         FollowEnd::Done => b"",
-        FollowEnd::Words => b"usage: rio_follow [tell]\n",
+        FollowEnd::Words => b"usage: rio_follow [tell] [--report tap]\n",
         FollowEnd::Refused(_) => b"",
         FollowEnd::ReadFault => b"rio_follow: standard input cannot be read\n",
         FollowEnd::WriteFault => b"rio_follow: standard output cannot be written\n",

@@ -1,9 +1,10 @@
 //! A trace is followed, from its set-up lines on.
 ghost use Rattle.std.specs.Prelude.{◌≡◌, ◌≤◌, [], false, length, IfOk, IfErr};
 ghost use Rattle.trace_check.specs.Taken.{HasTakenLines, IsSetUpOf};
-ghost use Rattle.follow_lines.specs.Following.{AreRefused, FollowsAll, FollowsInput};
+ghost use Rattle.follow_lines.specs.Following.{AreRefused, FollowsAll, FollowsInput, expected_by};
 
 use crate::ends::{FollowEnd, check_end};
+use crate::journal::Journal;
 use crate::setting::read_set_up_lines;
 use crate::telling::{tell_ok, tell_verdict};
 use crate::tracing::follow_trace;
@@ -15,27 +16,26 @@ use trace_check::Checker;
 
 /// Reads set-up lines, a line `---` and the lines of a trace, and judges each line of the trace
 /// before the next is asked for. The verdict is told as soon as there is one. If `ok` is to be
-/// told, it is told of the line `---` and of each line behind it that is taken. The set-up lines
-/// are left in `script`, and the last line that was read in `line`.
+/// told, it is told of the line `---` and of each line behind it that is taken. What was read is
+/// left in the journal, and what would have been lawful at a line that is not, in its checker.
 pub fn follow_all<S: Source, K: Sink>(
     alloc: Global,
     tell: bool,
     input: &mut LineReader,
-    script: &mut Vec<u8>,
-    line: &mut Vec<u8>,
+    journal: &mut Journal,
     source: &mut S,
     outbox: &mut Outbox<K>,
 ) -> FollowEnd
     requires input { input.old ≡ [] }
-    requires script { script.old.items ≡ [] }
+    requires script { journal.old.script.items ≡ [] }
     requires fine { outbox.old.failed ≡ false }
     requires empty { outbox.old.waiting ≡ [] }
     ensures same { outbox.new.sink ≡ outbox.old.sink }
-    ensures follows { FollowsAll tell result (S.left source.old) (S.left source.new)
-        (S.faults source.old) (S.faults source.new)
+    ensures follows { FollowsAll tell result (expected_by journal.new.checker) (S.left source.old)
+        (S.left source.new) (S.faults source.old) (S.faults source.new)
         outbox.old.written outbox.new.written outbox.old.faults outbox.new.faults }
 {
-    let verdict = follow_input(alloc, tell, input, script, line, source, outbox);
+    let verdict = follow_input(alloc, tell, input, journal, source, outbox);
     tell_verdict(alloc, verdict, outbox)
 }
 
@@ -44,21 +44,20 @@ fn follow_input<S: Source, K: Sink>(
     alloc: Global,
     tell: bool,
     input: &mut LineReader,
-    script: &mut Vec<u8>,
-    line: &mut Vec<u8>,
+    journal: &mut Journal,
     source: &mut S,
     outbox: &mut Outbox<K>,
 ) -> Result<u32, FollowEnd>
     requires input { input.old ≡ [] }
-    requires script { script.old.items ≡ [] }
+    requires script { journal.old.script.items ≡ [] }
     requires fine { outbox.old.failed ≡ false }
     requires empty { outbox.old.waiting ≡ [] }
     ensures same { outbox.new.sink ≡ outbox.old.sink }
-    ensures follows { FollowsInput tell result (S.left source.old) (S.left source.new)
-        (S.faults source.old) (S.faults source.new) outbox.old outbox.new }
+    ensures follows { FollowsInput tell result (expected_by journal.new.checker) (S.left source.old)
+        (S.left source.new) (S.faults source.old) (S.faults source.new) outbox.old outbox.new }
 {
-    let read = read_set_up_lines(input, script, line, source)?;
-    let mut checker = new_checker(alloc, script.as_slice())?;
+    let read = read_set_up_lines(input, &mut journal.script, &mut journal.line, source)?;
+    let mut checker = new_checker(alloc, journal.script.as_slice())?;
     let parted = read.parted;
     if !parted {
         return Err(FollowEnd::Refused(unparted(read.lines)));
@@ -68,16 +67,19 @@ fn follow_input<S: Source, K: Sink>(
         return Err(FollowEnd::WriteFault);
     }
     let before = read.lines + 1;
-    follow_trace(
+    journal.before = before;
+    let verdict = follow_trace(
         alloc,
         tell,
         before,
         &mut checker,
         input,
-        line,
+        journal,
         source,
         outbox,
-    )
+    );
+    journal.checker = Some(checker);
+    verdict
 }
 
 /// A check of the trace behind these set-up lines, if they are not refused.

@@ -1,29 +1,27 @@
 -- What the whole program does.
-use Rattle.std.specs.Prelude.{◌≡◌, ◌⊎◌, ℕ, List, [], ◌∷◌, ◌++◌, Option, Bool, true, false, codes, if◌then◌else◌}
+use Rattle.std.specs.Prelude.{◌≡◌, ◌⊎◌, ℕ, List, ◌++◌, Option, Bool, codes, false, if◌then◌else◌}
 use Rattle.std.specs.Io.KnownBytes.{Keeps}
 use Rattle.rio_chars.specs.Unless.{WritesUnless}
 use Rattle.program_start.specs.Questions.{AsksQuestion, AsksNoQuestion, question_text}
 use Rattle.program_start.specs.declared.questions.Question.{Question}
+use Rattle.trace_check.specs.declared.expecting.Expected.{Expected}
 use Rattle.follow_lines.specs.declared.ends.FollowEnd.{FollowEnd}
 use Rattle.follow_lines.specs.declared.ends.FollowEnd.TheVariants as F
 use Rattle.follow_lines.specs.FollowEnds.{end_value}
 use Rattle.follow_lines.specs.Following.{FollowsAll}
-
--- the words after the program's name ask that a trace is followed, and whether `ok` is told
-abbrev pub AskFollow : List (List ℕ) → Bool → Type 0
-AskFollow [] tell = tell ≡ false
-AskFollow (word ∷ []) tell = (word ≡ codes "tell") × (tell ≡ true)
-AskFollow (word ∷ more ∷ words) tell = ⊥
+use Rattle.rio_follow.specs.declared.request.FollowRequest.{FollowRequest}
+use Rattle.rio_follow.specs.Asking.{AskFollow}
 
 -- how the program is used, on several lines
 abbrev pub follow_help : List ℕ
-follow_help = codes "usage: rio_follow [tell] < LINES\n\n"
+follow_help = codes "usage: rio_follow [tell] [--report tap] < LINES\n\n"
     ++ codes "Reads set-up lines, a line --- and the lines of a trace, and judges each line before\n"
     ++ codes "the next is read. At the first line that is not lawful it says which and why, and ends.\n\n"
     ++ codes "lawful STEPS             the input has ended, and all lines are a lawful trace\n"
     ++ codes "unlawful LINE REASON     this line is not lawful, or it is missing\n"
     ++ codes "refused LINE REASON      the set-up lines are refused\n"
-    ++ codes "tell                     and ok for the line --- and for each line behind it\n\n"
+    ++ codes "tell                     and ok for the line --- and for each line behind it\n"
+    ++ codes "--report tap             a report on standard error, in place of why\n\n"
     ++ codes "docs/checking.md has the reasons, and man rio the lines.\n"
 
 -- A question was answered, or a front of the answer was written since a write failed.
@@ -47,12 +45,13 @@ abbrev pub FollowDid : List (List ℕ) → FollowEnd → Option (List ℕ) → O
     → Option (List ℕ) → Option (List ℕ) → ℕ → ℕ → Type 0
 FollowDid words end left left_after read_faults read_faults_after written written_after
     write_faults write_faults_after =
-    ((tell : Bool) × AskFollow words tell
-    × FollowsAll tell end left left_after read_faults read_faults_after written written_after
-    write_faults write_faults_after)
+    ((request : FollowRequest) × AskFollow words request × ((expected : Option Expected)
+    × FollowsAll request.tell end expected left left_after read_faults read_faults_after written
+    written_after write_faults write_faults_after))
     ⊎ ((FollowTold words end written written_after write_faults write_faults_after
     × KeepsInput left left_after read_faults read_faults_after)
-    ⊎ (((tell : Bool) → ¬ AskFollow words tell) × AsksNoQuestion words × (end ≡ F.Words)
+    ⊎ (((request : FollowRequest) → ¬ AskFollow words request) × AsksNoQuestion words
+    × (end ≡ F.Words)
     × Keeps written written_after × (write_faults_after ≡ write_faults)
     × KeepsInput left left_after read_faults read_faults_after))
 

@@ -1,24 +1,28 @@
 //! A trace is followed, and what it is not lawful for is said.
+ghost use Rattle.std.specs.Prelude.{Option};
+ghost use Rattle.trace_check.specs.declared.expecting.Expected.{Expected};
 ghost use Rattle.follow_lines.specs.Following.{FollowsAll};
 
+use crate::report::say_report;
+use crate::request::FollowRequest;
 use crate::why::say_why;
-use follow_lines::{FollowEnd, follow_all};
+use follow_lines::{FollowEnd, Journal, follow_all};
 use live_lines::LineReader;
 use rio_chars::{Outbox, Sink, Source, TextBuffer};
 use std::alloc::Global;
 
 /// Follows a trace, as `follow_all` of `follow_lines` does. Why lines are refused or not lawful is
-/// said to `messages`.
+/// said to `messages`, or a report if one is asked for.
 pub fn follow<S: Source, K: Sink, M: Sink>(
     alloc: Global,
-    tell: bool,
+    request: FollowRequest,
     source: &mut S,
     sink: &mut K,
     messages: &mut M,
 ) -> FollowEnd
-    ensures { FollowsAll tell result (S.left source.old) (S.left source.new) (S.faults source.old)
-        (S.faults source.new) (K.written sink.old) (K.written sink.new) (K.faults sink.old)
-        (K.faults sink.new) }
+    ensures { (expected : Option Expected) × FollowsAll request.tell result expected
+        (S.left source.old) (S.left source.new) (S.faults source.old) (S.faults source.new)
+        (K.written sink.old) (K.written sink.new) (K.faults sink.old) (K.faults sink.new) }
 {
     let Ok(mut input) = LineReader::new(alloc) else {
         return FollowEnd::NoMemory;
@@ -26,19 +30,21 @@ pub fn follow<S: Source, K: Sink, M: Sink>(
     let Ok(mut buffer) = TextBuffer::new(alloc) else {
         return FollowEnd::NoMemory;
     };
-    let mut script = Vec::new(alloc);
-    let mut line = Vec::new(alloc);
+    let mut journal = Journal::new(alloc, request.report);
     let mut outbox = Outbox::new(&mut buffer, sink);
     let end = follow_all(
         alloc,
-        tell,
+        request.tell,
         &mut input,
-        &mut script,
-        &mut line,
+        &mut journal,
         source,
         &mut outbox,
     );
     outbox.into_sink();
-    say_why(alloc, end, script.as_slice(), line.as_slice(), messages);
+    if request.report {
+        say_report(alloc, end, &journal, messages);
+    } else {
+        say_why(alloc, end, &journal, messages);
+    }
     end
 }

@@ -1,6 +1,7 @@
-//! `rio_follow [tell]`: a check of a trace that keeps up. It reads set-up lines, a line `---` and
-//! the lines of a trace from standard input, and judges each line before it reads the next. At the
-//! first line that is not lawful it says so, and ends.
+//! `rio_follow [tell] [--report tap]`: a check of a trace that keeps up. It reads set-up lines, a
+//! line `---` and the lines of a trace from standard input, and judges each line before it reads
+//! the next. At the first line that is not lawful it says so, and ends. With a report it writes on
+//! standard error what was checked, in the form of TAP 14.
 //!
 //! Promised: what is said is so of the lines that were read: a lawful trace of so many steps, or
 //! the first line that a reason hits, whatever more may come; and the lines before it were lawful
@@ -15,13 +16,16 @@
 
 mod following;
 mod program;
+mod report;
+mod request;
 mod why;
 
 pub use following::follow;
 use live_lines::start_lines;
-use program::asked;
 pub use program::run;
 use program_start::Program;
+pub use request::FollowRequest;
+use request::asked;
 use rio_chars::{Sink, Source};
 use std::alloc::Global;
 use std::process::ExitCode;

@@ -1,17 +1,18 @@
 //! The whole program, but for where its words and its streams come from.
-ghost use Rattle.std.specs.Prelude.{map, ℕ, Bool, MatchOption, codes, true, false, if◌then◌else◌, ◌≡◌};
+ghost use Rattle.std.specs.Prelude.{map, if◌then◌else◌, ◌≡◌};
 ghost use Rattle.std.specs.String.{string_bytes};
 ghost use Rattle.follow_lines.specs.declared.ends.FollowEnd.TheVariants as F;
-ghost use Rattle.rio_follow.specs.Program.{AskFollow, FollowDid, FollowRan};
+ghost use Rattle.rio_follow.specs.Program.{FollowDid, FollowRan};
 
 use crate::following::follow;
+use crate::request::asked;
 use follow_lines::{FollowEnd, end_number, end_words};
 use program_start::{answer_question, question_of};
 use rio_chars::{Sink, Source, write_unless};
 use std::alloc::Global;
 
 /// How the program is used.
-const HELP: &[u8] = b"usage: rio_follow [tell] < LINES
+const HELP: &[u8] = b"usage: rio_follow [tell] [--report tap] < LINES
 
 Reads set-up lines, a line --- and the lines of a trace, and judges each line before
 the next is read. At the first line that is not lawful it says which and why, and ends.
@@ -20,11 +21,12 @@ lawful STEPS             the input has ended, and all lines are a lawful trace
 unlawful LINE REASON     this line is not lawful, or it is missing
 refused LINE REASON      the set-up lines are refused
 tell                     and ok for the line --- and for each line behind it
+--report tap             a report on standard error, in place of why
 
 docs/checking.md has the reasons, and man rio the lines.
 ";
 
-/// FollowsAll a trace as the words behind the program's name ask for, and answers the exit status.
+/// Follows a trace as the words behind the program's name ask for, and answers the exit status.
 /// `--help` and `--version` are answered. What there is to say of the end is said in one line to
 /// `messages`. A line that cannot be said changes nothing.
 pub fn run<S: Source, K: Sink, M: Sink>(
@@ -43,7 +45,7 @@ pub fn run<S: Source, K: Sink, M: Sink>(
     end_number(end)
 }
 
-/// FollowsAll a trace as the words ask for, or answers what else they ask.
+/// Follows a trace as the words ask for, or answers what else they ask.
 fn follow_words<S: Source, K: Sink, M: Sink>(
     alloc: Global,
     words: &[String],
@@ -60,7 +62,7 @@ fn follow_words<S: Source, K: Sink, M: Sink>(
         return told(answer_question(sink, b"rio_follow", HELP, question));
     }
     match asked(words) {
-        Some(tell) => follow(alloc, tell, source, sink, messages),
+        Some(request) => follow(alloc, request, source, sink, messages),
         None => FollowEnd::Words,
     }
 }
@@ -73,30 +75,5 @@ fn told(failed: bool) -> FollowEnd
         FollowEnd::WriteFault
     } else {
         FollowEnd::Done
-    }
-}
-
-/// Whether the words ask that `ok` is told; None if they ask for nothing.
-pub(crate) fn asked(words: &[String]) -> Option<bool>
-    ensures { MatchOption result
-        ((tell : Bool) → ¬ AskFollow (map string_bytes words.now) tell)
-        (λ tell. AskFollow (map string_bytes words.now) tell) }
-{
-    match words {
-        [] => Some(false),
-        [word] => asked_by(word.as_str().as_bytes()),
-        _ => None,
-    }
-}
-
-/// The same of one word.
-fn asked_by(word: &[u8]) -> Option<bool>
-    ensures { MatchOption result
-        ((tell : Bool) → ¬ ((word.now ≡ codes "tell") × (tell ≡ true)))
-        (λ tell. (word.now ≡ codes "tell") × (tell ≡ true)) }
-{
-    match word {
-        b"tell" => Some(true),
-        _ => None,
     }
 }
