@@ -17,14 +17,16 @@ from device import Device, link_form
 from two_ports import Port
 
 SET_UP = "endpoint A 1\nendpoint B 2\nlink A.0 B.0\n---\n"
-WORDS = {"queued": "take B", "taken": "leave B", "hold": "hold B.0", "free": "free B.0", "sent": "sent B.0"}
+WORDS = {"queued": "take B", "taken": "leave B", "hold": "hold B.0", "free": "free B.0", "fire": "fire B.0"}
 
 
 class Bench:
     """Both ends, the two ways of the wire between them, and the log."""
 
+    PORT_WORDS = ()
+
     def __init__(self, program, faults, chance):
-        self.device, self.port = Device(), Port(program)
+        self.device, self.port = Device(), Port(program, *self.PORT_WORDS)
         self.wires = {"A": [], "B": []}
         self.faults, self.chance = faults, chance
         self.left, self.freed = {"A": [], "B": []}, 0
@@ -60,7 +62,9 @@ class Bench:
             if word == "sent":
                 self.put("B", rest)
             elif word in WORDS:
-                self.log(WORDS[word] + " " + rest[0])
+                self.log(" ".join([WORDS[word], *rest]))
+            if word == "taken":
+                self.left["B"] += rest
         return answer
 
     def device_got(self, char):
@@ -92,12 +96,11 @@ class Bench:
             chars = chars[count:]
 
     def take(self):
-        """Packets that are held leave, or there will be no room for others."""
+        """A packet that the device holds leaves, or there will be no room for others."""
         packet = self.device.take()
         if packet is not None:
             self.left["A"].append(packet)
             self.log("leave A " + packet)
-        self.left["B"] += [line.split()[1] for line in self.ask("take") if line.startswith("taken ")]
 
     def offer(self, number):
         """A packet is to be sent from each end, unless its list is full: then it is offered once more, later."""
@@ -116,6 +119,7 @@ class Bench:
         moved = self.wires["A"] or self.wires["B"]
         self.deliver()
         self.take()
+        self.ask("take")
         if not moved and not self.wires["A"] and not self.wires["B"]:
             self.late()
 
@@ -125,13 +129,17 @@ class Bench:
 
     def late(self):
         """Nothing moves, though an end waits for an answer."""
-        if self.device.waits():
-            self.log("fire A.0")
-            self.device.time_out()
+        self.late_device()
         state = dict(line.split() for line in self.ask("state"))
         if state["outstanding"] != "0" or state["output"] != "ok":
             self.log("fire B.0")
             self.ask("timeout")
+
+    def late_device(self):
+        """The device has waited too long, if it waits."""
+        if self.device.waits():
+            self.log("fire A.0")
+            self.device.time_out()
 
 
 def main(words, kind=Bench):

@@ -4,7 +4,8 @@
 usage: clocked.py [PROGRAM [PACKETS [FAULTS [SEED]]]] > LOG    as bench.py
 
 A line has a run of clocks, so that what one end gives comes to the other end in the run behind. With runs of one clock it
-is what a simulator does. The log has no idles. A burst of the port stands in it once it was given whole.
+is what a simulator does. The log has no idles. A burst of the port stands in it once it was given whole. The port gives
+out what it holds, and has its time-outs, by itself: after more clocks than some runs, so that nothing is on its way.
 """
 import sys
 
@@ -12,6 +13,7 @@ from bench import Bench, main
 
 IDLE = "kbc"
 RUN = 24
+PATIENCE = 5 * RUN
 
 
 def is_whole(burst):
@@ -23,6 +25,8 @@ def is_whole(burst):
 
 class Clocked(Bench):
     """The bench, with clocks in place of turns."""
+
+    PORT_WORDS = ("--take", "--timeout", PATIENCE)
 
     def __init__(self, *words):
         super().__init__(*words)
@@ -51,12 +55,12 @@ class Clocked(Bench):
         return self.given(answer[-1].split()[1:]) or bool(chars)
 
     def round(self):
-        """A run of clocks, and what is held leaves. If nothing moves for some runs, a time-out comes."""
+        """A run of clocks, and what the device holds leaves. It has a time-out if nothing moves for some runs."""
         self.still = 0 if self.clocks() else self.still + 1
         self.take()
         if self.still == 3:
             self.still = 0
-            self.late()
+            self.late_device()
 
 
 if __name__ == "__main__":

@@ -1,7 +1,9 @@
 """Lines of each kind over pipes, with a time limit: each answer must come before the next line is written.
 
-usage: lines.py PROGRAM    The status is 0 if all is as wanted. The characters and packets are those of the worked rows
-of the trace of one packet, which the standard's CRCs give.
+usage: lines.py PROGRAM [lines]    lines: no words at the start
+
+The status is 0 if all is as wanted. The characters and packets are those of the worked rows of the trace of one packet,
+which the standard's CRCs give.
 """
 import sys
 
@@ -89,6 +91,37 @@ def clocks(program):
     a.end(), b.end()
 
 
+def taken_at_once(program):
+    """A packet that is held is given out at once, so that 4 buffers hold any number of them."""
+    port = Port(program, 4, "--take")
+    for ack in range(9):
+        burst = BURST.replace("d00 d0f", "d%02x d0f" % (8 * ack))
+        word = "clock" if ack % 2 else "got"
+        equal("taken", port.ask(word + " " + burst)[:2], ["hold " + PACKET, "taken " + PACKET])
+    equal("nothing is held", port.ask("take"), ["empty"])
+    equal("nothing for a symbol", port.ask("got " + ACCEPTED), [])
+    port.end()
+
+
+def timed_by_clocks(program):
+    """A time-out fires at the end of the third clock without an answer, and not while anything is on the way."""
+    port = Port(program, 8, "--timeout", 3)
+    equal("nothing to wait for", port.ask("clock" + 50 * " kbc"), ["given" + 50 * " kbc"])
+    port.ask("send 0 15 1 2 cafe0001")
+    equal("the first clock", port.ask("clock" + 20 * " kbc"), ["given " + BURST])
+    equal("the second clock", port.ask("clock kbc"), ["given kbc"])
+    equal("what is no clock", port.ask("turn 9") + port.ask("take") + port.ask("got kbc"), ["empty"])
+    equal("a symbol comes in", port.ask("clock k1c"), ["given kbc"])
+    equal("and breaks off, which has an answer", port.ask("clock kbc kbc kbc kbc"), ["given k1c d40 d2f d0e"])
+    equal("of which the last clock is the first", port.ask("clock kbc"), ["given kbc"])
+    equal("the third", port.ask("clock kbc"), ["fire", "given kbc"])
+    equal("asks", port.ask("clock kbc kbc kbc kbc"), ["given k1c d80 dfc d87"])
+    equal("asks again", port.ask("clock kbc kbc"), ["fire", "given kbc kbc"])
+    equal("and again", port.ask("clock kbc kbc kbc kbc"), ["given k1c d80 dfc d87"])
+    equal("new", port.ask("reset") + port.ask("clock" + 9 * " kbc"), ["given" + 9 * " kbc"])
+    port.end()
+
+
 def reset(program):
     """A new port forgets packets, states and what waits, and keeps its buffers."""
     port = Port(program, 4)
@@ -154,6 +187,16 @@ def ends(program):
         ended(program, b"take\n", b"", 2, *words)
 
 
+def words_at_the_start(program):
+    """Words that say how the port is made, and such that do not."""
+    for words in [["--take"], ["30", "--take"], ["--timeout", "1"], ["--take", "--timeout", "1000000"],
+                  ["4", "--take", "--timeout", "9"]]:
+        ended(program, b"take\n", b"empty\nok\n", 0, *words)
+    for words in [["--take", "8"], ["--take", "--take"], ["--timeout"], ["--timeout", "0"], ["--timeout", "1000001"],
+                  ["--timeout", "3", "--take"], ["8", "--timeout", "3", "4"], ["3", "--take"], ["8", "--takes"]]:
+        ended(program, b"take\n", b"", 2, *words)
+
+
 def long_lines(program):
     """A line of the most bytes is answered, and one more ends it."""
     text = b"got" + b" d00" * 1048575 + b"\n"
@@ -169,6 +212,9 @@ def bytes_and_readers(program):
     gone(program, b"take\n")
 
 
+LINES = (one_packet, room, ids_of_16_bits, time_out, clocks, reset, refused, ends, long_lines, bytes_and_readers)
+WORDS = (taken_at_once, timed_by_clocks, words_at_the_start)
+
 if __name__ == "__main__":
-    for case in (one_packet, room, ids_of_16_bits, time_out, clocks, reset, refused, ends, long_lines, bytes_and_readers):
+    for case in LINES + (WORDS if sys.argv[2:] != ["lines"] else ()):
         case(sys.argv[1])

@@ -33,8 +33,13 @@ def asked(lines):
 
 
 def played(port, fabric, lines):
-    """The answers of a session are those of the page."""
-    program = Port(fabric if lines[0].startswith("endpoint ") else port)
+    """The answers of a session are those of the page. Its first line may say how a port is started."""
+    name, *words = lines[0].split()
+    if name == "rio_port":
+        lines = lines[2:]
+    else:
+        words = []
+    program = Port(fabric if name == "endpoint" else port, *words)
     for line, answer in asked(lines):
         equal(line, program.ask(line) + ["ok"], answer)
     program.end()

@@ -2,7 +2,6 @@ pub mod WireLaws
 pub mod ReadingLaws
 pub mod WordLaws
 pub mod CheckLaws
-pub mod ActingLaws
 pub mod RunLaws
 pub mod TextLaws
 pub mod FabricLaws

@@ -81,8 +81,8 @@ stand_beyond before begun room count told beyond h =
     }
 
 -- the room keeps its length
-pub stand_length : (before begun room : List EventTold) (count : ℕ) → StandIn before begun count room
-    → length room ≡ length begun
+pub stand_length : (before begun room : List EventTold) (count : ℕ)
+    → StandIn before begun count room → length room ≡ length begun
 stand_length before begun room count h = grind (arith, common_steps, h.room_is)
 
 -- ---- the characters
@@ -109,8 +109,8 @@ first_number (n ∷ left) d some =
     let all : take (length (n ∷ left) - 1) left ≡ left = grind (arith, common_steps) in
     ap (λ (ns : List ℕ). n ∷ ns) (sym all)
 
--- So far have characters been read from a start: what those before the ones that are left say stands
--- in the room.
+-- So far have characters been read from a start: what those before the ones that are left say
+-- stands in the room.
 pub record ReadsOn (start : Place) (numbers left : List ℕ) (from : Place) (at events : ℕ)
     (begun room : List EventTold) : Type 0 where
   pub counted : at + length left ≡ length numbers

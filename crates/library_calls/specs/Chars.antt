@@ -1,5 +1,5 @@
 -- What characters do to an open port, as its caller is told.
-use Rattle.std.specs.Prelude.{◌≡◌, ◌<◌, ◌≤◌, ◌+◌, ◌*◌, ℕ, Bool, if◌then◌else◌, List, [], ◌∷◌, length, Option, Some, None, option_to_list}
+use Rattle.std.specs.Prelude.{◌≡◌, ◌<◌, ◌≤◌, ◌+◌, ◌*◌, ℕ, List, [], ◌∷◌, length, Option, Some, None, option_to_list}
 use Rattle.std.specs.List.{flat_map}
 use Rattle.rio_symbols.specs.Fields.{Fields}
 use Rattle.link_port.specs.Steps.{Acted, takes}
@@ -18,10 +18,6 @@ use Rattle.library_calls.specs.PortsSeen.{PortSeen, seen_at}
 abbrev pub held_length : Option (List ℕ) → ℕ
 held_length None = 0
 held_length (Some packet) = length packet
-
--- the packet, if it was accepted
-abbrev pub held_if : Bool → List ℕ → Option (List ℕ)
-held_if held packet = if held then Some packet else None
 
 -- those of the answer of one character, if there is one
 abbrev pub reply_wires : Option Fields → List ℕ

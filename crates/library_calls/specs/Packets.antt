@@ -4,7 +4,8 @@ use Rattle.rio_packets.specs.Fields.{prio_of}
 use Rattle.rio_packets.specs.LinkForm.{IsBadLength}
 use Rattle.link_buffers.specs.Prelude.{list_at, appended, highest}
 use Rattle.link_port.specs.Ports.{PortState}
-use Rattle.port_lines.specs.Answers.{port_has_room, without_first_held}
+use Rattle.port_lines.specs.Answers.{port_has_room}
+use Rattle.port_lines.specs.Taking.{without_first_held}
 use Rattle.library_calls.specs.declared.status.CallStatus.{CallStatus}
 use Rattle.library_calls.specs.declared.status.CallStatus.TheVariants.{Done, Argument, Full, Empty}
 use Rattle.library_calls.specs.declared.told.PacketHeader.{PacketHeader}

@@ -5,18 +5,11 @@ use Rattle.link_port.specs.Ports.{PortState}
 use Rattle.link_port.specs.States.{prios_of}
 use Rattle.link_port.specs.Turns.{waiting_in}
 use Rattle.link_port.specs.Halves.{out_kind_of, in_kind_of}
-use Rattle.link_port.specs.declared.kinds.OutKind.{OutKind}
-use Rattle.link_port.specs.declared.kinds.OutKind.TheVariants as out
 use Rattle.link_port.specs.declared.kinds.InKind.{InKind}
 use Rattle.link_port.specs.declared.kinds.InKind.TheVariants as in_half
 use Rattle.library_calls.specs.declared.told.StateTold.{StateTold}
+use Rattle.port_lines.specs.Patience.{out_number}
 use Rattle.library_calls.specs.PortsSeen.{PortSeen}
-
-abbrev pub out_number : OutKind → ℕ
-out_number out.Ok = 0
-out_number out.RetryStopped = 1
-out_number out.ErrorStopped = 2
-out_number out.Failed = 3
 
 abbrev pub in_number : InKind → ℕ
 in_number in_half.Ok = 0

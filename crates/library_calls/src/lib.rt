@@ -12,7 +12,6 @@
 //! - [`CharDid`], [`RunDid`], [`PacketHeader`], [`StateTold`]: what is passed and told
 #![tactic(auto)]
 
-mod acting;
 mod checks;
 mod laws;
 mod open_fabric;

@@ -4,13 +4,12 @@ ghost use Rattle.port_lines.specs.Lines.{asked_answer};
 ghost use Rattle.library_calls.specs.PortsSeen.{new_seen, PortTextTaken};
 ghost use Rattle.library_calls.specs.PortLines.{PortLineDid, WritesBut};
 
-use crate::acting::Came;
 use crate::status::CallStatus;
 use crate::text_sink::TextSink;
-use arrayvec::ArrayVec;
-use port_lines::{ClockedPort, PortRequest, RequestRefusal, answer, read_request};
+use port_lines::{
+    Came, ClockedPort, PortRequest, PortSettings, RequestRefusal, answer, read_request,
+};
 use rio_chars::{NoMemory, Outbox, Sink, TextBuffer};
-use rio_packets::Packet;
 use std::alloc::Global;
 use std::marker::Model;
 
@@ -33,8 +32,9 @@ impl Model for OpenPort {
 
     ghost view = { λ opened. record {
       port = opened.clocked.port;
-      buffers = opened.clocked.buffers;
+      settings = opened.clocked.settings;
       waiting = opened.clocked.waiting;
+      patience_left = opened.clocked.patience_left;
       text = drop opened.taken opened.sink.text.items;
     } };
 }
@@ -46,12 +46,13 @@ impl OpenPort {
         requires most { buffers ≤ 30 }
         ensures { IfOk result (λ opened. opened ≡ new_seen tells buffers) }
     {
+        let settings = PortSettings {
+            tells,
+            ..PortSettings::plain(buffers)
+        };
         Ok(OpenPort {
-            clocked: ClockedPort::new(alloc, buffers, tells)?,
-            came: Came {
-                packet: Packet::default(),
-                freed: ArrayVec::new(),
-            },
+            clocked: ClockedPort::new(alloc, settings)?,
+            came: Came::new(),
             sink: TextSink::new(alloc),
             taken: 0,
             buffer: TextBuffer::new(alloc)?,

@@ -3,16 +3,18 @@ ghost use Rattle.std.specs.Prelude.{◌≡◌, ◌≤◌, length};
 ghost use Rattle.link_port.specs.Bursts.{sending_burst, IsSending};
 ghost use Rattle.library_calls.specs.Wires.{char_wires};
 ghost use Rattle.library_calls.specs.Rooms.{laid_over};
-ghost use Rattle.library_calls.specs.Chars.{CharTakes, RunTakes, TurnTakes, PortTimesOut};
+ghost use Rattle.port_lines.specs.Taking.{held_if};
+ghost use Rattle.library_calls.specs.Chars.{CharTakes, RunTakes, TurnTakes, PortTimesOut, held_length as length_of_held};
 
-use crate::acting::{held_length, take_char};
 use crate::open_port::OpenPort;
 use crate::runs::{put_reply, take_run};
 use crate::status::CallStatus;
 use crate::told::{CharDid, RunDid};
 use crate::wires::{put_wires, wire_char};
 use link_port::{Port, Sending};
+use port_lines::take_char;
 use rio_framer::{packet_chars, symbol_chars};
+use rio_packets::Packet;
 
 /// The most characters of a run.
 const RUN: usize = 65_536;
@@ -72,6 +74,13 @@ impl OpenPort {
     {
         self.clocked.port.time_out();
     }
+}
+
+/// The length of a packet that was accepted, or 0.
+fn held_length(held: bool, packet: &Packet) -> u32
+    ensures { result ≡ length_of_held (held_if held packet.now) }
+{
+    if held { packet.bytes().len() as u32 } else { 0 }
 }
 
 /// Writes the characters of what a port sends into a room, and answers how many they are.

@@ -1,15 +1,15 @@
 //! Packets of an open port, and its state.
 ghost use Rattle.std.specs.Prelude.{◌≡◌};
 ghost use Rattle.library_calls.specs.Packets.{PacketSends, PacketCollects};
-ghost use Rattle.library_calls.specs.States.{TellsState, out_number as out_number_of, in_number as in_number_of};
+ghost use Rattle.library_calls.specs.States.{TellsState, in_number as in_number_of};
 
 use crate::open_port::OpenPort;
 use crate::rooms::put_bytes;
 use crate::status::CallStatus;
 use crate::told::{PacketHeader, StateTold};
 use crate::words::{PACKET, header_of};
-use link_port::{InKind, OutKind, PortFace};
-use port_lines::highest_held;
+use link_port::{InKind, PortFace};
+use port_lines::{highest_held, out_number};
 use rio_packets::build;
 
 impl OpenPort {
@@ -54,22 +54,10 @@ impl OpenPort {
     pub fn state(&self, told: &mut StateTold)
         ensures { TellsState self.now.port told.new }
     {
-        told.output = out_number(self.clocked.port.out_kind());
+        told.output = u32::from(out_number(self.clocked.port.out_kind()));
         told.input = in_number(self.clocked.port.in_kind());
         told.outstanding = u32::from(self.clocked.port.outstanding());
         told.waiting = u32::from(self.clocked.port.waiting());
-    }
-}
-
-/// The number of a state of the output half.
-fn out_number(kind: OutKind) -> u32
-    ensures { result ≡ out_number_of kind }
-{
-    match kind {
-        OutKind::Ok => 0,
-        OutKind::RetryStopped => 1,
-        OutKind::ErrorStopped => 2,
-        OutKind::Failed => 3,
     }
 }
 

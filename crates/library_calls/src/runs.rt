@@ -6,10 +6,10 @@ ghost use Rattle.library_calls.specs.Wires.{wire_char as wire_char_of, wire_char
 ghost use Rattle.library_calls.specs.Rooms.{laid_at};
 ghost use Rattle.library_calls.specs.Chars.{reply_wires, AddsChar, TellsRun};
 
-use crate::acting::{Came, take_char};
 use crate::told::RunDid;
 use crate::wires::{put_wires, wire_char};
 use link_port::Port;
+use port_lines::{Came, take_char};
 use rio_framer::symbol_chars;
 use rio_symbols::Symbol;
 

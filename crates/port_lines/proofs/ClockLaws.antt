@@ -4,9 +4,7 @@ use Rattle.std.proofs.lemmas.Bool.{cases_lt}
 use Rattle.rio_chars.specs.Written.{Outgoing, Writes}
 use Rattle.rio_chars.specs.declared.chars.Char.{Char}
 use Rattle.rio_chars.proofs.WrittenLaws.{Writes-nil, Writes-then}
-use Rattle.link_port.specs.Ports.{PortState}
-use Rattle.link_port.specs.Steps.{takes}
-use Rattle.port_lines.specs.Clocks.{PortGiving, ClocksDid, giving, before_clocks, clocks, clocks_to, clock_gives, clock_text}
+use Rattle.port_lines.specs.Clocks.{ClockedState, ClocksDid, before_clocks, clocks, clocks_to, clock_gives, clock_text}
 
 -- some clocks, which gave these characters and told this, come before others
 abbrev pub behind_clocks : List Char → List ℕ → ClocksDid → ClocksDid
@@ -14,7 +12,7 @@ behind_clocks given text did =
     record { stands = did.stands; given = given ++ did.given; text = text ++ did.text }
 
 -- no clock
-abbrev pub no_clocks : PortGiving → ClocksDid
+abbrev pub no_clocks : ClockedState → ClocksDid
 no_clocks at = record { stands = at; given = []; text = [] }
 
 -- Of some clocks these characters were given and this much was told, and what is left is what those
@@ -53,7 +51,7 @@ module _ {begun out : Outgoing} where
   }
 
   -- no clock is left
-  pub AreGiven-end : {whole rest : ClocksDid} {given : List Char} (at : PortGiving)
+  pub AreGiven-end : {whole rest : ClocksDid} {given : List Char} (at : ClockedState)
       → AreGiven begun out whole rest given → rest ≡ no_clocks at
       → (whole.stands ≡ at) × (whole.given ≡ given) × Writes begun out whole.text
   AreGiven-end {whole} {rest} {given} at h none =
@@ -68,44 +66,33 @@ module _ {begun out : Outgoing} where
 
 -- ---- clocks, one after another
 
-pub clocks-next : (at : PortGiving) (chars left : List Char) (c : Char) → chars ≡ c ∷ left
+pub clocks-next : (at : ClockedState) (chars left : List Char) (c : Char) → chars ≡ c ∷ left
     → clocks at chars
-    ≡ before_clocks (clock_gives at c) (clock_text (takes at.port c)) (clocks (clocks_to at c) left)
+    ≡ before_clocks (clock_gives at c) (clock_text at c) (clocks (clocks_to at c) left)
 unfolding clocks
 clocks-next at chars left c is = ap (clocks at) is
 
-pub clocks-none : (at : PortGiving) (chars : List Char) → length chars ≤ 0
+pub clocks-none : (at : ClockedState) (chars : List Char) → length chars ≤ 0
     → clocks at chars ≡ no_clocks at
 unfolding clocks
 clocks-none at [] none = refl
 clocks-none at (c ∷ chars) none = absurd (omega arith)
 
-giving-same : {port other : PortState} {waiting more : List Char} → port ≡ other → waiting ≡ more
-    → giving port waiting ≡ giving other more
-giving-same {port} {other} {waiting} {more} e k =
-    ap (λ (p : PortState). giving p waiting) e ∙ ap (giving other) k
-
 -- a clock more was told
 module _ {begun out next : Outgoing} where
-  pub AreGiven-clock : (whole : ClocksDid) (port port_next : PortState)
-      (waiting waiting_next left rest given given_next : List Char) (c result : Char)
-      → AreGiven begun out whole (clocks (giving port waiting) left) given → left ≡ c ∷ rest
-      → port_next ≡ (clocks_to (giving port waiting) c).port
-      → waiting_next ≡ (clocks_to (giving port waiting) c).waiting
-      → result ≡ clock_gives (giving port waiting) c → given_next ≡ given ++ result ∷ []
-      → Writes out next (clock_text (takes port c))
-      → AreGiven begun next whole (clocks (giving port_next waiting_next) rest) given_next
-  AreGiven-clock whole port port_next waiting waiting_next left rest given given_next c result h
-      is ports waits gives adds told =
-      let at = giving port waiting in
-      let same = giving-same ports waits in
-      let more = AreGiven-more (clock_gives at c) (clock_text (takes port c))
-      (clocks (giving port_next waiting_next) rest) h
+  pub AreGiven-clock : (whole : ClocksDid) (at at_next : ClockedState)
+      (left rest given given_next : List Char) (c result : Char)
+      → AreGiven begun out whole (clocks at left) given → left ≡ c ∷ rest
+      → at_next ≡ clocks_to at c → result ≡ clock_gives at c → given_next ≡ given ++ result ∷ []
+      → Writes out next (clock_text at c)
+      → AreGiven begun next whole (clocks at_next rest) given_next
+  AreGiven-clock whole at at_next left rest given given_next c result h is stands gives adds told =
+      let more = AreGiven-more (clock_gives at c) (clock_text at c) (clocks at_next rest) h
       (clocks-next at left rest c is
-      ∙ ap (λ (p : PortGiving). before_clocks (clock_gives at c) (clock_text (takes port c))
-      (clocks p rest)) (sym same))
+      ∙ ap (λ (p : ClockedState). before_clocks (clock_gives at c) (clock_text at c)
+      (clocks p rest)) (sym stands))
       told in
-      subst (AreGiven begun next whole (clocks (giving port_next waiting_next) rest))
+      subst (AreGiven begun next whole (clocks at_next rest))
       (sym (adds ∙ ap (λ (g : Char). given ++ g ∷ []) gives)) more
 
 -- behind a clock there is room for those that are left: a burst begins only if nothing waits

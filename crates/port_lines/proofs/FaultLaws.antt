@@ -35,7 +35,8 @@ number_outside word least most read text small fits out h =
     let most_is = h.2 in
     let least_is = h.1 in
     let texts : decimal read ≡ decimal h.0 = sym text ∙ h.3 in
-    let same = decimal_injective read h.0 (omega (arith, small)) (omega (arith, most_is, fits)) texts in
+    let same =
+    decimal_injective read h.0 (omega (arith, small)) (omega (arith, most_is, fits)) texts in
     let low : least ≤ read = omega (arith, least_is, same) in
     let high = out low in
     omega (arith, most_is, same, high)
@@ -67,7 +68,8 @@ pub chars_stop : (word : List ℕ) (rest : List (List ℕ)) (place : ℕ)
     Character
 chars_stop word rest place none = inl (refl, refl, λ h. none h.0 h.1 h.2)
 
-length-chars_on : (words : List (List ℕ)) → length words ≡ length (map (λ (w : List ℕ). Character) words)
+length-chars_on : (words : List (List ℕ))
+    → length words ≡ length (map (λ (w : List ℕ). Character) words)
 length-chars_on [] = refl
 length-chars_on (word ∷ words) =
     let rest = length-chars_on words in

@@ -9,23 +9,34 @@
 //! - [`RequestRefusal`] and [`RequestFault`]: why a line is refused, and what is said of it
 //! - `answer`: does what a line asks for, and tells the answer
 //! - [`ClockedPort`]: a port by clocks, of which each takes a character and gives one, told by
-//!   [`Clocked`]
-//! - `clocks_give_whole_bursts`: a law of clocks
-//! - `highest_held`: the priority of the packet that is taken next
+//!   [`Clocked`]; [`PortSettings`]: how it is made, and what it does by itself
+//! - `clocks_give_whole_bursts`, `only_unanswered_ports_time_out`: laws of clocks
+//! - `take_char`: leads a character through a port, with room for packets that is used again,
+//!   [`Came`]
+//! - `highest_held`: the priority of the packet that is taken next; `out_number`: the number of a
+//!   state of the output half
 #![tactic(auto)]
 
+mod acting;
 mod answers;
 mod clocked;
 mod clocks;
 mod faults;
 mod kinds;
 mod laws;
+mod patience;
 mod requests;
+mod settings;
+mod taking;
 mod texts;
 mod words;
 
-pub use answers::{answer, highest_held};
+pub use acting::{Came, take_char};
+pub use answers::answer;
 pub use clocked::{Clocked, ClockedPort};
 pub use faults::{RequestFault, RequestRefusal};
-pub use laws::clocks_give_whole_bursts;
+pub use laws::{clocks_give_whole_bursts, only_unanswered_ports_time_out};
+pub use patience::out_number;
 pub use requests::{PortRequest, read_request};
+pub use settings::PortSettings;
+pub use taking::highest_held;

@@ -3,7 +3,7 @@ use Rattle.std.specs.Prelude.{◌≡◌, ℕ, ◌≤◌, ◌⊎◌, List, [], �
 use Rattle.std.specs.Fmt.{decimal}
 use Rattle.std.specs.Io.KnownBytes.{Keeps}
 use Rattle.rio_chars.specs.Unless.{WritesUnless}
-use Rattle.port_lines.specs.Clocks.{new_clocked}
+use Rattle.port_lines.specs.Clocks.{new_clocked, plain_settings}
 use Rattle.live_lines.specs.declared.status.LiveStatus.{LiveStatus}
 use Rattle.live_lines.specs.declared.status.LiveStatus.TheVariants.{Words}
 use Rattle.live_lines.specs.Asked.{AnswersQuestion}
@@ -48,7 +48,7 @@ ConformDid words verdict left left_after written written_after write_faults writ
     written written_after write_faults write_faults_after × (verdict ≡ Stopped status))
     ⊎ (((buffers : ℕ) × (lines : List (List ℕ)) × AsksPlay words buffers lines
     × AsksNoQuestion words
-    × Plays (new_clocked false buffers) lines verdict left left_after written written_after)
+    × Plays (new_clocked (plain_settings buffers)) lines verdict left left_after written written_after)
     ⊎ (AsksNoPlay words × AsksNoQuestion words × (verdict ≡ Stopped Words)
     × Keeps written written_after × Keeps left left_after))
 

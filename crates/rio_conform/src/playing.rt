@@ -2,7 +2,7 @@
 ghost use Rattle.std.specs.Prelude.{◌≡◌, ◌≤◌, [], false, map, ◌↔◌, IsTrue, Ok, OnOk, IfOk, IfErr};
 ghost use Rattle.std.specs.String.{string_bytes};
 ghost use Rattle.rio_conform.specs.Answers.{Came};
-ghost use Rattle.port_lines.specs.Clocks.{new_clocked};
+ghost use Rattle.port_lines.specs.Clocks.{new_clocked, plain_settings};
 ghost use Rattle.port_lines.specs.Lines.{asked_answer};
 ghost use Rattle.conform_lines.specs.Stimuli.{ReadsStimulus};
 ghost use Rattle.rio_conform.specs.Report.{HasDetails};
@@ -40,7 +40,7 @@ pub fn play<S: Source, K: Sink>(
 ) -> Verdict
     requires least { 4 ≤ buffers }
     requires most { buffers ≤ 30 }
-    ensures plays { Plays (new_clocked false buffers) (map string_bytes lines.now) result
+    ensures plays { Plays (new_clocked (plain_settings buffers)) (map string_bytes lines.now) result
         (S.left source.old) (S.left source.new) (K.written sink.old) (K.written sink.new) }
     ensures details { HasDetails result details.old.items details.new.items }
 {

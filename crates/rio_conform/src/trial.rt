@@ -1,10 +1,10 @@
 //! What a scenario needs while it is played.
 ghost use Rattle.std.specs.Prelude.{◌≡◌, ◌≤◌, [], false, IfOk};
-ghost use Rattle.port_lines.specs.Clocks.{new_clocked};
+ghost use Rattle.port_lines.specs.Clocks.{new_clocked, plain_settings};
 
 use conform_lines::TextSink;
 use live_lines::LineReader;
-use port_lines::ClockedPort;
+use port_lines::{ClockedPort, PortSettings};
 use rio_chars::{NoMemory, TextBuffer};
 use std::alloc::Global;
 
@@ -24,11 +24,11 @@ impl Trial {
     pub(crate) fn new(alloc: Global, buffers: u8) -> Result<Trial, NoMemory>
         requires least { 4 ≤ buffers }
         requires most { buffers ≤ 30 }
-        ensures port { IfOk result (λ trial. trial.port ≡ new_clocked false buffers) }
+        ensures port { IfOk result (λ trial. trial.port ≡ new_clocked (plain_settings buffers)) }
         ensures input { IfOk result (λ trial. trial.input ≡ []) }
     {
         Ok(Trial {
-            port: ClockedPort::new(alloc, buffers, false)?,
+            port: ClockedPort::new(alloc, PortSettings::plain(buffers))?,
             input: LineReader::new(alloc)?,
             expected: TextSink::new(alloc),
             came: Vec::new(alloc),

@@ -1,1 +1,2 @@
 pub mod ServingLaws
+pub mod SettingsLaws

@@ -1,12 +1,14 @@
 //! The whole program, but for where its words and its streams come from.
-ghost use Rattle.std.specs.Prelude.{◌≢◌, ◌≡◌, ◌≤◌, map, MatchOption, IfSome, ℕ};
+ghost use Rattle.std.specs.Prelude.{◌≢◌, ◌≡◌, ◌≤◌, map, MatchOption, IfSome, codes, ℕ};
 ghost use Rattle.std.specs.Fmt.{decimal};
 ghost use Rattle.std.specs.String.{string_bytes};
-ghost use Rattle.rio_port.specs.Program.{PortRan, PortDid, AskBuffers};
+ghost use Rattle.port_lines.specs.declared.settings.PortSettings.{PortSettings as Settings};
+ghost use Rattle.rio_port.specs.Program.{PortRan, PortDid, AskSettings, AskClocks, AskPatience, SplitsBuffers, SplitsTaking};
 
 use crate::serving::serve;
 use fabric_script::read_number;
 use live_lines::{LiveStatus, say, status_number, tell_question};
+use port_lines::PortSettings;
 use program_start::question_of;
 use rio_chars::{Sink, Source};
 use std::alloc::Global;
@@ -14,14 +16,21 @@ use std::alloc::Global;
 /// The buffers of a port for which no number is said.
 const BUFFERS: u8 = 8;
 
+/// The most clocks without an answer.
+const MOST_CLOCKS: u32 = 1_000_000;
+
 /// How the program is used, in a line.
-const USAGE: &[u8] = b"usage: rio_port [BUFFERS], with 4 to 30 buffers\n";
+const USAGE: &[u8] = b"usage: rio_port [BUFFERS] [--take] [--timeout CLOCKS], \
+with 4 to 30 buffers and 1 to 1000000 clocks\n";
 
 /// The same on several lines.
-const HELP: &[u8] = b"usage: rio_port [BUFFERS] < LINES
+const HELP: &[u8] = b"usage: rio_port [BUFFERS] [--take] [--timeout CLOCKS] < LINES
 
 One end of a link, with 4 to 30 receive buffers, or 8. Each line is answered before the
 next is read. An answer ends with the line ok.
+
+--take                                a packet that is held is given out at once
+--timeout CLOCKS                      so many clocks without an answer are too long
 
 got CHARS                             characters come from its wire
 clock CHARS                           in each clock a character comes and one is given
@@ -35,8 +44,8 @@ reset                                 it becomes new
 docs/live.md says what is answered, and docs/characters.md how characters are written.
 ";
 
-/// Serves a port with as many buffers as the word behind the program's name says, and answers the
-/// exit status. `--help` and `--version` are answered. What there is to say of the end is said in
+/// Serves a port that is made as the words behind the program's name say, and answers the exit
+/// status. `--help` and `--version` are answered. What there is to say of the end is said in
 /// one line to `messages`. A line that cannot be said changes nothing.
 pub fn run<S: Source, K: Sink, M: Sink>(
     alloc: Global,
@@ -55,7 +64,7 @@ pub fn run<S: Source, K: Sink, M: Sink>(
     status_number(status)
 }
 
-/// Serves a port with as many buffers as the words ask for, or answers what else they ask.
+/// Serves a port that is made as the words ask, or answers what else they ask.
 fn serve_words<S: Source, K: Sink>(
     alloc: Global,
     words: &[String],
@@ -70,22 +79,116 @@ fn serve_words<S: Source, K: Sink>(
     if let Some(question) = question_of(words) {
         return tell_question(sink, b"rio_port", HELP, question);
     }
-    match buffers_of(words) {
-        Some(buffers) => serve(alloc, buffers, source, sink),
+    match settings_of(words) {
+        Some(settings) => serve(alloc, settings, source, sink),
         None => LiveStatus::Words,
     }
 }
 
-/// The number of buffers that the words ask for.
-pub(crate) fn buffers_of(words: &[String]) -> Option<u8>
+/// How the port is made that the words ask for.
+pub(crate) fn settings_of(words: &[String]) -> Option<PortSettings>
     ensures asks { MatchOption result
-        ((buffers : ℕ) → ¬ AskBuffers (map string_bytes words.now) buffers)
-        (λ buffers. AskBuffers (map string_bytes words.now) buffers) }
-    ensures range { IfSome result (λ buffers. (4 ≤ buffers) × (buffers ≤ 30)) }
+        ((settings : Settings) → ¬ AskSettings (map string_bytes words.now) settings)
+        (λ settings. AskSettings (map string_bytes words.now) settings) }
+    ensures range { IfSome result
+        (λ settings. (4 ≤ settings.buffers) × (settings.buffers ≤ 30)) }
+{
+    let (buffers, behind) = split_buffers(words);
+    let (takes_at_once, last) = split_taking(behind);
+    match patience_of(last) {
+        Some(patience) => Some(PortSettings {
+            buffers,
+            tells: false,
+            takes_at_once,
+            patience,
+        }),
+        None => None,
+    }
+}
+
+/// The number of buffers, and the words behind it.
+fn split_buffers(words: &[String]) -> (u8, &[String])
+    ensures splits { SplitsBuffers (map string_bytes words.now) result.0
+        (map string_bytes result.1.now) }
+    ensures range { (4 ≤ result.0) × (result.0 ≤ 30) }
+{
+    if let [word, rest @ ..] = words
+        && let Some(buffers) = number_of_buffers(word.as_str().as_bytes())
+    {
+        return (buffers, rest);
+    }
+    (BUFFERS, words)
+}
+
+/// Whether held packets are given out at once, and the words behind that.
+fn split_taking(words: &[String]) -> (bool, &[String])
+    ensures { SplitsTaking (map string_bytes words.now) result.0
+        (map string_bytes result.1.now) }
+{
+    if let [word, rest @ ..] = words
+        && let Some(()) = take_word(word.as_str().as_bytes())
+    {
+        return (true, rest);
+    }
+    (false, words)
+}
+
+/// Whether this is the word of a port that gives out held packets at once.
+fn take_word(word: &[u8]) -> Option<()>
+    ensures { MatchOption result (word.now ≢ codes "--take") (λ _. word.now ≡ codes "--take") }
+{
+    match word {
+        b"--take" => Some(()),
+        _ => None,
+    }
+}
+
+/// How many clocks without an answer are too long.
+fn patience_of(words: &[String]) -> Option<u32>
+    ensures { MatchOption result
+        ((patience : ℕ) → ¬ AskPatience (map string_bytes words.now) patience)
+        (λ patience. AskPatience (map string_bytes words.now) patience) }
 {
     match words {
-        [] => Some(BUFFERS),
-        [word] => number_of_buffers(word.as_str().as_bytes()),
+        [] => Some(0),
+        [word, rest @ ..] => match timeout_word(word.as_str().as_bytes()) {
+            Some(()) => clocks_of(rest),
+            None => None,
+        },
+    }
+}
+
+/// Whether this is the word before a number of clocks.
+fn timeout_word(word: &[u8]) -> Option<()>
+    ensures { MatchOption result (word.now ≢ codes "--timeout")
+        (λ _. word.now ≡ codes "--timeout") }
+{
+    match word {
+        b"--timeout" => Some(()),
+        _ => None,
+    }
+}
+
+/// The number of clocks that the words behind it say.
+fn clocks_of(words: &[String]) -> Option<u32>
+    ensures { MatchOption result
+        ((clocks : ℕ) → ¬ AskClocks (map string_bytes words.now) clocks)
+        (λ clocks. AskClocks (map string_bytes words.now) clocks) }
+{
+    match words {
+        [word] => number_of_clocks(word.as_str().as_bytes()),
+        _ => None,
+    }
+}
+
+/// The number of clocks that a word spells.
+fn number_of_clocks(word: &[u8]) -> Option<u32>
+    ensures { MatchOption result
+        ((clocks : ℕ) → 1 ≤ clocks → clocks ≤ 1000000 → word.now ≢ decimal clocks)
+        (λ clocks. (1 ≤ clocks) × (clocks ≤ 1000000) × (word.now ≡ decimal clocks)) }
+{
+    match read_number(word) {
+        Some(clocks) if 1 <= clocks && clocks <= MOST_CLOCKS => Some(clocks),
         _ => None,
     }
 }

@@ -7,25 +7,25 @@ ghost use Rattle.port_lines.specs.Clocks.{new_clocked};
 ghost use Rattle.rio_port.specs.Program.{ServesFrom};
 
 use live_lines::{LineReader, LiveStatus};
-use port_lines::{ClockedPort, answer, read_request};
+use port_lines::{ClockedPort, PortSettings, answer, read_request};
 use rio_chars::{NoMemory, Outbox, Sink, Source, TextBuffer};
 use std::alloc::Global;
 
-/// Reads lines, and answers each before the next is asked for, with a port of 4 to 30 buffers that
-/// does not tell them.
+/// Reads lines, and answers each before the next is asked for, with a port that is made so, of 4 to
+/// 30 buffers.
 pub fn serve<S: Source, K: Sink>(
     alloc: Global,
-    buffers: u8,
+    settings: PortSettings,
     source: &mut S,
     sink: &mut K,
 ) -> LiveStatus
-    requires least { 4 ≤ buffers }
-    requires most { buffers ≤ 30 }
-    ensures { ServesFrom (new_clocked false buffers) result (S.left source.old) (S.left source.new)
+    requires least { 4 ≤ settings.buffers }
+    requires most { settings.buffers ≤ 30 }
+    ensures { ServesFrom (new_clocked settings) result (S.left source.old) (S.left source.new)
         (S.faults source.old) (S.faults source.new) (K.written sink.old) (K.written sink.new)
         (K.faults sink.old) (K.faults sink.new) }
 {
-    let Ok(mut port) = ClockedPort::new(alloc, buffers, false) else {
+    let Ok(mut port) = ClockedPort::new(alloc, settings) else {
         return LiveStatus::NoMemory;
     };
     let Ok(mut input) = LineReader::new(alloc) else {

@@ -21,7 +21,8 @@ loop-left-preserved c =
     let run = c.read_run-told in
     ReadsOn-more (get_or left 0 0) c.put_told.new.events c.wire_char.result run.result.1
     run.new.self c.loop-left.invariant (first_number left 0 c.in-len1-up.len_at_least)
-    c.wire_char.ensures run.ensures.told run.ensures.state c.put_told.ensures.few c.put_told.ensures.puts
+    c.wire_char.ensures run.ensures.told run.ensures.state c.put_told.ensures.few
+    c.put_told.ensures.puts
 
 pub returns : goal.returns
 returns c =

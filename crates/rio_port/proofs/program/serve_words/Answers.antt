@@ -12,10 +12,10 @@ returns-in-Some g c = inl (
   (Keeps-refl (g.S.Source.left c.args.source.now), refl),
 )
 
-pub returns-in-Some-buffers_of : goal.returns-in-Some-buffers_of
-returns-in-Some-buffers_of g c = inr (inl (
-  c.in-Some-buffers_of.buffers,
-  c.in-Some-buffers_of.ensures.asks,
+pub returns-in-Some-settings_of : goal.returns-in-Some-settings_of
+returns-in-Some-settings_of g c = inr (inl (
+  c.in-Some-settings_of.settings,
+  c.in-Some-settings_of.ensures.asks,
   c.in_default.ensures,
   c.serve.ensures,
 ))

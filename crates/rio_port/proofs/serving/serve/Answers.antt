@@ -7,7 +7,7 @@ use Rattle.rio_port.proofs.serving.serve.Goals as goal
 pub returns-in_default : goal.returns-in_default
 returns-in_default g c = record {
   lines = [];
-  answer = standing_at (new_clocked false c.args.buffers) [];
+  answer = standing_at (new_clocked c.args.settings) [];
   answers = refl;
   ends = λ same. absurd cc;
   serves = served_none (2 ^ 64 - 1) _ _ _ _;
@@ -16,7 +16,7 @@ returns-in_default g c = record {
 pub returns-in_default-new : goal.returns-in_default-new
 returns-in_default-new g c = record {
   lines = [];
-  answer = standing_at (new_clocked false c.args.buffers) [];
+  answer = standing_at (new_clocked c.args.settings) [];
   answers = refl;
   ends = λ same. absurd cc;
   serves = served_none (2 ^ 64 - 1) _ _ _ _;
@@ -25,7 +25,7 @@ returns-in_default-new g c = record {
 pub returns-in_default-new-2 : goal.returns-in_default-new-2
 returns-in_default-new-2 g c = record {
   lines = [];
-  answer = standing_at (new_clocked false c.args.buffers) [];
+  answer = standing_at (new_clocked c.args.settings) [];
   answers = refl;
   ends = λ same. absurd cc;
   serves = served_none (2 ^ 64 - 1) _ _ _ _;

@@ -6,9 +6,9 @@ use Rattle.link_port.specs.declared.acts.Done.{Done}
 use Rattle.link_port.specs.Steps.{Acted, idle, acts_all, acts_symbol, acts_packet, acts_bad, joined}
 use Rattle.link_port.specs.Runs.{completed_events}
 use Rattle.link_port.proofs.ActLaws.{second_holds_none}
-use Rattle.library_calls.specs.Chars.{held_if}
-use Rattle.library_calls.proofs.ActingLaws.{acts_none, acts_one, acts_two}
-use Rattle.library_calls.proofs.acting.act_all.Goals as goal
+use Rattle.port_lines.specs.Taking.{held_if}
+use Rattle.port_lines.proofs.ActingLaws.{acts_none, acts_one, acts_two}
+use Rattle.port_lines.proofs.acting.act_all.Goals as goal
 
 pub returns-in-Nothing : goal.returns-in-Nothing
 returns-in-Nothing c =

@@ -1,8 +1,8 @@
 use Rattle.std.proofs.Common.{◌≡◌, ap, ◌∙◌}
 use Rattle.link_port.specs.Steps.{Acted, acts_all, takes}
 use Rattle.link_port.specs.Runs.{completed_events}
-use Rattle.library_calls.proofs.ActingLaws.{takes_by_reading}
-use Rattle.library_calls.proofs.acting.take_char.Goals as goal
+use Rattle.port_lines.proofs.ActingLaws.{takes_by_reading, held_is_some}
+use Rattle.port_lines.proofs.acting.take_char.Goals as goal
 
 pub returns : goal.returns
 returns c =
@@ -15,5 +15,9 @@ returns c =
       port = c.act_all.ensures.port ∙ ap (λ (a : Acted). a.port) whole;
       reply = c.act_all.ensures.reply ∙ ap (λ (a : Acted). a.reply) whole;
       held = c.act_all.ensures.held ∙ ap (λ (a : Acted). a.held) whole;
+      accepted =
+          held_is_some c.act_all.result.held read.new.packet
+          (takes c.args.port.now c.args.c).held
+          (c.act_all.ensures.held ∙ ap (λ (a : Acted). a.held) whole);
       freed = c.act_all.ensures.freed ∙ ap (λ (a : Acted). a.freed) whole;
     }

@@ -1,8 +1,8 @@
 //! What a port does with characters.
-ghost use Rattle.std.specs.Prelude.{◌≡◌, [], false};
+ghost use Rattle.std.specs.Prelude.{◌≡◌, [], false, is_some};
 ghost use Rattle.link_port.specs.Runs.{completed_events};
 ghost use Rattle.link_port.specs.Steps.{acts_all, takes};
-ghost use Rattle.library_calls.specs.Chars.{held_if, held_length as length_of_held};
+ghost use Rattle.port_lines.specs.Taking.{held_if};
 
 use arrayvec::ArrayVec;
 use link_port::{Completed, Done, Port};
@@ -10,31 +10,36 @@ use rio_chars::Char;
 use rio_packets::Packet;
 use rio_symbols::Symbol;
 
-/// Where packets are put that come in, or that a symbol frees. A port has one for all characters,
-/// so that none makes a packet.
+/// Where packets are put that come in, or that a symbol frees. One serves for all characters, so
+/// that none makes a packet.
 #[derive(Drop)]
-pub(crate) struct Came {
-    pub(crate) packet: Packet,
-    pub(crate) freed: ArrayVec<Packet, 31>,
+pub struct Came {
+    pub packet: Packet,
+    pub freed: ArrayVec<Packet, 31>,
 }
 
-/// Leads a character through a port.
-pub(crate) fn take_char(port: &mut Port, c: Char, came: &mut Came) -> Done
+impl Came {
+    /// Room for what comes.
+    pub fn new() -> Came {
+        Came {
+            packet: Packet::default(),
+            freed: ArrayVec::new(),
+        }
+    }
+}
+
+/// Leads a character through a port. The packet that it had held stands in the room of `came`, and
+/// those that it freed.
+pub fn take_char(port: &mut Port, c: Char, came: &mut Came) -> Done
     ensures port { port.new ≡ (takes port.old c).port }
     ensures reply { result.reply ≡ (takes port.old c).reply }
     ensures held { held_if result.held came.new.packet ≡ (takes port.old c).held }
+    ensures accepted { result.held ≡ is_some (takes port.old c).held }
     ensures freed { came.new.freed.items ≡ (takes port.old c).freed }
 {
     came.freed.clear();
     let (_, completed) = port.read(&[c], &mut came.packet);
     act_all(port, completed, &came.packet, &mut came.freed)
-}
-
-/// The length of a packet that was accepted, or 0.
-pub(crate) fn held_length(held: bool, packet: &Packet) -> u32
-    ensures { result ≡ length_of_held (held_if held packet.now) }
-{
-    if held { packet.bytes().len() as u32 } else { 0 }
 }
 
 /// Leads what a character completed through a port. A packet that was completed stands in the slot,

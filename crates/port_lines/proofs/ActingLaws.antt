@@ -1,5 +1,5 @@
 -- What a character completes is what its reading gives.
-use Rattle.std.proofs.Common.{◌≡◌, ℕ, List, [], ◌∷◌, refl, sym, ap, ◌∙◌}
+use Rattle.std.proofs.Common.{◌≡◌, ℕ, Bool, true, false, Option, is_some, List, [], ◌∷◌, refl, sym, ap, ◌∙◌}
 use Rattle.link_model.specs.Prelude.{Char, Fields, step, telling_front}
 use Rattle.link_model.specs.Places.{ReaderStep}
 use Rattle.link_model.specs.Fronts.{front_by, no_front}
@@ -10,6 +10,7 @@ use Rattle.link_port.specs.Ports.{PortState}
 use Rattle.link_port.specs.Steps.{idle, acts, acts_all, acts_symbol, joined, takes}
 use Rattle.link_port.specs.Runs.{front_of, after_front, completed_events}
 use Rattle.link_port.proofs.ActLaws.{joined-idle}
+use Rattle.port_lines.specs.Taking.{held_if}
 
 front_by_one : (gives : List Event) (first : ReaderStep) → first.gives ≡ gives
     → (front_by gives first (no_front first.place)).step ≡ first
@@ -33,6 +34,12 @@ takes_by_reading port mid c completed packet at events =
     ∙ ap (acts_all (after_front port (c ∷ []))) events
     ∙ ap (λ (s : ReaderStep). acts_all (record port { place = s.place }) s.gives)
     (front_of_one port c)
+
+-- a packet is held if there is one
+pub held_is_some : (held : Bool) (packet : List ℕ) (some : Option (List ℕ))
+    → held_if held packet ≡ some → held ≡ is_some some
+held_is_some true packet some is = ap is_some is
+held_is_some false packet some is = ap is_some is
 
 -- no event
 pub acts_none : (port : PortState) → acts_all port [] ≡ idle port
