@@ -1,7 +1,9 @@
 #!/usr/bin/env python3
 """A plain port of a link, written from docs/link.md and docs/characters.md, that answers the lines of docs/live.md.
 
-usage: port.py [BUFFERS [FAULT]]    FAULT: a name of FAULTS, by which the port is wrong; port.py faults lists them
+usage: port.py [BUFFERS [FAULT]]    FAULT: a name of FAULTS, by which the port is wrong; port.py faults lists them.
+With `slow` it is right and slow: what it answers goes out at its next turn, a turn that has nothing else sends a status
+symbol, and idles stand around all that it sends.
 
 It has no code of the programs here. A packet is its link form, as bytes with an ackID of 0.
 """
@@ -108,7 +110,7 @@ class Port:
         self.report = None
         self.input, self.expected, self.held = "ok", 0, []
         self.symbol, self.packet, self.skipping = None, None, False
-        self.told = []
+        self.told, self.late = [], []
 
     def wrong(self, name):
         return self.fault == name
@@ -160,6 +162,13 @@ class Port:
         return self.queues[prio][self.sent.count(prio)]
 
     def turn(self):
+        """What a turn sends: of a slow port what waits, what it would send, or a status symbol, in this order."""
+        if self.fault != "slow":
+            return self.burst()
+        burst = self.late.pop(0) if self.late else self.burst() or self.status(NOP)
+        return ["kbc"] + burst + ["kbc", "kbc"]
+
+    def burst(self):
         if self.output == "retry-stopped":
             self.output, self.sent = "ok", []
             return [] if self.wrong("no-restart") else self.status(RESTART)
@@ -268,7 +277,10 @@ class Port:
         self.input = "error-stopped"
 
     def reply(self, *fields):
-        self.told.append(" ".join(["sent"] + symbol(*fields)))
+        if self.fault == "slow":
+            self.late.append(symbol(*fields))
+        else:
+            self.told.append(" ".join(["sent"] + symbol(*fields)))
 
     def hear(self, stype0, ack, second):
         """What a symbol does at the output half."""

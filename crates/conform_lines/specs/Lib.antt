@@ -1,3 +1,5 @@
 pub mod Names
 pub mod Items
 pub mod Stimuli
+pub mod Counting
+pub mod Tolerances

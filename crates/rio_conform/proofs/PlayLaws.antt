@@ -1,5 +1,5 @@
 -- Lines that are played, one after another.
-use Rattle.std.proofs.Common.{◌≡◌, ℕ, ◌-◌, ◌<◌, ◌≤◌, map, Option, List, [], ◌∷◌, ◌++◌, Ok, false, length, length-append, get_or, take, drop, refl, sym, ap, ◌∙◌, subst, append-nil, append_assoc, arith}
+use Rattle.std.proofs.Common.{◌≡◌, ℕ, ◌-◌, ◌<◌, ◌≤◌, map, Option, List, [], ◌∷◌, ◌++◌, Ok, false, length, length-append, Bool, get_or, take, drop, refl, sym, ap, ◌∙◌, subst, append-nil, append_assoc, arith}
 use Rattle.std.specs.Io.KnownBytes.{Consumes}
 use Rattle.std.proofs.KnownBytes.{Consumes-trans, Consumes-nil}
 use Rattle.std.proofs.lemmas.Grind.{common_steps}
@@ -12,8 +12,9 @@ use Rattle.live_lines.specs.declared.status.LiveStatus.{LiveStatus}
 use Rattle.port_lines.specs.Lines.{asked_answer}
 use Rattle.port_lines.specs.declared.requests.PortRequest.{PortRequest}
 use Rattle.conform_lines.specs.Stimuli.{ReadsStimulus}
+use Rattle.conform_lines.specs.Tolerances.{JudgeState}
 use Rattle.rio_conform.specs.declared.verdict.Verdict.TheVariants.{Passes, Stopped}
-use Rattle.rio_conform.specs.Plays.{Played, IsPlayed, ArePlayed, played_by, played_none, played_then, Plays, PlaysRight, AnswerFails, RequestFails, Fails, failing_verdict}
+use Rattle.rio_conform.specs.Plays.{Played, PassesAnswer, IsPlayed, ArePlayed, played_none, played_then, Plays, PlaysRight, AnswerFails, RequestFails, Fails, failing_verdict}
 
 -- the first of some values, and those behind it
 pub front_any : {A : Type 0} (xs : List A) (x : A) → x ≡ get_or xs 0 x → 1 ≤ length xs
@@ -36,44 +37,57 @@ pub no_texts : {A : Type 0} (text : A → List ℕ) (xs : List A) → length xs 
 no_texts text [] none = refl
 no_texts text (x ∷ xs) none = absurd (omega arith)
 
-abbrev made : ClockedState → List ℕ → List ℕ → Played
-made port asked answers = record { port = port; asked = asked; answers = answers }
+abbrev made : ClockedState → JudgeState → List ℕ → List ℕ → Played
+made port at asked answers =
+    record { port = port; judged = at; asked = asked; answers = answers }
 
-both : (port : ClockedState) (a b c d : List ℕ) → a ≡ b → c ≡ d → made port a c ≡ made port b d
-both port a b c d same alike = ap (λ l. made port l c) same ∙ ap (λ l. made port b l) alike
+both : (port : ClockedState) (at : JudgeState) (a b c d : List ℕ) → a ≡ b → c ≡ d
+    → made port at a c ≡ made port at b d
+both port at a b c d same alike =
+    ap (λ l. made port at l c) same ∙ ap (λ l. made port at b l) alike
 
-played_then-none : (port : ClockedState) (next : Played)
-    → played_then (played_none port) next ≡ played_then next (played_none next.port)
-played_then-none port next =
-    both next.port next.asked (next.asked ++ []) next.answers (next.answers ++ [])
+played_then-none : (port : ClockedState) (at : JudgeState) (next : Played)
+    → played_then (played_none port at) next
+    ≡ played_then next (played_none next.port next.judged)
+played_then-none port at next =
+    both next.port next.judged next.asked (next.asked ++ []) next.answers (next.answers ++ [])
     (sym (append-nil next.asked)) (sym (append-nil next.answers))
 
 played_then-then : (first mid last : Played)
     → played_then (played_then first mid) last ≡ played_then first (played_then mid last)
 played_then-then first mid last =
-    both last.port ((first.asked ++ mid.asked) ++ last.asked)
+    both last.port last.judged ((first.asked ++ mid.asked) ++ last.asked)
     (first.asked ++ (mid.asked ++ last.asked)) ((first.answers ++ mid.answers) ++ last.answers)
     (first.answers ++ (mid.answers ++ last.answers))
     (append_assoc first.asked mid.asked last.asked)
     (append_assoc first.answers mid.answers last.answers)
 
+-- a line is played behind others, where these ended
+played_at : (strict : Bool) (line : List ℕ) (one other next : Played) → one ≡ other
+    → IsPlayed strict one.port one.judged line next
+    → IsPlayed strict other.port other.judged line next
+played_at strict line one other next is h =
+    subst (λ (p : Played). IsPlayed strict p.port p.judged line next) is h
+
 -- a line more is played
-pub ArePlayed-more : (port : ClockedState) (lines : List (List ℕ)) (line : List ℕ)
-    (so_far next : Played) → ArePlayed port lines so_far → IsPlayed so_far.port line next
-    → ArePlayed port (lines ++ line ∷ []) (played_then so_far next)
-ArePlayed-more port [] line so_far next h k = (
+pub ArePlayed-more : (strict : Bool) (port : ClockedState) (at : JudgeState)
+    (lines : List (List ℕ)) (line : List ℕ) (so_far next : Played)
+    → ArePlayed strict port at lines so_far
+    → IsPlayed strict so_far.port so_far.judged line next
+    → ArePlayed strict port at (lines ++ line ∷ []) (played_then so_far next)
+ArePlayed-more strict port at [] line so_far next h k = (
   next,
-  played_none next.port,
-  subst (λ p. IsPlayed p line next) (ap (λ (a : Played). a.port) h) k,
+  played_none next.port next.judged,
+  played_at strict line so_far (played_none port at) next h k,
   refl,
-  ap (λ (a : Played). played_then a next) h ∙ played_then-none port next,
+  ap (λ (a : Played). played_then a next) h ∙ played_then-none port at next,
 )
-ArePlayed-more port (other ∷ lines) line so_far next h k = (
+ArePlayed-more strict port at (other ∷ lines) line so_far next h k = (
   h.0,
   played_then h.1 next,
   h.2,
-  ArePlayed-more h.0.port lines line h.1 next h.3
-      (subst (λ p. IsPlayed p line next) (ap (λ (a : Played). a.port) h.4) k),
+  ArePlayed-more strict h.0.port h.0.judged lines line h.1 next h.3
+      (played_at strict line so_far (played_then h.0 h.1) next h.4 k),
   ap (λ (a : Played). played_then a next) h.4 ∙ played_then-then h.0 h.1 next,
 )
 
@@ -87,51 +101,59 @@ read_on left mid last front pending taken more rest once again is =
     ∙ sym (append_assoc front more rest))
     (Consumes-trans left mid last (front ++ pending) taken once again)
 
--- Some lines were played and answered right, and these are left.
-pub record SoFar (begun out : Outgoing) (port now : ClockedState) (left left_now : Option (List ℕ))
-    (pending : List ℕ) (lines rest : List (List ℕ)) : Type 0 where
+-- Some lines were played, their answers passed, and these are left.
+pub record SoFar (strict : Bool) (begun out : Outgoing) (port now : ClockedState)
+    (at judged : JudgeState) (left left_now : Option (List ℕ)) (pending : List ℕ)
+    (lines rest : List (List ℕ)) : Type 0 where
   pub done : List (List ℕ)
   pub played : Played
-  pub are_played : ArePlayed port done played
+  pub are_played : ArePlayed strict port at done played
   pub stands : now ≡ played.port
+  pub judges : judged ≡ played.judged
   pub lines_are : lines ≡ done ++ rest
   pub told : Writes begun out played.asked
   pub gave : Consumes left left_now (played.answers ++ pending)
   pub same : out.sink ≡ begun.sink
 
-module _ (begun : Outgoing) (port : ClockedState) (left : Option (List ℕ))
-    (lines : List (List ℕ)) where
+module _ (strict : Bool) (begun : Outgoing) (port : ClockedState) (at : JudgeState)
+    (left : Option (List ℕ)) (lines : List (List ℕ)) where
   pub SoFar-begin : (pending : List ℕ) → pending ≡ []
-      → SoFar begun begun port port left left pending lines lines
+      → SoFar strict begun begun port port at at left left pending lines lines
   SoFar-begin pending none = record {
     done = [];
-    played = played_none port;
+    played = played_none port at;
     are_played = refl;
     stands = refl;
+    judges = refl;
     lines_are = refl;
     told = Writes-nil begun;
     gave = subst (Consumes left left) (sym none) (Consumes-nil left);
     same = refl;
   }
 
-  module _ {out : Outgoing} {now : ClockedState} {left_now : Option (List ℕ)} {pending : List ℕ}
-      {rest : List (List ℕ)} (line : List ℕ) (behind : List (List ℕ))
-      (h : SoFar begun out port now left left_now pending lines rest)
+  module _ {out : Outgoing} {now : ClockedState} {judged : JudgeState}
+      {left_now : Option (List ℕ)} {pending : List ℕ} {rest : List (List ℕ)} (line : List ℕ)
+      (behind : List (List ℕ))
+      (h : SoFar strict begun out port now at judged left left_now pending lines rest)
       (split : rest ≡ line ∷ behind) where
     pub goes_on : lines ≡ h.done ++ line ∷ behind
     goes_on = h.lines_are ∙ ap (λ l. h.done ++ l) split
 
-    pub SoFar-more : {next : Outgoing} {after : ClockedState} {left_next : Option (List ℕ)}
-        {pending_next : List ℕ}
-        → PlaysRight line now after out next left_now left_next pending pending_next
-        → SoFar begun next port after left left_next pending_next lines behind
-    SoFar-more {next} {after} {left_next} {pending_next} r = record {
+    pub SoFar-more : {next : Outgoing} {after : ClockedState} {judged_next : JudgeState}
+        {left_next : Option (List ℕ)} {pending_next : List ℕ}
+        → PlaysRight strict line now after judged judged_next out next left_now left_next pending
+        pending_next
+        → SoFar strict begun next port after at judged_next left left_next pending_next lines
+        behind
+    SoFar-more {next} {after} {judged_next} {left_next} {pending_next} r = record {
       done = h.done ++ line ∷ [];
       played = played_then h.played r.played;
       are_played =
-          ArePlayed-more port h.done line h.played r.played h.are_played
-          (subst (λ p. IsPlayed p line r.played) h.stands r.is);
+          ArePlayed-more strict port at h.done line h.played r.played h.are_played
+          (subst (λ p. IsPlayed strict p h.played.judged line r.played) h.stands
+          (subst (λ j. IsPlayed strict now j line r.played) h.judges r.is));
       stands = r.stands;
+      judges = r.judged;
       lines_are = goes_on ∙ sym (append_assoc h.done (line ∷ []) behind);
       told = Writes-then h.played.asked r.played.asked h.told r.told;
       gave =
@@ -144,8 +166,9 @@ module _ (begun : Outgoing) (port : ClockedState) (left : Option (List ℕ))
     pub SoFar-fails : {written : Option (List ℕ)} {left_next : Option (List ℕ)}
         (pending_next : List ℕ) (failing : Failing) (count : ℕ)
         → count ≡ length lines - length rest
-        → Fails failing line now left_now left_next pending pending_next
-        → Plays port lines (failing_verdict failing count) left left_next begun.written written
+        → Fails strict failing line now judged left_now left_next pending pending_next
+        → Plays strict port at lines (failing_verdict failing count) left left_next
+        begun.written written
     SoFar-fails {written} {left_next} pending_next TheFailing.Differs count counted f = record {
       done = h.done;
       played = h.played;
@@ -154,8 +177,8 @@ module _ (begun : Outgoing) (port : ClockedState) (left : Option (List ℕ))
         line,
         (behind, goes_on, number),
         record {
-          next = f.0;
-          is = subst (λ p. IsPlayed p line f.0) h.stands f.1;
+          request = f.0;
+          reads = f.1;
           came = f.2.0;
           answer = f.2.1;
           gave = (
@@ -163,7 +186,7 @@ module _ (begun : Outgoing) (port : ClockedState) (left : Option (List ℕ))
             read_on left left_now left_next h.played.answers pending f.2.2.taken f.2.0
                 pending_next h.gave f.2.2.read f.2.2.are,
           );
-          wrong = f.2.3;
+          wrong = wrong;
         },
       );
     }
@@ -171,6 +194,14 @@ module _ (begun : Outgoing) (port : ClockedState) (left : Option (List ℕ))
         number : count ≡ length h.done
         number =
             omega (arith, counted, ap length h.lines_are, length-append h.done rest)
+
+        wrong : (next : JudgeState) → ¬ PassesAnswer strict f.0
+            (asked_answer h.played.port (Ok f.0)).text f.2.0 h.played.judged next
+        wrong =
+            subst (λ p. (next : JudgeState) → ¬ PassesAnswer strict f.0
+            (asked_answer p (Ok f.0)).text f.2.0 h.played.judged next) h.stands
+            (subst (λ j. (next : JudgeState) → ¬ PassesAnswer strict f.0
+            (asked_answer now (Ok f.0)).text f.2.0 j next) h.judges f.2.3)
     SoFar-fails {written} {left_next} pending_next TheFailing.Ended count counted f = record {
       done = h.done;
       played = h.played;
@@ -201,11 +232,11 @@ module _ (begun : Outgoing) (port : ClockedState) (left : Option (List ℕ))
 
   -- no line is left
   pub SoFar-passes : {out : Outgoing} {now : ClockedState} {left_now : Option (List ℕ)}
-      {pending : List ℕ} {rest : List (List ℕ)}
-      → SoFar begun out port now left left_now pending lines rest → rest ≡ []
+      {judged : JudgeState} {pending : List ℕ} {rest : List (List ℕ)}
+      → SoFar strict begun out port now at judged left left_now pending lines rest → rest ≡ []
       → begun.waiting ≡ [] → out.failed ≡ false → out.waiting ≡ []
-      → Plays port lines Passes left left_now begun.written out.written
-  SoFar-passes {out} {now} {left_now} {pending} h none clear fine empty = record {
+      → Plays strict port at lines Passes left left_now begun.written out.written
+  SoFar-passes {out} {now} {left_now} {judged} {pending} h none clear fine empty = record {
     done = h.done;
     played = h.played;
     are_played = h.are_played;
@@ -217,34 +248,34 @@ module _ (begun : Outgoing) (port : ClockedState) (left : Option (List ℕ))
   }
 
 -- nothing is known of the device
-pub Plays-stopped : (port : ClockedState) (lines : List (List ℕ)) (status : LiveStatus)
+pub Plays-stopped : (strict : Bool) (port : ClockedState) (at : JudgeState)
+    (lines : List (List ℕ)) (status : LiveStatus)
     (left left_after written written_after : Option (List ℕ))
-    → Plays port lines (Stopped status) left left_after written written_after
-Plays-stopped port lines status left left_after written written_after = record {
+    → Plays strict port at lines (Stopped status) left left_after written written_after
+Plays-stopped strict port at lines status left left_after written written_after = record {
   done = [];
-  played = played_none port;
+  played = played_none port at;
   are_played = refl;
   says = tt;
 }
 
--- the answer of a line that asks for this is not the right one
-pub Fails-answer : (failing : Failing) (line : List ℕ) (port : ClockedState) (request : PortRequest)
-    (left left_after : Option (List ℕ)) (pending pending_after : List ℕ)
-    → ReadsStimulus line (Ok request)
-    → AnswerFails failing (asked_answer port (Ok request)).text left left_after pending
-    pending_after
-    → Fails failing line port left left_after pending pending_after
-Fails-answer TheFailing.Differs line port request left left_after pending pending_after reads h =
-    (played_by port line request, (request, reads, refl), h)
-Fails-answer TheFailing.Ended line port request left left_after pending pending_after reads h = h
-Fails-answer TheFailing.Misspelled line port request left left_after pending pending_after reads h = absurd h
-Fails-answer (TheFailing.Stopped status) line port request left left_after pending pending_after reads h = tt
+module _ (strict : Bool) (line : List ℕ) (port : ClockedState) (at : JudgeState)
+    (left left_after : Option (List ℕ)) (pending pending_after : List ℕ) where
+  -- the answer of a line that asks for this does not pass
+  pub Fails-answer : (failing : Failing) (request : PortRequest)
+      → ReadsStimulus line (Ok request)
+      → AnswerFails strict failing request (asked_answer port (Ok request)).text at
+      left left_after pending pending_after
+      → Fails strict failing line port at left left_after pending pending_after
+  Fails-answer TheFailing.Differs request reads h = (request, reads, h)
+  Fails-answer TheFailing.Ended request reads h = h
+  Fails-answer TheFailing.Misspelled request reads h = absurd h
+  Fails-answer (TheFailing.Stopped status) request reads h = tt
 
--- a line is not asked
-pub Fails-request : (failing : Failing) (line : List ℕ) (port : ClockedState)
-    (left left_after : Option (List ℕ)) (pending pending_after : List ℕ)
-    → RequestFails failing line → Fails failing line port left left_after pending pending_after
-Fails-request TheFailing.Differs line port left left_after pending pending_after h = absurd h
-Fails-request TheFailing.Ended line port left left_after pending pending_after h = absurd h
-Fails-request TheFailing.Misspelled line port left left_after pending pending_after h = h
-Fails-request (TheFailing.Stopped status) line port left left_after pending pending_after h = tt
+  -- a line is not asked
+  pub Fails-request : (failing : Failing) → RequestFails failing line
+      → Fails strict failing line port at left left_after pending pending_after
+  Fails-request TheFailing.Differs h = absurd h
+  Fails-request TheFailing.Ended h = absurd h
+  Fails-request TheFailing.Misspelled h = h
+  Fails-request (TheFailing.Stopped status) h = tt

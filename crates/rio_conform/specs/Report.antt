@@ -22,7 +22,7 @@ report_word (Stopped status) = codes "Bail out! "
 
 -- how the program is used, in a line
 abbrev pub conform_usage : List ℕ
-conform_usage = codes "usage: rio_conform BUFFERS NAME LINE .., with 4 to 30 buffers\n"
+conform_usage = codes "usage: rio_conform [--strict] BUFFERS NAME LINE .., with 4 to 30 buffers\n"
 
 -- how the program ended, if nothing is known of the device
 abbrev pub stopped_by : Verdict → Option LiveStatus

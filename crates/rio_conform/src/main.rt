@@ -22,7 +22,7 @@ mod verdict;
 
 use live_lines::start_lines;
 pub use playing::play;
-use program::asked;
+use program::read_asked;
 pub use program::run;
 use program_start::Program;
 use rio_chars::{Sink, Source};
@@ -35,7 +35,7 @@ struct RioConform;
 
 impl Program for RioConform {
     fn waits_for(&self, words: &[String]) -> &'static [u8] {
-        match asked(words) {
+        match read_asked(words) {
             Some(_) => b"rio_conform: waiting for the answers of a device; Ctrl-D ends them\n",
             None => b"",
         }

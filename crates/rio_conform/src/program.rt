@@ -1,9 +1,9 @@
 //! The whole program, but for where its words and its streams come from.
-ghost use Rattle.std.specs.Prelude.{◌≢◌, ◌≡◌, ◌≤◌, ◌∷◌, ◌++◌, [], Bool, false, map, MatchOption, IfSome, ℕ, List};
+ghost use Rattle.std.specs.Prelude.{◌≢◌, ◌≡◌, ◌≤◌, ◌↔◌, IsTrue, Bool, false, codes, map, MatchOption, IfSome, ℕ};
 ghost use Rattle.std.specs.Fmt.{decimal};
 ghost use Rattle.std.specs.String.{string_bytes};
 ghost use Rattle.rio_chars.specs.Unless.{WritesUnless};
-ghost use Rattle.rio_conform.specs.Program.{ConformRan, ConformDid, AsksPlay, scenario_name};
+ghost use Rattle.rio_conform.specs.Program.{ConformRan, ConformDid, AsksNoPlay, AsksPlain, AsksPlay, PlayAsked, play_asked};
 ghost use Rattle.rio_conform.specs.Report.{HasDetails, report_text};
 
 use crate::playing::play;
@@ -15,13 +15,15 @@ use rio_chars::{Sink, Source, write_unless};
 use std::alloc::Global;
 
 /// How the program is used, in a line.
-const USAGE: &[u8] = b"usage: rio_conform BUFFERS NAME LINE .., with 4 to 30 buffers\n";
+const USAGE: &[u8] = b"usage: rio_conform [--strict] BUFFERS NAME LINE .., with 4 to 30 buffers\n";
 
 /// The same on several lines.
-const HELP: &[u8] = b"usage: rio_conform BUFFERS NAME LINE .. < ANSWERS > LINES 2> REPORT
+const HELP: &[u8] = b"usage: rio_conform [--strict] BUFFERS NAME LINE .. < ANSWERS > LINES 2> REPORT
 
 Asks a device the lines of a scenario, and says whether it answered each as a port with 4 to
-30 receive buffers does. A line is one of rio_port, or puts characters on the wire:
+30 receive buffers does: with --strict byte for byte, and else but for status symbols, idles,
+causes, port status, and what comes at most 8 turns late. A line is one of rio_port, or puts
+characters on the wire:
 
 accepted ACK FREE                     a control symbol, and so retry, not-accepted, status,
                                       response, start, stomp, end, restart, request, reset
@@ -49,74 +51,108 @@ pub fn run<S: Source, K: Sink, M: Sink>(
         M.written M.faults messages.old messages.new }
 {
     let mut details = Vec::new(alloc);
-    let verdict = serve_words(alloc, words, source, sink, &mut details);
-    report(messages, words, verdict, details.as_slice());
+    let (name, verdict) = serve_words(alloc, words, source, sink, &mut details);
+    report(messages, name, verdict, details.as_slice());
     verdict_number(verdict)
 }
 
-/// Plays the lines that the words have, or answers what else they ask.
-fn serve_words<S: Source, K: Sink>(
+/// Plays the lines that the words have, or answers what else they ask. The name of the scenario is
+/// told, too.
+fn serve_words<'a, S: Source, K: Sink>(
     alloc: Global,
-    words: &[String],
+    words: &'a [String],
     source: &mut S,
     sink: &mut K,
     details: &mut Vec<u8>,
-) -> Verdict
-    ensures did { ConformDid (map string_bytes words.now) result (S.left source.old)
-        (S.left source.new) (K.written sink.old) (K.written sink.new)
+) -> (&'a [u8], Verdict)
+    ensures did { ConformDid (map string_bytes words.now) result.0.now result.1
+        (S.left source.old) (S.left source.new) (K.written sink.old) (K.written sink.new)
         (K.faults sink.old) (K.faults sink.new) }
-    ensures details { HasDetails result details.old.items details.new.items }
+    ensures details { HasDetails result.1 details.old.items details.new.items }
 {
     if let Some(question) = question_of(words) {
-        return Verdict::Stopped(tell_question(sink, b"rio_conform", HELP, question));
+        let status = tell_question(sink, b"rio_conform", HELP, question);
+        return (b"", Verdict::Stopped(status));
     }
-    match asked(words) {
-        Some(asked) => play(alloc, asked.0, asked.1, source, sink, details),
-        None => Verdict::Stopped(LiveStatus::Words),
-    }
+    let Some(asked) = read_asked(words) else {
+        return (b"", Verdict::Stopped(LiveStatus::Words));
+    };
+    let verdict = play(
+        alloc,
+        asked.strict,
+        asked.buffers,
+        asked.lines,
+        source,
+        sink,
+        details,
+    );
+    (asked.name, verdict)
 }
 
 /// Writes the report: a line of the verdict, and what there is to tell besides.
-fn report<M: Sink>(messages: &mut M, words: &[String], verdict: Verdict, details: &[u8])
+fn report<M: Sink>(messages: &mut M, name: &[u8], verdict: Verdict, details: &[u8])
     ensures { (failed : Bool) × WritesUnless false (M.written messages.old) (M.faults messages.old)
         failed (M.written messages.new) (M.faults messages.new)
-        (report_text verdict (scenario_name (map string_bytes words.now)) details.now) }
+        (report_text verdict name.now details.now) }
 {
     if let Some(status) = status_of(verdict) {
         say(messages, b"rio_conform: ", USAGE, status);
         return;
     }
     let failed = write_unless(false, messages, verdict_word(verdict));
-    let failed = write_unless(failed, messages, name_of(words));
+    let failed = write_unless(failed, messages, name);
     let failed = write_unless(failed, messages, b"\n");
     write_unless(failed, messages, details);
 }
 
-/// The name of the scenario.
-fn name_of(words: &[String]) -> &[u8]
-    ensures { result.now ≡ scenario_name (map string_bytes words.now) }
+/// What words ask for.
+#[derive(Debug, Drop)]
+pub(crate) struct Asked<'a> {
+    strict: bool,
+    buffers: u8,
+    name: &'a [u8],
+    lines: &'a [String],
+}
+
+/// What the words ask for, if it is a scenario.
+pub(crate) fn read_asked(words: &[String]) -> Option<Asked>
+    ensures asks { MatchOption result (AsksNoPlay (map string_bytes words.now))
+        (λ asked. AsksPlay (map string_bytes words.now) (play_asked asked)) }
+    ensures least { IfSome result (λ asked. 4 ≤ asked.buffers) }
+    ensures most { IfSome result (λ asked. asked.buffers ≤ 30) }
 {
     match words {
-        [_, name, ..] => name.as_str().as_bytes(),
-        _ => b"",
+        [first, rest @ ..] if is_strict(first) => read_plain(true, rest),
+        _ => read_plain(false, words),
     }
 }
 
-/// The number of buffers and the lines that the words have.
-pub(crate) fn asked(words: &[String]) -> Option<(u8, &[String])>
-    ensures asks { MatchOption result
-        ((buffers : ℕ) (lines : List (List ℕ)) → ¬ AsksPlay (map string_bytes words.now) buffers lines)
-        (λ asked. AsksPlay (map string_bytes words.now) asked.0 (map string_bytes asked.1.now)) }
-    ensures least { IfSome result (λ asked. 4 ≤ asked.0) }
-    ensures most { IfSome result (λ asked. asked.0 ≤ 30) }
+/// Whether a word is `--strict`.
+fn is_strict(word: &String) -> bool
+    ensures { IsTrue result ↔ (string_bytes word.now ≡ codes "--strict") }
 {
-    match words {
-        [word, _, lines @ ..] => match number_of_buffers(word.as_str().as_bytes()) {
-            Some(buffers) => Some((buffers, lines)),
-            None => None,
-        },
-        _ => None,
-    }
+    word.as_str().as_bytes() == b"--strict".as_slice()
+}
+
+/// The scenario that words have, without the word `--strict`.
+fn read_plain(strict: bool, words: &[String]) -> Option<Asked>
+    ensures asks { MatchOption result
+        ((asked : PlayAsked) → ¬ AsksPlain (map string_bytes words.now) asked)
+        (λ asked. AsksPlain (map string_bytes words.now) (play_asked asked)
+        × (asked.strict ≡ strict)) }
+    ensures least { IfSome result (λ asked. 4 ≤ asked.buffers) }
+    ensures most { IfSome result (λ asked. asked.buffers ≤ 30) }
+{
+    let [word, name, lines @ ..] = words else {
+        return None;
+    };
+    let buffers = number_of_buffers(word.as_str().as_bytes())?;
+    Some(Asked {
+        strict,
+        buffers,
+        name: name.as_str().as_bytes(),
+        lines,
+    })
 }
 
 /// The number of buffers that a word spells.

@@ -8,27 +8,39 @@ use Rattle.rio_conform.proofs.playing.play_line.Goals as goal
 
 pub returns-in-Err-clause-fails : goal.returns-in-Err-clause-fails
 returns-in-Err-clause-fails g c =
-    Fails-request c.in-Err.failing c.args.line.now c.args.trial.now.port _ _ _ _
-    c.in-Err.ensures.fails
+    Fails-request c.args.strict c.args.line.now c.args.trial.now.port c.args.trial.now.judge
+    _ _ _ _ c.in-Err.failing c.in-Err.ensures.fails
 
 pub returns-in-Ok-answer_line-clause-right : goal.returns-in-Ok-answer_line-clause-right
 returns-in-Ok-answer_line-clause-right g c =
     let line = c.args.line.now in
     let request = c.in-Ok.request in
     let text = stimulus_text line request in
+    let right = c.in-Ok-answer_line.ensures.right in
     record {
-      played = played_by c.args.trial.now.port line request;
-      is = (request, c.in-Ok.ensures.reads, refl);
+      played =
+          played_by c.args.trial.now.port c.answer_line.new.trial.judge line request
+          right.answer;
+      is = (
+        request,
+        right.answer,
+        c.answer_line.new.trial.judge,
+        c.in-Ok.ensures.reads,
+        right.passes,
+        refl,
+      );
       stands = c.in-Ok-answer_line.ensures.port;
+      judged = refl;
       told =
           subst (Writes c.args.outbox.now c.flush.new.self) (append-nil text)
           (Writes-then text [] c.write_stimulus.ensures c.flush.ensures.written);
       fine = sym c.failed.ensures ∙ c.if-failed.false;
       empty = c.flush.ensures.empty;
-      came = c.in-Ok-answer_line.ensures.right;
+      came = right.came;
     }
 
 pub returns-in-Err-answer_line-clause-fails : goal.returns-in-Err-answer_line-clause-fails
 returns-in-Err-answer_line-clause-fails g c =
-    Fails-answer c.in-Err-answer_line.failing c.args.line.now c.args.trial.now.port c.in-Ok.request
-    _ _ _ _ c.in-Ok.ensures.reads c.in-Err-answer_line.ensures.fails
+    Fails-answer c.args.strict c.args.line.now c.args.trial.now.port c.args.trial.now.judge
+    _ _ _ _ c.in-Err-answer_line.failing c.in-Ok.request
+    c.in-Ok.ensures.reads c.in-Err-answer_line.ensures.fails

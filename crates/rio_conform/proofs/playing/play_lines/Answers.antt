@@ -7,7 +7,8 @@ use Rattle.rio_conform.proofs.playing.play_lines.Goals as goal
 pub loop-left-init : goal.loop-left-init
 loop-left-init g c = record {
   so_far =
-      SoFar-begin c.args.outbox.now c.args.trial.now.port (g.S.Source.left c.args.source.now)
+      SoFar-begin c.args.strict c.args.outbox.now c.args.trial.now.port c.args.trial.now.judge
+      (g.S.Source.left c.args.source.now)
       (map string_bytes c.args.lines.now) c.args.trial.now.input c.requires.input;
   fine = c.requires.fine;
   empty = c.requires.empty;
@@ -18,16 +19,18 @@ returns-in-Err-clause-plays g c =
     let h = c.loop-left.invariant in
     let lines = map string_bytes c.args.lines.now in
     let left = c.loop-left.left.now in
-    let line = c.as_bytes.result.now in
+    let line = c.as_bytes-line.result.now in
     let rest = map string_bytes (take (length left - 1) (drop 1 left)) in
     let split : map string_bytes left ≡ line ∷ rest =
     ap (map string_bytes) (front_any left c.line-item.result c.line-item.is
     c.in-len1-up.len_at_least)
-    ∙ ap (λ l. l ∷ rest) (sym (c.as_bytes.ensures.value ∙ c.as_str.ensures.value)) in
-    subst (λ v. Plays c.args.trial.now.port lines v (g.S.Source.left c.args.source.now)
+    ∙ ap (λ l. l ∷ rest) (sym (c.as_bytes-line.ensures.value ∙ c.as_str.ensures.value)) in
+    subst (λ v. Plays c.args.strict c.args.trial.now.port c.args.trial.now.judge lines v
+    (g.S.Source.left c.args.source.now)
     (g.S.Source.left c.play_line.new.source) c.args.outbox.now.written
     c.play_line.new.outbox.written) (sym c.verdict_of.ensures)
-    (SoFar-fails c.args.outbox.now c.args.trial.now.port (g.S.Source.left c.args.source.now) lines
+    (SoFar-fails c.args.strict c.args.outbox.now c.args.trial.now.port c.args.trial.now.judge
+    (g.S.Source.left c.args.source.now) lines
     line rest h.so_far split c.play_line.new.trial.input c.in-Err.failing
     (length c.args.lines.now - length left) (count_of_texts string_bytes c.args.lines.now left)
     c.in-Err.ensures.fails)
@@ -37,16 +40,16 @@ loop-left-preserved g c =
     let h = c.loop-left.invariant in
     let lines = map string_bytes c.args.lines.now in
     let left = c.loop-left.left.now in
-    let line = c.as_bytes.result.now in
+    let line = c.as_bytes-line.result.now in
     let rest = map string_bytes (take (length left - 1) (drop 1 left)) in
     let split : map string_bytes left ≡ line ∷ rest =
     ap (map string_bytes) (front_any left c.line-item.result c.line-item.is
     c.in-len1-up.len_at_least)
-    ∙ ap (λ l. l ∷ rest) (sym (c.as_bytes.ensures.value ∙ c.as_str.ensures.value)) in
+    ∙ ap (λ l. l ∷ rest) (sym (c.as_bytes-line.ensures.value ∙ c.as_str.ensures.value)) in
     let right = c.in_default-play_line.ensures.right in
     record {
       so_far =
-          SoFar-more c.args.outbox.now c.args.trial.now.port
+          SoFar-more c.args.strict c.args.outbox.now c.args.trial.now.port c.args.trial.now.judge
           (g.S.Source.left c.args.source.now) lines line rest h.so_far split right;
       fine = right.fine;
       empty = right.empty;
@@ -55,7 +58,8 @@ loop-left-preserved g c =
 pub returns-clause-plays : goal.returns-clause-plays
 returns-clause-plays g c =
     let h = c.loop-left.invariant in
-    SoFar-passes c.args.outbox.now c.args.trial.now.port (g.S.Source.left c.args.source.now)
+    SoFar-passes c.args.strict c.args.outbox.now c.args.trial.now.port c.args.trial.now.judge
+    (g.S.Source.left c.args.source.now)
     (map string_bytes c.args.lines.now) h.so_far
     (no_texts string_bytes c.loop-left.left.now c.in_default.len_below)
     c.requires.empty h.fine h.empty

@@ -1,9 +1,7 @@
-use Rattle.std.proofs.Common.{◌≡◌, ◌++◌, false, map, codes, ap, ◌∙◌, subst}
-use Rattle.std.specs.String.{string_bytes}
+use Rattle.std.proofs.Common.{◌≡◌, ◌++◌, false, codes, ap, ◌∙◌, subst}
 use Rattle.rio_chars.specs.Unless.{WritesUnless}
 use Rattle.rio_chars.proofs.UnlessLaws.{WritesUnless-then}
-use Rattle.rio_conform.specs.Program.{scenario_name}
-use Rattle.rio_conform.specs.Report.{report_word, report_by, report_text}
+use Rattle.rio_conform.specs.Report.{report_by, report_text}
 use Rattle.rio_conform.proofs.program.report.Goals as goal
 
 pub returns : goal.returns
@@ -16,10 +14,9 @@ returns g c =
     let third = c.write_unless-failed-3.new.sink in
     let last = c.write_unless.new.sink in
     let word = c.verdict_word.result.now in
-    let name = c.name_of.result.now in
+    let name = c.args.name.now in
     let details = c.args.details.now in
     let verdict = c.args.verdict in
-    let wanted = scenario_name (map string_bytes c.args.words.now) in
     let one =
     WritesUnless-then false (written begun) (faults begun) c.write_unless-failed.result
     (written first) (faults first) c.write_unless-failed-2.result (written second)
@@ -32,10 +29,9 @@ returns g c =
     WritesUnless-then false (written begun) (faults begun) c.write_unless-failed-3.result
     (written third) (faults third) c.write_unless.result (written last) (faults last)
     (word ++ name ++ codes "\n") details two c.write_unless.ensures in
-    let same : word ++ name ++ codes "\n" ++ details ≡ report_text verdict wanted details =
+    let same : word ++ name ++ codes "\n" ++ details ≡ report_text verdict name details =
     ap (λ w. w ++ name ++ codes "\n" ++ details) c.verdict_word.ensures
-    ∙ ap (λ n. report_word verdict ++ n ++ codes "\n" ++ details) c.name_of.ensures
-    ∙ ap (λ o. report_by o verdict wanted details) c.in_default.ensures in (
+    ∙ ap (λ o. report_by o verdict name details) c.in_default.ensures in (
       c.write_unless.result,
       subst (WritesUnless false (written begun) (faults begun) c.write_unless.result (written last)
           (faults last)) same three,

@@ -3,7 +3,8 @@ use Rattle.rio_conform.proofs.program.run.Goals as goal
 
 pub returns : goal.returns
 returns g c = record {
-  verdict = c.serve_words-verdict.result;
+  name = c.serve_words-verdict.result.0.now;
+  verdict = c.serve_words-verdict.result.1;
   did = c.serve_words-verdict.ensures.did;
   number_is = c.verdict_number.ensures;
   failed = c.report.ensures.0;
