@@ -18,7 +18,7 @@ SYNOPSES = {
         "rio_capture pair [--set-up FILE] [--lines FILE] PORT PORT CHARS PLACES CHARS PLACES",
         "rio_capture FORM --help",
     ),
-    "rio_conform": ("rio_conform BUFFERS NAME LINE ..",),
+    "rio_conform": ("rio_conform [--strict] BUFFERS NAME LINE ..",),
     "rio_follow": ("rio_follow [tell] [--report tap]",),
     "rio_lane": tuple(f"rio_lane {task} [COMMAS]" for task in ("groups", "chars", "bits", "sent", "got"))
     + tuple(f"rio_lane --lanes 4 {task} [COMMAS]" for task in ("groups", "chars")),
