@@ -29,3 +29,4 @@ pub mod TakeLaws
 pub mod SoFarLaws
 pub mod ToldLaws
 pub mod Agreeing
+pub mod Forgetting

@@ -3,7 +3,7 @@ use Rattle.std.proofs.Common.{◌≡◌, ℕ, zero, suc, ◌+◌, ◌*◌, ◌++
 use Rattle.std.specs.List.{AllByRecursion}
 use Rattle.rio_chars.specs.declared.chars.Char.{Char}
 use Rattle.trace_check.specs.declared.hearing.Hearing.{Hearing}
-use Rattle.trace_check.specs.Running.{new_run, run_of}
+use Rattle.trace_check.specs.Running.{KeepsRun, new_run}
 use Rattle.trace_check.specs.Tables.{IsTable, table_place}
 
 -- so many wires are empty, and so many ports have got nothing
@@ -11,7 +11,7 @@ pub record AreNew (n : ℕ) (wires : List (List Char)) (hearings : List Hearing)
   pub wires_are : length wires ≡ n
   pub hearings_are : length hearings ≡ n
   pub empty : AllByRecursion (λ chars. chars ≡ []) wires
-  pub quiet : AllByRecursion (λ hearing. run_of hearing ≡ new_run) hearings
+  pub quiet : AllByRecursion (KeepsRun new_run) hearings
 
 pub none_new : (wires : List (List Char)) (hearings : List Hearing) → wires ≡ [] → hearings ≡ []
     → AreNew 0 wires hearings
@@ -19,7 +19,7 @@ none_new wires hearings none quiet = record {
   wires_are = ap length none;
   hearings_are = ap length quiet;
   empty = subst (AllByRecursion (λ chars. chars ≡ [])) (sym none) tt;
-  quiet = subst (AllByRecursion (λ hearing. run_of hearing ≡ new_run)) (sym quiet) tt;
+  quiet = subst (AllByRecursion (KeepsRun new_run)) (sym quiet) tt;
 }
 
 module _ {A : Type 0} (Is : A → Type 0) where
@@ -44,7 +44,7 @@ module _ {A : Type 0} (Is : A → Type 0) where
 pub one_new : (n : ℕ) (wires wires' : List (List Char)) (hearings hearings' : List Hearing)
     (chars : List Char) (hearing : Hearing) → AreNew n wires hearings
     → wires' ≡ wires ++ chars ∷ [] → hearings' ≡ hearings ++ hearing ∷ [] → chars ≡ []
-    → run_of hearing ≡ new_run → AreNew (n + 1) wires' hearings'
+    → KeepsRun new_run hearing → AreNew (n + 1) wires' hearings'
 one_new n wires wires' hearings hearings' chars hearing are more heard none quiet =
     let longer = ap length more ∙ length-append wires (chars ∷ []) in
     let longer_too = ap length heard ∙ length-append hearings (hearing ∷ []) in
@@ -55,6 +55,6 @@ one_new n wires wires' hearings hearings' chars hearing are more heard none quie
       hearings_are = omega (arith, longer_too, had_too);
       empty = subst (AllByRecursion (λ cs. cs ≡ [])) (sym more)
           (all_more (λ cs. cs ≡ []) wires chars are.empty none);
-      quiet = subst (AllByRecursion (λ h. run_of h ≡ new_run)) (sym heard)
-          (all_more (λ h. run_of h ≡ new_run) hearings hearing are.quiet quiet);
+      quiet = subst (AllByRecursion (KeepsRun new_run)) (sym heard)
+          (all_more (KeepsRun new_run) hearings hearing are.quiet quiet);
     }

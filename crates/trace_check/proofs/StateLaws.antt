@@ -7,7 +7,7 @@ use Rattle.fabric_model.specs.Network.{same_port}
 use Rattle.fabric_model.proofs.Peers.{same_port-refl}
 use Rattle.fabric_trace.specs.Wires.{taken_chars, WireChars, with_chars}
 use Rattle.trace_check.specs.declared.hearing.Hearing.{Hearing}
-use Rattle.trace_check.specs.Running.{PortRun, run_of}
+use Rattle.trace_check.specs.Running.{KeepsRun, PortRun}
 use Rattle.trace_check.specs.Tables.{IsIn, IsTable, table_place}
 use Rattle.trace_check.proofs.TableLaws.{table_set}
 
@@ -15,7 +15,7 @@ abbrev pub AreWires : ℕ → WireChars → List (List Char) → Type 0
 AreWires nodes wires list = IsTable nodes (λ p chars. chars ≡ wires p) list
 
 abbrev pub AreRuns : ℕ → (PortRef → PortRun) → List Hearing → Type 0
-AreRuns nodes runs list = IsTable nodes (λ p hearing. run_of hearing ≡ runs p) list
+AreRuns nodes runs list = IsTable nodes (λ p hearing. KeepsRun (runs p) hearing) list
 
 module _ {nodes : ℕ} {p : PortRef} {i : ℕ} where
   pub wires_set : {wires : WireChars} {list : List (List Char)} {after chars : List Char}
@@ -36,10 +36,12 @@ module _ {nodes : ℕ} {p : PortRef} {i : ℕ} where
 
   pub runs_set : {runs : PortRef → PortRun} {list : List Hearing} (hearing : Hearing)
       (after : PortRun → PortRun) → AreRuns nodes runs list → IsIn nodes p → i ≡ table_place p
-      → run_of hearing ≡ after (runs p)
+      → KeepsRun (after (runs p)) hearing
       → AreRuns nodes (λ q. if same_port q p then after (runs q) else runs q)
       (slice_set list i hearing)
   runs_set {runs} hearing after table is_in here same =
       table_set hearing table is_in here
-      (same ∙ sym (ap (λ b. if b then after (runs p) else runs p) (same_port-refl p)))
-      (λ q h other has. has ∙ sym (ap (λ b. if b then after (runs q) else runs q) other))
+      (subst (λ b. KeepsRun (if b then after (runs p) else runs p) hearing)
+      (sym (same_port-refl p)) same)
+      (λ q h other has.
+      subst (λ b. KeepsRun (if b then after (runs q) else runs q) h) (sym other) has)

@@ -1,5 +1,5 @@
 -- What would have been lawful at a line of a trace, by what the lines before it reach.
-use Rattle.std.specs.Prelude.{◌≡◌, ◌⊎◌, ℕ, ◌+◌, ◌<◌, ◌==◌, nat_lt, Bool, List, [], ◌∷◌, ◌++◌, length, take, Option, None, Some, option_map, unwrap_or, find, if◌then◌else◌}
+use Rattle.std.specs.Prelude.{◌≡◌, ◌⊎◌, ℕ, ◌+◌, ◌<◌, nat_lt, Bool, List, [], ◌∷◌, ◌++◌, length, take, Option, None, Some, option_map, unwrap_or, if◌then◌else◌}
 use Rattle.rio_chars.specs.declared.chars.Char.{Char}
 use Rattle.rio_packets.specs.Fields.{prio_of}
 use Rattle.link_model.specs.declared.event.Event.{Event}
@@ -19,7 +19,7 @@ use Rattle.trace_check.specs.declared.expecting.Expected.TheVariants as E
 use Rattle.script_input.specs.Inputs.{IsInput, set_up_texts, texts_of}
 use Rattle.trace_check.specs.Lawful.{as_behind, Fault, fault_number, PassFront, SpellFront}
 use Rattle.trace_check.specs.Reaches.{Reaches}
-use Rattle.trace_check.specs.Running.{Come}
+use Rattle.trace_check.specs.Running.{first_with}
 use Rattle.trace_check.specs.States.{ReachedState, SparesAt}
 use Rattle.trace_lines.specs.Words.{SpellsLine}
 use Rattle.trace_check.specs.Unmet.{IsUnmetNeed}
@@ -38,10 +38,6 @@ wire_to r q = unwrap_or (option_map r.wires (peer_in r.net.links q)) []
 abbrev pub left_on_link : ReachedState → PortRef → ℕ
 left_on_link r p =
     if nat_lt 0 (length (r.wires p)) then length (r.wires p) else length (wire_to r p)
-
--- the first packet that came with this ackID
-abbrev pub first_with : ℕ → List Come → Option (List ℕ)
-first_with ack came = option_map (λ came. came.1) (find (λ came. came.0 == ack) came)
 
 -- the event is a packet of this priority that the port does not have to send
 abbrev pub IsLacked : Network → PortRef → ℕ → Event → Type 0

@@ -1,5 +1,5 @@
 -- What a checker keeps of a port, and what it asks of a line.
-use Rattle.std.specs.Prelude.{ℕ, ◌+◌, ◌%◌, ◌<◌, List, [], ◌∷◌, ◌++◌, Option, Some, None, IsSome, unwrap_or, if◌then◌else◌}
+use Rattle.std.specs.Prelude.{◌≡◌, ◌≢◌, ◌⊎◌, ◌==◌, ℕ, ◌+◌, ◌%◌, ◌<◌, List, [], ◌∷◌, ◌++◌, Option, Some, None, IsSome, find, option_and_then, option_map, unwrap_or, if◌then◌else◌}
 use Rattle.rio_chars.specs.declared.chars.Char.{Char}
 use Rattle.link_model.specs.declared.event.Event.{Event}
 use Rattle.link_model.specs.declared.event.Event.TheVariants.{Ctl, Pkt, Bad}
@@ -84,16 +84,55 @@ MayHold run packet = IsSome (behind_packet run.next packet run.unheld)
 abbrev pub MayFree : PortRun → Type 0
 MayFree run = run.freed < run.allowed
 
+-- the first packet that came with this ackID
+abbrev pub first_with : ℕ → List Come → Option (List ℕ)
+first_with ack came = option_map (λ came. came.1) (find (λ came. came.0 == ack) came)
+
 -- ---- what the code keeps
 
-abbrev pub run_of : Hearing → PortRun
-run_of hearing = record {
-  place = hearing.framer.place;
-  unheld = hearing.unheld.items;
-  next = hearing.next;
-  freed = hearing.freed;
-  allowed = hearing.allowed;
-}
+-- What is behind packets that are held one after another, if they came so: the first of them with
+-- this ackID, and each other one with the next.
+abbrev pub left_behind : ℕ → List (List ℕ) → List Come → Option (List Come)
+left_behind turn [] came = Some came
+left_behind turn (packet ∷ packets) came =
+    option_and_then (left_behind ((turn + 1) % 32) packets) (behind_packet turn packet came)
+
+-- the ackID whose turn it is behind these
+abbrev pub turn_behind : ℕ → List (List ℕ) → ℕ
+turn_behind turn [] = turn
+turn_behind turn (packet ∷ packets) = turn_behind ((turn + 1) % 32) packets
+
+-- both are there, and the first packet with this ackID is the same; or none is there
+abbrev pub LeavesAlike : ℕ → Option (List Come) → Option (List Come) → Type 0
+LeavesAlike turn None None = Unit {0}
+LeavesAlike turn (Some came) (Some kept) = first_with turn came ≡ first_with turn kept
+LeavesAlike turn came kept = ⊥
+
+-- What is kept of packets that came serves as all of them do, whatever is held from now on: the
+-- same packets may be, and behind them the same one came first with the ackID whose turn it is.
+abbrev pub ServesHolds : ℕ → List Come → List Come → Type 0
+ServesHolds turn came kept = (packets : List (List ℕ)) → LeavesAlike (turn_behind turn packets)
+    (left_behind turn packets came) (left_behind turn packets kept)
+
+-- what is kept of a port, of which the packets that can no longer be held are forgotten
+pub record KeepsRun (run : PortRun) (hearing : Hearing) : Type 0 where
+  pub place : hearing.framer.place ≡ run.place
+  pub serves : ServesHolds run.next run.unheld hearing.unheld.items
+  pub next : hearing.next ≡ run.next
+  pub freed : hearing.freed ≡ run.freed
+  pub allowed : hearing.allowed ≡ run.allowed
+
+-- none of them came with the ackID before this one
+abbrev pub NoneBefore : ℕ → List Come → Type 0
+NoneBefore ack [] = Unit {0}
+NoneBefore ack (came ∷ more) = ((came.0 + 1) % 32 ≢ ack) × NoneBefore ack more
+
+-- A packet that came with this ackID need not be kept behind these: it is among them, and behind it
+-- none came with the ackID before it; or none of them did, and it is not its turn.
+abbrev pub IsSpare : ℕ → ℕ → List ℕ → List Come → Type 0
+IsSpare turn ack packet kept = ((front : List Come) × (back : List Come)
+    × (kept ≡ front ++ (ack, packet) ∷ back) × NoneBefore ack back)
+    ⊎ (NoneBefore ack kept × (ack ≢ turn))
 
 -- the events of what characters told, with the packet that the last one ended
 abbrev pub told_events : Told → Option Event → List Event

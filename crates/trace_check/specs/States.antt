@@ -13,7 +13,7 @@ use Rattle.trace_check.specs.declared.state.State.{State}
 use Rattle.trace_check.specs.Checks.{LineIsStep, SendMayBe, net_after, OnWires}
 use Rattle.trace_check.specs.Lawful.{Fault, fault_number, NoSuchStep, NotAllowed, NotCome, NotThere, OffWire}
 use Rattle.trace_check.specs.Networks.{AreKeptLinks, IsNetwork, IsStepOf}
-use Rattle.trace_check.specs.Running.{frees_one, holds_one, MayFree, MayHold, new_run, run_after, PortRun, run_of}
+use Rattle.trace_check.specs.Running.{frees_one, holds_one, MayFree, MayHold, new_run, run_after, KeepsRun, PortRun}
 use Rattle.trace_check.specs.Tables.{IsIn, IsTable}
 use Rattle.trace_check.specs.Wires.{told_wires}
 
@@ -43,7 +43,7 @@ pub record IsReachedState (r : ReachedState) (state : State) : Type 0 where
   pub links : AreKeptLinks r.nodes r.net.links state.links
   pub network : IsNetwork r.nodes r.net state.network
   pub wires : IsTable r.nodes (λ p chars. chars ≡ r.wires p) state.wires.items
-  pub runs : IsTable r.nodes (λ p hearing. run_of hearing ≡ r.runs p) state.hearings.items
+  pub runs : IsTable r.nodes (λ p hearing. KeepsRun (r.runs p) hearing) state.hearings.items
 
 -- ---- holds and frees
 

@@ -55,8 +55,8 @@ pub fn taken_lines_are_lawful_so_far()
         → IsLawfulSoFar checker.set_up.known (net_of checker.set_up) texts }
 {}
 
-/// A checker that takes the lines behind the set-up of an input says what a check of the whole input
-/// says: so many steps, or the same line, counted over all lines, and the same reason.
+/// A checker that takes the lines behind the set-up of an input says what a check of the whole
+/// input says: so many steps, or the same line, counted over all lines, and the same reason.
 pub fn a_checker_agrees()
     ensures lawful { (bytes : List ℕ) (set_up : SetUpLines) (texts : List (List ℕ)) (steps : ℕ)
         → ArePartsOf bytes set_up texts

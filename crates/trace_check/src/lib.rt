@@ -19,8 +19,8 @@
 //!
 //! [`check_trace`] checks a script of set-up lines and a trace. [`Checker`] takes one line after
 //! another, as they come, and answers each; [`a_checker_agrees`] says that both say the same. Both
-//! take memory for the lines of set-up, the ports, the packets and characters that are on their way,
-//! and the packets that came and are not held.
+//! take memory for the lines of set-up, the ports, the packets and characters that are on their
+//! way, and the packets that came and can still be held.
 #![tactic(auto)]
 
 mod building;

@@ -1,6 +1,6 @@
 //! What the lines of a trace leave of a fabric, and which of its steps and signs may follow.
 
-ghost use Rattle.std.specs.Prelude.{◌≡◌, ◌↔◌, [], false, option_map, unwrap_or, Bool, Some, IfOk, IsTrue, MatchOption};
+ghost use Rattle.std.specs.Prelude.{◌≡◌, ◌↔◌, [], false, unwrap_or, Bool, Some, IfOk, IsSomeAnd, IsTrue, MatchOption};
 ghost use Rattle.std.specs.Option.{option_copied};
 ghost use Rattle.fabric_model.specs.Network.{first_packet};
 ghost use Rattle.fabric_model.specs.Steps.{Needs};
@@ -11,7 +11,7 @@ ghost use Rattle.trace_check.specs.Expecting.{OneIsLacked, wire_to};
 ghost use Rattle.trace_check.specs.Lawful.{fault_number};
 ghost use Rattle.trace_check.specs.Networks.{IsStepOf};
 ghost use Rattle.trace_lines.specs.Reads.{step_read};
-ghost use Rattle.trace_check.specs.Running.{run_of};
+ghost use Rattle.trace_check.specs.Running.{KeepsRun};
 ghost use Rattle.trace_check.specs.Starting.{IsBegun, net_of, nodes_of};
 ghost use Rattle.trace_check.specs.States.{Checks, fault_of, ChecksFree, ChecksHold, IsEditIn, IsLeast, IsReachedState, ReachedState, SparesAt, unreached};
 ghost use Rattle.trace_check.specs.Tables.{IsIn};
@@ -167,7 +167,7 @@ impl State {
     /// What a port has got.
     pub(crate) fn hearing(&self, port: PortRef) -> Option<&Hearing>
         ensures { (r : ReachedState) → IsReachedState r self.now → IsIn r.nodes port
-            → option_map run_of (option_copied result) ≡ Some (r.runs port) }
+            → IsSomeAnd (option_copied result) (KeepsRun (r.runs port)) }
     {
         self.hearings.get(place_of(port))
     }

@@ -1,4 +1,4 @@
-use Rattle.std.proofs.Common.{Some, sym, ap, ◌∙◌, rules}
+use Rattle.std.proofs.Common.{Some, sym, ◌∙◌, rules}
 use Rattle.trace_check.specs.Running.{run_hears}
 use Rattle.trace_check.proofs.AnswerLaws.{got_stands}
 use Rattle.trace_check.proofs.StateLaws.{runs_set, wires_taken}
@@ -28,5 +28,5 @@ returns c = λ r short is is_in.
           in_peer c.place_of-from.ensures peer_is stands;
       runs = runs_set c.hear.new.self
           (λ run. run_hears run chars) is.runs is_in c.place_of-to.ensures
-          (c.in_ok-hear.ensures ∙ ap (λ run. run_hears run chars) run);
+          (c.in_ok-hear.ensures (r.runs c.args.port) run);
     })

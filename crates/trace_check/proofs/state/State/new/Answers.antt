@@ -1,5 +1,5 @@
 use Rattle.std.proofs.Common.{◌≡◌, ◌*◌, [], length, arith}
-use Rattle.trace_check.specs.Running.{new_run, run_of}
+use Rattle.trace_check.specs.Running.{KeepsRun, new_run}
 use Rattle.trace_check.specs.Starting.{nodes_of}
 use Rattle.trace_check.proofs.NewState.{all_table, none_new, one_new}
 use Rattle.trace_check.proofs.state.State.new.Goals as goal
@@ -35,6 +35,6 @@ returns c =
       network = c.in_ok-network.ensures;
       wires = all_table (λ chars. chars ≡ []) nodes c.loop.wires.items wires
           c.loop.invariant.empty;
-      runs = all_table (λ hearing. run_of hearing ≡ new_run) nodes c.loop.hearings.items hearings
+      runs = all_table (KeepsRun new_run) nodes c.loop.hearings.items hearings
           c.loop.invariant.quiet;
     }
