@@ -30,7 +30,8 @@ enum {
   KIGVARP_OPEN = 3,       /* the handle is open already: nothing was done */
   KIGVARP_FULL = 4,       /* the priority of the packet has no room: nothing was done */
   KIGVARP_EMPTY = 5,      /* no packet is held: nothing was done */
-  KIGVARP_NO_MEMORY = 6,  /* memory was refused: nothing was done, but the text of the line before is gone */
+  KIGVARP_NO_MEMORY = 6,  /* memory was refused: nothing was done, but the text of the line before is gone, and clocks were
+                             done up to there */
   KIGVARP_UNDETECTED = 7, /* a port acted on what was not sent, as the text says: the fabric is spent */
   KIGVARP_CUT = 8,        /* memory was refused while a line was answered: a front of the answer waits. A port went on as the
                              answer says; a fabric or a checker is spent */
@@ -70,6 +71,9 @@ struct kigvarp_char_did { uint32_t held, freed, sent; kigvarp_char chars[KIGVARP
 
 /* What a run of characters did: how many packets were accepted and freed, and how many characters are to be sent. */
 struct kigvarp_run_did { uint32_t held, freed, sent; };
+
+/* What clocks did: how many there were, how many packets were accepted and freed, and how many time-outs fired by themselves. */
+struct kigvarp_clocks_did { uint32_t clocks, held, freed, fired; };
 
 /* The fields of a packet: priority 0 to 3, format type 0 to 15, and two IDs of 16 bits, or of 8 if large is 0. */
 struct kigvarp_header { uint8_t prio, ftype, large; uint16_t source, dest; };
@@ -127,6 +131,16 @@ uint32_t kigvarp_port_take(struct kigvarp_port *port, kigvarp_char character, st
    length. Answers are to be sent before what a turn sends. */
 uint32_t kigvarp_port_got(struct kigvarp_port *port, const kigvarp_char *characters, size_t length, kigvarp_char *out,
                           size_t room, struct kigvarp_run_did *did);
+
+/* A clock for each of length characters, at most KIGVARP_RUN: it takes the character, and gives one, which is written to out,
+   where room is at least length. A burst is given whole, one character a clock, and an idle, 0x1bc, if there is nothing to
+   send. KIGVARP_NO_MEMORY: did tells how many clocks there were before memory was refused. */
+uint32_t kigvarp_port_clock(struct kigvarp_port *port, const kigvarp_char *characters, size_t length, kigvarp_char *out,
+                            size_t room, struct kigvarp_clocks_did *did);
+
+/* Says how many clocks without an answer are too long, one after another: then a time-out fires by itself. None are if it is 0,
+   as at first. */
+uint32_t kigvarp_port_patience(struct kigvarp_port *port, uint32_t clocks);
 
 /* Takes a turn: count characters are to be sent. Room is at least KIGVARP_TURN. */
 uint32_t kigvarp_port_turn(struct kigvarp_port *port, kigvarp_char *out, size_t room, size_t *count);

@@ -8,6 +8,7 @@ import sys
 
 from kigvarp import NotAsked, Port, char_text, text_of
 
+IDLE = 0x1BC
 LENGTHS = (0, 2, 4, 5, 80, 264, 266, 268, 270)
 STATES = ("output", "input", "outstanding", "waiting")
 
@@ -51,6 +52,18 @@ def got(by_calls, by_lines, chars, chance):
     return sent
 
 
+def clock(by_calls, by_lines, chars, chance):
+    """A clock for each character, and some idles behind them: what is given."""
+    run = list(chars) + chance.randrange(40) * [IDLE]
+    did = by_calls.clock(run)
+    *lines, given = by_lines.ask(" ".join(["clock", *map(char_text, run)]))
+    words = [line.split()[0] for line in lines]
+    found = (did.held, did.freed, did.fired, text_of(did.given))
+    wanted = (words.count("hold"), words.count("free"), words.count("fire"), given[len("given "):])
+    equal("clocks", found, wanted)
+    return list(did.given)
+
+
 def send(by_calls, by_lines, chance):
     """A packet, of which one in some has a field or a length out of range."""
     large, wild = chance.randrange(4) == 0, chance.randrange(4) == 0
@@ -80,6 +93,9 @@ def collect(by_calls, by_lines):
 def session(seed):
     chance = random.Random(seed)
     by_calls, by_lines, far = Port(), Port(), Port(chance.randrange(4, 31))
+    clocks = chance.choice((0, 1, 7, 100))
+    for port in (by_calls, by_lines):
+        port.patience(clocks)
     for _ in range(30):
         if chance.randrange(2):
             far.send(chance.randbytes(2 * chance.randrange(20)), prio=chance.randrange(4), ftype=2, source=1, dest=2)
@@ -90,6 +106,9 @@ def session(seed):
         equal("turn", (0, 0, text_of(burst)), told(by_lines.ask("turn 1")))
         back = far.got(list(noisy(answers, chance)) + list(noisy(burst, chance))).sent
         got(by_calls, by_lines, list(noisy(back, chance)), chance)
+        if chance.randrange(2):
+            given = clock(by_calls, by_lines, noisy(far.turn(), chance), chance)
+            clock(by_calls, by_lines, noisy(far.got(list(noisy(given, chance))).sent, chance), chance)
         if chance.randrange(3) == 0:
             collect(by_calls, by_lines)
             far.collect()

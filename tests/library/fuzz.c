@@ -133,6 +133,22 @@ static void port_characters(int end) {
   put(end, out, run->sent);
 }
 
+static void port_clocks(int end) {
+  size_t count;
+  struct kigvarp_clocks_did *did = edge(1, sizeof *did);
+  const kigvarp_char *chars = drawn_chars(!end, &count);
+  size_t room = chance(4) ? count : drawn_length(count + 4);
+  kigvarp_char *out = edge(3, room * sizeof *out);
+  uint32_t status = is("port_clock", kigvarp_port_clock(&ports[end], chars, count, out, room, did));
+  is_closed(ports[end].open != 0, status);
+  want(status == KIGVARP_OK || room < count || !ports[end].open, "clocks with room are done");
+  if (status == KIGVARP_OK) want(did->clocks == count && did->held <= count && did->fired <= count, "counts are within bounds");
+  size_t given = status == KIGVARP_OK ? count : 0;
+  are_marks(out + given, (room - given) * sizeof *out);
+  put(end, out, given);
+  if (chance(8) == 0) is_closed(ports[end].open != 0, is("port_patience", kigvarp_port_patience(&ports[end], chance(30))));
+}
+
 static void port_turns(int end) {
   size_t *count = edge(1, sizeof *count), room = drawn_length(KIGVARP_TURN + 8);
   kigvarp_char *out = edge(2, room * sizeof *out);
@@ -253,8 +269,9 @@ static void words(void) {
 
 static void one(void) {
   int end = (int)chance(2);
-  switch (chance(10)) {
+  switch (chance(11)) {
     case 0: case 1: port_characters(end); break;
+    case 10: port_clocks(end); break;
     case 2: port_turns(end); break;
     case 3: port_packets(end); break;
     case 4: if (chance(20) == 0) port_opens(end); break;

@@ -21,6 +21,7 @@ static uint8_t bytes[KIGVARP_PACKET], packet[KIGVARP_PACKET];
 static size_t count;
 static struct kigvarp_char_did did;
 static struct kigvarp_run_did run_did;
+static struct kigvarp_clocks_did clocks = {7, 7, 7, 7};
 static struct kigvarp_state told;
 static const struct kigvarp_header header = {0, 15, 0, 1, 2};
 
@@ -44,6 +45,8 @@ static void closed_port(void) {
   want(kigvarp_port_text(&port, bytes, sizeof bytes, &count) == KIGVARP_CLOSED, "no text of a closed port");
   want(kigvarp_port_take(&port, 0x11c, &did) == KIGVARP_CLOSED, "no character of a closed port");
   want(kigvarp_port_got(&port, run, 1, wire, 4, &run_did) == KIGVARP_CLOSED, "no run of a closed port");
+  want(kigvarp_port_clock(&port, run, 1, wire, 1, &clocks) == KIGVARP_CLOSED && clocks.fired == 7, "no clock of a closed port");
+  want(kigvarp_port_patience(&port, 1) == KIGVARP_CLOSED, "no patience of a closed port");
   want(kigvarp_port_turn(&port, wire, KIGVARP_TURN, &count) == KIGVARP_CLOSED, "no turn of a closed port");
   want(kigvarp_port_time_out(&port) == KIGVARP_CLOSED, "no time-out of a closed port");
   want(kigvarp_port_send(&port, &header, bytes, 4) == KIGVARP_CLOSED, "nothing is sent by a closed port");
@@ -144,6 +147,8 @@ static void out_of_range(void) {
   want(kigvarp_port_got(&port, run, 1, wire, 3, &run_did) == KIGVARP_ARGUMENT, "an answer in too little room");
   want(kigvarp_port_collect(&port, bytes, KIGVARP_PACKET, &count) == KIGVARP_EMPTY && untouched(), "nothing is held");
   want(kigvarp_port_got(&port, run, 0, wire, 0, &run_did) == KIGVARP_OK && untouched(), "a run of none");
+  want(kigvarp_port_clock(&port, run, 2, wire, 1, &clocks) == KIGVARP_ARGUMENT && !clocks.clocks, "clocks in too little room");
+  want(kigvarp_port_clock(&port, run, 0, wire, 0, &clocks) == KIGVARP_OK && untouched() && !clocks.clocks, "no clock");
   packets_out_of_range();
 }
 
@@ -187,6 +192,7 @@ int main(void) {
   out_of_range();
   full();
   texts();
+  clocks = (struct kigvarp_clocks_did){7, 7, 7, 7};
   closed_port();
   closed_fabric();
   closed_checker();

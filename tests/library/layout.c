@@ -11,6 +11,7 @@ IS(sizeof(struct kigvarp_port), 2 * sizeof(void *));
 IS(sizeof(struct kigvarp_fabric), 2 * sizeof(void *));
 IS(sizeof(struct kigvarp_char_did), 20);
 IS(sizeof(struct kigvarp_run_did), 12);
+IS(sizeof(struct kigvarp_clocks_did), 16);
 IS(sizeof(struct kigvarp_header), 8);
 IS(sizeof(struct kigvarp_state), 16);
 IS(sizeof(struct kigvarp_checker), 2 * sizeof(void *));
@@ -24,6 +25,7 @@ AT(port, at, 0); AT(port, open, sizeof(void *));
 AT(fabric, at, 0); AT(fabric, open, sizeof(void *));
 AT(char_did, held, 0); AT(char_did, freed, 4); AT(char_did, sent, 8); AT(char_did, chars, 12);
 AT(run_did, held, 0); AT(run_did, freed, 4); AT(run_did, sent, 8);
+AT(clocks_did, clocks, 0); AT(clocks_did, held, 4); AT(clocks_did, freed, 8); AT(clocks_did, fired, 12);
 AT(header, prio, 0); AT(header, ftype, 1); AT(header, large, 2); AT(header, source, 4); AT(header, dest, 6);
 AT(checker, at, 0); AT(checker, open, sizeof(void *));
 AT(symbol, stype0, 0); AT(symbol, parameter0, 1); AT(symbol, parameter1, 2); AT(symbol, stype1, 3); AT(symbol, cmd, 4);
@@ -47,6 +49,7 @@ static void want(int well, const char *what) {
 static struct { uint32_t before; struct kigvarp_port it; uint32_t behind; } a = {GUARD, {0}, GUARD}, b = {GUARD, {0}, GUARD};
 static struct { uint32_t before; struct kigvarp_char_did it; uint32_t behind; } did = {GUARD, {0}, GUARD};
 static struct { uint32_t before; struct kigvarp_run_did it; uint32_t behind; } run = {GUARD, {0}, GUARD};
+static struct { uint32_t before; struct kigvarp_clocks_did it; uint32_t behind; } clocks = {GUARD, {0}, GUARD};
 static struct { uint32_t before; struct kigvarp_state it; uint32_t behind; } told = {GUARD, {0}, GUARD};
 
 #define KEPT(it) ((it).before == GUARD && (it).behind == GUARD)
@@ -84,6 +87,28 @@ static void runs(void) {
   want(run.it.held == 1 && run.it.freed == 0 && run.it.sent == 4, "it is held");
   want(kigvarp_port_got(&a.it, answers, 4, none, 16, &run.it) == KIGVARP_OK, "the answer is taken");
   want(run.it.held == 0 && run.it.freed == 1 && run.it.sent == 0, "it is freed");
+}
+
+/* By clocks: three packets of 20 characters are held in 62 clocks, and the answer to the third ends behind them. */
+static void by_clocks(void) {
+  struct kigvarp_port near = {0}, far = {0};
+  kigvarp_char given[62], back[62], idles[62];
+  struct kigvarp_header it = {0, 11, 0, 1, 2};
+  const uint8_t *rest = (const uint8_t *)"\0\1\2\3";
+  for (int i = 0; i < 62; i++) idles[i] = 0x1bc;
+  want(kigvarp_port_open(&near, 8, 0) == KIGVARP_OK && kigvarp_port_open(&far, 8, 0) == KIGVARP_OK, "two ports open");
+  for (int i = 0; i < 3; i++) want(kigvarp_port_send(&near, &it, rest, 4) == KIGVARP_OK, "three are put");
+  want(kigvarp_port_clock(&near, idles, 62, given, 62, &clocks.it) == KIGVARP_OK && clocks.it.clocks == 62, "62 clocks");
+  want(given[0] == 0x17c && given[20] == 0x17c && given[60] == 0x1bc && given[61] == 0x1bc, "three packets and idles");
+  want(kigvarp_port_clock(&far, given, 62, back, 62, &clocks.it) == KIGVARP_OK && clocks.it.held == 3, "three are held");
+  want(back[19] == 0x11c && back[39] == 0x11c && back[59] == 0x11c, "and accepted");
+  want(kigvarp_port_clock(&near, back, 62, given, 62, &clocks.it) == KIGVARP_OK && clocks.it.freed == 2, "two are freed");
+  want(kigvarp_port_clock(&far, idles, 1, back, 1, &clocks.it) == KIGVARP_OK && clocks.it.clocks == 1, "one clock more");
+  want(kigvarp_port_clock(&near, back, 1, given, 1, &clocks.it) == KIGVARP_OK && clocks.it.freed == 1, "the third is freed");
+  want(kigvarp_port_patience(&near, 2) == KIGVARP_OK && kigvarp_port_send(&near, &it, rest, 4) == KIGVARP_OK, "a fourth");
+  want(kigvarp_port_clock(&near, idles, 20, given, 20, &clocks.it) == KIGVARP_OK && !clocks.it.fired, "it is given");
+  want(kigvarp_port_clock(&near, idles, 2, given, 2, &clocks.it) == KIGVARP_OK && clocks.it.fired == 1, "and has no answer");
+  want(kigvarp_port_close(&near) == KIGVARP_OK && kigvarp_port_close(&far) == KIGVARP_OK, "they close");
 }
 
 static void state(void) {
@@ -173,12 +198,13 @@ int main(void) {
   header();
   characters();
   runs();
+  by_clocks();
   symbols();
   packets();
   events();
   checks();
   state();
-  want(KEPT(a) && KEPT(b) && KEPT(did) && KEPT(run) && KEPT(told), "nothing is written beside");
+  want(KEPT(a) && KEPT(b) && KEPT(did) && KEPT(run) && KEPT(clocks) && KEPT(told), "nothing is written beside");
   want(KEPT(said) && KEPT(reading) && KEPT(symbol) && KEPT(packet) && KEPT(checker) && KEPT(hit), "nor there");
   want(kigvarp_port_close(&a.it) == KIGVARP_OK && kigvarp_port_close(&b.it) == KIGVARP_OK, "they close");
   want(a.it.open == 0 && !a.it.at && KEPT(a), "open is 0");

@@ -20,7 +20,7 @@ static int refuses(void) {
 void *__wrap_malloc(size_t size) { return refuses() ? 0 : __real_malloc(size); }
 void *__wrap_realloc(void *at, size_t size) { return refuses() ? 0 : __real_realloc(at, size); }
 
-static const char *const PORT[] = {"send 0 15 1 2 00112233", "turn 2", "state", "got k1c d00 dff d16", "nonsense", 0};
+static const char *const PORT[] = {"send 0 15 1 2 00112233", "turn 2", "state", "got k1c d00 dff d16", "clock kbc kbc", "nonsense", 0};
 static const char *const FABRIC[] = {"endpoint A 1",           "endpoint B 2",          "link A.0 B.0", "stop",
                                      "send A 0 15 2 cafe0001", "settle A.0", "collect B",    "run 5", 0};
 
@@ -113,6 +113,22 @@ static int checks(long number) {
   return reached;
 }
 
+/* Clocks end at the one for which memory was refused, and go on behind it once memory is there. */
+static int clocks(long number) {
+  kigvarp_char idles[5] = {0x1bc, 0x1bc, 0x1bc, 0x1bc, 0x1bc}, given[5];
+  struct kigvarp_clocks_did did;
+  refused = -1;
+  want(opens(0) == KIGVARP_OK, "opened", number);
+  asked = 0, refused = number;
+  uint32_t status = kigvarp_port_clock(&port, idles, 5, given, 5, &did);
+  want(status == (did.clocks == 5 ? KIGVARP_OK : KIGVARP_NO_MEMORY), "a status of memory", number);
+  int reached = asked > number;
+  refused = -1;
+  want(kigvarp_port_clock(&port, idles, 5 - did.clocks, given, 5, &did) == KIGVARP_OK, "the clocks that lack", number);
+  want(closes(0) == KIGVARP_OK, "closed", number);
+  return reached;
+}
+
 int main(void) {
   long tried = 0;
   for (int is_fabric = 0; is_fabric < 2; is_fabric++) {
@@ -127,6 +143,8 @@ int main(void) {
   }
   for (later = 0; later < 2; later++)
     for (long number = 0; checks(number); number++) tried++;
+  for (later = 0; later < 2; later++)
+    for (long number = 0; clocks(number); number++) tried++;
   printf("%ld refusals\n", tried);
   return failed || tried < 40;
 }

@@ -43,6 +43,23 @@ def runs():
         equal("none", by_run.got([]), (0, 0, array("H")))
 
 
+def clocks():
+    """In each clock a character is given: a packet without an idle within it, and then idles. A time-out fires in the third
+    clock without an answer, of which the first gives the last character."""
+    with Port() as near, Port() as far:
+        near.patience(3)
+        near.send(bytes.fromhex("cafe0001"), ftype=15, source=1, dest=2)
+        idles = array("H", 22 * [0x1BC])
+        did = near.clock(idles)
+        equal("no answer", (did.held, did.freed, did.fired), (0, 0, 1))
+        equal("given", did.given[20:], idles[20:])
+        back = far.clock(did.given + idles)
+        equal("held", (back.held, back.freed, back.fired), (1, 0, 0))
+        equal("accepted", text_of(back.given[19:23]), "k1c d00 dff d16")
+        equal("many", len(near.clock(array("H", 100000 * [0x1BC])).given), 100000)
+        equal("none", near.clock([]), (0, 0, 0, array("H")))
+
+
 def statuses():
     port = Port()
     for count in range(17):
@@ -82,5 +99,5 @@ def texts():
     equal("numbers", chars_of("k1c dff inv"), [0x11C, 0xFF, 0x200])
 
 
-for case in (packets, runs, statuses, lines, texts):
+for case in (packets, runs, clocks, statuses, lines, texts):
     case()

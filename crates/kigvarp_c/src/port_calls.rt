@@ -3,13 +3,16 @@ ghost use Rattle.std.specs.Prelude.{◌≡◌};
 ghost use Rattle.library_calls.specs.PortsSeen.{PortTextTaken};
 ghost use Rattle.library_calls.specs.PortLines.{PortLineDid};
 ghost use Rattle.library_calls.specs.Chars.{CharTakes, RunTakes, TurnTakes, PortTimesOut};
+ghost use Rattle.library_calls.specs.ClocksSeen.{ClocksDo, PatienceSet};
 ghost use Rattle.library_calls.specs.Packets.{PacketSends, PacketCollects};
 ghost use Rattle.library_calls.specs.States.{StateTells};
 ghost use Rattle.kigvarp_c.specs.Handles.{IsPortHandle};
 ghost use Rattle.kigvarp_c.specs.Calls.{Calls, Always};
 
 use crate::port::{KigvarpPort, put_port, take_port};
-use library_calls::{CallStatus, CharDid, PacketHeader, RunDid, StateTold, call_number};
+use library_calls::{
+    CallStatus, CharDid, ClocksTold, PacketHeader, RunDid, StateTold, call_number,
+};
 use std::alloc::Global;
 
 /// Answers a line of `rio_port`.
@@ -94,6 +97,46 @@ pub extern "C" fn kigvarp_port_got(
     let status = opened.got(numbers, room, did);
     put_port(port, opened);
     call_number(status)
+}
+
+/// A clock for each of a run of characters. There is to be room for as many, which are given.
+#[unsafe(no_mangle)]
+pub extern "C" fn kigvarp_port_clock(
+    alloc: Global,
+    port: &mut KigvarpPort,
+    numbers: &[u16],
+    room: &mut [u16],
+    told: &mut ClocksTold,
+) -> u32
+    requires { IsPortHandle port.old }
+    ensures handle { IsPortHandle port.new }
+    ensures does { Calls ((room.new ≡ room.old) × (told.new ≡ told.old))
+        (ClocksDo numbers.now room.old room.new told.new)
+        port.old.handle.ports result port.new.handle.ports }
+{
+    let Some(mut opened) = take_port(alloc, port) else {
+        return call_number(CallStatus::Closed);
+    };
+    let status = opened.clock(numbers, room, told);
+    put_port(port, opened);
+    call_number(status)
+}
+
+/// Says how many clocks without an answer are too long from here on, or none if it is 0.
+#[unsafe(no_mangle)]
+pub extern "C" fn kigvarp_port_patience(alloc: Global, port: &mut KigvarpPort, clocks: u32) -> u32
+    requires { IsPortHandle port.old }
+    ensures handle { IsPortHandle port.new }
+    ensures does { Calls (Unit {0})
+        (Always (PatienceSet clocks))
+        port.old.handle.ports result port.new.handle.ports }
+{
+    let Some(mut opened) = take_port(alloc, port) else {
+        return call_number(CallStatus::Closed);
+    };
+    opened.set_patience(clocks);
+    put_port(port, opened);
+    call_number(CallStatus::Done)
 }
 
 /// Takes a turn: `count` is how many characters are to be sent. There is to be room for 284.

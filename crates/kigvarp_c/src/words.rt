@@ -47,7 +47,8 @@ pub extern "C" fn kigvarp_packet_write(
     room: &mut [u8],
     count: &mut usize,
 ) -> u32
-    ensures { AnswersNumber (PacketWrites header.now ack rest.now room.old room.new count.new) result }
+    ensures { AnswersNumber (PacketWrites header.now ack rest.now room.old room.new count.new)
+        result }
 {
     call_number(write_packet(header, ack, rest, room, count))
 }

@@ -5,3 +5,4 @@ pub mod CheckLaws
 pub mod RunLaws
 pub mod TextLaws
 pub mod FabricLaws
+pub mod ClockCounts

@@ -1,5 +1,5 @@
 -- Characters are taken one after another, and their answers are written one behind another.
-use Rattle.std.proofs.Common.{◌≡◌, ℕ, suc, ◌+◌, ◌*◌, ◌≤◌, ◌-◌, List, [], ◌∷◌, ◌++◌, Option, Some, None, option_to_list, length, take, drop, refl, sym, ap, ◌∙◌, append_assoc, append-nil, arith, length-append}
+use Rattle.std.proofs.Common.{◌≡◌, ℕ, suc, ◌+◌, ◌*◌, ◌≤◌, List, [], ◌∷◌, ◌++◌, Option, Some, None, option_to_list, length, take, drop, refl, sym, ap, ◌∙◌, append_assoc, append-nil, arith, length-append}
 use Rattle.std.proofs.lemmas.List.{take_at, drop_at, drop-drop}
 use Rattle.rio_symbols.specs.Fields.{Fields}
 use Rattle.link_port.specs.Ports.{PortState}
@@ -32,7 +32,7 @@ IsRun-begin whole room = record {
 }
 
 -- what was written behind a front stands behind it
-put_behind : (front text begun room : List ℕ) (at : ℕ) → at ≡ length front
+pub put_behind : (front text begun room : List ℕ) (at : ℕ) → at ≡ length front
     → room ≡ laid_over front begun → laid_at at text room ≡ laid_over (front ++ text) begun
 put_behind front text begun room at size is =
     let behind = drop (length front) begun in
@@ -120,7 +120,7 @@ pub record IsRunWithin (whole rest : Streamed) (did : RunDid) (begun room : List
   pub freed : did.freed + 31 * left ≤ 31 * all
   pub sent : did.sent + 4 * left ≤ 4 * all
 
-one_held : (held : Option (List ℕ)) → length (option_to_list held) ≤ 1
+pub one_held : (held : Option (List ℕ)) → length (option_to_list held) ≤ 1
 one_held None = omega arith
 one_held (Some packet) = omega arith
 

@@ -8,6 +8,7 @@ pub mod Checks
 pub mod PortsSeen
 pub mod PortLines
 pub mod Chars
+pub mod ClocksSeen
 pub mod Packets
 pub mod States
 pub mod FabricsSeen

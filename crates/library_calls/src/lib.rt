@@ -6,13 +6,15 @@
 //!
 //! Left out: handles, and what C owes.
 //!
-//! - [`OpenPort`]: lines, characters, turns, packets and the state of a port
+//! - [`OpenPort`]: lines, characters, turns, clocks, packets and the state of a port
 //! - [`OpenFabric`]: lines of a fabric
 //! - [`CallStatus`]: what a call answers; [`call_number`]: its number
-//! - [`CharDid`], [`RunDid`], [`PacketHeader`], [`StateTold`]: what is passed and told
+//! - [`CharDid`], [`RunDid`], [`ClocksTold`], [`PacketHeader`], [`StateTold`]: what is passed and
+//!   told
 #![tactic(auto)]
 
 mod checks;
+mod clocks;
 mod laws;
 mod open_fabric;
 mod open_port;
@@ -34,8 +36,8 @@ pub use open_port::OpenPort;
 pub use readings::decode;
 pub use status::{CallStatus, call_number};
 pub use told::{
-    CharDid, EventTold, HitTold, PacketHeader, PacketTold, ReadingTold, RunDid, StateTold,
-    SymbolTold,
+    CharDid, ClocksTold, EventTold, HitTold, PacketHeader, PacketTold, ReadingTold, RunDid,
+    StateTold, SymbolTold,
 };
 pub use wires::{char_wire, wire_char};
 pub use words::{read_packet, read_symbol, write_packet, write_symbol};

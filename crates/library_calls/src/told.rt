@@ -26,6 +26,20 @@ pub struct RunDid {
     pub sent: u32,
 }
 
+/// What clocks did.
+#[repr(C)]
+#[derive(Clone, Copy)]
+pub struct ClocksTold {
+    /// How many clocks there were.
+    pub clocks: u32,
+    /// How many packets were accepted.
+    pub held: u32,
+    /// How many packets were freed.
+    pub freed: u32,
+    /// How many time-outs fired by themselves.
+    pub fired: u32,
+}
+
 /// The fields of a packet.
 #[repr(C)]
 #[derive(Clone, Copy)]

@@ -1,6 +1,7 @@
 /* Ports of Kigvarp in Verilog, by VPI: functions for Icarus Verilog and others.
  *
  *   $kigvarp_open(BUFFERS)          opens a port, and gives its number
+ *   $kigvarp_patience(PORT, CLOCKS) says how many clocks without an answer are too long: then a time-out comes by itself
  *   $kigvarp_clock(PORT, CHAR)      takes the character that came, and gives the one that is sent in this clock
  *   $kigvarp_send(PORT, PRIORITY, TYPE, SOURCE, DESTINATION, DATA)
  *                                   puts a packet with four bytes of data to those to be sent
@@ -12,7 +13,7 @@
  * made whether a is true or not: give it a statement of its own.
  */
 #include "kigvarp.h"
-#include "kigvarp_queue.h"
+#include "kigvarp_ports.h"
 #include <vpi_user.h>
 
 enum { ARGUMENTS = 6 };
@@ -46,31 +47,37 @@ static PLI_INT32 give_wide(long long number) {
 static PLI_INT32 opens(PLI_BYTE8 *unused) {
   (void)unused;
   read_arguments();
-  return give(queue_open(argument[0]));
+  return give(ports_open(argument[0]));
+}
+
+static PLI_INT32 waits(PLI_BYTE8 *unused) {
+  (void)unused;
+  read_arguments();
+  return give(ports_patience(argument[0], argument[1]));
 }
 
 static PLI_INT32 clocks(PLI_BYTE8 *unused) {
   (void)unused;
   read_arguments();
-  return give(queue_clock(argument[0], argument[1]));
+  return give(ports_clock(argument[0], argument[1]));
 }
 
 static PLI_INT32 sends(PLI_BYTE8 *unused) {
   (void)unused;
   read_arguments();
-  return give(queue_send(argument[0], argument[1], argument[2], argument[3], argument[4], (uint32_t)argument[5]));
+  return give(ports_send(argument[0], argument[1], argument[2], argument[3], argument[4], (uint32_t)argument[5]));
 }
 
 static PLI_INT32 collects(PLI_BYTE8 *unused) {
   (void)unused;
   read_arguments();
-  return give_wide(queue_collect(argument[0]));
+  return give_wide(ports_collect(argument[0]));
 }
 
 static PLI_INT32 times_out(PLI_BYTE8 *unused) {
   (void)unused;
   read_arguments();
-  return give(queue_time_out(argument[0]));
+  return give(ports_time_out(argument[0]));
 }
 
 static PLI_INT32 wide(PLI_BYTE8 *unused) {
@@ -88,6 +95,7 @@ static void add(const char *name, PLI_INT32 (*call)(PLI_BYTE8 *), PLI_INT32 (*si
 
 static void add_all(void) {
   add("$kigvarp_open", opens, 0);
+  add("$kigvarp_patience", waits, 0);
   add("$kigvarp_clock", clocks, 0);
   add("$kigvarp_send", sends, 0);
   add("$kigvarp_collect", collects, wide);

@@ -105,6 +105,12 @@ class RunDidC(ctypes.Structure):
     _fields_ = [("held", ctypes.c_uint32), ("freed", ctypes.c_uint32), ("sent", ctypes.c_uint32)]
 
 
+class ClocksDidC(ctypes.Structure):
+    """struct kigvarp_clocks_did"""
+
+    _fields_ = [(name, ctypes.c_uint32) for name in ("clocks", "held", "freed", "fired")]
+
+
 class HeaderC(ctypes.Structure):
     """struct kigvarp_header"""
 
@@ -163,6 +169,8 @@ CALLS = {
     "port_text": (ROOM, SIZE, ctypes.POINTER(SIZE)),
     "port_take": (ctypes.c_uint16, ctypes.POINTER(CharDidC)),
     "port_got": (ROOM, SIZE, ROOM, SIZE, ctypes.POINTER(RunDidC)),
+    "port_clock": (ROOM, SIZE, ROOM, SIZE, ctypes.POINTER(ClocksDidC)),
+    "port_patience": (ctypes.c_uint32,),
     "port_turn": (ROOM, SIZE, ctypes.POINTER(SIZE)),
     "port_time_out": (),
     "port_send": (ctypes.POINTER(HeaderC), BYTES, SIZE),

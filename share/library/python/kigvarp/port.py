@@ -3,7 +3,7 @@ import ctypes
 from array import array
 from typing import Iterable, NamedTuple, Optional
 
-from .library import ANSWER, LIBRARY, PACKET, RUN, TURN, CharDidC, HeaderC, Held, RunDidC, StateC, Status
+from .library import ANSWER, LIBRARY, PACKET, RUN, TURN, CharDidC, ClocksDidC, HeaderC, Held, RunDidC, StateC, Status
 from .words import wires
 
 OUTPUTS = ("ok", "retry-stopped", "error-stopped", "failed")
@@ -32,6 +32,19 @@ class RunDid(NamedTuple):
     """The characters to be sent."""
 
 
+class ClocksDid(NamedTuple):
+    """What clocks did."""
+
+    held: int
+    """How many packets were accepted."""
+    freed: int
+    """How many packets were freed."""
+    fired: int
+    """How many time-outs fired by themselves."""
+    given: "array[int]"
+    """The characters that were given, one a clock."""
+
+
 class State(NamedTuple):
     """The state of a port."""
 
@@ -53,6 +66,7 @@ class Port(Held):
     def __init__(self, buffers: int = 8, tells: bool = False) -> None:
         self._did = CharDidC()
         self._run = RunDidC()
+        self._clocks = ClocksDidC()
         self._turn = array("H", bytes(2 * TURN))
         self._turn_at = self._turn.buffer_info()[0]
         if not 0 <= buffers < 256:
@@ -80,6 +94,30 @@ class Port(Held):
         self._done(LIBRARY.kigvarp_port_got(self._handle, chars.buffer_info()[0], len(chars), room.buffer_info()[0],
                                             len(room), self._run))
         return self._run, room[:self._run.sent]
+
+    def clock(self, numbers: Iterable[int]) -> ClocksDid:
+        """A clock for each of a run of characters, of any length: it takes the character, and gives one. What is begun is
+        given to its end, one character a clock, and an idle, 0x1bc, if there is nothing to send."""
+        chars = wires(numbers)
+        held, freed, fired, given = 0, 0, 0, array("H")
+        for start in range(0, len(chars), RUN):
+            did, more = self._clock(chars[start:start + RUN] if len(chars) > RUN else chars)
+            held, freed, fired, given = held + did.held, freed + did.freed, fired + did.fired, given + more
+        return ClocksDid(held, freed, fired, given)
+
+    def _clock(self, chars: "array[int]") -> "tuple[ClocksDidC, array[int]]":
+        """Clocks that are few enough for one call."""
+        room = array("H", bytes(2 * len(chars)))
+        self._done(LIBRARY.kigvarp_port_clock(self._handle, chars.buffer_info()[0], len(chars), room.buffer_info()[0],
+                                              len(room), self._clocks))
+        return self._clocks, room
+
+    def patience(self, clocks: int) -> None:
+        """Says how many clocks without an answer are too long, up to 4294967295: then a time-out fires by itself. None are
+        if it is 0, as at first."""
+        if not 0 <= clocks < 1 << 32:
+            raise ValueError("clocks are 0 to 4294967295")
+        self._done(LIBRARY.kigvarp_port_patience(self._handle, clocks))
 
     def turn(self) -> "array[int]":
         """Takes a turn, and answers with the characters to be sent."""

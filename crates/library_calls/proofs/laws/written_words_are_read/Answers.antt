@@ -1,4 +1,4 @@
-use Rattle.std.proofs.Common.{◌≡◌, ℕ, ◌+◌, Bool, true, false, List, [], ◌∷◌, ◌++◌, length, if◌then◌else◌, refl, ap, ◌∙◌, subst}
+use Rattle.std.proofs.Common.{◌≡◌, ℕ, Bool, true, false, List, [], ◌∷◌, ◌++◌, length, if◌then◌else◌, refl, ap, ◌∙◌, subst}
 use Rattle.rio_symbols.specs.Fields.{Fields}
 use Rattle.rio_packets.proofs.FormLaws.{Passes-from_form}
 use Rattle.rio_packets.proofs.FieldLaws.{prio_of-link_form, ftype_of-link_form, tt_of-link_form, dest_of-link_form, source_of-link_form}

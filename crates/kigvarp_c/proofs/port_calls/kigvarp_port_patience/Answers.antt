@@ -1,0 +1,15 @@
+use Rattle.std.proofs.Common.{◌≡◌}
+use Rattle.library_calls.specs.declared.status.CallStatus.TheVariants.{Done}
+use Rattle.library_calls.specs.ClocksSeen.{PatienceSet}
+use Rattle.kigvarp_c.specs.Calls.{Always}
+use Rattle.kigvarp_c.proofs.CallLaws.{calls_open}
+use Rattle.kigvarp_c.proofs.port_calls.kigvarp_port_patience.Goals as goal
+
+pub returns-clause-does : goal.returns-clause-does
+returns-clause-does c =
+    let found = c.in-Some.ensures.taken in
+    calls_open _ (Always (PatienceSet c.args.clocks)) c.args.port.now.handle.ports found.0 _
+    c.in-Some.opened.value c.deref_mut.result.now c.set_patience.new.self Done _ found.1
+    c.deref_mut.ensures.value
+    c.call_number-2.ensures
+    c.put_port.ensures.open c.set_patience.ensures
