@@ -219,22 +219,31 @@ def replayed(kind, count):
     return b"".join(line + b"\n" for line in script.split(b"\n")[:3]) + b"---\n", trace[: trace.rindex(b"end\n")]
 
 
-def long_streams():
-    """Traces of more bytes than rio check takes. A link that has carried 32 packets and settled is as it was at first, so its
-    trace may come again and again."""
-    set_up, body = replayed("script", 1024)
-    size = 64_000_000
-    times = size // len(body) + 1
+def fed(head, body, times, tail):
+    """How a run ends over a head, a body so many times, and a tail; and how much memory it took before the tail, in KB."""
     it = subprocess.Popen([PROGRAM], stdin=subprocess.PIPE, stdout=subprocess.PIPE, stderr=subprocess.PIPE)
-    it.stdin.write(set_up)
+    it.stdin.write(head)
     for _ in range(times):
         it.stdin.write(body)
     it.stdin.flush()
     with open(f"/proc/{it.pid}/status", encoding="ascii") as status:
         most = next(int(line.split()[1]) for line in status if line.startswith("VmHWM"))
-    wrote = it.communicate(b"end\n")[0]
-    yield "64 MB of a trace", (it.returncode, wrote) == (0, b"lawful %d\n" % (4 * 1024 * times))
+    wrote = it.communicate(tail)[0]
+    return it.returncode, wrote, most
+
+
+def long_streams():
+    """Traces of more bytes than rio check takes. A link that has carried 32 packets and settled is as it was at first, so its
+    trace may come again and again."""
+    set_up, body = replayed("script", 1024)
+    times = 64_000_000 // len(body) + 1
+    status, wrote, most = fed(set_up, body, times, b"end\n")
+    yield "64 MB of a trace", (status, wrote) == (0, b"lawful %d\n" % (4 * 1024 * times))
     yield f"in less than 8 MB: {most} KB", most < 8192
+    came = b"sent A.0 " + SENT + b"\ngot B.0 " + SENT + b"\n"
+    status, wrote, most = fed(SET_UP + TRACE[0] + b"\n", came, 400_000, TRACE[3] + b"\nend\n")
+    yield "a packet that comes 400,000 times before it is held", (status, wrote) == (0, b"lawful 2\n")
+    yield f"in less than 8 MB too: {most} KB", most < 8192
     hold = next(line for line in body.split(b"\n") if line.startswith(b"hold "))
     status, wrote, _ = run(set_up + body * 8 + hold + b"\nend\n")
     line = set_up.count(b"\n") + 8 * body.count(b"\n") + 1
