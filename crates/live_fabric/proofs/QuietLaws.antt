@@ -18,7 +18,7 @@ use Rattle.trace_lines.specs.Text.{trace_line_text, trace_text}
 use Rattle.fabric_script.specs.declared.lines.Line.{Line}
 use Rattle.live_fabric.specs.declared.answers.Told.{Told}
 use Rattle.live_fabric.specs.declared.live.Live.{Live}
-use Rattle.live_fabric.specs.Lines.{Taken, Outcome, Happened, seen_so_far, taken_after, undetected_at_text}
+use Rattle.live_fabric.specs.Lines.{Taken, seen_so_far, taken_with, undetected_at_text}
 use Rattle.live_fabric.specs.Holding.{LiveHolds}
 use Rattle.live_fabric.specs.Answers.{Happens, HappensWhole}
 use Rattle.live_fabric.specs.Telling.{has_chars_line, without_chars, block_told}
@@ -113,13 +113,13 @@ quiet_found names named block number (Some found) =
     ∙ ap (trace_text names) (last_stays block last refl)
     ∙ undetected_line_text names (without_chars block) number found.port found.event
 
-pub quiet_block : (taken : Taken) (number : ℕ) (line : List ℕ) (outcome : Outcome)
-    (block : List TraceLine) → ScriptPasses taken.known.names taken.set_up
-    → quiet_text (block_told false taken number line outcome block)
-    ≡ block_told true taken number line outcome block
-quiet_block taken number line outcome block passes =
-    quiet_found taken.known.names (names_feedless taken.known.names taken.set_up passes) block
-    number (seen_so_far (taken_after taken number line outcome)).undetected
+pub quiet_block : (taken : Taken) (number : ℕ) (event : Line) (block : List TraceLine)
+    → ScriptPasses taken.known.names taken.set_up
+    → quiet_text (block_told false taken number event block)
+    ≡ block_told true taken number event block
+quiet_block taken number event block passes =
+    quiet_found taken.known.names (names_feedless taken.known.names taken.set_up passes)
+    (Begun event ∷ block) number (seen_so_far (taken_with taken number event block)).undetected
 
 -- ---- pieces, one after another
 
@@ -148,16 +148,14 @@ told_more done piece is =
 same_text : (items text : List ℕ) → Appends (Some []) (Some items) text → items ≡ text
 same_text items text appends = appends
 
-module _ (taken : Taken) (number : ℕ) (line : List ℕ) (event : Line) (now : Live)
-    (told : Told) where
+module _ (taken : Taken) (number : ℕ) (event : Line) (now : Live) (told : Told) where
   -- all of it was written
   pub happens_whole : (out mid last : Outgoing) → out.waiting ≡ []
-      → Happens false taken number line event out mid now told → Writes mid last []
+      → Happens false taken number event out mid now told → Writes mid last []
       → last.failed ≡ false → last.waiting ≡ []
-      → HappensWhole taken number line event out.written last.written now told
+      → HappensWhole taken number event out.written last.written now told
   happens_whole out mid last empty happens flush fine none =
-      let text = block_told false taken number line (Happened event happens.block)
-      (Begun event ∷ happens.block) in
+      let text = block_told false taken number event happens.block in
       let all : TextTold out.written last.written last.waiting last.failed text =
       subst (TextTold out.written last.written last.waiting last.failed) (append-nil text)
       ((Writes-then text [] happens.text flush).told out.written [] (record {
@@ -178,20 +176,18 @@ module _ (taken : Taken) (number : ℕ) (line : List ℕ) (event : Line) (now : 
   -- and then its lines without those with characters
   pub happens_quietly : (out next : Outgoing) (live : Live) (items : List ℕ)
       → LiveHolds live taken
-      → HappensWhole taken number line event (Some []) (Some items) now told
+      → HappensWhole taken number event (Some []) (Some items) now told
       → Writes out next (quiet_text items)
-      → Happens true taken number line event out next now told
+      → Happens true taken number event out next now told
   happens_quietly out next live items holds whole written =
-      let outcome = Happened event whole.block in
-      let block = Begun event ∷ whole.block in
       record {
         block = whole.block;
         is = whole.is;
         text =
             subst (Writes out next)
             (ap quiet_text
-            (same_text items (block_told false taken number line outcome block) whole.text)
-            ∙ quiet_block taken number line outcome block holds.trace.passes)
+            (same_text items (block_told false taken number event whole.block) whole.text)
+            ∙ quiet_block taken number event whole.block holds.trace.passes)
             written;
         goes = whole.goes;
         did = whole.did;

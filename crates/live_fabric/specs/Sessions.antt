@@ -1,39 +1,63 @@
 -- Lines of a session's own, which say how the others are answered, and the answer of each line.
-use Rattle.std.specs.Prelude.{◌≡◌, ◌≢◌, ◌⊎◌, ℕ, suc, Bool, true, false, List, [], ◌∷◌, ◌++◌, Some, codes}
+use Rattle.std.specs.Prelude.{◌≡◌, ◌≢◌, ◌⊎◌, ℕ, suc, Bool, true, false, List, [], ◌∷◌, ◌++◌, codes}
 use Rattle.rio_chars.specs.Written.{Outgoing, Writes}
-use Rattle.fabric_trace.specs.Known.{UndetectedAt}
+use Rattle.fabric_script.specs.declared.lines.Line.{Line}
+use Rattle.fabric_script.specs.Reading.{Spells}
+use Rattle.fabric_script.specs.SetUps.{for_event, IsRefused}
+use Rattle.refusal_words.specs.Citing.{refusal_line}
 use Rattle.live_fabric.specs.declared.answers.AfterLine.{AfterLine}
 use Rattle.live_fabric.specs.declared.answers.AfterLine.TheVariants.{On, Undetected}
-use Rattle.live_fabric.specs.declared.session.OwnLine.{OwnLine}
-use Rattle.live_fabric.specs.declared.session.OwnLine.TheVariants.{Quiet, Loud}
+use Rattle.live_fabric.specs.declared.own_lines.OwnLine.{OwnLine}
+use Rattle.live_fabric.specs.declared.own_lines.OwnLine.TheVariants.{Quiet, Loud, ServeAll}
 use Rattle.live_fabric.specs.declared.session.Session.{Session}
-use Rattle.live_fabric.specs.Lines.{Taken, nothing_taken, Outcome, ReadsAs, taken_after, seen_so_far, IsSent}
-use Rattle.live_fabric.specs.Telling.{told_of_line, IsToldFront}
+use Rattle.live_fabric.specs.Lines.{Taken, nothing_taken, Outcome, ReadsAs, SaysWhy, IsEventLine, MetUnsent, taken_after, IsSent}
+use Rattle.live_fabric.specs.Served.{with_served, served_of, events_carried}
+use Rattle.live_fabric.specs.Telling.{IsNoEvent, plain_told, TellsEvents, IsEventsFront}
 use Rattle.live_fabric.specs.Holding.{LiveHolds, IsTrace}
 
--- The lines that were taken, and whether those with characters are left out of the answers.
+-- The lines that were taken, whether those with characters are left out of the answers, and which
+-- endpoints are served: all, or those of some nodes.
 pub record SessionHeld : Type 0 where
   pub taken : Taken
   pub quiet : Bool
+  pub all : Bool
+  pub nodes : List ℕ
 
 -- before the first line
 abbrev pub nothing_held : SessionHeld
-nothing_held = record { taken = nothing_taken; quiet = false }
+nothing_held = record { taken = nothing_taken; quiet = false; all = false; nodes = [] }
+
+-- the endpoints that are served, in the order of their lines
+abbrev pub served_by : SessionHeld → List ℕ
+served_by held = served_of held.all held.nodes held.taken.set_up
 
 -- ---- lines of its own
 
 abbrev pub own_text : OwnLine → List ℕ
 own_text Quiet = codes "quiet"
 own_text Loud = codes "loud"
+own_text ServeAll = codes "serve all"
 
 -- the line is none of them
 abbrev pub IsNoOwnLine : List ℕ → Type 0
 IsNoOwnLine line = (own : OwnLine) → own_text own ≢ line
 
--- whether the answers behind one of them are quiet
-abbrev pub quiet_after : OwnLine → Bool
-quiet_after Quiet = true
-quiet_after Loud = false
+-- what is held behind one of them
+abbrev pub held_after : OwnLine → SessionHeld → SessionHeld
+held_after Quiet held = record held { quiet = true }
+held_after Loud held = record held { quiet = false }
+held_after ServeAll held = record held { all = true }
+
+-- a line that asks that a node is served, by these words
+abbrev pub serve_text : List ℕ → List ℕ
+serve_text words = codes "serve " ++ words
+
+abbrev pub IsNoServeLine : List ℕ → Type 0
+IsNoServeLine line = (words : List ℕ) → line ≢ serve_text words
+
+-- the line of a script that has the node collect: it names an endpoint, or is refused
+abbrev pub collect_text : List ℕ → List ℕ
+collect_text words = codes "collect " ++ words
 
 -- ---- answers
 
@@ -42,22 +66,67 @@ pub record OwnAnswers (held : SessionHeld) (line text : List ℕ) (next : Sessio
   pub own : OwnLine
   pub is : own_text own ≡ line
   pub answer : text ≡ codes "ok\n"
-  pub then : next ≡ record held { quiet = quiet_after own }
+  pub then : next ≡ held_after own held
 
--- Any other line of this number is read as one of a script, and what is told of it is its answer,
--- with `ok` as its last line.
-pub record ScriptAnswers (held : SessionHeld) (number : ℕ) (line text : List ℕ)
+-- a node is served from now on, if the line `collect` of it is an event
+pub record ServeTaken (held : SessionHeld) (words text : List ℕ) (next : SessionHeld) : Type 0 where
+  pub event : Line
+  pub spells : Spells (for_event held.taken.known) (collect_text words) event
+  pub answer : text ≡ codes "ok\n"
+  pub then : next ≡ record held { nodes = with_served held.nodes event }
+
+-- or it is refused as that line is, and nothing changes
+pub record ServeRefused (held : SessionHeld) (words text : List ℕ) (next : SessionHeld) : Type 0
+  where
+    pub reason : ℕ
+    pub why : List ℕ
+    pub refused : IsRefused (for_event held.taken.known) (collect_text words) reason
+    pub says : SaysWhy (collect_text words) reason why
+    pub answer : text ≡ refusal_line reason why ++ codes "ok\n"
+    pub then : next ≡ held
+
+-- a line that asks that a node is served
+pub record ServeAnswers (held : SessionHeld) (line text : List ℕ) (next : SessionHeld) : Type 0
+  where
+    pub other : IsNoOwnLine line
+    pub words : List ℕ
+    pub is : line ≡ serve_text words
+    pub answers : ServeTaken held words text next ⊎ ServeRefused held words text next
+
+-- the line is none of those
+pub record IsScriptLine (line : List ℕ) : Type 0 where
+  pub no_own : IsNoOwnLine line
+  pub no_serve : IsNoServeLine line
+
+-- Any other line of this number is read as one of a script. If it is no event, what is told of it
+-- is its answer, with `ok` as its last line.
+pub record PlainAnswers (held : SessionHeld) (number : ℕ) (line text : List ℕ)
     (next : SessionHeld) : Type 0 where
-  pub other : IsNoOwnLine line
+  pub other : IsScriptLine line
   pub outcome : Outcome
+  pub plain : IsNoEvent outcome
   pub reads : ReadsAs held.taken line outcome
-  pub answer : text ≡ told_of_line held.quiet held.taken number line outcome ++ codes "ok\n"
+  pub answer : text ≡ plain_told outcome ++ codes "ok\n"
   pub then : next ≡ record held { taken = taken_after held.taken number line outcome }
+
+-- If it is an event, what is told of the events as which it is carried out is its answer.
+pub record EventAnswers (held : SessionHeld) (number : ℕ) (line text : List ℕ)
+    (next : SessionHeld) : Type 0 where
+  pub other : IsScriptLine line
+  pub event : Line
+  pub is : IsEventLine held.taken line event
+  pub told : List ℕ
+  pub end : Taken
+  pub tells : TellsEvents held.quiet held.taken number (events_carried (served_by held) event) told
+      end
+  pub answer : text ≡ told ++ codes "ok\n"
+  pub then : next ≡ record held { taken = end }
 
 -- the line of this number is answered by this text, and so much is held behind it
 abbrev pub LineAnswers : SessionHeld → ℕ → List ℕ → List ℕ → SessionHeld → Type 0
 LineAnswers held number line text next =
-    OwnAnswers held line text next ⊎ ScriptAnswers held number line text next
+    OwnAnswers held line text next ⊎ (ServeAnswers held line text next
+    ⊎ (PlainAnswers held number line text next ⊎ EventAnswers held number line text next))
 
 -- Lines, of which the first has this number, are answered by a text, and so much is held then. No
 -- line is answered behind an event that was acted on and not sent.
@@ -68,10 +137,17 @@ AnswersSession held number (line ∷ lines) text end =
     × IsSent held.taken × LineAnswers held number line first next
     × AnswersSession next (suc number) lines rest end × (text ≡ first ++ rest)
 
+-- the text is a front of the answer of this line, which is an event
+pub record IsEventAnswerFront (held : SessionHeld) (number : ℕ) (line text : List ℕ) : Type 0 where
+  pub other : IsScriptLine line
+  pub event : Line
+  pub is : IsEventLine held.taken line event
+  pub front : IsEventsFront held.quiet held.taken number (events_carried (served_by held) event)
+      text
+
 -- the text is a front of the answer of this line, or nothing
 abbrev pub IsSessionFront : SessionHeld → ℕ → List ℕ → List ℕ → Type 0
-IsSessionFront held number line text = (text ≡ [])
-    ⊎ (IsNoOwnLine line × IsToldFront held.quiet held.taken number line text)
+IsSessionFront held number line text = (text ≡ []) ⊎ IsEventAnswerFront held number line text
 
 -- ---- a session
 
@@ -79,12 +155,13 @@ IsSessionFront held number line text = (text ≡ [])
 pub record SessionHolds (session : Session) (held : SessionHeld) : Type 0 where
   pub live : LiveHolds session.live held.taken
   pub quiet : session.quiet ≡ held.quiet
+  pub all : session.served.all ≡ held.all
+  pub nodes : session.served.nodes.items ≡ held.nodes
 
 -- so much is held, and there may be a further line, or the last event was not sent
 abbrev pub SessionGoes : AfterLine → Session → SessionHeld → Type 0
 SessionGoes On session held = SessionHolds session held
-SessionGoes Undetected session held = IsTrace held.taken
-    × ((found : UndetectedAt) × ((seen_so_far held.taken).undetected ≡ Some found))
+SessionGoes Undetected session held = IsTrace held.taken × MetUnsent held.taken
 
 -- a line was answered
 pub record SessionAnswered (held : SessionHeld) (number : ℕ) (line : List ℕ) (old new : Outgoing)
@@ -101,3 +178,22 @@ pub record SessionBreaks (held : SessionHeld) (number : ℕ) (line : List ℕ) (
   pub text : List ℕ
   pub is : IsSessionFront held number line text
   pub told : Writes old new text
+
+-- a line was read and carried out, and its answer was written but for the last line
+pub record SessionTold (held : SessionHeld) (number : ℕ) (line : List ℕ) (old new : Outgoing)
+    (session : Session) (going : AfterLine) : Type 0 where
+  pub text : List ℕ
+  pub next : SessionHeld
+  pub answers : LineAnswers held number line (text ++ codes "ok\n") next
+  pub told : Writes old new text
+  pub goes : SessionGoes going session next
+
+-- a node is served from now on, or it was told why none is
+pub record ServeTold (held : SessionHeld) (words : List ℕ) (old new : Outgoing)
+    (session : Session) : Type 0 where
+  pub text : List ℕ
+  pub next : SessionHeld
+  pub answers : ServeTaken held words (text ++ codes "ok\n") next
+      ⊎ ServeRefused held words (text ++ codes "ok\n") next
+  pub told : Writes old new text
+  pub holds : SessionHolds session next

@@ -1,11 +1,13 @@
--- What is told of a line, and how much of a trace.
-use Rattle.std.specs.Prelude.{◌≡◌, ◌⊎◌, ℕ, Bool, true, false, List, [], ◌∷◌, ◌++◌, Option, Some, None, if◌then◌else◌}
+-- What is told of an event, and how much of a trace.
+use Rattle.std.specs.Prelude.{◌≡◌, ◌⊎◌, ℕ, Bool, true, false, List, [], ◌∷◌, ◌++◌, if◌then◌else◌}
+use Rattle.fabric_script.specs.declared.lines.Line.{Line}
+use Rattle.fabric_trace.specs.Blocks.{IsBlock}
 use Rattle.trace_lines.specs.Lines.{TraceLine, Begun, Signed, Sent, Got}
 use Rattle.trace_lines.specs.Text.{trace_text}
-use Rattle.fabric_ports.specs.Events.{happened}
-use Rattle.fabric_ports.specs.declared.answers.Happened.{Happened as Did}
 use Rattle.refusal_words.specs.Citing.{refusal_line}
-use Rattle.live_fabric.specs.Lines.{Taken, Outcome, Passed, SetUp, Happened, Refused, ReadsAs, seen_so_far, taken_after, undetected_at_text}
+use Rattle.live_fabric.specs.Lines.{Taken, Outcome, Passed, SetUp, Happened, Refused, IsSent, MetUnsent, seen_so_far, taken_with, undetected_at_text}
+
+-- ---- how much of a trace
 
 -- whether a line has characters: a port sent some, or got some
 abbrev pub has_chars_line : TraceLine → Bool
@@ -24,27 +26,52 @@ abbrev pub lines_told : Bool → List TraceLine → List TraceLine
 lines_told true lines = without_chars lines
 lines_told false lines = lines
 
--- what is told of an event that has this block, behind the line of this number
-abbrev pub block_told : Bool → Taken → ℕ → List ℕ → Outcome → List TraceLine → List ℕ
-block_told quiet taken number line outcome block =
-    trace_text taken.known.names (lines_told quiet block)
+-- ---- one event
+
+-- what is told of an event of the line of this number, which has this block
+abbrev pub block_told : Bool → Taken → ℕ → Line → List TraceLine → List ℕ
+block_told quiet taken number event block =
+    trace_text taken.known.names (lines_told quiet (Begun event ∷ block))
     ++ undetected_at_text taken.known.names number
-    (seen_so_far (taken_after taken number line outcome)).undetected
+    (seen_so_far (taken_with taken number event block)).undetected
 
--- what is told of a line of this number, without the last line `ok`
-abbrev pub told_of_line : Bool → Taken → ℕ → List ℕ → Outcome → List ℕ
-told_of_line quiet taken number line Passed = []
-told_of_line quiet taken number line (SetUp lines known) = []
-told_of_line quiet taken number line (Refused reason why) = refusal_line reason why
-told_of_line quiet taken number line (Happened event block) =
-    block_told quiet taken number line (Happened event block) (Begun event ∷ block)
+-- the text is a front of what is told of the event, or nothing
+abbrev pub IsBlockFront : Bool → Taken → ℕ → Line → List ℕ → Type 0
+IsBlockFront quiet taken number event text = (text ≡ [])
+    ⊎ ((block : List TraceLine) × (rest : List ℕ) × IsBlock (seen_so_far taken) event block
+    × (block_told quiet taken number event block ≡ text ++ rest))
 
--- the text is a front of what is told, or nothing
-abbrev pub IsToldFront : Bool → Taken → ℕ → List ℕ → List ℕ → Type 0
-IsToldFront quiet taken number line text = (text ≡ []) ⊎ ((outcome : Outcome) × (rest : List ℕ)
-    × ReadsAs taken line outcome × (told_of_line quiet taken number line outcome ≡ text ++ rest))
+-- ---- events, one after another
 
--- what the event of a line did, if it is one
-abbrev pub did_in : Outcome → Option Did
-did_in (Happened event block) = Some (happened event block)
-did_in _ = None
+-- What is told of events of the line of this number, and what was taken behind them. Behind an
+-- event that was acted on and not sent none is carried out.
+abbrev pub TellsEvents : Bool → Taken → ℕ → List Line → List ℕ → Taken → Type 0
+TellsEvents quiet taken number [] text end = (text ≡ []) × (end ≡ taken)
+TellsEvents quiet taken number (event ∷ events) text end =
+    (MetUnsent taken × (text ≡ []) × (end ≡ taken))
+    ⊎ ((block : List TraceLine) × (rest : List ℕ)
+    × IsSent taken × IsBlock (seen_so_far taken) event block
+    × TellsEvents quiet (taken_with taken number event block) number events rest end
+    × (text ≡ block_told quiet taken number event block ++ rest))
+
+-- The text is what is told of the first of these events, and a front of what is told of the next.
+abbrev pub IsEventsFront : Bool → Taken → ℕ → List Line → List ℕ → Type 0
+IsEventsFront quiet taken number [] text = text ≡ []
+IsEventsFront quiet taken number (event ∷ events) text =
+    IsBlockFront quiet taken number event text
+    ⊎ ((block : List TraceLine) × (rest : List ℕ)
+    × IsSent taken × IsBlock (seen_so_far taken) event block
+    × IsEventsFront quiet (taken_with taken number event block) number events rest
+    × (text ≡ block_told quiet taken number event block ++ rest))
+
+-- ---- other lines
+
+-- the outcome is that of a line that is no event
+abbrev pub IsNoEvent : Outcome → Type 0
+IsNoEvent (Happened event block) = ⊥
+IsNoEvent _ = Unit {0}
+
+-- what is told of such a line, without the last line `ok`
+abbrev pub plain_told : Outcome → List ℕ
+plain_told (Refused reason why) = refusal_line reason why
+plain_told _ = []

@@ -1,9 +1,7 @@
 //! The answer of an event without the lines with characters.
-ghost use Rattle.std.specs.Prelude.{◌≡◌, ℕ, Some, true, [], List, IfOk, OnErr};
-ghost use Rattle.fabric_script.specs.Reading.{Spells};
-ghost use Rattle.fabric_script.specs.SetUps.{for_event};
+ghost use Rattle.std.specs.Prelude.{◌≡◌, Some, true, [], IfOk, OnErr};
 ghost use Rattle.live_fabric.specs.Lines.{Taken};
-ghost use Rattle.live_fabric.specs.Holding.{LiveHolds};
+ghost use Rattle.live_fabric.specs.Holding.{LiveHolds, MayBeCarried};
 ghost use Rattle.live_fabric.specs.Answers.{Happens, HappensWhole};
 ghost use Rattle.live_fabric.specs.Pieces.{is_untold, quiet_text};
 
@@ -45,12 +43,10 @@ pub(crate) fn happen_quietly<K: Sink>(
     event: &Line,
     outbox: &mut Outbox<K>,
 ) -> Result<Told, BrokenOff>
-    requires { (taken : Taken) × LiveHolds live.old taken
-        × ((line : List ℕ) × Spells (for_event taken.known) line event.now) }
-    ensures happens { IfOk result (λ told. (taken : Taken) (line : List ℕ)
-        → LiveHolds live.old taken
-        → Spells (for_event taken.known) line event.now
-        → Happens true taken number line event.now outbox.old outbox.new live.new told) }
+    requires { (taken : Taken) × LiveHolds live.old taken × MayBeCarried taken event.now }
+    ensures happens { IfOk result (λ told. (taken : Taken) → LiveHolds live.old taken
+        → MayBeCarried taken event.now
+        → Happens true taken number event.now outbox.old outbox.new live.new told) }
     ensures same { OnErr result (outbox.new ≡ outbox.old) }
 {
     let mut sink = KeptText {
@@ -71,12 +67,10 @@ fn happen_into<K: Sink>(
     event: &Line,
     sink: &mut K,
 ) -> Result<Told, BrokenOff>
-    requires { (taken : Taken) × LiveHolds live.old taken
-        × ((line : List ℕ) × Spells (for_event taken.known) line event.now) }
-    ensures happens { IfOk result (λ told. (taken : Taken) (line : List ℕ)
-        → LiveHolds live.old taken
-        → Spells (for_event taken.known) line event.now
-        → HappensWhole taken number line event.now (K.written sink.old) (K.written sink.new)
+    requires { (taken : Taken) × LiveHolds live.old taken × MayBeCarried taken event.now }
+    ensures happens { IfOk result (λ told. (taken : Taken) → LiveHolds live.old taken
+        → MayBeCarried taken event.now
+        → HappensWhole taken number event.now (K.written sink.old) (K.written sink.new)
         live.new told) }
 {
     let mut buffer = TextBuffer::new(alloc)?;
@@ -94,13 +88,11 @@ fn happen_whole<K: Sink>(
     event: &Line,
     outbox: &mut Outbox<K>,
 ) -> Result<Told, BrokenOff>
-    requires holds { (taken : Taken) × LiveHolds live.old taken
-        × ((line : List ℕ) × Spells (for_event taken.known) line event.now) }
+    requires holds { (taken : Taken) × LiveHolds live.old taken × MayBeCarried taken event.now }
     requires empty { outbox.old.waiting ≡ [] }
-    ensures happens { IfOk result (λ told. (taken : Taken) (line : List ℕ)
-        → LiveHolds live.old taken
-        → Spells (for_event taken.known) line event.now
-        → HappensWhole taken number line event.now outbox.old.written outbox.new.written
+    ensures happens { IfOk result (λ told. (taken : Taken) → LiveHolds live.old taken
+        → MayBeCarried taken event.now
+        → HappensWhole taken number event.now outbox.old.written outbox.new.written
         live.new told) }
     ensures same { outbox.new.sink ≡ outbox.old.sink }
 {

@@ -1,47 +1,33 @@
 //! A fabric that its host tells how to answer.
-ghost use Rattle.std.specs.Prelude.{◌≡◌, IfOk, OnErr, MatchOption};
-ghost use Rattle.live_fabric.specs.Sessions.{SessionHeld, nothing_held, SessionHolds, SessionAnswered, SessionBreaks, own_text, quiet_after, IsNoOwnLine};
+ghost use Rattle.std.specs.Prelude.{◌≡◌, IfOk, OnOk, OnErr};
+ghost use Rattle.live_fabric.specs.Sessions.{SessionHeld, nothing_held, SessionHolds, SessionAnswered, SessionBreaks, SessionTold, ServeTold, held_after, IsScriptLine};
 
-use crate::answers::{AfterLine, BrokenOff, after_told, tell};
+use crate::answers::{AfterLine, BrokenOff, read_line, refuse};
+use crate::carrying::{Telling, carry_line};
 use crate::live::Live;
+use crate::own_lines::{OwnLine, own_line, serve_words};
+use crate::served::Served;
+use fabric_script::EventEnd;
 use rio_chars::{NoMemory, Outbox, Sink};
 use std::alloc::Global;
 
-/// A line that is of no script, and says how the others are answered.
-#[derive(Clone, Copy)]
-enum OwnLine {
-    /// The lines with characters are left out of the answers.
-    Quiet,
-    /// They are told again.
-    Loud,
-}
-
-/// The line of its own that a text is, if it is one.
-fn own_line(line: &[u8]) -> Option<OwnLine>
-    ensures { MatchOption result (IsNoOwnLine line.now) (λ own. own_text own ≡ line.now) }
-{
-    match line {
-        b"quiet" => Some(OwnLine::Quiet),
-        b"loud" => Some(OwnLine::Loud),
-        _ => None,
-    }
-}
-
-/// A fabric, and how its answers are told.
+/// A fabric, how its answers are told, and which endpoints are served.
 #[derive(Drop)]
 pub struct Session {
     live: Live,
     quiet: bool,
+    served: Served,
 }
 
 impl Session {
-    /// Before the first line: all is told.
+    /// Before the first line: all is told, and no endpoint is served.
     pub fn new(alloc: Global) -> Result<Session, NoMemory>
         ensures { IfOk result (λ session. SessionHolds session nothing_held) }
     {
         Ok(Session {
             live: Live::new(alloc)?,
             quiet: false,
+            served: Served::new(alloc),
         })
     }
 
@@ -60,29 +46,71 @@ impl Session {
         ensures breaks { OnErr result ((held : SessionHeld) → SessionHolds self.old held
             → SessionBreaks held number line.now outbox.old outbox.new) }
     {
-        match own_line(line) {
-            Some(own) => {
-                self.obey(own);
-                outbox.write(b"ok\n");
-                Ok(AfterLine::On)
-            }
-            None => self.answer_script(alloc, number, line, outbox),
+        let going = self.tell(alloc, number, line, outbox)?;
+        outbox.write(b"ok\n");
+        Ok(going)
+    }
+
+    /// The same without the last line.
+    fn tell<K: Sink>(
+        &mut self,
+        alloc: Global,
+        number: u32,
+        line: &[u8],
+        outbox: &mut Outbox<K>,
+    ) -> Result<AfterLine, BrokenOff>
+        requires { (held : SessionHeld) × SessionHolds self.old held }
+        ensures told { IfOk result (λ going. (held : SessionHeld) → SessionHolds self.old held
+            → SessionTold held number line.now outbox.old outbox.new self.new going) }
+        ensures breaks { OnErr result ((held : SessionHeld) → SessionHolds self.old held
+            → SessionBreaks held number line.now outbox.old outbox.new) }
+    {
+        if let Some(own) = own_line(line) {
+            self.obey(own);
+            return Ok(AfterLine::On);
         }
+        if let Some(words) = serve_words(line) {
+            self.serve(alloc, words, outbox)?;
+            return Ok(AfterLine::On);
+        }
+        self.tell_script(alloc, number, line, outbox)
     }
 
     /// Does what a line of its own says.
     fn obey(&mut self, own: OwnLine)
-        ensures quiet { self.new.quiet ≡ quiet_after own }
-        ensures live { self.new.live ≡ self.old.live }
+        ensures { (held : SessionHeld) → SessionHolds self.old held
+            → SessionHolds self.new (held_after own held) }
     {
         match own {
             OwnLine::Quiet => self.quiet = true,
             OwnLine::Loud => self.quiet = false,
+            OwnLine::ServeAll => self.served.all = true,
         }
     }
 
-    /// Answers a line that is none of its own.
-    fn answer_script<K: Sink>(
+    /// Serves the node that these words name, or tells why they name none.
+    fn serve<K: Sink>(
+        &mut self,
+        alloc: Global,
+        words: &[u8],
+        outbox: &mut Outbox<K>,
+    ) -> Result<(), NoMemory>
+        ensures told { OnOk result ((held : SessionHeld) → SessionHolds self.old held
+            → ServeTold held words.now outbox.old outbox.new self.new) }
+        ensures same { OnErr result (outbox.new ≡ outbox.old) }
+    {
+        let mut line = Vec::new(alloc);
+        line.extend_from_slice(b"collect ")?;
+        line.extend_from_slice(words)?;
+        match self.live.set_up().read_event(alloc, line.as_slice()) {
+            Ok(event) => self.served.add(&event),
+            Err(EventEnd::Refused(reason)) => refuse(alloc, line.as_slice(), reason, outbox),
+            Err(EventEnd::NoMemory) => Err(NoMemory),
+        }
+    }
+
+    /// Tells a line that is none of its own.
+    fn tell_script<K: Sink>(
         &mut self,
         alloc: Global,
         number: u32,
@@ -90,14 +118,27 @@ impl Session {
         outbox: &mut Outbox<K>,
     ) -> Result<AfterLine, BrokenOff>
         requires holds { (held : SessionHeld) × SessionHolds self.old held }
-        requires other { IsNoOwnLine line.now }
-        ensures answered { IfOk result (λ going. (held : SessionHeld) → SessionHolds self.old held
-            → SessionAnswered held number line.now outbox.old outbox.new self.new going) }
+        requires other { IsScriptLine line.now }
+        ensures told { IfOk result (λ going. (held : SessionHeld) → SessionHolds self.old held
+            → SessionTold held number line.now outbox.old outbox.new self.new going) }
         ensures breaks { OnErr result ((held : SessionHeld) → SessionHolds self.old held
             → SessionBreaks held number line.now outbox.old outbox.new) }
     {
-        let told = tell(alloc, &mut self.live, self.quiet, number, line, outbox)?;
-        outbox.write(b"ok\n");
-        Ok(after_told(&told))
+        let Some(event) = read_line(alloc, &mut self.live, line, outbox)? else {
+            return Ok(AfterLine::On);
+        };
+        let nodes = self.served.among(alloc, self.live.set_up().lines())?;
+        let telling = Telling {
+            quiet: self.quiet,
+            number,
+        };
+        carry_line(
+            alloc,
+            &mut self.live,
+            telling,
+            nodes.as_slice(),
+            &event,
+            outbox,
+        )
     }
 }

@@ -1,92 +1,46 @@
-use Rattle.std.proofs.Common.{◌≡◌, ℕ, List, true, false, sym, subst}
-use Rattle.fabric_script.specs.Reading.{Spells}
-use Rattle.fabric_script.specs.SetUps.{for_event}
-use Rattle.live_fabric.specs.Lines.{Taken}
-use Rattle.live_fabric.specs.Holding.{LiveHolds}
-use Rattle.live_fabric.specs.Answers.{Happens, HappensFront, LineTold, TellsFront}
-use Rattle.live_fabric.proofs.AnsweringLaws.{on_each, on_each_err, tells_refused, tells_event, tells_front, tells_none}
+use Rattle.std.proofs.Common.{false, sym, subst}
+use Rattle.live_fabric.specs.Answers.{Happens, HappensFront, LineTold}
+use Rattle.live_fabric.proofs.AnsweringLaws.{on_err, told_plainly, told_event, answers_front}
+use Rattle.live_fabric.proofs.TakenLaws.{may_be_carried}
 use Rattle.live_fabric.proofs.answers.tell.Goals as goal
 
-pub returns-in-Refused-clause-told : goal.returns-in-Refused-clause-told
-returns-in-Refused-clause-told g c = λ taken holds.
-    tells_refused c.args.quiet taken c.args.number c.args.line.now c.args.outbox.now
-    c.refuse.new.outbox c.take.new.self c.in-Refused.reason
-    (rw c.in-Refused.is at (c.in_ok-take.ensures taken holds))
-    c.in_ok-refuse-in-Refused.ensures.told
+pub returns-in_default-clause-told : goal.returns-in_default-clause-told
+returns-in_default-clause-told g c = λ taken holds.
+    told_plainly taken c.args.number c.args.line.now c.args.outbox.now c.read_line.new.outbox
+    c.read_line.new.live (rw c.in_default.is at (c.in_ok-event.ensures.read taken holds))
 
-pub returns-then-quiet-clause-told : goal.returns-then-quiet-clause-told
-returns-then-quiet-clause-told g c =
-    let number = c.args.number in
-    let line = c.args.line.now in
-    let event = c.in-Event.event in
-    let out = c.args.outbox.now in
-    let mid = c.take.new.self in
-    let new = c.happen_quietly.new.outbox in
-    let now = c.happen_quietly.new.live in
-    on_each
-    (λ told. (taken : Taken) (text : List ℕ) → LiveHolds mid taken
-    → Spells (for_event taken.known) text event
-    → Happens true taken number text event out new now told)
-    (λ told. (taken : Taken) → LiveHolds c.args.live.now taken
-    → LineTold c.args.quiet taken number line out new now told)
-    c.happen_quietly.result
-    (λ told was taken holds.
-    let takes = rw c.in-Event.is at (c.in_ok-take.ensures taken holds) in
-    subst (λ quiet. LineTold quiet taken number line out new now told) (sym c.if-quiet.true)
-    (tells_event true taken number line out new mid now event told takes
-    (was taken line takes.0 takes.2)))
-    c.happen_quietly.ensures.happens
+pub happen-requires : goal.happen-requires
+happen-requires g c =
+    let taken = c.requires.0 in
+    let read = rw c.in-Some.is at (c.in_ok-event.ensures.read taken c.requires.1) in (
+      taken,
+      read.0,
+      may_be_carried c.read_line.new.live taken c.args.line.now c.in-Some.event read.0 read.1.2,
+    )
 
-pub returns-then-quiet-clause-breaks : goal.returns-then-quiet-clause-breaks
-returns-then-quiet-clause-breaks g c =
-    let out = c.args.outbox.now in
-    let new = c.happen_quietly.new.outbox in
-    on_each_err (new ≡ out)
-    ((taken : Taken) → LiveHolds c.args.live.now taken
-    → TellsFront c.args.quiet taken c.args.number c.args.line.now out new)
-    c.happen_quietly.result
-    (λ same taken holds. tells_none c.args.quiet taken c.args.number c.args.line.now out new same)
-    c.happen_quietly.ensures.same
+pub returns-in_err-told-clause-breaks : goal.returns-in_err-told-clause-breaks
+returns-in_err-told-clause-breaks g c =
+    on_err c.from_residual-in_err-told.result
+    (λ taken holds.
+    let read = rw c.in-Some.is at (c.in_ok-event.ensures.read taken holds) in
+    let live = c.read_line.new.live in
+    let event = c.in-Some.event in
+    let next = c.happen.new.outbox in
+    answers_front taken c.args.number c.args.line.now c.args.outbox.now next event read.1
+    (subst (λ out. HappensFront false taken c.args.number event out next) read.2
+    (c.in_err-told.ensures.short taken read.0
+    (may_be_carried live taken c.args.line.now event read.0 read.1.2))))
 
 pub returns-clause-told : goal.returns-clause-told
-returns-clause-told g c =
-    let number = c.args.number in
-    let line = c.args.line.now in
-    let event = c.in-Event.event in
-    let out = c.args.outbox.now in
-    let mid = c.take.new.self in
-    let new = c.happen.new.outbox in
+returns-clause-told g c = λ taken holds.
+    let read = rw c.in-Some.is at (c.in_ok-event.ensures.read taken holds) in
+    let event = c.in-Some.event in
+    let next = c.happen.new.outbox in
     let now = c.happen.new.live in
-    on_each
-    (λ told. (taken : Taken) (text : List ℕ) → LiveHolds mid taken
-    → Spells (for_event taken.known) text event
-    → Happens false taken number text event out new now told)
-    (λ told. (taken : Taken) → LiveHolds c.args.live.now taken
-    → LineTold c.args.quiet taken number line out new now told)
-    c.happen.result
-    (λ told was taken holds.
-    let takes = rw c.in-Event.is at (c.in_ok-take.ensures taken holds) in
-    subst (λ quiet. LineTold quiet taken number line out new now told) (sym c.if-quiet.false)
-    (tells_event false taken number line out new mid now event told takes
-    (was taken line takes.0 takes.2)))
-    c.happen.ensures.happens
-
-pub returns-clause-breaks : goal.returns-clause-breaks
-returns-clause-breaks g c =
-    let number = c.args.number in
-    let line = c.args.line.now in
-    let event = c.in-Event.event in
-    let out = c.args.outbox.now in
-    let mid = c.take.new.self in
-    let new = c.happen.new.outbox in
-    on_each_err
-    ((taken : Taken) (text : List ℕ) → LiveHolds mid taken
-    → Spells (for_event taken.known) text event → HappensFront taken event out new)
-    ((taken : Taken) → LiveHolds c.args.live.now taken
-    → TellsFront c.args.quiet taken number line out new)
-    c.happen.result
-    (λ short taken holds.
-    let takes = rw c.in-Event.is at (c.in_ok-take.ensures taken holds) in
-    subst (λ quiet. TellsFront quiet taken number line out new) (sym c.if-quiet.false)
-    (tells_front taken number line out new mid event takes (short taken line takes.0 takes.2)))
-    c.happen.ensures.short
+    let told = c.in_ok-told.told in
+    subst (λ going. LineTold taken c.args.number c.args.line.now c.args.outbox.now next now going)
+    (sym c.after_told.ensures)
+    (told_event taken c.args.number c.args.line.now c.args.outbox.now next now event told read.1
+    (subst (λ out. Happens false taken c.args.number event out next now told) read.2
+    (c.in_ok-told.ensures.happens taken read.0
+    (may_be_carried c.read_line.new.live taken c.args.line.now event read.0 read.1.2))))

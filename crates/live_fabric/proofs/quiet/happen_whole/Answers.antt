@@ -1,8 +1,6 @@
-use Rattle.std.proofs.Common.{ℕ, List, false, sym, ◌∙◌}
-use Rattle.fabric_script.specs.Reading.{Spells}
-use Rattle.fabric_script.specs.SetUps.{for_event}
+use Rattle.std.proofs.Common.{false, sym, ◌∙◌}
 use Rattle.live_fabric.specs.Lines.{Taken}
-use Rattle.live_fabric.specs.Holding.{LiveHolds}
+use Rattle.live_fabric.specs.Holding.{LiveHolds, MayBeCarried}
 use Rattle.live_fabric.specs.Answers.{Happens, HappensWhole}
 use Rattle.live_fabric.proofs.AnsweringLaws.{on_each}
 use Rattle.live_fabric.proofs.QuietLaws.{happens_whole}
@@ -17,14 +15,12 @@ returns-clause-happens g c =
     let mid = c.happen-told.new.outbox in
     let last = c.flush.new.self in
     on_each
-    (λ told. (taken : Taken) (line : List ℕ) → LiveHolds live taken
-    → Spells (for_event taken.known) line event
-    → Happens false taken c.args.number line event out mid now told)
-    (λ told. (taken : Taken) (line : List ℕ) → LiveHolds live taken
-    → Spells (for_event taken.known) line event
-    → HappensWhole taken c.args.number line event out.written last.written now told)
+    (λ told. (taken : Taken) → LiveHolds live taken → MayBeCarried taken event
+    → Happens false taken c.args.number event out mid now told)
+    (λ told. (taken : Taken) → LiveHolds live taken → MayBeCarried taken event
+    → HappensWhole taken c.args.number event out.written last.written now told)
     c.happen-told.result
-    (λ told was taken line holds spells. happens_whole taken c.args.number line event now told out
-    mid last c.requires.empty (was taken line holds spells) c.flush.ensures.written
+    (λ told was taken holds may. happens_whole taken c.args.number event now told out
+    mid last c.requires.empty (was taken holds may) c.flush.ensures.written
     (sym (sym c.if-failed.false ∙ c.failed.ensures)) c.flush.ensures.empty)
     c.happen-told.ensures.happens

@@ -1,0 +1,34 @@
+//! Lines that are of no script, and say how the others are answered.
+ghost use Rattle.std.specs.Prelude.{◌≡◌, MatchOption};
+ghost use Rattle.live_fabric.specs.Sessions.{own_text, serve_text, IsNoOwnLine, IsNoServeLine};
+
+/// A line of a session's own.
+#[derive(Clone, Copy)]
+pub(crate) enum OwnLine {
+    /// The lines with characters are left out of the answers.
+    Quiet,
+    /// They are told again.
+    Loud,
+    /// Every endpoint is served, also one whose line comes later.
+    ServeAll,
+}
+
+/// The line of its own that a text is, if it is one.
+pub(crate) fn own_line(line: &[u8]) -> Option<OwnLine>
+    ensures { MatchOption result (IsNoOwnLine line.now) (λ own. own_text own ≡ line.now) }
+{
+    match line {
+        b"quiet" => Some(OwnLine::Quiet),
+        b"loud" => Some(OwnLine::Loud),
+        b"serve all" => Some(OwnLine::ServeAll),
+        _ => None,
+    }
+}
+
+/// The words behind the first of a line that asks for a node to be served.
+pub(crate) fn serve_words(line: &[u8]) -> Option<&[u8]>
+    ensures { MatchOption result (IsNoServeLine line.now)
+        (λ words. line.now ≡ serve_text words.now) }
+{
+    line.strip_prefix(b"serve ")
+}
