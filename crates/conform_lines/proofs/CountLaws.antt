@@ -10,7 +10,7 @@ use Rattle.link_model.specs.declared.event.Event.{Event}
 use Rattle.fabric_script.specs.Lines.{words_of}
 use Rattle.port_lines.specs.Requests.{SpellsGot}
 use Rattle.conform_lines.specs.declared.counting.Counted.{Counted}
-use Rattle.conform_lines.specs.Counting.{AnswerCounts, counts_none, counts_chars, counts_line, counts_then, SendsChars, CountsLine, CountsLines, counted_event}
+use Rattle.conform_lines.specs.Counting.{AnswerCounts, counts_none, counts_chars, counts_line, counts_then, SendsChars, LineComesTo, LinesComeTo, counted_event}
 
 abbrev made : List Counted → List ℕ → Place → AnswerCounts
 made sent other place = record { sent = sent; other = other; place = place }
@@ -34,23 +34,23 @@ counts_then-then first mid last =
     (append_assoc first.sent mid.sent last.sent) (append_assoc first.other mid.other last.other)
 
 -- a line more
-pub CountsLines-more : (from : Place) (lines : List (List ℕ)) (line : List ℕ)
-    (so_far more : AnswerCounts) → CountsLines from lines so_far
-    → CountsLine so_far.place line more
-    → CountsLines from (lines ++ line ∷ []) (counts_then so_far more)
-CountsLines-more from [] line so_far more h k = (
+pub LinesComeTo-more : (from : Place) (lines : List (List ℕ)) (line : List ℕ)
+    (so_far more : AnswerCounts) → LinesComeTo from lines so_far
+    → LineComesTo so_far.place line more
+    → LinesComeTo from (lines ++ line ∷ []) (counts_then so_far more)
+LinesComeTo-more from [] line so_far more h k = (
   more,
   counts_none more.place,
-  subst (λ p. CountsLine p line more) (ap (λ (c : AnswerCounts). c.place) h) k,
+  subst (λ p. LineComesTo p line more) (ap (λ (c : AnswerCounts). c.place) h) k,
   refl,
   ap (λ (c : AnswerCounts). counts_then c more) h ∙ counts_then-none from more,
 )
-CountsLines-more from (other ∷ lines) line so_far more h k = (
+LinesComeTo-more from (other ∷ lines) line so_far more h k = (
   h.0,
   counts_then h.1 more,
   h.2,
-  CountsLines-more h.0.place lines line h.1 more h.3
-      (subst (λ p. CountsLine p line more) (ap (λ (c : AnswerCounts). c.place) h.4) k),
+  LinesComeTo-more h.0.place lines line h.1 more h.3
+      (subst (λ p. LineComesTo p line more) (ap (λ (c : AnswerCounts). c.place) h.4) k),
   ap (λ (c : AnswerCounts). counts_then c more) h.4 ∙ counts_then-then h.0 h.1 more,
 )
 
@@ -120,20 +120,20 @@ sends_once line chars others h k =
 -- ---- one thing
 
 line_once : (from : Place) (line : List ℕ) (one other : AnswerCounts)
-    → CountsLine from line one → CountsLine from line other → one ≡ other
+    → LineComesTo from line one → LineComesTo from line other → one ≡ other
 line_once from line one other (inl h) (inl k) =
     h.2 ∙ ap (counts_chars from) (sends_once line h.0 k.0 h.1 k.1) ∙ sym k.2
 line_once from line one other (inl h) (inr k) = absurd (k.0 h.0 h.1)
 line_once from line one other (inr h) (inl k) = absurd (h.0 k.0 k.1)
 line_once from line one other (inr h) (inr k) = h.1 ∙ sym k.1
 
-pub CountsLines-once : (from : Place) (lines : List (List ℕ)) (one other : AnswerCounts)
-    → CountsLines from lines one → CountsLines from lines other → one ≡ other
-CountsLines-once from [] one other h k = h ∙ sym k
-CountsLines-once from (line ∷ lines) one other h k =
+pub LinesComeTo-once : (from : Place) (lines : List (List ℕ)) (one other : AnswerCounts)
+    → LinesComeTo from lines one → LinesComeTo from lines other → one ≡ other
+LinesComeTo-once from [] one other h k = h ∙ sym k
+LinesComeTo-once from (line ∷ lines) one other h k =
     let first : h.0 ≡ k.0 = line_once from line h.0 k.0 h.2 k.2 in
     let rest : h.1 ≡ k.1 =
-    CountsLines-once k.0.place lines h.1 k.1
-    (subst (λ (c : AnswerCounts). CountsLines c.place lines h.1) first h.3) k.3 in
+    LinesComeTo-once k.0.place lines h.1 k.1
+    (subst (λ (c : AnswerCounts). LinesComeTo c.place lines h.1) first h.3) k.3 in
     h.4 ∙ ap (λ (c : AnswerCounts). counts_then c h.1) first
     ∙ ap (λ (c : AnswerCounts). counts_then k.0 c) rest ∙ sym k.4

@@ -5,9 +5,9 @@ use Rattle.fabric_script.specs.Scripts.{pieces_of}
 use Rattle.conform_lines.specs.declared.counting.Counted.{Counted}
 use Rattle.conform_lines.specs.declared.judging.Leeway.{Leeway}
 use Rattle.conform_lines.specs.declared.judging.Owed.{Owed}
-use Rattle.conform_lines.specs.Counting.{AnswerCounts, CountsLines}
-use Rattle.conform_lines.specs.Tolerances.{JudgeState, Pays, IsAllowed, SaysAlike, counted_of, judged_by, most_late, owed_since}
-use Rattle.conform_lines.proofs.CountLaws.{CountsLines-once}
+use Rattle.conform_lines.specs.Counting.{AnswerCounts, LinesComeTo}
+use Rattle.conform_lines.specs.Tolerances.{JudgeState, Pays, IsAllowedAnswer, SaysAlike, counted_of, judged_by, most_late, owed_since}
+use Rattle.conform_lines.proofs.CountLaws.{LinesComeTo-once}
 
 -- what is owed is what is sent, and what is owed still
 pub Pays-adds : (owed : List Owed) (sent : List Counted) (left : List Owed) → Pays owed sent left
@@ -30,7 +30,7 @@ map-append turns (first ∷ owed) sent = ap (λ l. first.counted ∷ l) (map-app
 
 -- an answer that is allowed sends what is owed
 pub sends_same : (its : Leeway) (right came : List ℕ) (at next : JudgeState)
-    (allowed : IsAllowed its right came at next)
+    (allowed : IsAllowedAnswer its right came at next)
     → counted_of at.owed ++ allowed.right_counts.sent
     ≡ allowed.came_counts.sent ++ counted_of next.owed
 sends_same its right came at next allowed =
@@ -44,13 +44,13 @@ alike false text = refl
 
 -- the right answer is allowed for itself
 pub allowed_itself : (its : Leeway) (text : List ℕ) (at : JudgeState) (counts : AnswerCounts)
-    → at.came ≡ at.right → at.owed ≡ [] → CountsLines at.right (pieces_of text) counts
-    → IsAllowed its text text at (judged_by its at counts)
+    → at.came ≡ at.right → at.owed ≡ [] → LinesComeTo at.right (pieces_of text) counts
+    → IsAllowedAnswer its text text at (judged_by its at counts)
 allowed_itself its text at counts same none comes = record {
   right_counts = counts;
   came_counts = counts;
   right_comes = comes;
-  came_comes = subst (λ p. CountsLines p (pieces_of text) counts) (sym same) comes;
+  came_comes = subst (λ p. LinesComeTo p (pieces_of text) counts) (sym same) comes;
   says = alike its.is_state counts.other;
   right_place = refl;
   came_place = refl;
@@ -64,20 +64,20 @@ allowed_itself its text at counts same none comes = record {
 -- ---- of the code
 
 module _ (its : Leeway) (right came : List ℕ) (at : JudgeState) (right_counts came_counts : AnswerCounts)
-    (right_comes : CountsLines at.right (pieces_of right) right_counts)
-    (came_comes : CountsLines at.came (pieces_of came) came_counts) where
+    (right_comes : LinesComeTo at.right (pieces_of right) right_counts)
+    (came_comes : LinesComeTo at.came (pieces_of came) came_counts) where
   -- what holds of an answer that is allowed, by what both come to
-  pub allowed_says : (next : JudgeState) → IsAllowed its right came at next
+  pub allowed_says : (next : JudgeState) → IsAllowedAnswer its right came at next
       → SaysAlike its right_counts.other came_counts.other
   allowed_says next h =
       subst (λ (c : AnswerCounts). SaysAlike its c.other came_counts.other)
-      (CountsLines-once at.right (pieces_of right) h.right_counts right_counts h.right_comes
+      (LinesComeTo-once at.right (pieces_of right) h.right_counts right_counts h.right_comes
       right_comes)
       (subst (λ (c : AnswerCounts). SaysAlike its h.right_counts.other c.other)
-      (CountsLines-once at.came (pieces_of came) h.came_counts came_counts h.came_comes came_comes)
+      (LinesComeTo-once at.came (pieces_of came) h.came_counts came_counts h.came_comes came_comes)
       h.says)
 
-  pub allowed_pays : (next : JudgeState) → IsAllowed its right came at next
+  pub allowed_pays : (next : JudgeState) → IsAllowedAnswer its right came at next
       → Pays (at.owed ++ map (owed_since (at.turns + its.turns)) right_counts.sent)
       came_counts.sent next.owed
   allowed_pays next h =
@@ -85,11 +85,11 @@ module _ (its : Leeway) (right came : List ℕ) (at : JudgeState) (right_counts 
       h.turns
       (subst (λ (c : AnswerCounts). Pays (at.owed ++ map (owed_since next.turns) c.sent)
       came_counts.sent next.owed)
-      (CountsLines-once at.right (pieces_of right) h.right_counts right_counts h.right_comes
+      (LinesComeTo-once at.right (pieces_of right) h.right_counts right_counts h.right_comes
       right_comes)
       (subst (λ (c : AnswerCounts).
       Pays (at.owed ++ map (owed_since next.turns) h.right_counts.sent) c.sent next.owed)
-      (CountsLines-once at.came (pieces_of came) h.came_counts came_counts h.came_comes came_comes)
+      (LinesComeTo-once at.came (pieces_of came) h.came_counts came_counts h.came_comes came_comes)
       h.pays))
 
 -- what is owed still is one thing

@@ -67,14 +67,14 @@ SendsChars line chars = (behind : List (List ℕ)) × (words_of line ≡ codes "
     × SpellsGot behind chars
 
 -- a line
-abbrev pub CountsLine : Place → List ℕ → AnswerCounts → Type 0
-CountsLine from line counts =
+abbrev pub LineComesTo : Place → List ℕ → AnswerCounts → Type 0
+LineComesTo from line counts =
     ((chars : List Char) × SendsChars line chars × (counts ≡ counts_chars from chars))
     ⊎ (((chars : List Char) → ¬ SendsChars line chars) × (counts ≡ counts_line from line))
 
 -- lines, one after another
-abbrev pub CountsLines : Place → List (List ℕ) → AnswerCounts → Type 0
-CountsLines from [] counts = counts ≡ counts_none from
-CountsLines from (line ∷ lines) counts = (first : AnswerCounts) × (rest : AnswerCounts)
-    × CountsLine from line first × CountsLines first.place lines rest
+abbrev pub LinesComeTo : Place → List (List ℕ) → AnswerCounts → Type 0
+LinesComeTo from [] counts = counts ≡ counts_none from
+LinesComeTo from (line ∷ lines) counts = (first : AnswerCounts) × (rest : AnswerCounts)
+    × LineComesTo from line first × LinesComeTo first.place lines rest
     × (counts ≡ counts_then first rest)

@@ -8,7 +8,7 @@ use Rattle.port_lines.specs.declared.requests.PortRequest.TheVariants.{Got, Turn
 use Rattle.conform_lines.specs.declared.counting.Counted.{Counted}
 use Rattle.conform_lines.specs.declared.judging.Leeway.{Leeway}
 use Rattle.conform_lines.specs.declared.judging.Owed.{Owed}
-use Rattle.conform_lines.specs.Counting.{AnswerCounts, CountsLines}
+use Rattle.conform_lines.specs.Counting.{AnswerCounts, LinesComeTo}
 
 -- How far a scenario is: where readers stand of what the right answers send, and of what the device
 -- sends; how many turns were asked for; and what the device has not sent yet.
@@ -66,12 +66,12 @@ SaysAlike its right came = MatchBool its.is_state (Unit {0}) (came ≡ right)
 
 -- This answer, to a line that bears so much, is allowed for the right one: its other lines are the same, and the device
 -- sends what the right answers have sent, in order, each at most so many turns late.
-pub record IsAllowed (its : Leeway) (right came : List ℕ) (at next : JudgeState)
+pub record IsAllowedAnswer (its : Leeway) (right came : List ℕ) (at next : JudgeState)
     : Type 0 where
   pub right_counts : AnswerCounts
   pub came_counts : AnswerCounts
-  pub right_comes : CountsLines at.right (pieces_of right) right_counts
-  pub came_comes : CountsLines at.came (pieces_of came) came_counts
+  pub right_comes : LinesComeTo at.right (pieces_of right) right_counts
+  pub came_comes : LinesComeTo at.came (pieces_of came) came_counts
   pub says : SaysAlike its right_counts.other came_counts.other
   pub right_place : next.right ≡ right_counts.place
   pub came_place : next.came ≡ came_counts.place

@@ -5,7 +5,7 @@ ghost use Rattle.fabric_script.specs.Scripts.{pieces_of};
 ghost use Rattle.fabric_script.specs.Words.{words_left};
 ghost use Rattle.live_lines.specs.Lines.{with_feed};
 ghost use Rattle.port_lines.specs.Requests.{SpellsGot};
-ghost use Rattle.conform_lines.specs.Counting.{AnswerCounts, CountsLine, CountsLines, SendsChars, counted_asked, counted_event, counted_told, counts_chars};
+ghost use Rattle.conform_lines.specs.Counting.{AnswerCounts, LineComesTo, LinesComeTo, SendsChars, counted_asked, counted_event, counted_told, counts_chars};
 
 use fabric_script::split_word;
 use link_model::Event;
@@ -66,7 +66,7 @@ pub(crate) fn count_answer(
     text: &[u8],
 ) -> Result<Counts, NoMemory>
     ensures { IfOk result (λ counts.
-        CountsLines reader.old.place (pieces_of text.now) record {
+        LinesComeTo reader.old.place (pieces_of text.now) record {
           sent = counts.sent.items;
           other = counts.other.items;
           place = reader.new.place;
@@ -89,7 +89,7 @@ fn count_line(
     line: &[u8],
     counts: &mut Counts,
 ) -> Result<(), NoMemory>
-    ensures { OnOk result ((more : AnswerCounts) × CountsLine reader.old.place line.now more
+    ensures { OnOk result ((more : AnswerCounts) × LineComesTo reader.old.place line.now more
         × (counts.new.sent.items ≡ counts.old.sent.items ++ more.sent)
         × (counts.new.other.items ≡ counts.old.other.items ++ more.other)
         × (reader.new.place ≡ more.place)) }

@@ -2,7 +2,7 @@
 ghost use Rattle.std.specs.Prelude.{◌≡◌, ◌↔◌, ◌+◌, ◌++◌, IsTrue, IsFalse, IfOk, IfSome, OnOk, All, map, List};
 ghost use Rattle.conform_lines.specs.declared.counting.Counted.{Counted as ACounted};
 ghost use Rattle.conform_lines.specs.declared.judging.Owed.{Owed as AnOwed};
-ghost use Rattle.conform_lines.specs.Tolerances.{IsAllowed, IsInTime, JudgeState, Pays, SaysAlike, judge_start, leeway_of, owed_since};
+ghost use Rattle.conform_lines.specs.Tolerances.{IsAllowedAnswer, IsInTime, JudgeState, Pays, SaysAlike, judge_start, leeway_of, owed_since};
 
 use crate::counting::{Counted, Counts, count_answer, counts_same};
 use port_lines::PortRequest;
@@ -99,9 +99,9 @@ impl Judge {
         came: &[u8],
     ) -> Result<bool, NoMemory>
         ensures allowed { IfOk result (λ allowed. IsTrue allowed
-            → IsAllowed leeway right.now came.now self.old self.new) }
+            → IsAllowedAnswer leeway right.now came.now self.old self.new) }
         ensures other { IfOk result (λ allowed. IsFalse allowed
-            → (next : JudgeState) → ¬ IsAllowed leeway right.now came.now self.old next) }
+            → (next : JudgeState) → ¬ IsAllowedAnswer leeway right.now came.now self.old next) }
     {
         let right = count_answer(alloc, &mut self.right, right)?;
         let came = count_answer(alloc, &mut self.came, came)?;

@@ -19,7 +19,7 @@ use Rattle.live_fabric.specs.Telling.{plain_told, TellsEvents, IsEventsFront}
 use Rattle.live_fabric.specs.Holding.{LiveHolds}
 use Rattle.live_fabric.specs.Answers.{LiveGoes, ReadPlainly}
 use Rattle.live_fabric.specs.Course.{EventsDone, EventsBreak}
-use Rattle.live_fabric.specs.Sessions.{SessionHeld, own_text, held_after, serve_text, collect_text, served_by, IsNoOwnLine, IsScriptLine, LineAnswers, AnswersSession, SessionHolds, SessionAnswered, SessionGoes, SessionBreaks, SessionTold, ServeTold}
+use Rattle.live_fabric.specs.Sessions.{SessionHeld, own_text, held_after, serve_text, collect_text, nodes_served, IsNoOwnLine, IsScriptLine, LineAnswers, AnswersSession, SessionHolds, SessionAnswered, SessionGoes, SessionBreaks, SessionTold, ServeTold}
 
 -- a line more is answered
 pub session_more : (held : SessionHeld) (number : ℕ) (lines : List (List ℕ)) (line text : List ℕ)
@@ -191,7 +191,7 @@ module _ (held : SessionHeld) (number : ℕ) (line : List ℕ) where
   pub told_events : (out next : Outgoing) (session now : Session) (nodes : List ℕ) (event : Line)
       (going : AfterLine) → SessionHolds session held → IsScriptLine line
       → now.quiet ≡ session.quiet → now.served ≡ session.served
-      → IsEventLine held.taken line event → nodes ≡ served_by held
+      → IsEventLine held.taken line event → nodes ≡ nodes_served held
       → EventsDone session.quiet held.taken number (events_carried nodes event) out next now.live
       going
       → SessionTold held number line out next now going
@@ -205,7 +205,7 @@ module _ (held : SessionHeld) (number : ℕ) (line : List ℕ) where
       told = d.text;
       end = d.end;
       tells =
-          subst (λ q. TellsEvents q held.taken number (events_carried (served_by held) event)
+          subst (λ q. TellsEvents q held.taken number (events_carried (nodes_served held) event)
           d.text d.end) holds.quiet
           (subst (λ ns. TellsEvents session.quiet held.taken number (events_carried ns event)
           d.text d.end) at d.is);
@@ -228,7 +228,7 @@ module _ (held : SessionHeld) (number : ℕ) (line : List ℕ) where
 
   pub breaks_events : (out next : Outgoing) (session : Session) (nodes : List ℕ) (event : Line)
       → SessionHolds session held → IsScriptLine line
-      → IsEventLine held.taken line event → nodes ≡ served_by held
+      → IsEventLine held.taken line event → nodes ≡ nodes_served held
       → EventsBreak session.quiet held.taken number (events_carried nodes event) out next
       → SessionBreaks held number line out next
   breaks_events out next session nodes event holds other one at b = record {
@@ -238,7 +238,7 @@ module _ (held : SessionHeld) (number : ℕ) (line : List ℕ) where
       event = event;
       is = one;
       front =
-          subst (λ q. IsEventsFront q held.taken number (events_carried (served_by held) event)
+          subst (λ q. IsEventsFront q held.taken number (events_carried (nodes_served held) event)
           b.text) holds.quiet
           (subst (λ ns. IsEventsFront session.quiet held.taken number (events_carried ns event)
           b.text) at b.is);
@@ -250,7 +250,7 @@ module _ (held : SessionHeld) (number : ℕ) (line : List ℕ) where
   pub nodes_are : (session : Session) (live : Live) (lines : List Numbered) (nodes : List ℕ)
       → SessionHolds session held → LiveHolds live held.taken → lines ≡ live.set_up.lines
       → nodes ≡ served_of session.served.all session.served.nodes.items lines
-      → nodes ≡ served_by held
+      → nodes ≡ nodes_served held
   nodes_are session live lines nodes holds now read among =
       among
       ∙ ap (λ all. served_of all session.served.nodes.items lines) holds.all

@@ -28,8 +28,8 @@ abbrev pub nothing_held : SessionHeld
 nothing_held = record { taken = nothing_taken; quiet = false; all = false; nodes = [] }
 
 -- the endpoints that are served, in the order of their lines
-abbrev pub served_by : SessionHeld → List ℕ
-served_by held = served_of held.all held.nodes held.taken.set_up
+abbrev pub nodes_served : SessionHeld → List ℕ
+nodes_served held = served_of held.all held.nodes held.taken.set_up
 
 -- ---- lines of its own
 
@@ -117,7 +117,7 @@ pub record EventAnswers (held : SessionHeld) (number : ℕ) (line text : List �
   pub is : IsEventLine held.taken line event
   pub told : List ℕ
   pub end : Taken
-  pub tells : TellsEvents held.quiet held.taken number (events_carried (served_by held) event) told
+  pub tells : TellsEvents held.quiet held.taken number (events_carried (nodes_served held) event) told
       end
   pub answer : text ≡ told ++ codes "ok\n"
   pub then : next ≡ record held { taken = end }
@@ -142,7 +142,7 @@ pub record IsEventAnswerFront (held : SessionHeld) (number : ℕ) (line text : L
   pub other : IsScriptLine line
   pub event : Line
   pub is : IsEventLine held.taken line event
-  pub front : IsEventsFront held.quiet held.taken number (events_carried (served_by held) event)
+  pub front : IsEventsFront held.quiet held.taken number (events_carried (nodes_served held) event)
       text
 
 -- the text is a front of the answer of this line, or nothing

@@ -7,7 +7,7 @@ use Rattle.port_lines.specs.Lines.{asked_answer}
 use Rattle.port_lines.specs.declared.requests.PortRequest.{PortRequest}
 use Rattle.port_lines.specs.declared.faults.RequestRefusal.{RequestRefusal}
 use Rattle.conform_lines.specs.Stimuli.{ReadsStimulus, stimulus_text}
-use Rattle.conform_lines.specs.Tolerances.{JudgeState, IsAllowed, leeway_of}
+use Rattle.conform_lines.specs.Tolerances.{JudgeState, IsAllowedAnswer, leeway_of}
 use Rattle.rio_conform.specs.declared.verdict.Verdict.{Verdict}
 use Rattle.rio_conform.specs.declared.verdict.Verdict.TheVariants.{Passes, Differs, Ended, Misspelled, Stopped}
 use Rattle.rio_conform.specs.declared.playing.Failing.{Failing}
@@ -20,7 +20,7 @@ abbrev pub PassesAnswer : Bool → PortRequest → (right came : List ℕ) → (
     → Type 0
 PassesAnswer true request right came at next = (came ≡ right) × (next ≡ at)
 PassesAnswer false request right came at next =
-    IsAllowed (leeway_of request) right came at next
+    IsAllowedAnswer (leeway_of request) right came at next
 
 -- where a port stands behind some lines, how far the judge is, what a device is asked by them, and
 -- answers that pass

@@ -2,8 +2,8 @@ use Rattle.std.proofs.Common.{◌++◌, ◌∷◌, [], map, subst, rules, tests}
 use Rattle.std.proofs.lemmas.List.{map-append}
 use Rattle.std.proofs.lemmas.Iterator.Consumers.{YieldsList-end}
 use Rattle.fabric_script.proofs.PieceLaws.{pieces-road}
-use Rattle.conform_lines.specs.Counting.{AnswerCounts, CountsLines}
-use Rattle.conform_lines.proofs.CountLaws.{CountsLines-more, same_counts}
+use Rattle.conform_lines.specs.Counting.{AnswerCounts, LinesComeTo}
+use Rattle.conform_lines.proofs.CountLaws.{LinesComeTo-more, same_counts}
 use Rattle.conform_lines.proofs.counting.count_answer.Goals as goal
 
 pub loop-line-preserved : goal.loop-line-preserved
@@ -16,10 +16,10 @@ loop-line-preserved c =
       place = c.loop-line.reader.place;
     } in
     rw (map-append (λ line. line.now) c.loop-line.yielded (c.in-Some.line ∷ []))
-    (subst (CountsLines c.args.reader.now.place (texts ++ c.in-Some.line.now ∷ []))
+    (subst (LinesComeTo c.args.reader.now.place (texts ++ c.in-Some.line.now ∷ []))
     (same_counts so_far found.0 c.count_line.new.counts.sent.items
     c.count_line.new.counts.other.items c.count_line.new.reader.place found.2 found.3 found.4)
-    (CountsLines-more c.args.reader.now.place texts c.in-Some.line.now so_far found.0
+    (LinesComeTo-more c.args.reader.now.place texts c.in-Some.line.now so_far found.0
     c.loop-line.invariant found.1))
 
 pub returns : goal.returns

@@ -1,6 +1,6 @@
 use Rattle.std.proofs.Common.{◌≡◌, ◌+◌, ◌++◌, map, refl, sym, ap, ◌∙◌, subst, rules, arith}
 use Rattle.fabric_script.specs.Scripts.{pieces_of}
-use Rattle.conform_lines.specs.Counting.{AnswerCounts, CountsLines}
+use Rattle.conform_lines.specs.Counting.{AnswerCounts, LinesComeTo}
 use Rattle.conform_lines.specs.Tolerances.{IsInTime, JudgeState, Pays, SaysAlike, owed_since}
 use Rattle.conform_lines.proofs.JudgeLaws.{allowed_says, allowed_pays, no_iff}
 use Rattle.conform_lines.proofs.judging.Judge.allows.Goals as goal
@@ -17,11 +17,11 @@ returns-then-not-says_alike-clause-other c = λ none next allowed.
       other = c.in_ok-came.came.other.items;
       place = c.count_answer-2.new.reader.place;
     } in
-    let right_comes : CountsLines c.args.self.now.right (pieces_of c.args.right.now) right_counts =
-    subst (λ (j : JudgeState). CountsLines j.right (pieces_of c.args.right.now) right_counts)
+    let right_comes : LinesComeTo c.args.self.now.right (pieces_of c.args.right.now) right_counts =
+    subst (λ (j : JudgeState). LinesComeTo j.right (pieces_of c.args.right.now) right_counts)
     c.self.view_is c.in_ok-right.ensures in
-    let came_comes : CountsLines c.args.self.now.came (pieces_of c.args.came.now) came_counts =
-    subst (λ (j : JudgeState). CountsLines j.came (pieces_of c.args.came.now) came_counts)
+    let came_comes : LinesComeTo c.args.self.now.came (pieces_of c.args.came.now) came_counts =
+    subst (λ (j : JudgeState). LinesComeTo j.came (pieces_of c.args.came.now) came_counts)
     c.self.view_is c.in_ok-came.ensures in
     let says : SaysAlike c.args.leeway c.in_ok-right.right.other.items
     c.in_ok-came.came.other.items =
@@ -46,10 +46,10 @@ returns-clause-allowed c = λ pays.
       right_counts = right_counts;
       came_counts = came_counts;
       right_comes =
-          subst (λ (j : JudgeState). CountsLines j.right (pieces_of c.args.right.now) right_counts)
+          subst (λ (j : JudgeState). LinesComeTo j.right (pieces_of c.args.right.now) right_counts)
           c.self.view_is c.in_ok-right.ensures;
       came_comes =
-          subst (λ (j : JudgeState). CountsLines j.came (pieces_of c.args.came.now) came_counts)
+          subst (λ (j : JudgeState). LinesComeTo j.came (pieces_of c.args.came.now) came_counts)
           c.self.view_is c.in_ok-came.ensures;
       says = search rules;
       right_place = refl;
@@ -71,11 +71,11 @@ returns-clause-other c = λ none next allowed.
       other = c.in_ok-came.came.other.items;
       place = c.count_answer-2.new.reader.place;
     } in
-    let right_comes : CountsLines c.args.self.now.right (pieces_of c.args.right.now) right_counts =
-    subst (λ (j : JudgeState). CountsLines j.right (pieces_of c.args.right.now) right_counts)
+    let right_comes : LinesComeTo c.args.self.now.right (pieces_of c.args.right.now) right_counts =
+    subst (λ (j : JudgeState). LinesComeTo j.right (pieces_of c.args.right.now) right_counts)
     c.self.view_is c.in_ok-right.ensures in
-    let came_comes : CountsLines c.args.self.now.came (pieces_of c.args.came.now) came_counts =
-    subst (λ (j : JudgeState). CountsLines j.came (pieces_of c.args.came.now) came_counts)
+    let came_comes : LinesComeTo c.args.self.now.came (pieces_of c.args.came.now) came_counts =
+    subst (λ (j : JudgeState). LinesComeTo j.came (pieces_of c.args.came.now) came_counts)
     c.self.view_is c.in_ok-came.ensures in
     let pays = allowed_pays c.args.leeway c.args.right.now c.args.came.now c.args.self.now
     right_counts came_counts right_comes came_comes next allowed in

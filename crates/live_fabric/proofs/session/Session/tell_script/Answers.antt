@@ -5,7 +5,7 @@ use Rattle.live_fabric.specs.Course.{EventsDone, EventsBreak}
 use Rattle.live_fabric.specs.Holding.{LiveHolds, MayBeCarried, MayCollect}
 use Rattle.live_fabric.specs.Lines.{Taken}
 use Rattle.live_fabric.specs.Served.{events_carried}
-use Rattle.live_fabric.specs.Sessions.{SessionHeld, SessionHolds, SessionBreaks, SessionTold, served_by}
+use Rattle.live_fabric.specs.Sessions.{SessionHeld, SessionHolds, SessionBreaks, SessionTold, nodes_served}
 use Rattle.live_fabric.proofs.AnsweringLaws.{on_err, on_each, on_each_err}
 use Rattle.live_fabric.proofs.SessionLaws.{told_plain, told_events, breaks_events, session_breaks_at_once, nodes_are}
 use Rattle.live_fabric.proofs.TakenLaws.{may_be_carried, may_collect}
@@ -32,7 +32,7 @@ carry_line-requires g c =
     let live = c.read_line.new.live in
     let line = c.args.line.now in
     let read = rw c.in-Some.is at (c.in_ok-event.ensures.read held.taken holds.live) in
-    let served : c.as_slice.result.now ≡ served_by held =
+    let served : c.as_slice.result.now ≡ nodes_served held =
     c.as_slice.ensures.value
     ∙ nodes_are held c.args.number line c.args.self.now live c.lines.result.now
     c.in_ok-nodes.nodes.items holds read.0
@@ -65,7 +65,7 @@ returns-clause-told g c =
     c.carry_line.result
     (λ going done held holds.
     let read = rw c.in-Some.is at (c.in_ok-event.ensures.read held.taken holds.live) in
-    let served : nodes ≡ served_by held =
+    let served : nodes ≡ nodes_served held =
     c.as_slice.ensures.value
     ∙ nodes_are held number line session live c.lines.result.now c.in_ok-nodes.nodes.items holds
     read.0 (c.lines.ensures ∙ ap (λ (s : SetUpLines). s.lines) c.set_up.ensures)
@@ -100,7 +100,7 @@ returns-clause-breaks g c =
     c.carry_line.result
     (λ breaks held holds.
     let read = rw c.in-Some.is at (c.in_ok-event.ensures.read held.taken holds.live) in
-    let served : nodes ≡ served_by held =
+    let served : nodes ≡ nodes_served held =
     c.as_slice.ensures.value
     ∙ nodes_are held number line session live c.lines.result.now c.in_ok-nodes.nodes.items holds
     read.0 (c.lines.ensures ∙ ap (λ (s : SetUpLines). s.lines) c.set_up.ensures)
