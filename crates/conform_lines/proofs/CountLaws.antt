@@ -65,7 +65,8 @@ events_more (first ∷ events) last =
     (flat_map counted_event (map (λ (e : ℕ × Event). e.1) events)) (counted_event last.1))
 
 -- what lines come to with one more
-pub same_counts : (so_far more : AnswerCounts) (sent : List Counted) (other : List ℕ) (place : Place)
+pub same_counts : (so_far more : AnswerCounts) (sent : List Counted) (other : List ℕ)
+    (place : Place)
     → sent ≡ so_far.sent ++ more.sent → other ≡ so_far.other ++ more.other → place ≡ more.place
     → counts_then so_far more ≡ made sent other place
 same_counts so_far more sent other place same alike here =

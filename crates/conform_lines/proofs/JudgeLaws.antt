@@ -63,7 +63,8 @@ allowed_itself its text at counts same none comes = record {
 
 -- ---- of the code
 
-module _ (its : Leeway) (right came : List ℕ) (at : JudgeState) (right_counts came_counts : AnswerCounts)
+module _ (its : Leeway) (right came : List ℕ) (at : JudgeState)
+    (right_counts came_counts : AnswerCounts)
     (right_comes : LinesComeTo at.right (pieces_of right) right_counts)
     (came_comes : LinesComeTo at.came (pieces_of came) came_counts) where
   -- what holds of an answer that is allowed, by what both come to

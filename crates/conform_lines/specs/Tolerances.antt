@@ -64,8 +64,9 @@ IsInTime turns owed = All (λ (o : Owed). turns ≤ o.turns + most_late) owed
 abbrev pub SaysAlike : Leeway → List ℕ → List ℕ → Type 0
 SaysAlike its right came = MatchBool its.is_state (Unit {0}) (came ≡ right)
 
--- This answer, to a line that bears so much, is allowed for the right one: its other lines are the same, and the device
--- sends what the right answers have sent, in order, each at most so many turns late.
+-- This answer, to a line that bears so much, is allowed for the right one: its other lines are the
+-- same, and the device sends what the right answers have sent, in order, each at most so many turns
+-- late.
 pub record IsAllowedAnswer (its : Leeway) (right came : List ℕ) (at next : JudgeState)
     : Type 0 where
   pub right_counts : AnswerCounts

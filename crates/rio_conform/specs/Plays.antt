@@ -14,8 +14,8 @@ use Rattle.rio_conform.specs.declared.playing.Failing.{Failing}
 use Rattle.rio_conform.specs.declared.playing.Failing.TheVariants as TheFailing
 use Rattle.rio_conform.specs.Answers.{IsDeviceAnswer, Came}
 
--- An answer passes for the right one: strictly only if it is the same, and else if it is allowed for
--- it.
+-- An answer passes for the right one: strictly only if it is the same, and else if it is allowed
+-- for it.
 abbrev pub PassesAnswer : Bool → PortRequest → (right came : List ℕ) → (at next : JudgeState)
     → Type 0
 PassesAnswer true request right came at next = (came ≡ right) × (next ≡ at)

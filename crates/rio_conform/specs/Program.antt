@@ -53,17 +53,18 @@ AsksNoPlay words = (asked : PlayAsked) → ¬ AsksPlay words asked
 -- how the program is used, on several lines
 abbrev pub conform_help : List ℕ
 conform_help = codes "usage: rio_conform [--strict] BUFFERS NAME LINE .. < ANSWERS > LINES 2> REPORT\n\n"
-    ++ codes "Asks a device the lines of a scenario, and says whether it answered each as a port with 4 to\n"
-    ++ codes "30 receive buffers does: with --strict byte for byte, and else but for status symbols, idles,\n"
-    ++ codes "causes, port status, and what comes at most 8 turns late. A line is one of rio_port, or puts\n"
-    ++ codes "characters on the wire:\n\n"
-    ++ codes "accepted ACK FREE                     a control symbol, and so retry, not-accepted, status,\n"
-    ++ codes "                                      response, start, stomp, end, restart, request, reset\n"
-    ++ codes "                                      and multicast; ACK and FREE may be left out\n"
-    ++ codes "packet ACK send PRIO ..               a packet; spoiled has a wrong bit\n"
-    ++ codes "part FROM TO ACK send PRIO ..         some of its bytes\n"
-    ++ codes "data HEX                              bytes\n\n"
-    ++ codes "docs/conformance.md has the form of a scenario, and docs/live.md that of the other lines.\n"
+    ++ codes "Asks a device the lines of a scenario, and says whether it answered each as a port\n"
+    ++ codes "with 4 to 30 receive buffers does: with --strict byte for byte, and else but for\n"
+    ++ codes "status symbols, idles, causes, port status, and what comes at most 8 turns late. A\n"
+    ++ codes "line is one of rio_port, or puts characters on the wire:\n\n"
+    ++ codes "accepted ACK FREE             a control symbol, and so retry, not-accepted, status,\n"
+    ++ codes "                              response, start, stomp, end, restart, request, reset\n"
+    ++ codes "                              and multicast; ACK and FREE may be left out\n"
+    ++ codes "packet ACK send PRIO ..       a packet; spoiled has a wrong bit\n"
+    ++ codes "part FROM TO ACK send ..      some of its bytes\n"
+    ++ codes "data HEX                      bytes\n\n"
+    ++ codes "docs/conformance.md has the form of a scenario, and docs/live.md that of the other\n"
+    ++ codes "lines.\n"
 
 -- The words ask a question, and it was answered; or they have the lines of a scenario of this name,
 -- which were played; or they ask for nothing, and nothing was read or written.
@@ -75,8 +76,8 @@ ConformDid words name verdict left left_after written written_after write_faults
     written written_after write_faults write_faults_after × (verdict ≡ Stopped status))
     ⊎ (((asked : PlayAsked) × AsksPlay words asked × (name ≡ asked.name)
     × AsksNoQuestion words
-    × Plays asked.strict (new_clocked (plain_settings asked.buffers)) judge_start asked.lines verdict
-    left left_after written written_after)
+    × Plays asked.strict (new_clocked (plain_settings asked.buffers)) judge_start asked.lines
+    verdict left left_after written written_after)
     ⊎ (AsksNoPlay words × AsksNoQuestion words × (verdict ≡ Stopped Words)
     × Keeps written written_after × Keeps left left_after))
 

@@ -156,7 +156,8 @@ fn answer_line<S: Source>(
     request: PortRequest,
     source: &mut S,
 ) -> Result<(), Failing>
-    ensures port { OnOk result (trial.new.port ≡ (asked_answer trial.old.port (Ok request)).stands) }
+    ensures port { OnOk result
+        (trial.new.port ≡ (asked_answer trial.old.port (Ok request)).stands) }
     ensures right { OnOk result (AnswerPasses strict request
         (asked_answer trial.old.port (Ok request)).text trial.old.judge trial.new.judge
         (S.left source.old) (S.left source.new) trial.old.input trial.new.input) }

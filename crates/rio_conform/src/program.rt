@@ -20,19 +20,20 @@ const USAGE: &[u8] = b"usage: rio_conform [--strict] BUFFERS NAME LINE .., with 
 /// The same on several lines.
 const HELP: &[u8] = b"usage: rio_conform [--strict] BUFFERS NAME LINE .. < ANSWERS > LINES 2> REPORT
 
-Asks a device the lines of a scenario, and says whether it answered each as a port with 4 to
-30 receive buffers does: with --strict byte for byte, and else but for status symbols, idles,
-causes, port status, and what comes at most 8 turns late. A line is one of rio_port, or puts
-characters on the wire:
+Asks a device the lines of a scenario, and says whether it answered each as a port
+with 4 to 30 receive buffers does: with --strict byte for byte, and else but for
+status symbols, idles, causes, port status, and what comes at most 8 turns late. A
+line is one of rio_port, or puts characters on the wire:
 
-accepted ACK FREE                     a control symbol, and so retry, not-accepted, status,
-                                      response, start, stomp, end, restart, request, reset
-                                      and multicast; ACK and FREE may be left out
-packet ACK send PRIO ..               a packet; spoiled has a wrong bit
-part FROM TO ACK send PRIO ..         some of its bytes
-data HEX                              bytes
+accepted ACK FREE             a control symbol, and so retry, not-accepted, status,
+                              response, start, stomp, end, restart, request, reset
+                              and multicast; ACK and FREE may be left out
+packet ACK send PRIO ..       a packet; spoiled has a wrong bit
+part FROM TO ACK send ..      some of its bytes
+data HEX                      bytes
 
-docs/conformance.md has the form of a scenario, and docs/live.md that of the other lines.
+docs/conformance.md has the form of a scenario, and docs/live.md that of the other
+lines.
 ";
 
 /// Plays the lines of a scenario as the words behind the program's name say, and answers the exit
