@@ -15,8 +15,7 @@
 
 static FILE *to_fabric, *from_fabric;
 static const char *host;
-static char others[64][16]; /* the other endpoints, which collect what they hold */
-static unsigned other_count, host_id;
+static unsigned host_id;
 
 /* Starts the program with its standard streams on two pipes. */
 static void start(const char *program) {
@@ -34,43 +33,28 @@ static void start(const char *program) {
     from_fabric = fdopen(up[0], "r");
 }
 
-/* Writes a line and reads its answer up to `ok`. Answers the last line before that. */
-static const char *say(const char *line) {
-    static char last[4096];
-    char next[4096];
+/* Writes a line and reads its answer up to `ok`. Answers whether a packet has left at the host, and puts the bytes of
+ * the last one there. */
+static int say(const char *line, unsigned char *packet) {
+    char next[4096], name[16];
+    unsigned byte, count, left = 0;
     fprintf(to_fabric, "%s\n", line);
     fflush(to_fabric);
-    last[0] = 0;
     while (fgets(next, sizeof next, from_fabric)) {
-        if (!strcmp(next, "ok\n")) return last;
-        strcpy(last, next);
+        if (!strcmp(next, "ok\n")) return left;
+        if (sscanf(next, "leave %15s", name) != 1 || strcmp(name, host)) continue;
+        const char *came = next + strlen("leave ") + strlen(name) + 1;
+        for (count = 0; sscanf(came, "%2x", &byte) == 1 && count < 276; came += 2) packet[count++] = byte;
+        left = 1;
     }
     fprintf(stderr, "the fabric has ended at: %s\n", line);
     exit(1);
 }
 
-/* One round: links and switches carry what they can, the other endpoints answer, and the host collects. Answers whether
- * it got a packet, and puts its bytes there. */
-static int go_round(unsigned char *packet) {
-    char line[64], name[16];
-    const char *came;
-    unsigned byte, count = 0;
-    say("run 1");
-    for (unsigned at = 0; at < other_count; at++) {
-        snprintf(line, sizeof line, "collect %s", others[at]);
-        say(line);
-    }
-    snprintf(line, sizeof line, "collect %s", host);
-    came = say(line);
-    if (sscanf(came, "leave %15s", name) != 1) return 0;
-    for (came += strlen("leave ") + strlen(name) + 1; sscanf(came, "%2x", &byte) == 1 && count < 276; came += 2)
-        packet[count++] = byte;
-    return 1;
-}
-
-/* Sends a request for a register, and waits for the response, which has its transaction number in byte 5, its status in
- * the low half of byte 4, and two words from byte 10 on. False if none came, or the register could not be read or
- * written. */
+/* Sends a request for a register, and runs the fabric until the response leaves, which has its transaction number in
+ * byte 5, its status in the low half of byte 4, and two words from byte 10 on. In each round of a run links and switches
+ * carry what they can, and every endpoint answers, since all are served. False if none came, or the register could not
+ * be read or written. */
 static int ask(unsigned dest, unsigned hop, unsigned offset, const unsigned *write, unsigned *read) {
     static unsigned tid;
     unsigned char packet[276] = {0};
@@ -78,9 +62,9 @@ static int ask(unsigned dest, unsigned hop, unsigned offset, const unsigned *wri
     tid = (tid + 1) % 256;
     if (write) snprintf(line, sizeof line, "write %s 0 %u %u %u %06x %08x", host, dest, hop, tid, offset, *write);
     else snprintf(line, sizeof line, "read %s 0 %u %u %u %06x", host, dest, hop, tid, offset);
-    say(line);
+    say(line, packet);
     for (unsigned rounds = 0; rounds < 140; rounds++) {
-        if (!go_round(packet) || packet[5] != tid) continue;
+        if (!say("run 1", packet) || packet[5] != tid) continue;
         const unsigned char *word = packet + 10 + (offset & 4);
         if (read) *read = (unsigned)word[0] << 24 | word[1] << 16 | word[2] << 8 | word[3];
         return (packet[4] & 15) == 0;
@@ -103,17 +87,18 @@ static void finish(void) {
     while (fgets(line, sizeof line, from_fabric)) continue;
 }
 
-/* Sets the fabric up by the lines of standard input, and notes its endpoints. No answer has characters. */
+/* Sets the fabric up by the lines of standard input, and notes the ID of the host. No answer has characters, and every
+ * endpoint is served: its registers answer in each round. */
 static void set_up(void) {
     char line[256], name[16];
+    unsigned char none[276];
     unsigned id;
-    say("quiet");
+    say("quiet", none);
+    say("serve all", none);
     while (fgets(line, sizeof line, stdin)) {
         line[strcspn(line, "\n")] = 0;
-        say(line);
-        if (sscanf(line, "endpoint %15s %u", name, &id) != 2) continue;
-        if (!strcmp(name, host)) host_id = id;
-        else strcpy(others[other_count++], name);
+        say(line, none);
+        if (sscanf(line, "endpoint %15s %u", name, &id) == 2 && !strcmp(name, host)) host_id = id;
     }
 }
 

@@ -1,4 +1,5 @@
-"""The lines of rio_live's own: what is written while quiet is what rio replay writes, without the lines with characters.
+"""The lines of rio_live's own: what is written while quiet is what rio replay writes, without the lines with characters,
+and a run while endpoints are served is what it writes of the rounds, in each of which these collect.
 
 usage: own.py FABRIC RIO    FABRIC: rio_live, RIO: rio. The status is 0 if all is as wanted.
 """
@@ -55,6 +56,60 @@ def is_quiet(program, rio):
     equal("a quiet end", fabric.end(), 0)
 
 
+def rounds(lines, served):
+    """The lines with each `run N` as N times one round, and these endpoints behind it."""
+    collects = ["collect " + name for name in served]
+    return [
+        event
+        for line in lines
+        for event in ((["run 1"] + collects) * int(line[4:]) if line.startswith("run ") and served else [line])
+    ]
+
+
+def is_served(program, rio):
+    """While endpoints are served, a run is answered as its rounds are, in which each of them collects."""
+    for own, served in [
+        (["serve all"], "ABC"),
+        (["serve B"], "B"),
+        (["serve C", "serve A", "serve C"], "AC"),
+        (["serve C", "serve all"], "ABC"),
+        ([], ""),
+    ]:
+        whole = replayed(rio, TREE + rounds(EVENTS, served))
+        fabric = Port(program)
+        equal("served %s" % own, answered(fabric, TREE + own + EVENTS), whole)
+        equal("its end", fabric.end(), 0)
+        fabric = Port(program)
+        equal("quiet, served %s" % own, answered(fabric, TREE + ["quiet"] + own + EVENTS), without_characters(whole))
+        equal("its end", fabric.end(), 0)
+    whole = replayed(rio, TREE + rounds(EVENTS, "ABC"))
+    equal("all, before the first", answered(Port(program), ["serve all"] + TREE + EVENTS), whole)
+    half = len(EVENTS) // 2
+    whole = replayed(rio, TREE + EVENTS[:half] + rounds(EVENTS[half:], "A"))
+    equal("from then on", answered(Port(program), TREE + EVENTS[:half] + ["serve A"] + EVENTS[half:]), whole)
+    whole = replayed(rio, ["switch S 2", "run 2"])
+    equal("no endpoint", answered(Port(program), ["serve all", "switch S 2", "run 2"]), whole)
+
+
+def is_not_served(program):
+    """What is refused, in the words for the line that has the node collect."""
+    fabric = Port(program)
+    early = "refused 5 no node of an earlier line has this name"
+    equal("too early", fabric.ask("serve A"), [early])
+    for line in TREE:
+        equal(line, fabric.ask(line), [])
+    for line, why in [
+        ("serve D", early),
+        ("serve S", "refused 11 the node is of the wrong kind for this line"),
+        ("serve 1A", "refused 3 word 2 must be a letter and up to seven letters or digits"),
+        ("serve A B", "refused 1 this kind of line has 1 words after the first"),
+        ("serve", "refused 1 no kind of line begins with this word"),
+    ]:
+        equal(line, fabric.ask(line), [why])
+    equal("nothing is served", fabric.ask("run 2"), ["> run 2"])
+    equal("the end", fabric.end(), 0)
+
+
 def refusals(program):
     """What is refused, and that it changes nothing."""
     fabric = Port(program)
@@ -80,10 +135,16 @@ def undetected(program):
     answered(fabric, lines + edits)
     equal("it ends", fabric.ask("run 5"), ["> run 5", "undetected 9 B.0 symbol 0 0 31 7 0"])
     equal("with its status", fabric.end(), 7)
+    fabric = Port(program)
+    answered(fabric, lines + edits + ["serve all"])
+    equal("served, it ends", fabric.ask("run 5"), ["> run 1", "undetected 10 B.0 symbol 0 0 31 7 0"])
+    equal("with its status", fabric.end(), 7)
 
 
 def main(program, rio):
     is_quiet(program, rio)
+    is_served(program, rio)
+    is_not_served(program)
     refusals(program)
     undetected(program)
 
