@@ -1,8 +1,8 @@
 //! The lines of a source.
-ghost use Rattle.std.specs.Prelude.{◌≡◌, ◌≤◌, ◌++◌, ◌∷◌, ℕ, List, [], length, IfOk, OnOk, OnErr, IfErr, IfSome, IfNone, MatchOption};
+ghost use Rattle.std.specs.Prelude.{◌≡◌, ◌≢◌, ◌<◌, ◌≤◌, ◌++◌, ℕ, true, false, List, [], length, min, take, slice_index, IfOk, OnOk, OnErr, IfErr};
 ghost use Rattle.std.specs.Io.KnownBytes.{Consumes, Keeps, IsAtEnd};
 ghost use Rattle.rio_chars.specs.Faults.{Rose};
-ghost use Rattle.live_lines.specs.Lines.{IsLine, LinesStop, with_feed};
+ghost use Rattle.live_lines.specs.Lines.{HasNoFeed, IsLine, LinesStop, with_feed};
 ghost use Rattle.live_lines.specs.declared.input.LineEnd.TheVariants.{Fault};
 
 use rio_chars::{Failed, Source};
@@ -85,49 +85,59 @@ impl LineReader {
     {
         line.clear();
         while line.len() <= MOST_LINE {
-            let Some(byte) = self.next(source)? else {
+            if !self.has_more(source)? {
                 return Err(LineEnd::End);
-            };
-            if byte == b'\n' {
-                return Ok(());
             }
-            let Ok(()) = line.push(byte) else {
+            let most = MOST_LINE + 1 - line.len();
+            let Ok(has_feed) = self.take_piece(most, line) else {
                 return Err(LineEnd::NoMemory);
             };
+            if has_feed {
+                return Ok(());
+            }
         }
         Err(LineEnd::TooLong)
     }
 
-    /// The next byte, or None at the end of the source.
-    fn next<S: Source>(&mut self, source: &mut S) -> Result<Option<u8>, Failed>
-        ensures some { IfOk result (λ next. IfSome next (λ byte. (taken : List ℕ)
+    /// Whether bytes are left, after a read if none were.
+    fn has_more<S: Source>(&mut self, source: &mut S) -> Result<bool, Failed>
+        ensures read { OnOk result ((taken : List ℕ)
             × Consumes (S.left source.old) (S.left source.new) taken
-            × (self.old ++ taken ≡ byte ∷ self.new))) }
-        ensures none { IfOk result (λ next. IfNone next
-            (Keeps (S.left source.old) (S.left source.new) × IsAtEnd (S.left source.new)
-            × (self.old ≡ []) × (self.new ≡ []))) }
+            × (self.old ++ taken ≡ self.new)) }
+        ensures more { IfOk result (λ more. more ≡ true → self.new ≢ []) }
+        ensures none { IfOk result (λ more. more ≡ false
+            → IsAtEnd (S.left source.new) × (self.new ≡ [])) }
         ensures failed { OnErr result (Keeps (S.left source.old) (S.left source.new)
             × Rose (S.faults source.old) (S.faults source.new) × (self.old ≡ [])) }
         ensures counts { OnOk result (S.faults source.new ≡ S.faults source.old) }
     {
-        if let Some(byte) = self.pop() {
-            return Ok(Some(byte));
+        if self.begin == self.end {
+            self.fill(source)?;
         }
-        self.fill(source)?;
-        Ok(self.pop())
+        Ok(self.begin < self.end)
     }
 
-    /// The next byte of those that were read.
-    fn pop(&mut self) -> Option<u8>
-        ensures { MatchOption result ((self.old ≡ []) × (self.new ≡ []))
-            (λ byte. self.old ≡ byte ∷ self.new) }
+    /// Moves the bytes before the first line feed behind the line, and takes the feed; or so many
+    /// bytes at most, if none of them is a feed. Tells whether there was one.
+    fn take_piece(&mut self, most: usize, line: &mut Vec<u8>) -> Result<bool, AllocError>
+        ensures feed { IfOk result (λ has_feed. has_feed ≡ true → (front : List ℕ)
+            × HasNoFeed front × (length front < most)
+            × (line.new.items ≡ line.old.items ++ front)
+            × (self.old ≡ with_feed front ++ self.new)) }
+        ensures none { IfOk result (λ has_feed. has_feed ≡ false → (front : List ℕ)
+            × HasNoFeed front × (length front ≡ min most (length self.old))
+            × (line.new.items ≡ line.old.items ++ front)
+            × (self.old ≡ front ++ self.new)) }
+        ensures failed { OnErr result ((line.new.items ≡ line.old.items)
+            × (self.new ≡ self.old)) }
     {
-        if self.begin == self.end {
-            return None;
-        }
-        let byte = self.bytes[self.begin];
-        self.begin += 1;
-        Some(byte)
+        let end = self.begin + most.min(self.end - self.begin);
+        let bytes = &self.bytes[self.begin..end];
+        let count = before_feed(bytes);
+        let has_feed = count < bytes.len();
+        line.extend_from_slice(&bytes[..count])?;
+        self.begin += count + usize::from(has_feed);
+        Ok(has_feed)
     }
 
     /// Reads once, where no bytes are left.
@@ -144,4 +154,16 @@ impl LineReader {
         self.end = source.read(&mut self.bytes)?;
         Ok(())
     }
+}
+
+/// How many bytes come before the first line feed, or all of them if there is none.
+fn before_feed(bytes: &[u8]) -> usize
+    ensures within { result ≤ length bytes.now }
+    ensures no_feed { HasNoFeed (take result bytes.now) }
+    ensures feed { result < length bytes.now → slice_index bytes.now result ≡ 10 }
+{
+    bytes
+        .iter()
+        .position(|byte| *byte == b'\n')
+        .unwrap_or(bytes.len())
 }
