@@ -138,8 +138,8 @@ module _ (quiet : Bool) (taken : Taken) (number : ℕ) (events : List Line) (beg
       breaks = λ more front. front;
     }
 
-    abbrev pub course_goes : (event : Line) (left : List Line) (out next : Outgoing) (live now : Live)
-        (did : Did)
+    abbrev pub course_goes : (event : Line) (left : List Line) (out next : Outgoing)
+        (live now : Live) (did : Did)
         → (c : EventsCourse quiet taken number events (event ∷ left) begun out live)
         → Happens quiet c.mid number event out next now (told_as.Did did)
         → EventsCourse quiet taken number events left begun next now
@@ -298,7 +298,8 @@ module _ (quiet : Bool) (taken : Taken) (number : ℕ) (events : List Line) (beg
     -- the first of some rounds that are left
     pub course_round : (round : List Line) (n k : ℕ) (out : Outgoing) (live : Live) → k < n
         → EventsCourse quiet taken number events (rounds (n - k) round) begun out live
-        → EventsCourse quiet taken number events (round ++ rounds (n - (k + 1)) round) begun out live
+        → EventsCourse quiet taken number events (round ++ rounds (n - (k + 1)) round) begun out
+        live
     course_round round n k out live within c =
         let first = rounds_more (n - k) round (omega arith) in
         let rest : n - k - 1 ≡ n - (k + 1) = omega arith in
@@ -338,11 +339,6 @@ one_breaks quiet taken number event out next live holds short =
     (course_begins quiet taken number (event ∷ []) out live holds) short
 
 -- ---- the events of a line
-
-pub carried_none : (nodes : List ℕ) (event : Line) → length nodes ≡ 0
-    → events_carried nodes event ≡ event ∷ []
-carried_none [] event none = refl
-carried_none (node ∷ nodes) event none = absurd (omega arith)
 
 pub carried_rounds : (nodes : List ℕ) (event : Line) (n : ℕ) → event ≡ Run n → 0 < length nodes
     → events_carried nodes event ≡ rounds n (round_events nodes)

@@ -117,8 +117,8 @@ pub record EventAnswers (held : SessionHeld) (number : ℕ) (line text : List �
   pub is : IsEventLine held.taken line event
   pub told : List ℕ
   pub end : Taken
-  pub tells : TellsEvents held.quiet held.taken number (events_carried (nodes_served held) event) told
-      end
+  pub tells : TellsEvents held.quiet held.taken number
+      (events_carried (nodes_served held) event) told end
   pub answer : text ≡ told ++ codes "ok\n"
   pub then : next ≡ record held { taken = end }
 

@@ -26,7 +26,8 @@ returns-in-Run-clause-done g c =
     c.carry_rounds.result
     (λ after done taken holds may collect.
     subst (λ events. EventsDone telling.quiet taken telling.number events out next now after)
-    (sym (carried_rounds nodes event c.in-Run.n c.in-Run.is (some_nodes nodes c.if-is_empty.ensures)))
+    (sym (carried_rounds nodes event c.in-Run.n c.in-Run.is
+    (some_nodes nodes c.if-is_empty.ensures)))
     (done taken holds collect))
     c.carry_rounds.ensures.done
 
@@ -47,7 +48,8 @@ returns-in-Run-clause-breaks g c =
     c.carry_rounds.result
     (λ breaks taken holds may collect.
     subst (λ events. EventsBreak telling.quiet taken telling.number events out next)
-    (sym (carried_rounds nodes event c.in-Run.n c.in-Run.is (some_nodes nodes c.if-is_empty.ensures)))
+    (sym (carried_rounds nodes event c.in-Run.n c.in-Run.is
+    (some_nodes nodes c.if-is_empty.ensures)))
     (breaks taken holds collect))
     c.carry_rounds.ensures.breaks
 

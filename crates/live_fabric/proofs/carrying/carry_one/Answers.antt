@@ -15,8 +15,8 @@ pub returns-clause-done : goal.returns-clause-done
 returns-clause-done g c = λ taken holds may.
     let telling = c.args.telling in
     let now = c.carry_out.new.live in
-    subst (λ after. EventsDone telling.quiet taken telling.number (c.args.event.now ∷ []) c.args.outbox.now
-    c.carry_out.new.outbox now after) (sym c.after_told.ensures)
+    subst (λ after. EventsDone telling.quiet taken telling.number (c.args.event.now ∷ [])
+    c.args.outbox.now c.carry_out.new.outbox now after) (sym c.after_told.ensures)
     (one_done telling.quiet taken telling.number c.args.event.now c.args.outbox.now
     c.carry_out.new.outbox c.args.live.now now c.in_ok-told.told holds
     (c.in_ok-told.ensures.happens taken holds may))
