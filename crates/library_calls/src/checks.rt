@@ -21,8 +21,8 @@ pub struct OpenChecker {
 }
 
 impl OpenChecker {
-    /// A checker of a trace of the fabric that these set-up lines make, of at most 16,777,216 bytes in
-    /// all. If a reason hits one of them, it tells which.
+    /// A checker of a trace of the fabric that these set-up lines make, of at most 16,777,216 bytes
+    /// in all. If a reason hits one of them, it tells which.
     pub fn new(alloc: Global, script: &[u8], hit: &mut HitTold) -> Result<OpenChecker, CallStatus>
         ensures made { IfOk result (λ opened. IsOpenedChecker script.now opened) }
         ensures none { IfOk result (λ _. hit.new ≡ no_hit) }

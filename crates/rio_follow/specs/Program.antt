@@ -15,8 +15,9 @@ use Rattle.rio_follow.specs.Asking.{AskFollow}
 -- how the program is used, on several lines
 abbrev pub follow_help : List ℕ
 follow_help = codes "usage: rio_follow [tell] [--report tap] < LINES\n\n"
-    ++ codes "Reads set-up lines, a line --- and the lines of a trace, and judges each line before\n"
-    ++ codes "the next is read. At the first line that is not lawful it says which and why, and ends.\n\n"
+    ++ codes "Reads set-up lines, a line --- and the lines of a trace, and judges each line\n"
+    ++ codes "before the next is read. At the first line that is not lawful it says which and\n"
+    ++ codes "why, and ends.\n\n"
     ++ codes "lawful STEPS             the input has ended, and all lines are a lawful trace\n"
     ++ codes "unlawful LINE REASON     this line is not lawful, or it is missing\n"
     ++ codes "refused LINE REASON      the set-up lines are refused\n"

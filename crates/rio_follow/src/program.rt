@@ -14,8 +14,9 @@ use std::alloc::Global;
 /// How the program is used.
 const HELP: &[u8] = b"usage: rio_follow [tell] [--report tap] < LINES
 
-Reads set-up lines, a line --- and the lines of a trace, and judges each line before
-the next is read. At the first line that is not lawful it says which and why, and ends.
+Reads set-up lines, a line --- and the lines of a trace, and judges each line
+before the next is read. At the first line that is not lawful it says which and
+why, and ends.
 
 lawful STEPS             the input has ended, and all lines are a lawful trace
 unlawful LINE REASON     this line is not lawful, or it is missing
