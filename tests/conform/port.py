@@ -2,9 +2,7 @@
 """A plain port of a link, written from docs/link.md and docs/characters.md, that answers the lines of docs/live.md.
 
 usage: port.py [BUFFERS [FAULT]]    FAULT: a name of FAULTS, by which the port is wrong; port.py faults lists them.
-With `slow` it is right and slow: what it answers goes out at its next turn, a turn that has nothing else sends a status
-symbol, and idles stand around all that it sends.
-
+With `slow` it is right: answers go out at its next turn, idle turns send a status, and idles stand around all it sends.
 It has no code of the programs here. A packet is its link form, as bytes with an ackID of 0.
 """
 import sys
