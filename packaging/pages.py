@@ -22,7 +22,7 @@ SYNOPSES = {
     "rio_follow": ("rio_follow [tell] [--report tap]",),
     "rio_lane": tuple(f"rio_lane {task} [COMMAS]" for task in ("groups", "chars", "bits", "sent", "got"))
     + tuple(f"rio_lane --lanes 4 {task} [COMMAS]" for task in ("groups", "chars")),
-    "rio_port": ("rio_port [BUFFERS] [--take] [--timeout CLOCKS]",),
+    "rio_port": ("rio_port [--log A B] [BUFFERS] [--take] [--timeout CLOCKS]",),
     "rio_live": ("rio_live",),
     "rio_view": (
         "rio_view words [--flow]",

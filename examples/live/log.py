@@ -1,10 +1,11 @@
 #!/usr/bin/env python3
-"""Stands before a port, passes lines and answers on, and writes a log of both ends on standard error, ready for rio_follow.
+"""Stands before a program that is a port, passes lines and answers on, and writes a log of both ends on standard error, ready
+for rio_follow: the log that rio_port --log DEVICE PORT writes by itself.
 
-usage: log.py DEVICE PORT [PROGRAM [WORD ..]] < LINES 2> LOG
+usage: log.py DEVICE PORT PROGRAM [WORD ..] < LINES 2> LOG
 
-DEVICE and PORT are names for both ends, PROGRAM is rio_port, unless it is given, and WORDs are its words. The log is made of
-the lines and their answers alone:
+DEVICE and PORT are names for both ends, PROGRAM reads and writes the lines of rio_port, and WORDs are its words. The log is
+made of the lines and their answers alone:
 
 - what comes from the device is sent and got at once, in pieces in which no packet is whole: the port knows a packet of the
   device once it holds it, and then the device had it to be sent; the device frees it once it got the acceptance;
@@ -93,8 +94,7 @@ class Log:
 
 
 def main(words):
-    device, port, *command = words
-    program, *settings = command or ["rio_port"]
+    device, port, program, *settings = words
     process = Port(program, *settings)
     log = Log(device, port, settings[0] if settings and settings[0].isdigit() else 8)
     for line in sys.stdin:
@@ -108,6 +108,6 @@ def main(words):
 
 
 if __name__ == "__main__":
-    if len(sys.argv) < 3:
-        sys.exit("usage: log.py DEVICE PORT [PROGRAM [WORD ..]] < LINES 2> LOG")
+    if len(sys.argv) < 4:
+        sys.exit("usage: log.py DEVICE PORT PROGRAM [WORD ..] < LINES 2> LOG")
     sys.exit(main(sys.argv[1:]))

@@ -1,16 +1,19 @@
 -- Lines that are served, one after another.
-use Rattle.std.proofs.Common.{◌≡◌, ◌≢◌, ℕ, ◌+◌, Option, List, [], ◌∷◌, ◌++◌, refl, sym, ap, ◌∙◌, subst, append-nil, append_assoc}
+use Rattle.std.proofs.Common.{◌≡◌, ◌≢◌, ℕ, ◌+◌, ◌-◌, ◌^◌, Option, List, [], ◌∷◌, ◌++◌, refl, sym, ap, ◌∙◌, subst, append-nil, append_assoc}
 use Rattle.std.specs.Io.KnownBytes.{Consumes}
 use Rattle.rio_chars.specs.Written.{Outgoing, Writes}
 use Rattle.live_lines.specs.Lines.{IsLine, with_feed}
 use Rattle.live_lines.specs.Serving.{end_status}
 use Rattle.live_lines.specs.declared.input.LineEnd.{LineEnd}
 use Rattle.live_lines.specs.declared.input.LineEnd.TheVariants.{End, Fault, TooLong, NoMemory}
+use Rattle.live_lines.specs.declared.status.LiveStatus.{LiveStatus}
+use Rattle.live_lines.specs.declared.status.LiveStatus.TheVariants as Status
 use Rattle.live_lines.specs.declared.status.LiveStatus.TheVariants.{Undetected}
-use Rattle.live_lines.proofs.ServingLaws.{Going, Going-begin, Going-line, Going-told, Going-read}
+use Rattle.live_lines.proofs.ServingLaws.{served_none, Going, Going-begin, Going-line, Going-told, Going-read}
 use Rattle.port_lines.specs.Answers.{ClockedAnswer, standing_at, behind_text}
 use Rattle.port_lines.specs.Clocks.{ClockedState}
 use Rattle.port_lines.specs.Lines.{AnswersLine, PortAnswersLines}
+use Rattle.rio_port.specs.Program.{ServesFrom}
 
 -- a line more is answered
 pub AnswersLines-more : (port : ClockedState) (lines : List (List ℕ)) (line : List ℕ)
@@ -41,6 +44,19 @@ end_is_sent End same = absurd cc
 end_is_sent Fault same = absurd cc
 end_is_sent TooLong same = absurd cc
 end_is_sent NoMemory same = absurd cc
+
+-- nothing was served, since there was no memory
+pub unserved : (port : ClockedState) (status : LiveStatus) (left : Option (List ℕ))
+    (read_faults : ℕ) (written : Option (List ℕ)) (write_faults : ℕ) → status ≡ Status.NoMemory
+    → ServesFrom port status left left read_faults read_faults written written write_faults
+    write_faults
+unserved port status left read_faults written write_faults is = rw is record {
+  lines = [];
+  answer = standing_at port [];
+  answers = refl;
+  ends = λ same. absurd cc;
+  serves = served_none (2 ^ 64 - 1) left written read_faults write_faults;
+}
 
 -- Lines were served so far, and these bytes were read behind the last one.
 pub record Served (begun out : Outgoing) (port now : ClockedState) (left left_now : Option (List ℕ))

@@ -13,6 +13,7 @@ use Rattle.port_lines.specs.declared.settings.PortSettings.{PortSettings}
 use Rattle.port_lines.specs.Answers.{ClockedAnswer}
 use Rattle.port_lines.specs.Clocks.{ClockedState, new_clocked}
 use Rattle.port_lines.specs.Lines.{PortAnswersLines}
+use Rattle.rio_port.specs.Logs.{AskLog, IsUnlogged}
 
 -- the last word says a number of clocks
 abbrev pub AskClocks : List (List ℕ) → ℕ → Type 0
@@ -45,8 +46,10 @@ abbrev pub AskSettings : List (List ℕ) → PortSettings → Type 0
 AskSettings words settings = (settings.tells ≡ false)
     × AskMaking words settings.buffers settings.takes_at_once settings.patience
 
-abbrev pub AskNoSettings : List (List ℕ) → Type 0
-AskNoSettings words = (settings : PortSettings) → ¬ AskSettings words settings
+-- behind the words that ask for a log, if any do, none say a way in which a port is made
+abbrev pub AskNoPort : List (List ℕ) → Type 0
+AskNoPort words = (is_asked : Bool) (rest : List (List ℕ)) (settings : PortSettings)
+    → AskLog is_asked words rest → ¬ AskSettings rest settings
 
 -- the number of buffers stands before the rest of the words, or none does
 abbrev pub SplitsBuffers : List (List ℕ) → ℕ → List (List ℕ) → Type 0
@@ -76,13 +79,14 @@ pub record ServesFrom (port : ClockedState) (status : LiveStatus)
 
 -- how the program is used, in a line and on several
 abbrev pub port_usage : List ℕ
-port_usage = codes "usage: rio_port [BUFFERS] [--take] [--timeout CLOCKS], "
+port_usage = codes "usage: rio_port [--log A B] [BUFFERS] [--take] [--timeout CLOCKS], "
     ++ codes "with 4 to 30 buffers and 1 to 1000000 clocks\n"
 
 abbrev pub port_help : List ℕ
-port_help = codes "usage: rio_port [BUFFERS] [--take] [--timeout CLOCKS] < LINES\n\n"
+port_help = codes "usage: rio_port [--log A B] [BUFFERS] [--take] [--timeout CLOCKS] < LINES\n\n"
     ++ codes "One end of a link, with 4 to 30 receive buffers, or 8. Each line is answered before the\n"
     ++ codes "next is read. An answer ends with the line ok.\n\n"
+    ++ codes "--log A B                             a log of both ends on standard error\n"
     ++ codes "--take                                a packet that is held is given out at once\n"
     ++ codes "--timeout CLOCKS                      so many clocks without an answer are too long\n\n"
     ++ codes "got CHARS                             characters come from its wire\n"
@@ -108,15 +112,16 @@ PortDid words status left left_after read_faults read_faults_after written writt
     write_faults write_faults_after =
     (AnswersQuestion (codes "rio_port") port_help words status written written_after write_faults
     write_faults_after × LeavesInput left left_after read_faults read_faults_after)
-    ⊎ (((settings : PortSettings) × AskSettings words settings × AsksNoQuestion words
+    ⊎ (((is_asked : Bool) × (rest : List (List ℕ)) × (settings : PortSettings)
+    × AskLog is_asked words rest × AskSettings rest settings × AsksNoQuestion words
     × ServesFrom (new_clocked settings) status left left_after read_faults read_faults_after
     written written_after write_faults write_faults_after)
-    ⊎ (AskNoSettings words × AsksNoQuestion words × (status ≡ Words)
+    ⊎ (AskNoPort words × AsksNoQuestion words × (status ≡ Words)
     × Keeps written written_after × (write_faults_after ≡ write_faults)
     × LeavesInput left left_after read_faults read_faults_after))
 
--- It ends with the number of a status, and said of it what there is to say, or a front of that
--- where a write of it failed.
+-- It ends with the number of a status, and said some log, if one is asked for, and then of the
+-- status what there is to say; or a front of that where a write of it failed.
 pub record PortRan {S : Type 0} {K : Type 0} {M : Type 0} (words : List (List ℕ)) (number : ℕ)
     (left : S → Option (List ℕ)) (read_faults : S → ℕ) (source source_after : S)
     (written : K → Option (List ℕ)) (write_faults : K → ℕ) (sink sink_after : K)
@@ -127,5 +132,8 @@ pub record PortRan {S : Type 0} {K : Type 0} {M : Type 0} (words : List (List �
       (write_faults sink_after)
   pub number_is : number ≡ status_value status
   pub failed : Bool
+  pub log : List ℕ
+  pub unlogged : IsUnlogged words → log ≡ []
   pub says : WritesUnless false (said messages) (say_faults messages) failed (said messages_after)
-      (say_faults messages_after) (message_of (codes "rio_port: ") port_usage status)
+      (say_faults messages_after)
+      (log ++ message_of (codes "rio_port: ") port_usage status)

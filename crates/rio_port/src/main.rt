@@ -1,9 +1,11 @@
-//! `rio_port [BUFFERS] [--take] [--timeout CLOCKS]`: one end of a RapidIO serial link, that answers
-//! at once. It reads a line from standard input, answers it whole on standard output, and reads the
-//! next. So a simulator can run its own link layer against it in a closed loop.
+//! `rio_port [--log A B] [BUFFERS] [--take] [--timeout CLOCKS]`: one end of a RapidIO serial link,
+//! that answers at once. It reads a line from standard input, answers it whole on standard output,
+//! and reads the next. So a simulator can run its own link layer against it in a closed loop. With
+//! `--log` what the lines say of both ends is written on standard error.
 //!
 //! Promised: what was written is the answers of the lines that were read, each what the port's
-//! tables give at its state there. Left out: how long a clock is, and the wire to the other end.
+//! tables give at its state there. Nothing is logged unless the words ask for a log. Left out: what
+//! a log says, how long a clock is, and the wire to the other end.
 //!
 //! - `run`: the whole program, over any source, sink and sink of messages; `main` gives it the
 //!   words and the standard streams by `start_lines` of `live_lines`, and does nothing more.
@@ -12,15 +14,19 @@
 //! If the system does not give the arguments, the status is 1 and nothing is written.
 #![tactic(auto)]
 
+mod log;
+mod log_text;
 mod program;
 mod serving;
+mod text_sink;
 
 use live_lines::start_lines;
+pub use log::LogWords;
 pub use program::run;
-use program::settings_of;
+use program::{settings_of, split_log};
 use program_start::Program;
 use rio_chars::{Sink, Source};
-pub use serving::serve;
+pub use serving::{Served, serve};
 use std::alloc::Global;
 use std::process::ExitCode;
 
@@ -29,9 +35,10 @@ struct RioPort;
 
 impl Program for RioPort {
     fn waits_for(&self, words: &[String]) -> &'static [u8] {
-        match settings_of(words) {
-            Some(_) => b"rio_port: waiting for the lines of a port; Ctrl-D ends them\n",
-            None => b"",
+        let logs = split_log(words);
+        match settings_of(logs.rest) {
+            Some(_) if !logs.is_asked => WAITS,
+            _ => b"",
         }
     }
 
@@ -46,6 +53,9 @@ impl Program for RioPort {
         run(alloc, words, source, sink, messages)
     }
 }
+
+/// What is said at a terminal, unless a log is asked for, which it would stand in.
+const WAITS: &[u8] = b"rio_port: waiting for the lines of a port; Ctrl-D ends them\n";
 
 fn main(rt: HostRuntime) -> ExitCode {
     start_lines(&rt, &RioPort)

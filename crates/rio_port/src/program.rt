@@ -1,11 +1,15 @@
 //! The whole program, but for where its words and its streams come from.
-ghost use Rattle.std.specs.Prelude.{◌≢◌, ◌≡◌, ◌≤◌, map, MatchOption, IfSome, codes, ℕ};
+ghost use Rattle.std.specs.Prelude.{◌≢◌, ◌≡◌, ◌≤◌, ◌∷◌, [], map, MatchOption, IfSome, codes, true, false, ℕ};
 ghost use Rattle.std.specs.Fmt.{decimal};
 ghost use Rattle.std.specs.String.{string_bytes};
 ghost use Rattle.port_lines.specs.declared.settings.PortSettings.{PortSettings as Settings};
-ghost use Rattle.rio_port.specs.Program.{PortRan, PortDid, AskSettings, AskClocks, AskPatience, SplitsBuffers, SplitsTaking};
+ghost use Rattle.rio_chars.specs.Unless.{WritesUnless};
+ghost use Rattle.live_lines.specs.Statuses.{message_of};
+ghost use Rattle.rio_port.specs.Logs.{AskLog, IsUnlogged, SaysLog};
+ghost use Rattle.rio_port.specs.Program.{port_usage, PortRan, PortDid, AskSettings, AskClocks, AskPatience, SplitsBuffers, SplitsTaking};
 
-use crate::serving::serve;
+use crate::log::LogWords;
+use crate::serving::{Served, serve};
 use fabric_script::read_number;
 use live_lines::{LiveStatus, say, status_number, tell_question};
 use port_lines::PortSettings;
@@ -20,15 +24,16 @@ const BUFFERS: u8 = 8;
 const MOST_CLOCKS: u32 = 1_000_000;
 
 /// How the program is used, in a line.
-const USAGE: &[u8] = b"usage: rio_port [BUFFERS] [--take] [--timeout CLOCKS], \
+const USAGE: &[u8] = b"usage: rio_port [--log A B] [BUFFERS] [--take] [--timeout CLOCKS], \
 with 4 to 30 buffers and 1 to 1000000 clocks\n";
 
 /// The same on several lines.
-const HELP: &[u8] = b"usage: rio_port [BUFFERS] [--take] [--timeout CLOCKS] < LINES
+const HELP: &[u8] = b"usage: rio_port [--log A B] [BUFFERS] [--take] [--timeout CLOCKS] < LINES
 
 One end of a link, with 4 to 30 receive buffers, or 8. Each line is answered before the
 next is read. An answer ends with the line ok.
 
+--log A B                             a log of both ends on standard error
 --take                                a packet that is held is given out at once
 --timeout CLOCKS                      so many clocks without an answer are too long
 
@@ -59,29 +64,112 @@ pub fn run<S: Source, K: Sink, M: Sink>(
         K.written K.faults sink.old sink.new
         M.written M.faults messages.old messages.new }
 {
-    let status = serve_words(alloc, words, source, sink);
-    say(messages, b"rio_port: ", USAGE, status);
+    let Served { status, failed } = serve_words(alloc, words, source, sink, messages);
+    say_unless(failed, messages, status);
     status_number(status)
 }
 
+/// Says what there is to say of a status, unless a write has failed, and answers whether one has.
+fn say_unless<M: Sink>(failed: bool, messages: &mut M, status: LiveStatus) -> bool
+    ensures { WritesUnless failed (M.written messages.old) (M.faults messages.old) result
+        (M.written messages.new) (M.faults messages.new)
+        (message_of (codes "rio_port: ") port_usage status) }
+{
+    if failed {
+        return true;
+    }
+    say(messages, b"rio_port: ", USAGE, status)
+}
+
 /// Serves a port that is made as the words ask, or answers what else they ask.
-fn serve_words<S: Source, K: Sink>(
+fn serve_words<S: Source, K: Sink, M: Sink>(
     alloc: Global,
     words: &[String],
     source: &mut S,
     sink: &mut K,
-) -> LiveStatus
-    ensures { PortDid (map string_bytes words.now) result (S.left source.old)
+    messages: &mut M,
+) -> Served
+    ensures did { PortDid (map string_bytes words.now) result.status (S.left source.old)
         (S.left source.new)
         (S.faults source.old) (S.faults source.new) (K.written sink.old) (K.written sink.new)
         (K.faults sink.old) (K.faults sink.new) }
+    ensures says { SaysLog (map string_bytes words.now) (M.written messages.old)
+        (M.faults messages.old) (M.written messages.new) (M.faults messages.new) result.failed }
 {
     if let Some(question) = question_of(words) {
-        return tell_question(sink, b"rio_port", HELP, question);
+        return unlogged(tell_question(sink, b"rio_port", HELP, question));
     }
-    match settings_of(words) {
-        Some(settings) => serve(alloc, settings, source, sink),
-        None => LiveStatus::Words,
+    let logs = split_log(words);
+    match settings_of(logs.rest) {
+        Some(settings) => serve(alloc, settings, logs, source, sink, messages),
+        None => unlogged(LiveStatus::Words),
+    }
+}
+
+/// Nothing was logged.
+fn unlogged(status: LiveStatus) -> Served
+    ensures status { result.status ≡ status }
+    ensures failed { result.failed ≡ false }
+{
+    Served {
+        status,
+        failed: false,
+    }
+}
+
+/// What the first words ask of a log.
+pub(crate) fn split_log(words: &[String]) -> LogWords
+    ensures { AskLog result.is_asked (map string_bytes words.now)
+        (map string_bytes result.rest.now) }
+{
+    match log_words(words) {
+        Some(asked) => asked,
+        None => LogWords {
+            is_asked: false,
+            device: b"",
+            port: b"",
+            rest: words,
+        },
+    }
+}
+
+/// The names of a log, and the words behind, if the words begin so.
+fn log_words(words: &[String]) -> Option<LogWords>
+    ensures names { MatchOption result (IsUnlogged (map string_bytes words.now))
+        (λ asked. map string_bytes words.now ≡ codes "--log" ∷ asked.device.now
+        ∷ asked.port.now ∷ map string_bytes asked.rest.now) }
+    ensures asked { IfSome result (λ asked. asked.is_asked ≡ true) }
+{
+    let (option, behind) = first_word(words)?;
+    log_word(option)?;
+    let (device, last) = first_word(behind)?;
+    let (port, rest) = first_word(last)?;
+    Some(LogWords {
+        is_asked: true,
+        device,
+        port,
+        rest,
+    })
+}
+
+/// The first word, and those behind it.
+fn first_word(words: &[String]) -> Option<(&[u8], &[String])>
+    ensures { MatchOption result (map string_bytes words.now ≡ [])
+        (λ first. map string_bytes words.now ≡ first.0.now ∷ map string_bytes first.1.now) }
+{
+    match words {
+        [] => None,
+        [word, rest @ ..] => Some((word.as_str().as_bytes(), rest)),
+    }
+}
+
+/// Whether this is the word before the names of a log.
+fn log_word(word: &[u8]) -> Option<()>
+    ensures { MatchOption result (word.now ≢ codes "--log") (λ _. word.now ≡ codes "--log") }
+{
+    match word {
+        b"--log" => Some(()),
+        _ => None,
     }
 }
 

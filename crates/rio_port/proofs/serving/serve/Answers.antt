@@ -1,32 +1,32 @@
-use Rattle.std.proofs.Common.{false, [], ◌-◌, ◌^◌, refl}
-use Rattle.live_lines.proofs.ServingLaws.{served_none}
-use Rattle.port_lines.specs.Answers.{standing_at}
-use Rattle.port_lines.specs.Clocks.{new_clocked}
+use Rattle.std.proofs.Common.{refl, ◌∙◌}
+use Rattle.rio_port.proofs.LogLaws.{AddsLog-then, logs_same}
+use Rattle.rio_port.proofs.ServingLaws.{unserved}
 use Rattle.rio_port.proofs.serving.serve.Goals as goal
 
-pub returns-in_default : goal.returns-in_default
-returns-in_default g c = record {
-  lines = [];
-  answer = standing_at (new_clocked c.args.settings) [];
-  answers = refl;
-  ends = λ same. absurd cc;
-  serves = served_none (2 ^ 64 - 1) _ _ _ _;
-}
+pub returns-in_default-clause-serves : goal.returns-in_default-clause-serves
+returns-in_default-clause-serves g c =
+    unserved _ _ _ _ _ _ c.without_memory.ensures.status
 
-pub returns-in_default-new : goal.returns-in_default-new
-returns-in_default-new g c = record {
-  lines = [];
-  answer = standing_at (new_clocked c.args.settings) [];
-  answers = refl;
-  ends = λ same. absurd cc;
-  serves = served_none (2 ^ 64 - 1) _ _ _ _;
-}
+pub returns-in_default-new-clause-serves : goal.returns-in_default-new-clause-serves
+returns-in_default-new-clause-serves g c =
+    unserved _ _ _ _ _ _ c.without_memory-in_default-new.ensures.status
 
-pub returns-in_default-new-2 : goal.returns-in_default-new-2
-returns-in_default-new-2 g c = record {
-  lines = [];
-  answer = standing_at (new_clocked c.args.settings) [];
-  answers = refl;
-  ends = λ same. absurd cc;
-  serves = served_none (2 ^ 64 - 1) _ _ _ _;
-}
+pub returns-in_default-new-2-clause-serves : goal.returns-in_default-new-2-clause-serves
+returns-in_default-new-2-clause-serves g c =
+    unserved _ _ _ _ _ _ c.without_memory-in_default-new-2.ensures.status
+
+pub returns-in_default-new-3-clause-serves : goal.returns-in_default-new-3-clause-serves
+returns-in_default-new-3-clause-serves g c =
+    unserved _ _ _ _ _ _ c.without_memory-in_default-new-3.ensures.status
+
+pub returns-clause-logs : goal.returns-clause-logs
+returns-clause-logs g c =
+    let new = c.in-Ok-new-3.ensures in
+    let asked = c.write.ensures.asked ∙ new.asked in
+    AddsLog-then _ _ _ _ _ _ _ _ _ _
+    (AddsLog-then _ _ _ _ _ _ _ _ _ _
+    (logs_same _ _ _ _ _ _ _ _ _ new.asked new.fine c.write.ensures.logs)
+    (logs_same _ _ _ _ _ _ _ _ _ asked refl c.serve_lines-status.ensures.logs))
+    (logs_same _ _ _ _ _ _ _ _ _
+    (c.end.ensures.asked ∙ c.serve_lines-status.ensures.asked ∙ asked) c.end.ensures.failed
+    c.write-2.ensures.logs)

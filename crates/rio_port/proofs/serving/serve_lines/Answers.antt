@@ -3,6 +3,7 @@ use Rattle.live_lines.specs.Lines.{with_feed}
 use Rattle.live_lines.proofs.ServingLaws.{Going-stops, Going-done, Going-no_memory, Going-fault}
 use Rattle.port_lines.specs.Lines.{AnswersLine}
 use Rattle.rio_port.proofs.ServingLaws.{Served-begin, Served-line, Served-read, end_is_sent}
+use Rattle.rio_port.proofs.LogLaws.{AddsLog-none, AddsLog-then, logs_same}
 use Rattle.rio_port.proofs.serving.serve_lines.Goals as goal
 
 pub loop-count-init : goal.loop-count-init
@@ -13,6 +14,8 @@ loop-count-init g c = record {
   same = refl;
   fine = c.requires.fine;
   empty = c.requires.empty;
+  logs = AddsLog-none _ _ _ _;
+  asked = refl;
 }
 
 pub returns-in-Err-clause-serves : goal.returns-in-Err-clause-serves
@@ -99,6 +102,10 @@ loop-count-preserved g c =
       same = given.3.same ∙ h.same;
       fine = sym c.failed.ensures ∙ c.if-failed.false;
       empty = c.in-Ok.ensures.written;
+      logs =
+          AddsLog-then _ _ _ _ _ _ _ _ _ _ h.logs
+          (logs_same _ _ _ _ _ _ _ _ _ h.asked refl c.answer_line.ensures.logs);
+      asked = c.answer_line.ensures.asked ∙ h.asked;
     }
 
 pub returns-clause-serves : goal.returns-clause-serves
@@ -116,3 +123,15 @@ returns-clause-serves g c =
           c.loop-count.input (g.S.Source.faults c.loop-count.source) h.served.lines
           h.served.answer.text h.served.going c.requires.empty h.fine h.empty all;
     }
+
+pub returns-in_default-answer_line-clause-logs : goal.returns-in_default-answer_line-clause-logs
+returns-in_default-answer_line-clause-logs g c =
+    let h = c.loop-count.invariant in
+    AddsLog-then _ _ _ _ _ _ _ _ _ _ h.logs
+    (logs_same _ _ _ _ _ _ _ _ _ h.asked refl c.answer_line.ensures.logs)
+
+pub returns-then-failed-clause-logs : goal.returns-then-failed-clause-logs
+returns-then-failed-clause-logs g c =
+    let h = c.loop-count.invariant in
+    AddsLog-then _ _ _ _ _ _ _ _ _ _ h.logs
+    (logs_same _ _ _ _ _ _ _ _ _ h.asked refl c.answer_line.ensures.logs)

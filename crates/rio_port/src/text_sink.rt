@@ -1,0 +1,54 @@
+//! A sink in memory.
+ghost use Rattle.std.specs.Prelude.{◌≡◌, Some, []};
+
+use rio_chars::{Failed, Sink};
+use std::alloc::Global;
+
+/// A sink that keeps in memory what is written. A write fails only if memory is not given.
+#[derive(Drop)]
+pub(crate) struct TextSink {
+    pub(crate) text: Vec<u8>,
+    faults: u64,
+}
+
+impl Sink for TextSink {
+    ghost written = { λ sink. Some sink.text.items };
+
+    ghost faults = { λ sink. sink.faults };
+
+    fn write(&mut self, piece: &[u8]) -> Result<usize, Failed> {
+        match self.text.extend_from_slice(piece) {
+            Ok(()) => Ok(piece.len()),
+            Err(_) => {
+                self.faults = self.faults.saturating_add(1);
+                Err(Failed)
+            }
+        }
+    }
+}
+
+impl TextSink {
+    /// Nothing was written.
+    pub(crate) fn new(alloc: Global) -> TextSink
+        ensures { result.text.items ≡ [] }
+    {
+        TextSink {
+            text: Vec::new(alloc),
+            faults: 0,
+        }
+    }
+
+    /// Forgets what was written.
+    pub(crate) fn clear(&mut self)
+        ensures { self.new.text.items ≡ [] }
+    {
+        self.text.clear();
+    }
+
+    /// What was written.
+    pub(crate) fn as_slice(&self) -> &[u8]
+        ensures { result.now ≡ self.now.text.items }
+    {
+        self.text.as_slice()
+    }
+}
