@@ -7,9 +7,14 @@ from contents import TOP, git
 
 PLACE = "crates/program_start/src/questions.rt"
 TOLD = re.compile(r'(?<=b" )(\d+\.\d+\.\d+)(?=, proved with )')
-# How the number is written elsewhere: before the words of the kit, and in the names of packages. A version with a date
-# behind it, and the names of other releases in CHANGELOG.md, are no such place.
-OTHERS = re.compile(r"(\d+\.\d+\.\d+)(?=, proved with rattle-kit)|(?<=kigvarp[-_])(\d+\.\d+\.\d+)(?![.\d+])")
+# How the number is written elsewhere: before the words of the kit, in the names of packages, and of the module of Python.
+# A version with a date behind it, and the names of other releases in CHANGELOG.md, are no such place.
+OTHERS = re.compile(
+    r"(\d+\.\d+\.\d+)(?=, proved with rattle-kit)"
+    r"|(?<=kigvarp[-_])(\d+\.\d+\.\d+)(?![\d+]|\.\d)"
+    r"|(?<=^version = \")(\d+\.\d+\.\d+)(?=\"$)",
+    re.M,
+)
 
 
 def number():
@@ -22,7 +27,7 @@ def number():
 
 def texts():
     """Each text of the repository that may have the number, but the tests of packages, which have numbers of their own."""
-    likely = git("grep", "-lIE", "[0-9], proved with |kigvarp[-_][0-9]", "--", ".", ":!packaging", ":!tests/package*")
+    likely = git("grep", "-lIE", "[0-9], proved with |kigvarp[-_][0-9]|^version = ", "--", ".", ":!packaging", ":!tests/package*")
     for path in sorted({PLACE, "CHANGELOG.md", *likely.splitlines()}):
         yield path, (TOP / path).read_text(encoding="utf-8")
 

@@ -8,7 +8,7 @@ use rio_chars::{Sink, write_unless};
 
 /// The newest release, and the kit that proved it in the words of `rt version`, as they stand after
 /// a program's name. `tests/names` compares both with the pages.
-const VERSION: &[u8] = b" 0.1.0, proved with rattle-kit-13f logic dac8208d650f15bf\n";
+const VERSION: &[u8] = b" 1.0.0, proved with rattle-kit-13f logic dac8208d650f15bf\n";
 
 /// What each program is asked by one word.
 #[derive(Clone, Copy, Debug, PartialEq, Eq)]
