@@ -30,3 +30,4 @@ pub mod SoFarLaws
 pub mod ToldLaws
 pub mod Agreeing
 pub mod Forgetting
+pub mod Sparing

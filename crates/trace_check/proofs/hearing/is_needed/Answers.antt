@@ -1,5 +1,5 @@
 use Rattle.std.proofs.Common.{◌-◌, rules, arith}
-use Rattle.trace_check.proofs.Forgetting.{spare-there}
+use Rattle.trace_check.proofs.Sparing.{spare-there}
 use Rattle.trace_check.proofs.hearing.is_needed.Goals as goal
 
 pub returns-then-eq : goal.returns-then-eq

@@ -1,5 +1,5 @@
 use Rattle.std.proofs.Common.{rules}
-use Rattle.trace_check.proofs.Forgetting.{kept-more, kept-spare}
+use Rattle.trace_check.proofs.Sparing.{kept-more, kept-spare}
 use Rattle.trace_check.proofs.hearing.keep_packet.Goals as goal
 
 pub returns-in_ok-push_back-clause-kept : goal.returns-in_ok-push_back-clause-kept
