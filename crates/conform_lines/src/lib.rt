@@ -7,7 +7,7 @@
 //! Left out: where a device is, and where its answers come from.
 //!
 //! - `read_stimulus`: what a line asks of a device; `write_stimulus`: the line that it is asked
-//! - [`TextSink`] and `expect`: the answer that the tables give, in memory
+//! - `expect`: the answer that the tables give
 //! - [`Judge`]: whether an answer may differ from it; [`leeway_of`]: what a line bears on that
 #![tactic(auto)]
 
@@ -18,11 +18,9 @@ mod judging;
 mod laws;
 mod stimuli;
 mod symbols;
-mod text_sink;
 
 pub use counting::Counted;
 pub use expected::expect;
 pub use judging::{Judge, Leeway, Owed, leeway_of};
 pub use laws::{allowed_answers_send_the_same, right_answers_are_allowed};
 pub use stimuli::{read_stimulus, write_stimulus};
-pub use text_sink::TextSink;

@@ -24,7 +24,7 @@ mod readings;
 mod rooms;
 mod runs;
 mod status;
-mod text_sink;
+mod texts;
 mod told;
 mod wires;
 mod words;

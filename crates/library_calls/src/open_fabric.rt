@@ -6,8 +6,9 @@ ghost use Rattle.library_calls.specs.FabricsSeen.{FabricHolds, IsOpenedFabric, F
 ghost use Rattle.library_calls.specs.FabricLines.{FabricLineDid, TellsFabricLine};
 
 use crate::status::CallStatus;
-use crate::text_sink::TextSink;
+use crate::texts::take_text;
 use live_fabric::{AfterLine, BrokenOff, Live, answer};
+use live_lines::TextSink;
 use rio_chars::{NoMemory, Outbox, Sink, TextBuffer};
 use std::alloc::Global;
 use std::marker::Model;
@@ -89,7 +90,7 @@ impl OpenFabric {
     pub fn text(&mut self, room: &mut [u8]) -> usize
         ensures { FabricTextTaken room.old room.new result self.old self.new }
     {
-        self.sink.take(&mut self.taken, room)
+        take_text(self.sink.as_slice(), &mut self.taken, room)
     }
 }
 

@@ -5,7 +5,8 @@ ghost use Rattle.library_calls.specs.PortsSeen.{new_seen, PortTextTaken};
 ghost use Rattle.library_calls.specs.PortLines.{PortLineDid, WritesBut};
 
 use crate::status::CallStatus;
-use crate::text_sink::TextSink;
+use crate::texts::take_text;
+use live_lines::TextSink;
 use port_lines::{
     Came, ClockedPort, PortRequest, PortSettings, RequestRefusal, answer, read_request,
 };
@@ -89,7 +90,7 @@ impl OpenPort {
     pub fn text(&mut self, room: &mut [u8]) -> usize
         ensures { PortTextTaken room.old room.new result self.old self.new }
     {
-        self.sink.take(&mut self.taken, room)
+        take_text(self.sink.as_slice(), &mut self.taken, room)
     }
 }
 

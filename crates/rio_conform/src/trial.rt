@@ -3,8 +3,8 @@ ghost use Rattle.std.specs.Prelude.{◌≡◌, ◌≤◌, [], false, IfOk};
 ghost use Rattle.port_lines.specs.Clocks.{new_clocked, plain_settings};
 ghost use Rattle.conform_lines.specs.Tolerances.{judge_start};
 
-use conform_lines::{Judge, TextSink};
-use live_lines::LineReader;
+use conform_lines::Judge;
+use live_lines::{LineReader, TextSink};
 use port_lines::{ClockedPort, PortSettings};
 use rio_chars::{NoMemory, TextBuffer};
 use std::alloc::Global;

@@ -3,8 +3,7 @@ ghost use Rattle.std.specs.Prelude.{◌≡◌, false, IfOk};
 ghost use Rattle.rio_port.specs.Logs.{AddsLog};
 
 use crate::log_text::{Ends, push_line, push_set_up};
-use crate::text_sink::TextSink;
-use live_lines::LiveStatus;
+use live_lines::{LiveStatus, TextSink};
 use rio_chars::{NoMemory, Sink, TextBuffer, write_unless};
 use std::alloc::{AllocError, Global};
 

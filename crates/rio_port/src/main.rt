@@ -18,7 +18,6 @@ mod log;
 mod log_text;
 mod program;
 mod serving;
-mod text_sink;
 
 use live_lines::start_lines;
 pub use log::LogWords;

@@ -9,8 +9,7 @@ ghost use Rattle.rio_port.specs.Logs.{AddsLog, KeepsAll};
 ghost use Rattle.rio_port.specs.Program.{ServesFrom};
 
 use crate::log::{Log, LogWords};
-use crate::text_sink::TextSink;
-use live_lines::{LineReader, LiveStatus};
+use live_lines::{LineReader, LiveStatus, TextSink};
 use port_lines::{ClockedPort, PortRequest, PortSettings, RequestRefusal, answer, read_request};
 use rio_chars::{NoMemory, Outbox, Sink, Source, TextBuffer};
 use std::alloc::Global;
