@@ -1,0 +1,4 @@
+pub mod JudgedLaws
+pub mod JudgingLaws
+pub mod ReadingOn
+pub mod SendingOn

@@ -1,0 +1,5 @@
+pub mod InputHalves
+pub mod Judged
+pub mod Judging
+pub mod PortsKept
+pub mod Reactions
