@@ -1,0 +1,10 @@
+pub mod Numbers
+pub mod Hearing
+pub mod Standing
+pub mod Turning
+pub mod TimingOut
+pub mod Arriving
+pub mod ReadingEntries
+pub mod Readers
+pub mod Deeds
+pub mod Trials
