@@ -40,10 +40,13 @@ symbol_comes symbol = map CharComes (symbol_chars_of symbol)
 abbrev pub packet_opened : List Deed
 packet_opened = symbol_comes (start_of_packet 0 31)
 
+-- a packet is put, and a turn is taken
+abbrev pub put_and_turn : List Deed
+put_and_turn = PacketIsPut (plain_packet 0) ∷ TurnIsTaken ∷ []
+
 -- the output half in its states
 abbrev pub out_retry_stopped : List Deed
-out_retry_stopped =
-    PacketIsPut (plain_packet 0) ∷ TurnIsTaken ∷ EventComes (Ctl (packet_retry 0 31)) ∷ []
+out_retry_stopped = put_and_turn ++ EventComes (Ctl (packet_retry 0 31)) ∷ []
 
 abbrev pub out_asked : List Deed
 out_asked = TimeOutFires ∷ TurnIsTaken ∷ []
@@ -62,8 +65,7 @@ each_below (suc n) of = each_below n of ++ of n
 
 -- a symbol in the output half
 abbrev pub heard_deeds : HeardEntry → List Deed
-heard_deeds heard.Accepted =
-    PacketIsPut (plain_packet 0) ∷ TurnIsTaken ∷ EventComes (Ctl (packet_accepted 0 31)) ∷ []
+heard_deeds heard.Accepted = put_and_turn ++ EventComes (Ctl (packet_accepted 0 31)) ∷ []
 heard_deeds heard.AcceptedOther = EventComes (Ctl (packet_accepted 0 31)) ∷ []
 heard_deeds heard.Retried = out_retry_stopped
 heard_deeds heard.RetriedOther = EventComes (Ctl (packet_retry 0 31)) ∷ []
@@ -92,22 +94,21 @@ heard_deeds heard.ResponseUnexpected = out_failed
 heard_deeds heard.OtherWhileErrorStopped = TimeOutFires ∷ EventComes (Ctl (answer 3 0 31)) ∷ []
 heard_deeds heard.AnyWhileFailed = out_failed ++ EventComes (Ctl (status 0 31)) ∷ []
 heard_deeds heard.AcceptedLast =
-    each_below 32 (λ ack. PacketIsPut (plain_packet 0) ∷ TurnIsTaken ∷ EventComes (Ctl (packet_accepted ack 31)) ∷ [])
+    each_below 32 (λ ack. put_and_turn ++ EventComes (Ctl (packet_accepted ack 31)) ∷ [])
 heard_deeds heard.ResponseFrees =
-    PacketIsPut (plain_packet 0) ∷ TurnIsTaken ∷ TimeOutFires ∷ TurnIsTaken ∷ EventComes (Ctl (link_response 1 16)) ∷ []
+    put_and_turn ++ (out_asked ++ EventComes (Ctl (link_response 1 16)) ∷ [])
 
 -- a turn
 abbrev pub turn_deeds : TurnEntry → List Deed
-turn_deeds turn.PacketSent = PacketIsPut (plain_packet 0) ∷ TurnIsTaken ∷ []
+turn_deeds turn.PacketSent = put_and_turn
 turn_deeds turn.RestartSent = out_retry_stopped ++ TurnIsTaken ∷ []
 turn_deeds turn.RequestSent = out_asked
 turn_deeds turn.NothingWaits = TurnIsTaken ∷ []
 turn_deeds turn.WindowIsFull =
-    each_below 16 (λ n. PacketIsPut (plain_packet 0) ∷ PacketIsPut (plain_packet 1) ∷ []) ++ replicate 32 TurnIsTaken
-turn_deeds turn.WithoutCredit =
-    EventComes (Ctl (status 0 3)) ∷ PacketIsPut (plain_packet 0) ∷ TurnIsTaken ∷ []
-turn_deeds turn.WithinCredit =
-    EventComes (Ctl (status 0 4)) ∷ PacketIsPut (plain_packet 0) ∷ TurnIsTaken ∷ []
+    each_below 16 (λ n. PacketIsPut (plain_packet 0) ∷ PacketIsPut (plain_packet 1) ∷ [])
+    ++ replicate 32 TurnIsTaken
+turn_deeds turn.WithoutCredit = EventComes (Ctl (status 0 3)) ∷ put_and_turn
+turn_deeds turn.WithinCredit = EventComes (Ctl (status 0 4)) ∷ put_and_turn
 turn_deeds turn.Overtakes =
     PacketIsPut (plain_packet 0) ∷ PacketIsPut (plain_packet 1) ∷ TurnIsTaken ∷ []
 turn_deeds turn.StatusSent = TurnIsTaken ∷ []
@@ -116,8 +117,7 @@ turn_deeds turn.TurnWhileFailed = out_failed ++ TurnIsTaken ∷ []
 
 -- a time-out
 abbrev pub time_out_deeds : TimeOutEntry → List Deed
-time_out_deeds time_out.TimeOutWhileOk =
-    PacketIsPut (plain_packet 0) ∷ TurnIsTaken ∷ TimeOutFires ∷ []
+time_out_deeds time_out.TimeOutWhileOk = put_and_turn ++ TimeOutFires ∷ []
 time_out_deeds time_out.TimeOutWhileErrorStopped = out_asked ++ TimeOutFires ∷ []
 time_out_deeds time_out.TimeOutWhileRetryStopped = out_retry_stopped ++ TimeOutFires ∷ []
 time_out_deeds time_out.TimeOutWhileFailed = out_failed ++ TimeOutFires ∷ []

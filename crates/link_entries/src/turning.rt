@@ -63,7 +63,8 @@ pub fn told_after(told: bool, symbol: &Symbol) -> bool
     ensures new { (tells : Bool) (buffers : ℕ) → IsReported false (new_port tells buffers).output }
     ensures turned { (port : PortState) → IsReported told port.output
         → IsReported told (turns_to port).output }
-    ensures timed_out { (output : Output) → IsReported told output → IsReported told (times_out output) }
+    ensures timed_out { (output : Output) → IsReported told output
+        → IsReported told (times_out output) }
 {
     if has_buffer_status(symbol.s0) {
         symbol.p1 < UNTOLD
