@@ -12,7 +12,8 @@ use Rattle.port_lines.specs.Requests.{SpellsGot}
 use Rattle.conform_lines.specs.declared.counting.Counted.{Counted}
 use Rattle.conform_lines.specs.Counting.{AnswerCounts, counts_none, counts_chars, counts_line, counts_then, SendsChars, LineComesTo, LinesComeTo, counted_event}
 
-abbrev made : List Counted → List ℕ → Place → AnswerCounts
+-- what lines come to, by its parts
+abbrev pub made : List Counted → List ℕ → Place → AnswerCounts
 made sent other place = record { sent = sent; other = other; place = place }
 
 both : (place : Place) (a b : List Counted) (c d : List ℕ) → a ≡ b → c ≡ d

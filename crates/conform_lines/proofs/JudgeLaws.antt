@@ -63,10 +63,19 @@ allowed_itself its text at counts same none comes = record {
 
 -- ---- of the code
 
-module _ (its : Leeway) (right came : List ℕ) (at : JudgeState)
+-- what the right answer and another come to, from where a judge stands
+module _ {shown at : JudgeState} (is : shown ≡ at) (its : Leeway) (right came : List ℕ)
     (right_counts came_counts : AnswerCounts)
-    (right_comes : LinesComeTo at.right (pieces_of right) right_counts)
-    (came_comes : LinesComeTo at.came (pieces_of came) came_counts) where
+    (right_shown : LinesComeTo shown.right (pieces_of right) right_counts)
+    (came_shown : LinesComeTo shown.came (pieces_of came) came_counts) where
+  pub right_comes : LinesComeTo at.right (pieces_of right) right_counts
+  right_comes =
+      subst (λ (j : JudgeState). LinesComeTo j.right (pieces_of right) right_counts) is right_shown
+
+  pub came_comes : LinesComeTo at.came (pieces_of came) came_counts
+  came_comes =
+      subst (λ (j : JudgeState). LinesComeTo j.came (pieces_of came) came_counts) is came_shown
+
   -- what holds of an answer that is allowed, by what both come to
   pub allowed_says : (next : JudgeState) → IsAllowedAnswer its right came at next
       → SaysAlike its right_counts.other came_counts.other
