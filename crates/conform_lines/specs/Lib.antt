@@ -3,3 +3,4 @@ pub mod Items
 pub mod Stimuli
 pub mod Counting
 pub mod Tolerances
+pub mod Saying

@@ -15,7 +15,7 @@ use rio_packets::Packet;
 use std::alloc::{AllocError, Global};
 
 /// The most characters of a line: no line of a port has so many.
-const MOST_CHARS: usize = 4_194_304;
+pub(crate) const MOST_CHARS: usize = 4_194_304;
 
 /// Something that a device sent, as far as it counts.
 #[derive(Debug, Drop)]
@@ -102,7 +102,7 @@ fn count_line(
 }
 
 /// The characters that a line sends, if it is one that does.
-fn read_sent(alloc: Global, line: &[u8]) -> Result<Option<Chars>, AllocError>
+pub(crate) fn read_sent(alloc: Global, line: &[u8]) -> Result<Option<Chars>, AllocError>
     ensures { IfOk result (λ read. MatchOption read
         ((chars : List AChar) → ¬ SendsChars line.now chars) (SendsChars line.now)) }
 {

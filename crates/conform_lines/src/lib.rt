@@ -8,6 +8,7 @@
 //!
 //! - `read_stimulus`: what a line asks of a device; `write_stimulus`: the line that it is asked
 //! - `expect`: the answer that the tables give
+//! - `write_said`: what an answer says, in the words of a scenario
 //! - [`Judge`]: whether an answer may differ from it; [`leeway_of`]: what a line bears on that
 #![tactic(auto)]
 
@@ -16,6 +17,7 @@ mod expected;
 mod items;
 mod judging;
 mod laws;
+mod saying;
 mod stimuli;
 mod symbols;
 
@@ -23,4 +25,5 @@ pub use counting::Counted;
 pub use expected::expect;
 pub use judging::{Judge, Leeway, Owed, leeway_of};
 pub use laws::{allowed_answers_send_the_same, right_answers_are_allowed};
+pub use saying::write_said;
 pub use stimuli::{read_stimulus, write_stimulus};

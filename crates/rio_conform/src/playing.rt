@@ -57,7 +57,7 @@ pub fn play<S: Source, K: Sink>(
     let mut outbox = Outbox::new(&mut buffer, sink);
     let verdict = play_lines(alloc, strict, &mut trial, lines, source, &mut outbox);
     outbox.into_sink();
-    match push_details(details, verdict, lines, &trial) {
+    match push_details(alloc, details, verdict, lines, &trial) {
         Ok(()) => verdict,
         Err(_) => Verdict::Stopped(LiveStatus::NoMemory),
     }

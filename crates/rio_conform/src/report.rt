@@ -4,28 +4,40 @@ ghost use Rattle.rio_conform.specs.Report.{HasDetails};
 
 use crate::trial::Trial;
 use crate::verdict::Verdict;
-use std::alloc::AllocError;
+use conform_lines::write_said;
+use live_lines::TextSink;
+use rio_chars::{NoMemory, Outbox, TextBuffer};
+use rio_framer::Framer;
+use std::alloc::{AllocError, Global};
+
+/// What stands before what characters say.
+const SAYS: &[u8] = b"    # says: ";
 
 /// Adds what there is to tell of the line at which a scenario ended, unless it passes.
 pub(crate) fn push_details(
+    alloc: Global,
     details: &mut Vec<u8>,
     verdict: Verdict,
     lines: &[String],
     trial: &Trial,
-) -> Result<(), AllocError>
+) -> Result<(), NoMemory>
     ensures { OnOk result (HasDetails verdict details.old.items details.new.items) }
 {
     match verdict {
         Verdict::Passes | Verdict::Stopped(_) => Ok(()),
-        Verdict::Misspelled(count) => push_head(details, b"# ", lines, count),
+        Verdict::Misspelled(count) => {
+            push_head(details, b"# ", lines, count)?;
+            Ok(())
+        }
         Verdict::Differs(count) | Verdict::Ended(count) => {
             details.extend_from_slice(b"  ---\n")?;
             push_head(details, b"  ", lines, count)?;
             details.extend_from_slice(b"  expected: |\n")?;
-            push_lines(details, trial.expected.as_slice())?;
+            push_answer(alloc, details, trial.expected.as_slice())?;
             details.extend_from_slice(b"  came: |\n")?;
-            push_lines(details, trial.came.as_slice())?;
-            details.extend_from_slice(b"  ...\n")
+            push_answer(alloc, details, trial.came.as_slice())?;
+            details.extend_from_slice(b"  ...\n")?;
+            Ok(())
         }
     }
 }
@@ -58,15 +70,42 @@ fn push_number(details: &mut Vec<u8>, count: usize) -> Result<(), AllocError> {
     refusal_words::push_number(details, number)
 }
 
-/// Adds lines, each behind four spaces.
-fn push_lines(details: &mut Vec<u8>, text: &[u8]) -> Result<(), AllocError> {
-    let mut begins = true;
-    for byte in text {
-        if begins {
-            details.extend_from_slice(b"    ")?;
-        }
-        details.push(*byte)?;
-        begins = *byte == b'\n';
+/// Adds the lines of an answer, each behind four spaces, and behind each that sends characters what
+/// these say.
+fn push_answer(alloc: Global, details: &mut Vec<u8>, text: &[u8]) -> Result<(), NoMemory> {
+    if text.is_empty() {
+        return Ok(());
     }
+    let mut reader = Framer::new();
+    let mut buffer = TextBuffer::new(alloc)?;
+    let body = text.get(..text.len().saturating_sub(1)).unwrap_or(b"");
+    for line in body.split(|byte| *byte == b'\n') {
+        details.extend_from_slice(b"    ")?;
+        details.extend_from_slice(line)?;
+        details.extend_from_slice(b"\n")?;
+        push_said(alloc, details, line, &mut reader, &mut buffer)?;
+    }
+    Ok(())
+}
+
+/// Adds what a line of an answer says.
+fn push_said(
+    alloc: Global,
+    details: &mut Vec<u8>,
+    line: &[u8],
+    reader: &mut Framer,
+    buffer: &mut TextBuffer,
+) -> Result<(), NoMemory> {
+    let mut said = TextSink::new(alloc);
+    let mut outbox = Outbox::new(buffer, &mut said);
+    let told = write_said(alloc, reader, line, SAYS, &mut outbox);
+    outbox.flush();
+    let failed = outbox.failed();
+    outbox.into_sink();
+    told?;
+    if failed {
+        return Err(NoMemory);
+    }
+    details.extend_from_slice(said.as_slice())?;
     Ok(())
 }
