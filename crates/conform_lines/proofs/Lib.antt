@@ -1,3 +1,4 @@
 pub mod TellingLaws
 pub mod CountLaws
 pub mod JudgeLaws
+pub mod ItemLaws

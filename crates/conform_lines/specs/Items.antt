@@ -1,5 +1,5 @@
 -- What a line of a scenario puts on the wire.
-use Rattle.std.specs.Prelude.{◌≡◌, ℕ, ◌+◌, ◌-◌, ◌%◌, ◌<◌, ◌≤◌, ◌==◌, if◌then◌else◌, List, [], ◌∷◌, ◌++◌, All, codes, length, slice_set, slice_index, slice_range}
+use Rattle.std.specs.Prelude.{◌≡◌, ℕ, ◌+◌, ◌-◌, ◌%◌, ◌<◌, ◌≤◌, ◌==◌, if◌then◌else◌, List, [], ◌∷◌, ◌++◌, All, Option, Some, None, codes, length, slice_set, slice_index, slice_range}
 use Rattle.std.specs.Fmt.{decimal}
 use Rattle.rio_chars.specs.declared.chars.Char.{Char}
 use Rattle.fabric_script.specs.Texts.{hex_text}
@@ -61,6 +61,11 @@ SpellsItem (Spoiled bytes) words = (behind : List (List ℕ)) × (right : List �
     × (4 < length right) × (bytes.items ≡ slice_set right 4 (bit_turned (slice_index right 4)))
 SpellsItem (Part bytes) words = (behind : List (List ℕ)) × (words ≡ codes "part" ∷ behind)
     × SpellsPart behind bytes.items
+
+-- what is read of words: the item that they spell, or they spell none
+abbrev pub ReadsItem : Option LinkItem → List (List ℕ) → Type 0
+ReadsItem (Some item) words = SpellsItem item words
+ReadsItem None words = (item : LinkItem) → ¬ SpellsItem item words
 
 -- a start-of-packet symbol, bytes, and an end-of-packet symbol
 abbrev pub packet_between : List ℕ → List Char

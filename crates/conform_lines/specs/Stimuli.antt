@@ -17,11 +17,12 @@ SpellsWire request words =
     (item : LinkItem) × SpellsItem item words × (request ≡ Got (item_chars item))
 
 -- What was read of a line of a scenario: that characters come which its words spell, or what it
--- asks of a port as it is; or it asks nothing of a port, and this is why.
+-- asks of a port as it is; or it spells no characters and asks nothing of a port, and this is why.
 abbrev pub ReadsStimulus : List ℕ → Result PortRequest RequestRefusal → Type 0
 ReadsStimulus line (Ok request) =
     SpellsWire request (words_of line) ⊎ AsksRequest request (words_of line)
-ReadsStimulus line (Err refusal) = ReadsLine line (Err refusal)
+ReadsStimulus line (Err refusal) =
+    ((request : PortRequest) → ¬ SpellsWire request (words_of line)) × ReadsLine line (Err refusal)
 
 -- the line that a device is asked, without its line feed
 abbrev pub stimulus_line : List ℕ → PortRequest → List ℕ

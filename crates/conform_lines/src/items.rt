@@ -1,5 +1,5 @@
 //! What a line of a scenario puts on the wire.
-ghost use Rattle.std.specs.Prelude.{◌≡◌, ◌<◌, ◌++◌, ◌∷◌, codes, IfOk, IfSome, OnOk, slice_set, slice_index};
+ghost use Rattle.std.specs.Prelude.{◌≡◌, ◌≢◌, ◌<◌, ◌++◌, ◌∷◌, codes, IfOk, IfSome, OnOk, MatchOption, List, ℕ, slice_set, slice_index};
 ghost use Rattle.std.specs.Fmt.{decimal};
 ghost use Rattle.fabric_script.specs.Lines.{words_of};
 ghost use Rattle.fabric_script.specs.Words.{words_left};
@@ -8,7 +8,7 @@ ghost use Rattle.port_lines.specs.Requests.{AsksRequest};
 ghost use Rattle.port_lines.specs.declared.requests.PortRequest.TheVariants as Asks;
 ghost use Rattle.conform_lines.specs.declared.symbols.SymbolName.{SymbolName as AName};
 ghost use Rattle.conform_lines.specs.Names.{symbol_word};
-ghost use Rattle.conform_lines.specs.Items.{SpellsItem, SpellsLinkBytes, SpellsParameters, bit_turned, item_chars, packet_between};
+ghost use Rattle.conform_lines.specs.Items.{ReadsItem, SpellsLinkBytes, SpellsParameters, bit_turned, item_chars, packet_between};
 
 use crate::symbols::{SymbolName, symbol_named, symbol_of};
 use arrayvec::ArrayVec;
@@ -37,7 +37,7 @@ pub(crate) enum LinkItem {
 
 /// What a line puts on the wire, if it is spelled as one that does.
 pub(crate) fn read_item(alloc: Global, line: &[u8]) -> Result<Option<LinkItem>, AllocError>
-    ensures { IfOk result (λ read. IfSome read (λ item. SpellsItem item (words_of line.now))) }
+    ensures { IfOk result (λ read. ReadsItem read (words_of line.now)) }
 {
     let (word, rest) = split_word(line);
     if let Some(name) = symbol_named(word) {
@@ -54,7 +54,7 @@ pub(crate) fn read_item(alloc: Global, line: &[u8]) -> Result<Option<LinkItem>, 
 
 /// The symbol of a name, with the parameters that the words behind it spell.
 fn read_symbol(name: SymbolName, words: Option<&[u8]>) -> Option<LinkItem>
-    ensures { IfSome result (λ item. SpellsItem item (symbol_word name ∷ words_left words.entry)) }
+    ensures { ReadsItem result (symbol_word name ∷ words_left words.entry) }
 {
     let (p0, p1) = read_parameters(words)?;
     Some(LinkItem::Symbol(symbol_of(name, p0, p1)))
@@ -62,7 +62,9 @@ fn read_symbol(name: SymbolName, words: Option<&[u8]>) -> Option<LinkItem>
 
 /// The two parameters of a symbol: if they are not spelled, the first is 0, and the second 31.
 fn read_parameters(words: Option<&[u8]>) -> Option<(u8, u8)>
-    ensures spells { IfSome result (λ both. SpellsParameters (words_left words.entry) both.0 both.1) }
+    ensures spells { MatchOption result
+        ((p0 p1 : ℕ) → ¬ SpellsParameters (words_left words.entry) p0 p1)
+        (λ both. SpellsParameters (words_left words.entry) both.0 both.1) }
     ensures first { IfSome result (λ both. both.0 < 32) }
     ensures second { IfSome result (λ both. both.1 < 32) }
 {
@@ -83,7 +85,8 @@ fn read_parameters(words: Option<&[u8]>) -> Option<(u8, u8)>
 
 /// A number below 32.
 fn read_five_bits(word: &[u8]) -> Option<u8>
-    ensures spells { IfSome result (λ number. word.now ≡ decimal number) }
+    ensures spells { MatchOption result ((n : ℕ) → n < 32 → word.now ≢ decimal n)
+        (λ number. word.now ≡ decimal number) }
     ensures small { IfSome result (λ number. number < 32) }
 {
     match read_number(word) {
@@ -94,15 +97,15 @@ fn read_five_bits(word: &[u8]) -> Option<u8>
 
 /// Data characters with the bytes that the word spells.
 fn read_data(alloc: Global, words: Option<&[u8]>) -> Result<Option<LinkItem>, AllocError>
-    ensures { IfOk result (λ read. IfSome read (λ item.
-        SpellsItem item (codes "data" ∷ words_left words.entry))) }
+    ensures { IfOk result (λ read. ReadsItem read (codes "data" ∷ words_left words.entry)) }
 {
     let Some(text) = words else {
         return Ok(None);
     };
-    let (word, None) = split_word(text) else {
+    let (word, more) = split_word(text);
+    if more.is_some() {
         return Ok(None);
-    };
+    }
     match read_bytes(alloc, word)? {
         Some(bytes) => Ok(Some(LinkItem::Data(bytes))),
         None => Ok(None),
@@ -111,8 +114,7 @@ fn read_data(alloc: Global, words: Option<&[u8]>) -> Result<Option<LinkItem>, Al
 
 /// A packet as it is sent.
 fn read_packet(alloc: Global, words: Option<&[u8]>) -> Result<Option<LinkItem>, AllocError>
-    ensures { IfOk result (λ read. IfSome read (λ item.
-        SpellsItem item (codes "packet" ∷ words_left words.entry))) }
+    ensures { IfOk result (λ read. ReadsItem read (codes "packet" ∷ words_left words.entry)) }
 {
     match read_link_bytes(alloc, words)? {
         Some(bytes) => Ok(Some(LinkItem::Packet(bytes))),
@@ -122,8 +124,7 @@ fn read_packet(alloc: Global, words: Option<&[u8]>) -> Result<Option<LinkItem>, 
 
 /// A packet whose fifth byte has a wrong bit.
 fn read_spoiled(alloc: Global, words: Option<&[u8]>) -> Result<Option<LinkItem>, AllocError>
-    ensures { IfOk result (λ read. IfSome read (λ item.
-        SpellsItem item (codes "spoiled" ∷ words_left words.entry))) }
+    ensures { IfOk result (λ read. ReadsItem read (codes "spoiled" ∷ words_left words.entry)) }
 {
     let Some(mut bytes) = read_link_bytes(alloc, words)? else {
         return Ok(None);
@@ -145,24 +146,30 @@ fn turn(byte: u8) -> u8
 
 /// The bytes of a packet from a place on, up to another.
 fn read_part(alloc: Global, words: Option<&[u8]>) -> Result<Option<LinkItem>, AllocError>
-    ensures { IfOk result (λ read. IfSome read (λ item.
-        SpellsItem item (codes "part" ∷ words_left words.entry))) }
+    ensures { IfOk result (λ read. ReadsItem read (codes "part" ∷ words_left words.entry)) }
 {
     let Some(text) = words else {
         return Ok(None);
     };
-    let (first, Some(behind)) = split_word(text) else {
+    let (first, rest) = split_word(text);
+    let Some(behind) = rest else {
         return Ok(None);
     };
-    let (second, rest) = split_word(behind);
-    let (Some(from), Some(to)) = (read_number(first), read_number(second)) else {
+    let (second, last) = split_word(behind);
+    let Some(from) = read_number(first) else {
         return Ok(None);
     };
-    let Some(bytes) = read_link_bytes(alloc, rest)? else {
+    let Some(to) = read_number(second) else {
+        return Ok(None);
+    };
+    let Some(bytes) = read_link_bytes(alloc, last)? else {
         return Ok(None);
     };
     let (from, to) = (from as usize, to as usize);
-    if to < from || bytes.len() < to {
+    if to < from {
+        return Ok(None);
+    }
+    if bytes.len() < to {
         return Ok(None);
     }
     let mut part = Vec::new(alloc);
@@ -176,13 +183,15 @@ fn read_link_bytes(
     alloc: Global,
     words: Option<&[u8]>,
 ) -> Result<Option<ArrayVec<u8, MAX_BYTES>>, AllocError>
-    ensures { IfOk result (λ read. IfSome read (λ bytes.
-        SpellsLinkBytes (words_left words.entry) bytes.items)) }
+    ensures { IfOk result (λ read. MatchOption read
+        ((bytes : List ℕ) → ¬ SpellsLinkBytes (words_left words.entry) bytes)
+        (λ bytes. SpellsLinkBytes (words_left words.entry) bytes.items)) }
 {
     let Some(text) = words else {
         return Ok(None);
     };
-    let (word, Some(line)) = split_word(text) else {
+    let (word, rest) = split_word(text);
+    let Some(line) = rest else {
         return Ok(None);
     };
     let Some(ack) = read_five_bits(word) else {
@@ -196,8 +205,9 @@ fn read_link_bytes(
 
 /// The packet that a port is given by a line.
 fn read_send(alloc: Global, line: &[u8]) -> Result<Option<Packet>, AllocError>
-    ensures { IfOk result (λ read. IfSome read (λ packet.
-        AsksRequest (Asks.Send packet) (words_of line.now))) }
+    ensures { IfOk result (λ read. MatchOption read
+        ((packet : List ℕ) → ¬ AsksRequest (Asks.Send packet) (words_of line.now))
+        (λ packet. AsksRequest (Asks.Send packet) (words_of line.now))) }
 {
     match read_request(alloc, line)? {
         Ok(request) => Ok(sent(request)),
@@ -207,7 +217,8 @@ fn read_send(alloc: Global, line: &[u8]) -> Result<Option<Packet>, AllocError>
 
 /// The packet that is to be sent, if this is asked for.
 fn sent(request: PortRequest) -> Option<Packet>
-    ensures { IfSome result (λ packet. request ≡ Asks.Send packet) }
+    ensures { MatchOption result ((packet : List ℕ) → request ≢ Asks.Send packet)
+        (λ packet. request ≡ Asks.Send packet) }
 {
     match request {
         PortRequest::Send(packet) => Some(packet),
