@@ -5,11 +5,10 @@ use Rattle.std.specs.Io.KnownBytes.{Consumes}
 use Rattle.std.proofs.KnownBytes.{Consumes-trans, Consumes-nil}
 use Rattle.std.proofs.lemmas.Grind.{flat_map-append}
 use Rattle.std.proofs.lemmas.List.Elements.{All-nil, All-push}
-use Rattle.std.specs.Io.KnownBytes.{IsAtEnd}
 use Rattle.live_lines.specs.declared.input.LineEnd.{LineEnd}
 use Rattle.live_lines.specs.declared.input.LineEnd.TheVariants.{End, Fault, TooLong, NoMemory}
 use Rattle.live_lines.specs.Lines.{IsLine, LinesStop, with_feed}
-use Rattle.rio_conform.specs.Answers.{Came}
+use Rattle.rio_conform.specs.Answers.{Came, EndsEarly}
 
 -- Lines of an answer were read, of which none is `ok`.
 pub record ReadSoFar (left left_now : Option (List ℕ)) (pending pending_now answer : List ℕ)
@@ -69,10 +68,29 @@ module _ {left mid last : Option (List ℕ)} {pending pending_mid pending_last a
   pub ReadSoFar-came : Came left last pending pending_last (answer ++ with_feed line)
   ReadSoFar-came = came
 
--- if there is no further line since the source is at its end, it is
-pub ended_at : (end : LineEnd) (left : Option (List ℕ)) (faults faults_after : ℕ) (bytes : List ℕ)
-    → LinesStop end left faults faults_after bytes → end ≡ End → IsAtEnd left
-ended_at End left faults faults_after bytes stops same = stops.0
-ended_at Fault left faults faults_after bytes stops same = absurd cc
-ended_at TooLong left faults faults_after bytes stops same = absurd cc
-ended_at NoMemory left faults faults_after bytes stops same = absurd cc
+-- the source is at its end behind such lines
+pub ended_at : {left mid last : Option (List ℕ)} {pending pending_mid answer : List ℕ}
+    (end : LineEnd) (faults faults_after : ℕ) → ReadSoFar left mid pending pending_mid answer
+    → ((taken : List ℕ) × Consumes mid last taken
+    × LinesStop end last faults faults_after (pending_mid ++ taken))
+    → end ≡ End → EndsEarly left last pending
+ended_at {left} {mid} {last} {pending} {pending_mid} {answer} End faults faults_after h k same =
+    record {
+      at_end = k.2.0;
+      taken = h.came.taken ++ k.0;
+      read = Consumes-trans left mid last h.came.taken k.0 h.came.read k.1;
+      none = record {
+        lines = h.lines;
+        are_lines = h.are_lines;
+        none_ends = h.none_ends;
+        behind = pending_mid ++ k.0;
+        no_feed = k.2.1;
+        came_is =
+            sym (append_assoc pending h.came.taken k.0) ∙ ap (λ l. l ++ k.0) h.came.are
+            ∙ append_assoc answer pending_mid k.0
+            ∙ ap (λ l. l ++ (pending_mid ++ k.0)) h.answer_is;
+      };
+    }
+ended_at Fault faults faults_after h k same = absurd cc
+ended_at TooLong faults faults_after h k same = absurd cc
+ended_at NoMemory faults faults_after h k same = absurd cc

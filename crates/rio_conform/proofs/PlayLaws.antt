@@ -206,7 +206,19 @@ module _ (strict : Bool) (begun : Outgoing) (port : ClockedState) (at : JudgeSta
       done = h.done;
       played = h.played;
       are_played = h.are_played;
-      says = (line, (behind, goes_on, number), f);
+      says = (
+        line,
+        (behind, goes_on, number),
+        record {
+          at_end = f.at_end;
+          came = pending ++ f.taken;
+          gave =
+              subst (Consumes left left_next) (append_assoc h.played.answers pending f.taken)
+              (Consumes-trans left left_now left_next (h.played.answers ++ pending) f.taken h.gave
+              f.read);
+          none = f.none;
+        },
+      );
     }
       where
         number : count ≡ length h.done

@@ -1,4 +1,5 @@
 pub mod Answers
 pub mod Plays
+pub mod RightDevices
 pub mod Report
 pub mod Program

@@ -12,7 +12,7 @@ use Rattle.rio_conform.specs.declared.verdict.Verdict.{Verdict}
 use Rattle.rio_conform.specs.declared.verdict.Verdict.TheVariants.{Passes, Differs, Ended, Misspelled, Stopped}
 use Rattle.rio_conform.specs.declared.playing.Failing.{Failing}
 use Rattle.rio_conform.specs.declared.playing.Failing.TheVariants as TheFailing
-use Rattle.rio_conform.specs.Answers.{IsDeviceAnswer, Came}
+use Rattle.rio_conform.specs.Answers.{IsDeviceAnswer, Came, HasNoAnswer, EndsEarly}
 
 -- An answer passes for the right one: strictly only if it is the same, and else if it is allowed
 -- for it.
@@ -40,11 +40,15 @@ played_by port judged line request answer = record {
 }
 
 -- of a line of a scenario
-abbrev pub IsPlayed : Bool → ClockedState → JudgeState → List ℕ → Played → Type 0
-IsPlayed strict port at line played = (request : PortRequest) × (came : List ℕ)
-    × (next : JudgeState) × ReadsStimulus line (Ok request)
-    × PassesAnswer strict request (asked_answer port (Ok request)).text came at next
-    × (played ≡ played_by port next line request came)
+pub record IsPlayed (strict : Bool) (port : ClockedState) (at : JudgeState) (line : List ℕ)
+    (played : Played) : Type 0 where
+  pub request : PortRequest
+  pub came : List ℕ
+  pub next : JudgeState
+  pub reads : ReadsStimulus line (Ok request)
+  pub answer : IsDeviceAnswer came
+  pub passes : PassesAnswer strict request (asked_answer port (Ok request)).text came at next
+  pub is : played ≡ played_by port next line request came
 
 -- nothing is asked
 abbrev pub played_none : ClockedState → JudgeState → Played
@@ -76,6 +80,13 @@ ScenarioGoesOn lines done line count = (rest : List (List ℕ)) × (lines ≡ do
 abbrev pub DeviceGave : Option (List ℕ) → Option (List ℕ) → List ℕ → Type 0
 DeviceGave left left_after bytes = (behind : List ℕ) × Consumes left left_after (bytes ++ behind)
 
+-- the device ended: it gave these bytes, and behind them no answer
+pub record DeviceEnded (left left_after : Option (List ℕ)) (before : List ℕ) : Type 0 where
+  pub at_end : IsAtEnd left_after
+  pub came : List ℕ
+  pub gave : Consumes left left_after (before ++ came)
+  pub none : HasNoAnswer came
+
 -- the answer of the next line is an answer, and does not pass
 pub record AnswersWrong (strict : Bool) (port : ClockedState) (at : JudgeState) (line : List ℕ)
     (left left_after : Option (List ℕ)) (before : List ℕ) : Type 0 where
@@ -97,7 +108,8 @@ VerdictSays strict (Differs count) lines done played left left_after written wri
     (line : List ℕ) × ScenarioGoesOn lines done line count
     × AnswersWrong strict played.port played.judged line left left_after played.answers
 VerdictSays strict (Ended count) lines done played left left_after written written_after =
-    (line : List ℕ) × ScenarioGoesOn lines done line count × IsAtEnd left_after
+    (line : List ℕ) × ScenarioGoesOn lines done line count
+    × DeviceEnded left left_after played.answers
 VerdictSays strict (Misspelled count) lines done played left left_after written written_after =
     (line : List ℕ) × ScenarioGoesOn lines done line count
     × ((refusal : RequestRefusal) × ReadsStimulus line (Err refusal))
@@ -131,6 +143,7 @@ pub record AnswerPasses (strict : Bool) (request : PortRequest) (right : List �
     (at next : JudgeState) (left left_after : Option (List ℕ)) (pending pending_after : List ℕ)
     : Type 0 where
   pub answer : List ℕ
+  pub is_answer : IsDeviceAnswer answer
   pub came : Came left left_after pending pending_after answer
   pub passes : PassesAnswer strict request right answer at next
 
@@ -141,7 +154,7 @@ AnswerFails strict TheFailing.Differs request right at left left_after pending p
     (came : List ℕ) × IsDeviceAnswer came × Came left left_after pending pending_after came
     × ((next : JudgeState) → ¬ PassesAnswer strict request right came at next)
 AnswerFails strict TheFailing.Ended request right at left left_after pending pending_after =
-    IsAtEnd left_after
+    EndsEarly left left_after pending
 AnswerFails strict TheFailing.Misspelled request right at left left_after pending pending_after =
     ⊥
 AnswerFails strict (TheFailing.Stopped status) request right at left left_after pending
@@ -163,7 +176,7 @@ Fails strict TheFailing.Differs line port at left left_after pending pending_aft
     × AnswerFails strict TheFailing.Differs request (asked_answer port (Ok request)).text at
     left left_after pending pending_after
 Fails strict TheFailing.Ended line port at left left_after pending pending_after =
-    IsAtEnd left_after
+    EndsEarly left left_after pending
 Fails strict TheFailing.Misspelled line port at left left_after pending pending_after =
     (refusal : RequestRefusal) × ReadsStimulus line (Err refusal)
 Fails strict (TheFailing.Stopped status) line port at left left_after pending pending_after =

@@ -1,9 +1,8 @@
 //! The answers of a device.
 ghost use Rattle.std.specs.Prelude.{◌≡◌, ◌++◌, ◌↔◌, IsTrue, codes, OnOk, IfErr};
-ghost use Rattle.std.specs.Io.KnownBytes.{IsAtEnd};
 ghost use Rattle.live_lines.specs.declared.input.LineEnd.TheVariants.{End};
 ghost use Rattle.live_lines.specs.Lines.{with_feed};
-ghost use Rattle.rio_conform.specs.Answers.{IsDeviceAnswer, Came};
+ghost use Rattle.rio_conform.specs.Answers.{IsDeviceAnswer, Came, EndsEarly};
 
 use live_lines::{LineEnd, LineReader};
 use rio_chars::Source;
@@ -22,7 +21,8 @@ pub(crate) fn read_answer<S: Source>(
     ensures answer { OnOk result (IsDeviceAnswer answer.new.items) }
     ensures read { OnOk result
         (Came (S.left source.old) (S.left source.new) input.old input.new answer.new.items) }
-    ensures ended { IfErr result (λ end. end ≡ End → IsAtEnd (S.left source.new)) }
+    ensures ended { IfErr result (λ end. end ≡ End
+        → EndsEarly (S.left source.old) (S.left source.new) input.old) }
 {
     answer.clear();
     let mut left = MOST_LINES;

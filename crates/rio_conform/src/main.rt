@@ -9,17 +9,20 @@
 //! - `run`: the whole program, over any source, sink and sink of messages; `main` gives it the
 //!   words and the standard streams by `start_lines` of `live_lines`, and does nothing more.
 //! - `play`: the same of the lines of a scenario; [`Verdict`]: what came of it.
+//! - `right_devices_pass`: a law, that a device passes which gives the answers of the tables.
 //!
 //! If the system does not give the arguments, the status is 1 and nothing is written.
 #![tactic(auto)]
 
 mod answers;
+mod laws;
 mod playing;
 mod program;
 mod report;
 mod trial;
 mod verdict;
 
+pub use laws::right_devices_pass;
 use live_lines::start_lines;
 pub use playing::play;
 use program::read_asked;

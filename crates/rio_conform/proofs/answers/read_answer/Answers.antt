@@ -1,7 +1,7 @@
 use Rattle.std.proofs.Common.{◌≡◌, ◌≢◌, ◌++◌, IsTrue, codes, sym, ap, ◌∙◌, subst}
 use Rattle.live_lines.specs.Lines.{with_feed}
 use Rattle.rio_conform.specs.Answers.{Came}
-use Rattle.rio_conform.proofs.AnswerLaws.{ReadSoFar, ReadSoFar-more, ReadSoFar-came}
+use Rattle.rio_conform.proofs.AnswerLaws.{ReadSoFar, ReadSoFar-more, ReadSoFar-came, ended_at}
 use Rattle.rio_conform.proofs.answers.read_answer.Goals as goal
 
 pub returns-then-ends_answer-clause-read : goal.returns-then-ends_answer-clause-read
@@ -27,3 +27,8 @@ loop-left-preserved g c =
     c.args.input.now c.read_line.new.self) (sym is)
     (ReadSoFar-more line c.loop-left.invariant c.in_default.ensures.line
     c.in_default.ensures.read other)
+
+pub returns-in-Err-clause-ended : goal.returns-in-Err-clause-ended
+returns-in-Err-clause-ended g c =
+    ended_at c.in-Err.end (g.S.Source.faults c.loop-left.source)
+    (g.S.Source.faults c.read_line.new.source) c.loop-left.invariant c.in-Err.ensures.stops

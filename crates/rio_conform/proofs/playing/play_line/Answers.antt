@@ -21,14 +21,15 @@ returns-in-Ok-answer_line-clause-right g c =
       played =
           played_by c.args.trial.now.port c.answer_line.new.trial.judge line request
           right.answer;
-      is = (
-        request,
-        right.answer,
-        c.answer_line.new.trial.judge,
-        c.in-Ok.ensures.reads,
-        right.passes,
-        refl,
-      );
+      is = record {
+        request = request;
+        came = right.answer;
+        next = c.answer_line.new.trial.judge;
+        reads = c.in-Ok.ensures.reads;
+        answer = right.is_answer;
+        passes = right.passes;
+        is = refl;
+      };
       stands = c.in-Ok-answer_line.ensures.port;
       judged = refl;
       told =
