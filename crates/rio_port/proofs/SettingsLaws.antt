@@ -1,5 +1,5 @@
 -- Words that ask how a port is made.
-use Rattle.std.proofs.Common.{◌≡◌, ◌≢◌, ℕ, ◌<◌, ◌≤◌, ◌^◌, Bool, true, false, inl, inr, List, [], ◌∷◌, codes, drop, get_or, sym, ap, subst, ◌∙◌, refl, arith}
+use Rattle.std.proofs.Common.{◌≡◌, ◌≢◌, ℕ, ◌≤◌, Bool, true, false, inl, inr, List, [], ◌∷◌, codes, drop, get_or, sym, ap, subst, ◌∙◌, refl, arith}
 use Rattle.std.specs.Fmt.{decimal}
 use Rattle.std.proofs.lemmas.Fmt.{first_decimal}
 use Rattle.rio_port.specs.Program.{AskPatience, AskTaking, AskMaking, SplitsBuffers, SplitsTaking}

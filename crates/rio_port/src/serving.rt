@@ -22,6 +22,36 @@ pub struct Served {
     pub failed: bool,
 }
 
+/// What a port needs to be served: itself, what was read, room for what is written, and its log.
+#[derive(Drop)]
+struct Desk {
+    port: ClockedPort,
+    input: LineReader,
+    buffer: TextBuffer,
+    log: Log,
+}
+
+impl Desk {
+    /// A port that is made so, before the first line. A log of a device and the port by these names
+    /// is begun, if one is asked for.
+    fn new(alloc: Global, settings: PortSettings, logs: LogWords) -> Result<Desk, NoMemory>
+        requires least { 4 ≤ settings.buffers }
+        requires most { settings.buffers ≤ 30 }
+        ensures port { IfOk result (λ desk. desk.port ≡ new_clocked settings) }
+        ensures input { IfOk result (λ desk. desk.input ≡ []) }
+        ensures asked { IfOk result (λ desk. desk.log.is_asked ≡ logs.entry.is_asked) }
+        ensures fine { IfOk result (λ desk. desk.log.failed ≡ false) }
+    {
+        let buffers = settings.buffers;
+        Ok(Desk {
+            port: ClockedPort::new(alloc, settings)?,
+            input: LineReader::new(alloc)?,
+            buffer: TextBuffer::new(alloc)?,
+            log: Log::new(alloc, logs, buffers)?,
+        })
+    }
+}
+
 /// Reads lines, and answers each before the next is asked for, with a port that is made so, of 4 to
 /// 30 buffers. A log of a device and the port by these names is written to `messages`, if one is
 /// asked for.
@@ -42,36 +72,24 @@ pub fn serve<S: Source, K: Sink, M: Sink>(
     ensures logs { AddsLog logs.entry.is_asked (M.written messages.old) (M.faults messages.old)
         false (M.written messages.new) (M.faults messages.new) result.failed }
 {
-    let Ok(mut port) = ClockedPort::new(alloc, settings) else {
+    let Ok(desk) = Desk::new(alloc, settings, logs) else {
         return Served::without_memory();
     };
-    let Ok(mut input) = LineReader::new(alloc) else {
-        return Served::without_memory();
-    };
-    let Ok(mut buffer) = TextBuffer::new(alloc) else {
-        return Served::without_memory();
-    };
-    let Ok(mut log) = Log::new(alloc, logs, settings.buffers) else {
-        return Served::without_memory();
-    };
+    let Desk {
+        mut port,
+        mut input,
+        mut buffer,
+        mut log,
+    } = desk;
     log.write(messages);
     let mut outbox = Outbox::new(&mut buffer, sink);
-    let status = serve_lines(
-        alloc,
-        &mut port,
-        &mut input,
-        &mut log,
-        source,
-        &mut outbox,
-        messages,
-    );
+    let (port, input) = (&mut port, &mut input);
+    let status = serve_lines(alloc, port, input, &mut log, source, &mut outbox, messages);
     outbox.into_sink();
     log.end(status);
     log.write(messages);
-    Served {
-        status,
-        failed: log.failed,
-    }
+    let failed = log.failed;
+    Served { status, failed }
 }
 
 impl Served {

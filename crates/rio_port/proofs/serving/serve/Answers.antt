@@ -7,21 +7,9 @@ pub returns-in_default-clause-serves : goal.returns-in_default-clause-serves
 returns-in_default-clause-serves g c =
     unserved _ _ _ _ _ _ c.without_memory.ensures.status
 
-pub returns-in_default-new-clause-serves : goal.returns-in_default-new-clause-serves
-returns-in_default-new-clause-serves g c =
-    unserved _ _ _ _ _ _ c.without_memory-in_default-new.ensures.status
-
-pub returns-in_default-new-2-clause-serves : goal.returns-in_default-new-2-clause-serves
-returns-in_default-new-2-clause-serves g c =
-    unserved _ _ _ _ _ _ c.without_memory-in_default-new-2.ensures.status
-
-pub returns-in_default-new-3-clause-serves : goal.returns-in_default-new-3-clause-serves
-returns-in_default-new-3-clause-serves g c =
-    unserved _ _ _ _ _ _ c.without_memory-in_default-new-3.ensures.status
-
 pub returns-clause-logs : goal.returns-clause-logs
 returns-clause-logs g c =
-    let new = c.in-Ok-new-3.ensures in
+    let new = c.in-Ok.ensures in
     let asked = c.write.ensures.asked ∙ new.asked in
     AddsLog-then _ _ _ _ _ _ _ _ _ _
     (AddsLog-then _ _ _ _ _ _ _ _ _ _
