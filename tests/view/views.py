@@ -49,6 +49,11 @@ class Run:
         self.ports = [port for link in self.links for port in link]
         self.buffers = {words[1]: int(words[2]) for words in (line.split(" ") for line in set_up)
                         if words[0] == "buffers"}
+        self.telling = {line.split(" ")[1] for line in set_up if line.startswith("credits ")}
+
+    def made_ports(self):
+        """A port at rest for each end of a link."""
+        return {port: trace.Port(self.buffers.get(port, 8), port in self.telling) for port in self.ports}
 
     def of(self, word):
         """The port and the characters of each line with this word."""
@@ -342,7 +347,7 @@ def close(begin, end, values, moments):
 
 def check_states(run, given):
     """At each event the states of the halves of each port, and what is outstanding, are those of the step tables."""
-    ports = {port: trace.Port(run.buffers.get(port, 8)) for port in run.ports}
+    ports = run.made_ports()
     readers = {(word, port): trace.Reader() for word in ("sent", "got") for port in run.ports}
     mine = states_of_wave(shown(given, "wave").decode())
     for number, words in enumerate(run.lines, run.first):
@@ -437,33 +442,57 @@ def check_coverage(run, given):
 
 def met_by(run):
     """The entries that the ports of a trace met."""
-    ports = {port: trace.Port(run.buffers.get(port, 8)) for port in run.ports}
+    ports = run.made_ports()
     readers = {(word, port): trace.Reader() for word in ("sent", "got") for port in run.ports}
     for words in run.lines:
         follow(ports, readers, words)
-    return [entry for port in ports.values() for entry in port.met]
+    heard = [reader.met for (word, _), reader in readers.items() if word == "got"]
+    return [entry for met in [*(port.met for port in ports.values()), *heard] for entry in met]
 
 
 def follow(ports, readers, words):
     """The ports do what a line says."""
     port = ports.get(words[1]) if len(words) > 1 else None
-    if words[0] in ("sent", "got"):
+    if words[0] in (">", "end", "undetected"):
+        for it in ports.values():
+            it.rest()
+        if words[1:2] == ["pump"] and words[2] in ports:
+            ports[words[2]].pumped = int(words[3])
+    elif words[0] in ("sent", "got"):
         reader = readers[words[0], words[1]]
         for event in (event for char in words[2:] for event in reader.take(char)):
             (sent if words[0] == "sent" else got)(port, event)
     elif words[0] == "fire":
         port.time_out()
-    elif words[0] == "leave" and f"{words[1]}.0" in ports:
-        ports[f"{words[1]}.0"].held -= 1
-    elif words[0] in ("move", "drop", "answer") and port is not None:
-        port.held -= 1
+    else:
+        step(ports, words)
+
+
+def step(ports, words):
+    """The ports give and take the packets of a step; what goes on by a move or an answer comes to be sent."""
+    if words[0] == "take":
+        comes, goes, form = f"{words[1]}.0", None, words[2]
+    elif words[0] == "leave":
+        comes, goes, form = None, f"{words[1]}.0", words[2]
+    elif words[0] == "move":
+        comes, goes, form = words[2], words[1], words[3]
+    elif words[0] in ("drop", "answer"):
+        comes, goes, form = words[1] if words[0] == "answer" else None, words[1], words[-1]
+    else:
+        return
+    if goes in ports:
+        ports[goes].held -= 1
+    if comes in ports:
+        ports[comes].put(int(form[2:4], 16) >> 6)
 
 
 def sent(port, event):
     if event[0] == "packet":
-        port.turn("a packet")
+        port.turn("a packet", event[2][1] >> 6)
     elif event[0] == "symbol" and event[1][3] in (3, 4):
         port.turn("restart-from-retry" if event[1][3] == 3 else "link-request")
+    elif event[0] == "symbol" and event[1][0] == 4 and event[1][3] == 7:
+        port.tell()
 
 
 def got(port, event):

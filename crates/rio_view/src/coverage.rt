@@ -1,14 +1,14 @@
 //! Which entries of the step tables the ports of a trace met.
 ghost use Rattle.std.specs.Prelude.{◌≤◌};
 
-use crate::entries::{COUNT, entries};
 use crate::shadow::{Came, EntriesMet, Kept, Shadow};
 use fabric_script::{Line, PortRef};
+use link_entries::{ENTRIES, entry_words};
 use link_port::Port;
 use rio_chars::NoMemory;
 use std::alloc::{AllocError, Global};
 use trace_lines::{NetworkStep, TraceLine};
-use view_words::{Ear, Ports, Seen, Selection, Setting, Text, View, ViewEnd, ViewStatus, port_of};
+use view_words::{Ports, Seen, Selection, Setting, Text, View, ViewEnd, ViewStatus, port_of};
 
 /// The receive buffers of a port of which no line says another number.
 const BUFFERS: u8 = 8;
@@ -22,6 +22,8 @@ pub(crate) struct Coverage {
     shadows: Ports<Option<Shadow>>,
     buffers: Ports<Option<u8>>,
     tells: Ports<bool>,
+    /// The port that takes turns in the event that began last.
+    pumped: Option<PortRef>,
     kept: Kept,
     met: EntriesMet,
     alloc: Global,
@@ -34,8 +36,11 @@ impl Coverage {
             shadows: Ports::new(alloc),
             buffers: Ports::new(alloc),
             tells: Ports::new(alloc),
+            pumped: None,
             kept: Kept::new(),
-            met: EntriesMet { counts: [0; COUNT] },
+            met: EntriesMet {
+                counts: [0; ENTRIES],
+            },
             alloc,
         }
     }
@@ -60,21 +65,20 @@ impl View for Coverage {
             TraceLine::Got(port, chars) => self.follow(*port, &Came::Got(chars.as_slice()))?,
             TraceLine::Fired(port) => self.follow(*port, &Came::Fired)?,
             TraceLine::Stepped(step) => self.step(step)?,
-            TraceLine::Begun(_)
-            | TraceLine::Lacked(_)
-            | TraceLine::Ended
-            | TraceLine::Undetected(..) => {}
+            TraceLine::Begun(event) => self.begin_event(event)?,
+            TraceLine::Ended | TraceLine::Undetected(..) => self.end_event()?,
+            TraceLine::Lacked(_) => {}
         }
         Ok(())
     }
 
     fn end(&mut self, _: Setting<'_>, out: &mut Text) -> Result<(), ViewEnd> {
-        for (count, entry) in self.met.counts.iter().zip(entries().iter()) {
+        for (count, entry) in self.met.counts.iter().zip(entry_words().iter()) {
             put_entry(out, *count, entry);
         }
         out.put_number(self.met.entries());
         out.put(b" of ");
-        out.put_number(COUNT as u64);
+        out.put_number(ENTRIES as u64);
         out.put(b" entries were met\n");
         Ok(())
     }
@@ -132,10 +136,7 @@ impl Coverage {
             return Err(ViewEnd::Ended(ViewStatus::NoMemory));
         };
         if let Some(shadow) = self.shadows.get_mut(port) {
-            *shadow = Some(Shadow {
-                port: made,
-                ear: Ear::default(),
-            });
+            *shadow = Some(Shadow::new(made));
         }
         Ok(())
     }
@@ -157,6 +158,24 @@ impl Coverage {
         match self.buffers.get(port) {
             Some(Some(buffers)) if 4 <= *buffers && *buffers <= 30 => *buffers,
             _ => BUFFERS,
+        }
+    }
+
+    /// An event of the script begins, and the one before it has ended.
+    fn begin_event(&mut self, event: &Line) -> Result<(), AllocError> {
+        self.end_event()?;
+        if let Line::Pump { port, n } = event {
+            self.pumped = Some(*port);
+            self.follow(*port, &Came::Pumped(*n))?;
+        }
+        Ok(())
+    }
+
+    /// The event that began last has ended.
+    fn end_event(&mut self) -> Result<(), AllocError> {
+        match self.pumped.take() {
+            Some(port) => self.follow(port, &Came::Rested),
+            None => Ok(()),
         }
     }
 

@@ -17,7 +17,6 @@ mod cells;
 mod command;
 mod coverage;
 mod drawing;
-mod entries;
 mod ladder;
 mod lanes;
 mod map;
