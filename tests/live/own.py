@@ -1,5 +1,6 @@
 """The lines of rio_live's own: what is written while quiet is what rio replay writes, without the lines with characters,
-and a run while endpoints are served is what it writes of the rounds, in each of which these collect.
+a run while endpoints are served is what it writes of the rounds, in each of which these collect, and an ask is what it
+writes of a request and of rounds until the response leaves, which the last line tells.
 
 usage: own.py FABRIC RIO    FABRIC: rio_live, RIO: rio. The status is 0 if all is as wanted.
 """
@@ -140,12 +141,127 @@ def undetected(program):
     answered(fabric, lines + edits + ["serve all"])
     equal("served, it ends", fabric.ask("run 5"), ["> run 1", "undetected 10 B.0 symbol 0 0 31 7 0"])
     equal("with its status", fabric.end(), 7)
+    fabric = Port(program)
+    answered(fabric, lines + edits)
+    told = fabric.ask("ask read B 0 1 255 7 000060")
+    equal("asked, it ends", [told[0], told[-1]], ["> read B 0 1 255 7 000060", "undetected 9 B.0 symbol 0 0 31 7 0"])
+    equal("with its status", fabric.end(), 7)
+
+
+# a request, and what its response says, by docs/registers.md
+ASKS = [
+    ("read A 0 2 255 7 000060", "value 0002ffff"),
+    ("read A 0 2 255 7 000064", "error 7"),
+    ("write A 0 3 255 8 00006c 0000beef", "written"),
+    ("read A 0 3 255 9 00006c", "value 0000beef"),
+    ("read A 0 3 255 9 000068", "value 0000ffff"),
+    ("read A 0 3 0 10 000070", "value 00000000"),
+    ("write A 3 2 0 11 000070 00000002", "written"),
+    ("read A 0 1 255 12 000001", "error 7"),
+    ("write A 0 2 255 12 000000 00000001", "error 7"),
+    ("read B 2 3 255 13 00006c", "value 0000beef"),
+    ("read A 0 9 255 14 00006c", "unanswered"),
+    ("read A 0 2 255 255 000060", "value 0002ffff"),
+]
+MOST = 128
+
+
+def last_of(told, host, tid):
+    """The place behind the first line with which a response with this transaction number leaves at the host, or None."""
+    for place, line in enumerate(told):
+        words = line.split()
+        if words[:2] == ["leave", host]:
+            packet = bytes.fromhex(words[2])
+            if packet[1] & 15 == 8 and packet[4] >> 4 in (2, 3) and packet[5] == tid:
+                return place + 1
+    return None
+
+
+def is_asked(program, rio):
+    """The blocks of an ask are those of its request and of its rounds, and the last line is what the response says."""
+    for own, served in [(["serve all"], "ABC"), (["serve B", "serve C"], "BC"), (["serve A"], "A")]:
+        for loud in ([], ["quiet"]):
+            fabric = Port(program)
+            lines = list(TREE)
+            whole = answered(fabric, TREE + loud + own)
+            for request, said in ASKS:
+                host, tid = request.split()[1], int(request.split()[5])
+                told = fabric.ask("ask " + request)
+                if "B" not in served and " 2 255 " in request or "C" not in served and " 3 255 " in request:
+                    said = "unanswered"
+                equal(request, told[-1], said)
+                events = [line[2:] for line in told if line.startswith("> ")]
+                others = ["collect " + name for name in served if name != host]
+                count = (len(events) - 1) // (len(others) + 2)
+                equal(request, events, [request] + (["run 1"] + others + ["collect " + host]) * count)
+                equal(request, last_of(told, host, tid), None if said == "unanswered" else len(told) - 1)
+                equal(request, count <= MOST and (said != "unanswered" or count == MOST), True)
+                lines += events
+                whole += told[:-1]
+            trace = replayed(rio, lines)
+            equal("the trace of asks", whole, without_characters(trace) if loud else trace)
+            equal("its end", fabric.end(), 0)
+
+
+def is_not_asked(program):
+    """What is refused behind ask, and that it changes nothing: a line of set-up is not taken."""
+    form = "refused 1 no kind of line has this form"
+    for lines in (TREE, TREE + ["send A 0 15 2 cafe0001"]):
+        fabric = Port(program)
+        answered(fabric, lines)
+        for line, why in [
+            ("ask run 1", form),
+            ("ask collect A", form),
+            ("ask send A 0 15 2 cafe0001", form),
+            ("ask endpoint D 7", form),
+            ("ask lock A 0", form),
+            ("ask endpoint A 7", "refused 4 a node of an earlier line has this name"),
+            ("ask read D 0 2 255 7 000068", "refused 5 no node of an earlier line has this name"),
+            ("ask read S 0 2 255 7 000068", "refused 11 the node is of the wrong kind for this line"),
+            ("ask read A 4 2 255 7 000068", "refused 2 word 3 must be a number from 0 to 3 in decimal"),
+            ("ask read A 0 2 255 7", "refused 1 this kind of line has 6 words after the first"),
+            ("ask  read A 0 2 255 7 000068", "refused 1 the line begins with a space"),
+            ("ask quiet", "refused 1 no kind of line begins with this word"),
+            ("ask ask read A 0 2 255 7 000068", "refused 1 no kind of line begins with this word"),
+            ("ask ", "refused 1 no kind of line begins with this word"),
+            ("ask", "refused 1 no kind of line begins with this word"),
+        ]:
+            equal(line, fabric.ask(line), [why])
+        equal("no node came", fabric.ask("collect D"), ["refused 5 no node of an earlier line has this name"])
+        equal("the end", fabric.end(), 0)
+
+
+def finds_no_room(program):
+    """A request that finds no room has no round."""
+    fabric = Port(program)
+    answered(fabric, TREE + ["serve all"])
+    request = "read A 0 2 255 7 000060"
+    while fabric.ask(request)[-1] != "full":
+        pass
+    equal("no room", fabric.ask("ask " + request), ["> " + request, "full", "unanswered"])
+    equal("the end", fabric.end(), 0)
+
+
+def others_leave(program):
+    """Other packets that leave at the host are told, and the rounds go on: also a response with another number."""
+    fabric = Port(program)
+    answered(fabric, TREE + ["quiet", "serve all", "send B 3 11 1 cafe0001", "read A 3 2 255 6 000060"])
+    told = fabric.ask("ask read A 0 2 255 7 000060")
+    equal("three leave", len([line for line in told if line.startswith("leave A ")]), 3)
+    equal("the last is told", told[-1], "value 0002ffff")
+    equal("it is the last", told[-2].startswith("leave A "), True)
+    equal("its number", last_of(told, "A", 7), len(told) - 1)
+    equal("the end", fabric.end(), 0)
 
 
 def main(program, rio):
     is_quiet(program, rio)
     is_served(program, rio)
     is_not_served(program)
+    is_asked(program, rio)
+    is_not_asked(program)
+    finds_no_room(program)
+    others_leave(program)
     refusals(program)
     undetected(program)
 

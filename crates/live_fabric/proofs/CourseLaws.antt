@@ -1,7 +1,7 @@
 -- Events that are carried out one after another.
-use Rattle.std.proofs.Common.{◌≡◌, inl, inr, ℕ, ◌<◌, ◌+◌, ◌-◌, ◌==◌, zero, suc, Bool, false, List, [], ◌∷◌, ◌++◌, length, map, drop, get_or, Some, None, refl, sym, ap, ◌∙◌, subst, arith, append-nil, append_assoc}
+use Rattle.std.proofs.Common.{◌≡◌, inl, inr, ℕ, ◌<◌, ◌+◌, ◌-◌, ◌==◌, zero, suc, Bool, false, List, [], ◌∷◌, ◌++◌, length, map, drop, get_or, refl, sym, ap, ◌∙◌, subst, arith, append-nil, append_assoc}
 use Rattle.std.proofs.lemmas.List.{drop_more}
-use Rattle.rio_chars.specs.Written.{Outgoing, Writes}
+use Rattle.rio_chars.specs.Written.{Outgoing}
 use Rattle.rio_chars.proofs.WrittenLaws.{Writes-nil, Writes-then}
 use Rattle.fabric_script.specs.declared.lines.Line.{Line}
 use Rattle.fabric_script.specs.declared.lines.Line.TheVariants.{Collect, Run}
@@ -11,7 +11,7 @@ use Rattle.live_fabric.specs.declared.answers.AfterLine.TheVariants as Goings
 use Rattle.live_fabric.specs.declared.answers.Told.{Told}
 use Rattle.live_fabric.specs.declared.answers.Told.TheVariants as told_as
 use Rattle.live_fabric.specs.declared.live.Live.{Live}
-use Rattle.live_fabric.specs.Lines.{Taken, IsSent, MetUnsent, seen_so_far, taken_with}
+use Rattle.live_fabric.specs.Lines.{Taken, IsSent, MetUnsent, taken_with}
 use Rattle.live_fabric.specs.Telling.{block_told, TellsEvents, IsEventsFront}
 use Rattle.live_fabric.specs.Holding.{LiveHolds, SameSetUp}
 use Rattle.live_fabric.specs.Answers.{after_told, Happens, HappensFront}

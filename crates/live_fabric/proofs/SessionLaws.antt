@@ -1,9 +1,8 @@
 -- What a session answers, one line after another.
-use Rattle.std.proofs.Common.{◌≡◌, ℕ, ◌+◌, suc, List, [], ◌∷◌, ◌++◌, length, codes, inl, inr, refl, sym, ap, ◌∙◌, subst, arith, append-nil, append_assoc}
+use Rattle.std.proofs.Common.{◌≡◌, ◌⊎◌, ℕ, ◌+◌, suc, List, [], ◌∷◌, ◌++◌, length, codes, inl, inr, refl, sym, ap, ◌∙◌, subst, arith, append-nil, append_assoc}
 use Rattle.rio_chars.specs.Written.{Outgoing, Writes}
 use Rattle.rio_chars.proofs.WrittenLaws.{Writes-nil, Writes-then}
 use Rattle.fabric_script.specs.declared.lines.Line.{Line}
-use Rattle.fabric_script.specs.declared.lines.Numbered.{Numbered}
 use Rattle.fabric_script.specs.Reading.{Spells}
 use Rattle.fabric_script.specs.SetUps.{IsRefused}
 use Rattle.refusal_words.specs.Citing.{refusal_line}
@@ -11,15 +10,16 @@ use Rattle.live_fabric.specs.declared.answers.AfterLine.{AfterLine}
 use Rattle.live_fabric.specs.declared.answers.AfterLine.TheVariants as Goings
 use Rattle.live_fabric.specs.declared.live.Live.{Live}
 use Rattle.live_fabric.specs.declared.own_lines.OwnLine.{OwnLine}
-use Rattle.live_fabric.specs.declared.served.Served.{Served}
 use Rattle.live_fabric.specs.declared.session.Session.{Session}
-use Rattle.live_fabric.specs.Lines.{IsSent, SaysWhy, IsEventLine, taken_after}
-use Rattle.live_fabric.specs.Served.{with_served, served_of, events_carried}
+use Rattle.live_fabric.specs.Lines.{Taken, IsSent, SaysWhy, IsEventLine, taken_after}
+use Rattle.live_fabric.specs.Served.{with_served, events_carried}
 use Rattle.live_fabric.specs.Telling.{plain_told, TellsEvents, IsEventsFront}
-use Rattle.live_fabric.specs.Holding.{LiveHolds}
+use Rattle.live_fabric.specs.Holding.{LiveHolds, MayBeCarried, MayCollect}
 use Rattle.live_fabric.specs.Answers.{LiveGoes, ReadPlainly}
 use Rattle.live_fabric.specs.Course.{EventsDone, EventsBreak}
-use Rattle.live_fabric.specs.Sessions.{SessionHeld, own_text, held_after, serve_text, collect_text, nodes_served, IsNoOwnLine, IsScriptLine, LineAnswers, AnswersSession, SessionHolds, SessionAnswered, SessionGoes, SessionBreaks, SessionTold, ServeTold}
+use Rattle.live_fabric.specs.Sessions.{SessionHeld, own_text, held_after, serve_text, ask_text, collect_text, nodes_served, IsNoOwnLine, IsScriptLine, LineAnswers, AnswersSession, IsAskAnswerFront, IsSessionFront, SessionHolds, SessionAnswered, SessionGoes, SessionBreaks, SessionTold, ServeTold, AreServed, AskTold, AskFalls}
+use Rattle.live_fabric.proofs.TakenLaws.{may_be_carried}
+use Rattle.live_fabric.proofs.KeptLaws.{kept_behind}
 
 -- a line more is answered
 pub session_more : (held : SessionHeld) (number : ℕ) (lines : List (List ℕ)) (line text : List ℕ)
@@ -128,6 +128,8 @@ module _ (held : SessionHeld) (words : List ℕ) where
     holds = holds;
   }
 
+-- ---- a line
+
 module _ (held : SessionHeld) (number : ℕ) (line : List ℕ) where
   -- it is one of a word of its own
   pub told_own : (out : Outgoing) (now : Session) (own : OwnLine)
@@ -162,6 +164,27 @@ module _ (held : SessionHeld) (number : ℕ) (line : List ℕ) where
     told = subst (λ o. Writes out o []) (sym same) (Writes-nil out);
   }
 
+  pub told_ask : (out next : Outgoing) (now : Session) (words : List ℕ) (going : AfterLine)
+      → line ≡ ask_text words → AskTold held number words out next now going
+      → SessionTold held number line out next now going
+  told_ask out next now words going is a = record {
+    text = a.text;
+    next = a.next;
+    answers = inr (inr (inl (record { words = words; is = is; answers = a.answers })));
+    told = a.told;
+    goes = a.goes;
+  }
+
+  pub breaks_ask : (out next : Outgoing) (words : List ℕ) → line ≡ ask_text words
+      → AskFalls held number words out next → SessionBreaks held number line out next
+  breaks_ask out next words is a =
+      record { text = a.text; is = by_front a.is; told = a.told }
+    where
+      by_front : ((a.text ≡ []) ⊎ IsAskAnswerFront held number words a.text)
+          → IsSessionFront held number line a.text
+      by_front (inl none) = inl none
+      by_front (inr front) = inr (inr (words, is, front))
+
   -- it is no event
   pub told_plain : (out next : Outgoing) (session now : Session) → SessionHolds session held
       → IsScriptLine line → now.quiet ≡ session.quiet → now.served ≡ session.served
@@ -170,89 +193,84 @@ module _ (held : SessionHeld) (number : ℕ) (line : List ℕ) where
   told_plain out next session now holds other quiet served p = record {
     text = plain_told p.outcome;
     next = record held { taken = taken_after held.taken number line p.outcome };
-    answers = inr (inr (inl (record {
+    answers = inr (inr (inr (inl (record {
       other = other;
       outcome = p.outcome;
       plain = p.plain;
       reads = p.reads;
       answer = refl;
       then = refl;
-    })));
+    }))));
     told = p.told;
-    goes = record {
-      live = p.holds number;
-      quiet = quiet ∙ holds.quiet;
-      all = ap (λ (s : Served). s.all) served ∙ holds.all;
-      nodes = ap (λ (s : Served). s.nodes.items) served ∙ holds.nodes;
-    };
+    goes =
+        kept_behind held session now (taken_after held.taken number line p.outcome) holds quiet
+        served (p.holds number);
   }
 
-  -- it is an event, and these nodes are served
-  pub told_events : (out next : Outgoing) (session now : Session) (nodes : List ℕ) (event : Line)
-      (going : AfterLine) → SessionHolds session held → IsScriptLine line
-      → now.quiet ≡ session.quiet → now.served ≡ session.served
-      → IsEventLine held.taken line event → nodes ≡ nodes_served held
-      → EventsDone session.quiet held.taken number (events_carried nodes event) out next now.live
-      going
+-- an event was read, and nothing was told yet
+abbrev pub EventRead : Taken → Live → List ℕ → Line → Outgoing → Outgoing → Type 0
+EventRead taken live line event out mid =
+    LiveHolds live taken × IsEventLine taken line event × (mid ≡ out)
+
+module _ (held : SessionHeld) (number : ℕ) (line : List ℕ) (session : Session) (live : Live)
+    (nodes : List ℕ) (event : Line) (out mid : Outgoing) (holds : SessionHolds session held)
+    (read : EventRead held.taken live line event out mid) (served : AreServed held nodes) where
+  pub may_carry : MayBeCarried held.taken event
+  may_carry = may_be_carried live held.taken line event read.0 read.1.2
+
+  -- it was carried out while these nodes are served
+  pub told_events : (next : Outgoing) (now : Session) (going : AfterLine)
+      → IsScriptLine line → now.quiet ≡ session.quiet → now.served ≡ session.served
+      → ((taken : Taken) → LiveHolds live taken → MayBeCarried taken event
+      → MayCollect taken nodes
+      → EventsDone session.quiet taken number (events_carried nodes event) mid next now.live going)
       → SessionTold held number line out next now going
-  told_events out next session now nodes event going holds other quiet served one at d = record {
-    text = d.text;
-    next = record held { taken = d.end };
-    answers = inr (inr (inr (record {
-      other = other;
-      event = event;
-      is = one;
-      told = d.text;
-      end = d.end;
-      tells =
-          subst (λ q. TellsEvents q held.taken number (events_carried (nodes_served held) event)
-          d.text d.end) holds.quiet
-          (subst (λ ns. TellsEvents session.quiet held.taken number (events_carried ns event)
-          d.text d.end) at d.is);
-      answer = refl;
-      then = refl;
-    })));
-    told = d.told;
-    goes = by_going going d.goes;
-  }
-    where
-      by_going : (g : AfterLine) → LiveGoes g now.live d.end
-          → SessionGoes g now (record held { taken = d.end })
-      by_going Goings.On goes = record {
-        live = goes;
-        quiet = quiet ∙ holds.quiet;
-        all = ap (λ (s : Served). s.all) served ∙ holds.all;
-        nodes = ap (λ (s : Served). s.nodes.items) served ∙ holds.nodes;
+  told_events next now going other quiet same done =
+      let d = done held.taken read.0 may_carry served.1 in
+      record {
+        text = d.text;
+        next = record held { taken = d.end };
+        answers = inr (inr (inr (inr (record {
+          other = other;
+          event = event;
+          is = read.1;
+          told = d.text;
+          end = d.end;
+          tells =
+              subst (λ q. TellsEvents q held.taken number
+              (events_carried (nodes_served held) event) d.text d.end) holds.quiet
+              (subst (λ ns. TellsEvents session.quiet held.taken number (events_carried ns event)
+              d.text d.end) served.0 d.is);
+          answer = refl;
+          then = refl;
+        }))));
+        told = subst (λ o. Writes o next d.text) read.2 d.told;
+        goes = by_going going d.end d.goes;
       }
-      by_going Goings.Undetected goes = goes
+    where
+      by_going : (g : AfterLine) (end : Taken) → LiveGoes g now.live end
+          → SessionGoes g now (record held { taken = end })
+      by_going Goings.On end goes = kept_behind held session now end holds quiet same goes
+      by_going Goings.Undetected end goes = goes
 
-  pub breaks_events : (out next : Outgoing) (session : Session) (nodes : List ℕ) (event : Line)
-      → SessionHolds session held → IsScriptLine line
-      → IsEventLine held.taken line event → nodes ≡ nodes_served held
-      → EventsBreak session.quiet held.taken number (events_carried nodes event) out next
+  pub breaks_events : (next : Outgoing) → IsScriptLine line
+      → ((taken : Taken) → LiveHolds live taken → MayBeCarried taken event
+      → MayCollect taken nodes
+      → EventsBreak session.quiet taken number (events_carried nodes event) mid next)
       → SessionBreaks held number line out next
-  breaks_events out next session nodes event holds other one at b = record {
-    text = b.text;
-    is = inr (record {
-      other = other;
-      event = event;
-      is = one;
-      front =
-          subst (λ q. IsEventsFront q held.taken number (events_carried (nodes_served held) event)
-          b.text) holds.quiet
-          (subst (λ ns. IsEventsFront session.quiet held.taken number (events_carried ns event)
-          b.text) at b.is);
-    });
-    told = b.told;
-  }
-
-  -- which nodes are served, by the lines that are held
-  pub nodes_are : (session : Session) (live : Live) (lines : List Numbered) (nodes : List ℕ)
-      → SessionHolds session held → LiveHolds live held.taken → lines ≡ live.set_up.lines
-      → nodes ≡ served_of session.served.all session.served.nodes.items lines
-      → nodes ≡ nodes_served held
-  nodes_are session live lines nodes holds now read among =
-      among
-      ∙ ap (λ all. served_of all session.served.nodes.items lines) holds.all
-      ∙ ap (λ ns. served_of held.all ns lines) holds.nodes
-      ∙ ap (λ ls. served_of held.all held.nodes ls) (read ∙ now.lines)
+  breaks_events next other breaks =
+      let b = breaks held.taken read.0 may_carry served.1 in
+      record {
+        text = b.text;
+        is = inr (inl (record {
+          other = other;
+          event = event;
+          is = read.1;
+          front =
+              subst (λ q. IsEventsFront q held.taken number
+              (events_carried (nodes_served held) event) b.text) holds.quiet
+              (subst (λ ns. IsEventsFront session.quiet held.taken number
+              (events_carried ns event) b.text) served.0 b.is);
+        }));
+        told = subst (λ o. Writes o next b.text) read.2 b.told;
+      }

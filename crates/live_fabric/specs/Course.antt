@@ -6,7 +6,7 @@ use Rattle.live_fabric.specs.declared.answers.AfterLine.{AfterLine}
 use Rattle.live_fabric.specs.declared.live.Live.{Live}
 use Rattle.live_fabric.specs.Lines.{Taken}
 use Rattle.live_fabric.specs.Telling.{TellsEvents, IsEventsFront}
-use Rattle.live_fabric.specs.Holding.{LiveHolds, SameSetUp}
+use Rattle.live_fabric.specs.Holding.{LiveHolds, MayCollect, SameSetUp}
 use Rattle.live_fabric.specs.Answers.{LiveGoes}
 
 -- they were, and what is told of them was written
@@ -24,6 +24,19 @@ pub record EventsBreak (quiet : Bool) (taken : Taken) (number : ℕ) (events : L
   pub text : List ℕ
   pub is : IsEventsFront quiet taken number events text
   pub told : Writes old new text
+
+-- They were, from whatever lines were taken, if these nodes may collect.
+abbrev pub DoneWhile : List ℕ → Bool → ℕ → List Line → Live → Outgoing → Outgoing → Live
+    → AfterLine → Type 0
+DoneWhile nodes quiet number events before old new live after = (taken : Taken)
+    → LiveHolds before taken → MayCollect taken nodes
+    → EventsDone quiet taken number events old new live after
+
+-- The same where it broke off.
+abbrev pub BreaksWhile : List ℕ → Bool → ℕ → List Line → Live → Outgoing → Outgoing → Type 0
+BreaksWhile nodes quiet number events before old new = (taken : Taken)
+    → LiveHolds before taken → MayCollect taken nodes
+    → EventsBreak quiet taken number events old new
 
 -- Some of them were carried out, and these are left: what is told of those is told behind what was
 -- written.

@@ -5,6 +5,7 @@ use Rattle.fabric_script.specs.declared.lines.Line.{Line}
 use Rattle.fabric_script.specs.Reading.{Spells}
 use Rattle.fabric_script.specs.SetUps.{for_event, IsRefused}
 use Rattle.refusal_words.specs.Citing.{refusal_line}
+use Rattle.live_fabric.specs.declared.asks.Ask.{Ask}
 use Rattle.live_fabric.specs.declared.answers.AfterLine.{AfterLine}
 use Rattle.live_fabric.specs.declared.answers.AfterLine.TheVariants.{On, Undetected}
 use Rattle.live_fabric.specs.declared.own_lines.OwnLine.{OwnLine}
@@ -13,7 +14,8 @@ use Rattle.live_fabric.specs.declared.session.Session.{Session}
 use Rattle.live_fabric.specs.Lines.{Taken, nothing_taken, Outcome, ReadsAs, SaysWhy, IsEventLine, MetUnsent, taken_after, IsSent}
 use Rattle.live_fabric.specs.Served.{with_served, served_of, events_carried}
 use Rattle.live_fabric.specs.Telling.{IsNoEvent, plain_told, TellsEvents, IsEventsFront}
-use Rattle.live_fabric.specs.Holding.{LiveHolds, IsTrace}
+use Rattle.live_fabric.specs.Asking.{SpellsAsk, IsNoAsk, beside, TellsAsk, IsAskFront, reply_told}
+use Rattle.live_fabric.specs.Holding.{LiveHolds, IsTrace, MayCollect}
 
 -- The lines that were taken, whether those with characters are left out of the answers, and which
 -- endpoints are served: all, or those of some nodes.
@@ -59,6 +61,13 @@ IsNoServeLine line = (words : List ℕ) → line ≢ serve_text words
 abbrev pub collect_text : List ℕ → List ℕ
 collect_text words = codes "collect " ++ words
 
+-- a line that asks for a register, by these words
+abbrev pub ask_text : List ℕ → List ℕ
+ask_text words = codes "ask " ++ words
+
+abbrev pub IsNoAskLine : List ℕ → Type 0
+IsNoAskLine line = (words : List ℕ) → line ≢ ask_text words
+
 -- ---- answers
 
 -- a line of its own is answered by `ok` alone
@@ -93,10 +102,42 @@ pub record ServeAnswers (held : SessionHeld) (line text : List ℕ) (next : Sess
     pub is : line ≡ serve_text words
     pub answers : ServeTaken held words text next ⊎ ServeRefused held words text next
 
+-- A request of a register is carried out. What is told of it and of its rounds is its answer, and
+-- what is said of the response.
+pub record AskTaken (held : SessionHeld) (number : ℕ) (words text : List ℕ) (next : SessionHeld)
+    : Type 0 where
+  pub event : Line
+  pub ask : Ask
+  pub spells : SpellsAsk (for_event held.taken.known) words event ask
+  pub told : List ℕ
+  pub end : Taken
+  pub tells : TellsAsk held.quiet held.taken number (beside ask.host (nodes_served held)) event ask
+      told end
+  pub answer : text ≡ (told ++ reply_told ask end) ++ codes "ok\n"
+  pub then : next ≡ record held { taken = end }
+
+-- or the words are none, and nothing changes
+pub record AskRefused (held : SessionHeld) (words text : List ℕ) (next : SessionHeld) : Type 0
+  where
+    pub reason : ℕ
+    pub why : List ℕ
+    pub refused : IsNoAsk (for_event held.taken.known) words reason
+    pub says : SaysWhy words reason why
+    pub answer : text ≡ refusal_line reason why ++ codes "ok\n"
+    pub then : next ≡ held
+
+-- a line that asks for a register
+pub record AskAnswers (held : SessionHeld) (number : ℕ) (line text : List ℕ) (next : SessionHeld)
+    : Type 0 where
+  pub words : List ℕ
+  pub is : line ≡ ask_text words
+  pub answers : AskTaken held number words text next ⊎ AskRefused held words text next
+
 -- the line is none of those
 pub record IsScriptLine (line : List ℕ) : Type 0 where
   pub no_own : IsNoOwnLine line
   pub no_serve : IsNoServeLine line
+  pub no_ask : IsNoAskLine line
 
 -- Any other line of this number is read as one of a script. If it is no event, what is told of it
 -- is its answer, with `ok` as its last line.
@@ -126,7 +167,8 @@ pub record EventAnswers (held : SessionHeld) (number : ℕ) (line text : List �
 abbrev pub LineAnswers : SessionHeld → ℕ → List ℕ → List ℕ → SessionHeld → Type 0
 LineAnswers held number line text next =
     OwnAnswers held line text next ⊎ (ServeAnswers held line text next
-    ⊎ (PlainAnswers held number line text next ⊎ EventAnswers held number line text next))
+    ⊎ (AskAnswers held number line text next
+    ⊎ (PlainAnswers held number line text next ⊎ EventAnswers held number line text next)))
 
 -- Lines, of which the first has this number, are answered by a text, and so much is held then. No
 -- line is answered behind an event that was acted on and not sent.
@@ -145,9 +187,18 @@ pub record IsEventAnswerFront (held : SessionHeld) (number : ℕ) (line text : L
   pub front : IsEventsFront held.quiet held.taken number (events_carried (nodes_served held) event)
       text
 
+-- the text is a front of the answer of a line that asks for a register
+pub record IsAskAnswerFront (held : SessionHeld) (number : ℕ) (words text : List ℕ) : Type 0 where
+  pub event : Line
+  pub ask : Ask
+  pub spells : SpellsAsk (for_event held.taken.known) words event ask
+  pub front : IsAskFront held.quiet held.taken number (beside ask.host (nodes_served held)) event
+      ask text
+
 -- the text is a front of the answer of this line, or nothing
 abbrev pub IsSessionFront : SessionHeld → ℕ → List ℕ → List ℕ → Type 0
-IsSessionFront held number line text = (text ≡ []) ⊎ IsEventAnswerFront held number line text
+IsSessionFront held number line text = (text ≡ []) ⊎ (IsEventAnswerFront held number line text
+    ⊎ ((words : List ℕ) × (line ≡ ask_text words) × IsAskAnswerFront held number words text))
 
 -- ---- a session
 
@@ -197,3 +248,43 @@ pub record ServeTold (held : SessionHeld) (words : List ℕ) (old new : Outgoing
       ⊎ ServeRefused held words (text ++ codes "ok\n") next
   pub told : Writes old new text
   pub holds : SessionHolds session next
+
+-- a request was carried out and its answer written but for the last line, or it was told why the
+-- words are none
+pub record AskTold (held : SessionHeld) (number : ℕ) (words : List ℕ) (old new : Outgoing)
+    (session : Session) (going : AfterLine) : Type 0 where
+  pub text : List ℕ
+  pub next : SessionHeld
+  pub answers : AskTaken held number words (text ++ codes "ok\n") next
+      ⊎ AskRefused held words (text ++ codes "ok\n") next
+  pub told : Writes old new text
+  pub goes : SessionGoes going session next
+
+-- it broke off, and a front of it was written, or nothing
+pub record AskFalls (held : SessionHeld) (number : ℕ) (words : List ℕ) (old new : Outgoing)
+    : Type 0 where
+  pub text : List ℕ
+  pub is : (text ≡ []) ⊎ IsAskAnswerFront held number words text
+  pub told : Writes old new text
+
+-- these are the endpoints that are served, and each may collect
+abbrev pub AreServed : SessionHeld → List ℕ → Type 0
+AreServed held nodes = (nodes ≡ nodes_served held) × MayCollect held.taken nodes
+
+-- a request was carried out, and what is told of it and said of the response was written
+pub record RequestCarried (held : SessionHeld) (number : ℕ) (event : Line) (ask : Ask)
+    (old new : Outgoing) (session : Session) (going : AfterLine) : Type 0 where
+  pub text : List ℕ
+  pub end : Taken
+  pub tells : TellsAsk held.quiet held.taken number (beside ask.host (nodes_served held)) event ask
+      text end
+  pub told : Writes old new (text ++ reply_told ask end)
+  pub goes : SessionGoes going session (record held { taken = end })
+
+-- it broke off, and a front of that was written, or nothing
+pub record RequestBroke (held : SessionHeld) (number : ℕ) (event : Line) (ask : Ask)
+    (old new : Outgoing) : Type 0 where
+  pub text : List ℕ
+  pub is : IsAskFront held.quiet held.taken number (beside ask.host (nodes_served held)) event ask
+      text
+  pub told : Writes old new text

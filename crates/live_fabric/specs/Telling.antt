@@ -5,7 +5,7 @@ use Rattle.fabric_trace.specs.Blocks.{IsBlock}
 use Rattle.trace_lines.specs.Lines.{TraceLine, Begun, Signed, Sent, Got}
 use Rattle.trace_lines.specs.Text.{trace_text}
 use Rattle.refusal_words.specs.Citing.{refusal_line}
-use Rattle.live_fabric.specs.Lines.{Taken, Outcome, Passed, SetUp, Happened, Refused, IsSent, MetUnsent, seen_so_far, taken_with, undetected_at_text}
+use Rattle.live_fabric.specs.Lines.{Taken, Outcome, Happened, Refused, IsSent, MetUnsent, seen_so_far, taken_with, undetected_at_text}
 
 -- ---- how much of a trace
 

@@ -4,7 +4,7 @@ ghost use Rattle.fabric_script.specs.declared.lines.Line.TheVariants.{Collect};
 ghost use Rattle.live_fabric.specs.Lines.{Taken};
 ghost use Rattle.live_fabric.specs.Holding.{LiveHolds, MayBeCarried, MayCollect};
 ghost use Rattle.live_fabric.specs.Answers.{Happens, HappensFront};
-ghost use Rattle.live_fabric.specs.Course.{EventsDone, EventsBreak};
+ghost use Rattle.live_fabric.specs.Course.{EventsDone, EventsBreak, DoneWhile, BreaksWhile};
 ghost use Rattle.live_fabric.specs.Served.{round_events, rounds, events_carried};
 
 use crate::answers::{AfterLine, BrokenOff, Told, after_told, happen};
@@ -84,14 +84,10 @@ fn carry_rounds<K: Sink>(
     outbox: &mut Outbox<K>,
 ) -> Result<AfterLine, BrokenOff>
     requires { (taken : Taken) × LiveHolds live.old taken × MayCollect taken nodes.now }
-    ensures done { IfOk result (λ after. (taken : Taken) → LiveHolds live.old taken
-        → MayCollect taken nodes.now
-        → EventsDone telling.quiet taken telling.number (rounds count (round_events nodes.now))
-        outbox.old outbox.new live.new after) }
-    ensures breaks { OnErr result ((taken : Taken) → LiveHolds live.old taken
-        → MayCollect taken nodes.now
-        → EventsBreak telling.quiet taken telling.number (rounds count (round_events nodes.now))
-        outbox.old outbox.new) }
+    ensures done { IfOk result (λ after. DoneWhile nodes.now telling.quiet telling.number
+        (rounds count (round_events nodes.now)) live.old outbox.old outbox.new live.new after) }
+    ensures breaks { OnErr result (BreaksWhile nodes.now telling.quiet telling.number
+        (rounds count (round_events nodes.now)) live.old outbox.old outbox.new) }
 {
     for _ in 0..count {
         match carry_round(alloc, live, telling, nodes, outbox)? {
@@ -104,7 +100,7 @@ fn carry_rounds<K: Sink>(
 
 /// Carries out a round: links and switches carry what they can, and then each of these nodes
 /// collects.
-fn carry_round<K: Sink>(
+pub(crate) fn carry_round<K: Sink>(
     alloc: Global,
     live: &mut Live,
     telling: Telling,
@@ -112,14 +108,10 @@ fn carry_round<K: Sink>(
     outbox: &mut Outbox<K>,
 ) -> Result<AfterLine, BrokenOff>
     requires { (taken : Taken) × LiveHolds live.old taken × MayCollect taken nodes.now }
-    ensures done { IfOk result (λ after. (taken : Taken) → LiveHolds live.old taken
-        → MayCollect taken nodes.now
-        → EventsDone telling.quiet taken telling.number (round_events nodes.now)
-        outbox.old outbox.new live.new after) }
-    ensures breaks { OnErr result ((taken : Taken) → LiveHolds live.old taken
-        → MayCollect taken nodes.now
-        → EventsBreak telling.quiet taken telling.number (round_events nodes.now)
-        outbox.old outbox.new) }
+    ensures done { IfOk result (λ after. DoneWhile nodes.now telling.quiet telling.number
+        (round_events nodes.now) live.old outbox.old outbox.new live.new after) }
+    ensures breaks { OnErr result (BreaksWhile nodes.now telling.quiet telling.number
+        (round_events nodes.now) live.old outbox.old outbox.new) }
 {
     match carry_out(alloc, live, telling, &Line::Run { n: 1 }, outbox)? {
         Told::Did(_) => collect_all(alloc, live, telling, nodes, outbox),
@@ -136,14 +128,10 @@ fn collect_all<K: Sink>(
     outbox: &mut Outbox<K>,
 ) -> Result<AfterLine, BrokenOff>
     requires { (taken : Taken) × LiveHolds live.old taken × MayCollect taken nodes.now }
-    ensures done { IfOk result (λ after. (taken : Taken) → LiveHolds live.old taken
-        → MayCollect taken nodes.now
-        → EventsDone telling.quiet taken telling.number (map Collect nodes.now)
-        outbox.old outbox.new live.new after) }
-    ensures breaks { OnErr result ((taken : Taken) → LiveHolds live.old taken
-        → MayCollect taken nodes.now
-        → EventsBreak telling.quiet taken telling.number (map Collect nodes.now)
-        outbox.old outbox.new) }
+    ensures done { IfOk result (λ after. DoneWhile nodes.now telling.quiet telling.number
+        (map Collect nodes.now) live.old outbox.old outbox.new live.new after) }
+    ensures breaks { OnErr result (BreaksWhile nodes.now telling.quiet telling.number
+        (map Collect nodes.now) live.old outbox.old outbox.new) }
 {
     for node in nodes {
         match carry_out(alloc, live, telling, &Line::Collect { node: *node }, outbox)? {

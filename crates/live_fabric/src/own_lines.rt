@@ -1,6 +1,6 @@
 //! Lines that are of no script, and say how the others are answered.
 ghost use Rattle.std.specs.Prelude.{◌≡◌, MatchOption};
-ghost use Rattle.live_fabric.specs.Sessions.{own_text, serve_text, IsNoOwnLine, IsNoServeLine};
+ghost use Rattle.live_fabric.specs.Sessions.{own_text, serve_text, ask_text, IsNoOwnLine, IsNoServeLine, IsNoAskLine};
 
 /// A line of a session's own.
 #[derive(Clone, Copy)]
@@ -31,4 +31,12 @@ pub(crate) fn serve_words(line: &[u8]) -> Option<&[u8]>
         (λ words. line.now ≡ serve_text words.now) }
 {
     line.strip_prefix(b"serve ")
+}
+
+/// The words behind the first of a line that asks for a register.
+pub(crate) fn ask_words(line: &[u8]) -> Option<&[u8]>
+    ensures { MatchOption result (IsNoAskLine line.now)
+        (λ words. line.now ≡ ask_text words.now) }
+{
+    line.strip_prefix(b"ask ")
 }

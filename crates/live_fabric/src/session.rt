@@ -1,13 +1,17 @@
 //! A fabric that its host tells how to answer.
-ghost use Rattle.std.specs.Prelude.{◌≡◌, IfOk, OnOk, OnErr};
-ghost use Rattle.live_fabric.specs.Sessions.{SessionHeld, nothing_held, SessionHolds, SessionAnswered, SessionBreaks, SessionTold, ServeTold, held_after, IsScriptLine};
+ghost use Rattle.std.specs.Prelude.{◌≡◌, Some, IfOk, OnOk, OnErr};
+ghost use Rattle.live_fabric.specs.Asking.{ask_of};
+ghost use Rattle.live_fabric.specs.Holding.{MayBeCarried};
+ghost use Rattle.live_fabric.specs.Sessions.{SessionHeld, nothing_held, SessionHolds, SessionAnswered, SessionBreaks, SessionTold, ServeTold, AreServed, AskTold, AskFalls, RequestCarried, RequestBroke, held_after, IsScriptLine};
 
 use crate::answers::{AfterLine, BrokenOff, read_line, refuse};
+use crate::asking::{carry_ask, tell_reply};
+use crate::asks::{Ask, beside, read_ask};
 use crate::carrying::{Telling, carry_line};
 use crate::live::Live;
-use crate::own_lines::{OwnLine, own_line, serve_words};
+use crate::own_lines::{OwnLine, ask_words, own_line, serve_words};
 use crate::served::Served;
-use fabric_script::EventEnd;
+use fabric_script::{EventEnd, Line};
 use rio_chars::{NoMemory, Outbox, Sink};
 use std::alloc::Global;
 
@@ -73,6 +77,9 @@ impl Session {
             self.serve(alloc, words, outbox)?;
             return Ok(AfterLine::On);
         }
+        if let Some(words) = ask_words(line) {
+            return self.tell_ask(alloc, number, words, outbox);
+        }
         self.tell_script(alloc, number, line, outbox)
     }
 
@@ -109,6 +116,68 @@ impl Session {
         }
     }
 
+    /// Carries out the request of a register that these words are, and tells what came of it, or
+    /// why they are none.
+    fn tell_ask<K: Sink>(
+        &mut self,
+        alloc: Global,
+        number: u32,
+        words: &[u8],
+        outbox: &mut Outbox<K>,
+    ) -> Result<AfterLine, BrokenOff>
+        requires { (held : SessionHeld) × SessionHolds self.old held }
+        ensures told { IfOk result (λ going. (held : SessionHeld) → SessionHolds self.old held
+            → AskTold held number words.now outbox.old outbox.new self.new going) }
+        ensures breaks { OnErr result ((held : SessionHeld) → SessionHolds self.old held
+            → AskFalls held number words.now outbox.old outbox.new) }
+    {
+        match read_ask(alloc, self.live.set_up(), words) {
+            Ok((event, ask)) => self.carry_request(alloc, number, &event, ask, outbox),
+            Err(EventEnd::Refused(reason)) => {
+                refuse(alloc, words, reason, outbox)?;
+                Ok(AfterLine::On)
+            }
+            Err(EventEnd::NoMemory) => Err(BrokenOff),
+        }
+    }
+
+    /// Carries out a request of a register, and tells what came of it.
+    fn carry_request<K: Sink>(
+        &mut self,
+        alloc: Global,
+        number: u32,
+        event: &Line,
+        ask: Ask,
+        outbox: &mut Outbox<K>,
+    ) -> Result<AfterLine, BrokenOff>
+        requires { (held : SessionHeld) × SessionHolds self.old held
+            × MayBeCarried held.taken event.now × (ask_of event.now ≡ Some ask) }
+        ensures told { IfOk result (λ going. (held : SessionHeld) → SessionHolds self.old held
+            → MayBeCarried held.taken event.now → ask_of event.now ≡ Some ask
+            → RequestCarried held number event.now ask outbox.old outbox.new self.new going) }
+        ensures breaks { OnErr result ((held : SessionHeld) → SessionHolds self.old held
+            → MayBeCarried held.taken event.now → ask_of event.now ≡ Some ask
+            → RequestBroke held number event.now ask outbox.old outbox.new) }
+    {
+        let nodes = self.nodes_served(alloc)?;
+        let others = beside(alloc, ask.host, nodes.as_slice())?;
+        let telling = Telling {
+            quiet: self.quiet,
+            number,
+        };
+        let nodes = others.as_slice();
+        let reply = carry_ask(alloc, &mut self.live, telling, event, ask, nodes, outbox)?;
+        Ok(tell_reply(outbox, ask.offset, reply))
+    }
+
+    /// The endpoints that are served, in the order of their lines.
+    fn nodes_served(&self, alloc: Global) -> Result<Vec<u8>, NoMemory>
+        ensures { IfOk result (λ nodes. (held : SessionHeld) → SessionHolds self.now held
+            → AreServed held nodes.items) }
+    {
+        self.served.among(alloc, self.live.set_up().lines())
+    }
+
     /// Tells a line that is none of its own.
     fn tell_script<K: Sink>(
         &mut self,
@@ -127,7 +196,7 @@ impl Session {
         let Some(event) = read_line(alloc, &mut self.live, line, outbox)? else {
             return Ok(AfterLine::On);
         };
-        let nodes = self.served.among(alloc, self.live.set_up().lines())?;
+        let nodes = self.nodes_served(alloc)?;
         let telling = Telling {
             quiet: self.quiet,
             number,

@@ -1,14 +1,13 @@
-use Rattle.std.proofs.Common.{◌≡◌, ℕ, List, refl, sym, ap, ◌∙◌, subst}
-use Rattle.fabric_script.specs.SetUps.{SetUpLines}
+use Rattle.std.proofs.Common.{refl, sym, subst}
 use Rattle.live_fabric.specs.declared.session.Session.{Session}
 use Rattle.live_fabric.specs.Course.{EventsDone, EventsBreak}
 use Rattle.live_fabric.specs.Holding.{LiveHolds, MayBeCarried, MayCollect}
 use Rattle.live_fabric.specs.Lines.{Taken}
 use Rattle.live_fabric.specs.Served.{events_carried}
-use Rattle.live_fabric.specs.Sessions.{SessionHeld, SessionHolds, SessionBreaks, SessionTold, nodes_served}
+use Rattle.live_fabric.specs.Sessions.{SessionHeld, SessionHolds, SessionBreaks, SessionTold, AreServed}
 use Rattle.live_fabric.proofs.AnsweringLaws.{on_err, on_each, on_each_err}
-use Rattle.live_fabric.proofs.SessionLaws.{told_plain, told_events, breaks_events, session_breaks_at_once, nodes_are}
-use Rattle.live_fabric.proofs.TakenLaws.{may_be_carried, may_collect}
+use Rattle.live_fabric.proofs.KeptLaws.{kept_as}
+use Rattle.live_fabric.proofs.SessionLaws.{told_plain, told_events, breaks_events, may_carry, session_breaks_at_once}
 use Rattle.live_fabric.proofs.session.Session.tell_script.Goals as goal
 
 pub returns-in_default-clause-told : goal.returns-in_default-clause-told
@@ -29,19 +28,17 @@ pub carry_line-requires : goal.carry_line-requires
 carry_line-requires g c =
     let held = c.requires.holds.0 in
     let holds = c.requires.holds.1 in
+    let session = c.args.self.now in
     let live = c.read_line.new.live in
-    let line = c.args.line.now in
     let read = rw c.in-Some.is at (c.in_ok-event.ensures.read held.taken holds.live) in
-    let served : c.as_slice.result.now ≡ nodes_served held =
-    c.as_slice.ensures.value
-    ∙ nodes_are held c.args.number line c.args.self.now live c.lines.result.now
-    c.in_ok-nodes.nodes.items holds read.0
-    (c.lines.ensures ∙ ap (λ (s : SetUpLines). s.lines) c.set_up.ensures) c.in_ok-nodes.ensures in (
+    let kept = kept_as held session (record session { live = live }) holds refl refl read.0 in
+    let served = subst (AreServed held) (sym c.as_slice.ensures.value)
+    (c.in_ok-nodes.ensures held kept) in (
       held.taken,
       read.0,
-      may_be_carried live held.taken line c.in-Some.event read.0 read.1.2,
-      subst (λ (ns : List ℕ). MayCollect held.taken ns) (sym served)
-          (may_collect live held.taken held.all held.nodes read.0),
+      may_carry held c.args.number c.args.line.now session live c.as_slice.result.now
+          c.in-Some.event c.args.outbox.now c.read_line.new.outbox holds read served,
+      served.1,
     )
 
 pub returns-clause-told : goal.returns-clause-told
@@ -65,19 +62,10 @@ returns-clause-told g c =
     c.carry_line.result
     (λ going done held holds.
     let read = rw c.in-Some.is at (c.in_ok-event.ensures.read held.taken holds.live) in
-    let served : nodes ≡ nodes_served held =
-    c.as_slice.ensures.value
-    ∙ nodes_are held number line session live c.lines.result.now c.in_ok-nodes.nodes.items holds
-    read.0 (c.lines.ensures ∙ ap (λ (s : SetUpLines). s.lines) c.set_up.ensures)
-    c.in_ok-nodes.ensures in
-    let may = may_be_carried live held.taken line event read.0 read.1.2 in
-    let collect : MayCollect held.taken nodes =
-    subst (λ (ns : List ℕ). MayCollect held.taken ns) (sym served)
-    (may_collect live held.taken held.all held.nodes read.0) in
-    told_events held number line out next session now nodes event going holds c.requires.other refl
-    refl read.1 served
-    (subst (λ o. EventsDone session.quiet held.taken number (events_carried nodes event) o next
-    now.live going) read.2 (done held.taken read.0 may collect)))
+    let kept = kept_as held session (record session { live = live }) holds refl refl read.0 in
+    told_events held number line session live nodes event out mid holds read
+    (subst (AreServed held) (sym c.as_slice.ensures.value) (c.in_ok-nodes.ensures held kept)) next
+    now going c.requires.other refl refl done)
     c.carry_line.ensures.done
 
 pub returns-clause-breaks : goal.returns-clause-breaks
@@ -100,16 +88,8 @@ returns-clause-breaks g c =
     c.carry_line.result
     (λ breaks held holds.
     let read = rw c.in-Some.is at (c.in_ok-event.ensures.read held.taken holds.live) in
-    let served : nodes ≡ nodes_served held =
-    c.as_slice.ensures.value
-    ∙ nodes_are held number line session live c.lines.result.now c.in_ok-nodes.nodes.items holds
-    read.0 (c.lines.ensures ∙ ap (λ (s : SetUpLines). s.lines) c.set_up.ensures)
-    c.in_ok-nodes.ensures in
-    let may = may_be_carried live held.taken line event read.0 read.1.2 in
-    let collect : MayCollect held.taken nodes =
-    subst (λ (ns : List ℕ). MayCollect held.taken ns) (sym served)
-    (may_collect live held.taken held.all held.nodes read.0) in
-    breaks_events held number line out next session nodes event holds c.requires.other read.1 served
-    (subst (λ o. EventsBreak session.quiet held.taken number (events_carried nodes event) o next)
-    read.2 (breaks held.taken read.0 may collect)))
+    let kept = kept_as held session (record session { live = live }) holds refl refl read.0 in
+    breaks_events held number line session live nodes event out mid holds read
+    (subst (AreServed held) (sym c.as_slice.ensures.value) (c.in_ok-nodes.ensures held kept)) next
+    c.requires.other breaks)
     c.carry_line.ensures.breaks
