@@ -432,8 +432,19 @@ def answers_of(chars):
                 yield event[1][0], "".join(it[1:] for it in chars[at - 3 : at + 1])
 
 
+def listed_entries():
+    """The words of each entry, in the order of their numbers, as the page of the crate lists them."""
+    page = (TOP / "crates/link_entries/README.md").read_text()
+    rows = re.findall(r"^\| (\d+) \| (.*?)(?: \(beside .*\))? \|$", page, re.MULTILINE)
+    if [int(number) for number, _ in rows] != list(range(len(rows))):
+        raise ValueError("the numbers of crates/link_entries/README.md do not count from 0")
+    return [words for _, words in rows]
+
+
 def check_coverage(run, given):
     lines = shown(given, "coverage").decode().splitlines()
+    if [line[10:] for line in lines[:-1]] != listed_entries():
+        yield "coverage: other lines than those of crates/link_entries/README.md"
     mine = Counter({line[10:]: int(line[:8]) for line in lines[:-1]})
     wanted = Counter(met_by(run))
     if +mine != +wanted:
