@@ -64,6 +64,12 @@ FAULTS = {
     "status-frees": "a status symbol gives up the packets before its ackID",
     "turns-send-status": "a turn in which nothing waits sends a status symbol",
     "time-out-while-retry-stopped": "a time-out while retry-stopped is an error",
+    "end-says-nothing": "the first half of a symbol that ends a packet is not heard",
+    "next-forgives": "a bad packet is no error if the start of the next one ends it",
+    "longest-of-272": "a packet of more than 272 bytes is bad",
+    "responses-do-not-wrap": "a link-response with an ackID below the oldest cannot be",
+    "failed-takes-nothing": "no packet is taken when the output has failed",
+    "asks-each-turn": "each turn sends a link-request until it is answered",
 }
 
 
@@ -170,7 +176,7 @@ class Port:
         if self.output == "retry-stopped":
             self.output, self.sent = "ok", []
             return [] if self.wrong("no-restart") else self.status(RESTART)
-        if self.output == "error-stopped" and not self.asked:
+        if self.output == "error-stopped" and (not self.asked or self.wrong("asks-each-turn")):
             self.asked = True
             return [] if self.wrong("no-request") else self.status(REQUEST, 4)
         packet = self.starts()
@@ -190,6 +196,12 @@ class Port:
             self.output, self.asked = "error-stopped", False
 
     # ---- what is read
+
+    def got_one(self, char):
+        """What a character does is told in this order, whatever is done first."""
+        before = len(self.told)
+        self.got(char)
+        self.told[before:] = sorted(self.told[before:], key=lambda told: ("hold", "free", "sent").index(told.split()[0]))
 
     def got(self, char):
         delimiter, idle = char in DELIMITERS, char in IDLES
@@ -211,7 +223,7 @@ class Port:
                 self.read_symbol()
         elif self.packet is not None:
             self.packet.append(int(char[1:], 16))
-            if len(self.packet) > 276 and not self.wrong("long-packets"):
+            if len(self.packet) > (272 if self.wrong("longest-of-272") else 276) and not self.wrong("long-packets"):
                 self.bad(31)
                 self.skipping = True
         elif not self.skipping:
@@ -232,12 +244,19 @@ class Port:
             return self.bad(31)
         ends = [START, END]
         ends += [NOP] if self.wrong("nop-ends-a-packet") else [STOMP] if self.wrong("stomp-delivers") else []
-        if self.packet is not None and stype1 in ends and not (stype1 == START and self.wrong("start-drops")):
+        within = self.packet is not None
+        if within and stype1 in ends and not (stype1 == START and self.is_forgiven()):
             self.read_packet(bytes(self.packet))
         if stype1 <= REQUEST or stype1 in ends:
             self.packet = [] if stype1 == START else None
-        self.hear(fields[0], fields[1], fields[2])
+        if not (within and stype1 in ends and self.wrong("end-says-nothing")):
+            self.hear(fields[0], fields[1], fields[2])
         self.serve(stype1, fields[4])
+
+    def is_forgiven(self):
+        """Whether nothing becomes of the packet that the start of the next one ends."""
+        bad = len(self.packet) < 8 or self.carried(bytes(self.packet)) is None
+        return self.wrong("start-drops") or bad and self.wrong("next-forgives")
 
     def read_packet(self, text):
         self.packet = None
@@ -247,6 +266,8 @@ class Port:
         if found is None:
             return self.bad(2 if self.wrong("cause-of-packets") else 4)
         ack, packet = found
+        if self.output == "failed" and self.wrong("failed-takes-nothing"):
+            return
         if self.input != "ok" and not self.wrong("takes-while-" + self.input):
             return
         if ack != self.expected and not self.wrong("takes-any-ackid"):
@@ -309,6 +330,8 @@ class Port:
 
     def hear_response(self, ack):
         count = (ack - self.first) % 32
+        if ack < self.first and self.wrong("responses-do-not-wrap"):
+            count = 32
         if not self.asked and not self.wrong("response-at-any-time"):
             return
         if count > len(self.sent) and not self.wrong("impossible-response"):
@@ -348,7 +371,7 @@ class Port:
         self.told = []
         if words[0] == "got":
             for char in words[1:]:
-                self.got(char)
+                self.got_one(char)
         elif words[0] == "turn":
             for _ in range(int(words[1])):
                 sent = self.turn()
