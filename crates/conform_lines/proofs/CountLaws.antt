@@ -1,5 +1,5 @@
 -- What lines of an answer come to, one after another, and that they come to one thing.
-use Rattle.std.proofs.Common.{◌≡◌, ℕ, ◌⊎◌, inl, inr, List, [], ◌∷◌, ◌++◌, All, map, codes, refl, sym, ap, ◌∙◌, subst, append-nil, append_assoc}
+use Rattle.std.proofs.Common.{◌≡◌, ℕ, inl, inr, List, [], ◌∷◌, ◌++◌, All, map, refl, sym, ap, ◌∙◌, subst, append-nil, append_assoc}
 use Rattle.std.proofs.lemmas.List.Elements.{All-head, All-tail}
 use Rattle.std.specs.List.{flat_map}
 use Rattle.rio_chars.specs.CharText.{char_text_of, HasByte}
@@ -7,10 +7,9 @@ use Rattle.rio_chars.specs.declared.chars.Char.{Char}
 use Rattle.rio_chars.proofs.CharLaws.{char_text_of-injective}
 use Rattle.link_model.specs.Places.{Place}
 use Rattle.link_model.specs.declared.event.Event.{Event}
-use Rattle.fabric_script.specs.Lines.{words_of}
 use Rattle.port_lines.specs.Requests.{SpellsGot}
 use Rattle.conform_lines.specs.declared.counting.Counted.{Counted}
-use Rattle.conform_lines.specs.Counting.{AnswerCounts, counts_none, counts_chars, counts_line, counts_then, SendsChars, LineComesTo, LinesComeTo, counted_event}
+use Rattle.conform_lines.specs.Counting.{AnswerCounts, counts_none, counts_chars, counts_then, SendsChars, LineComesTo, LinesComeTo, counted_event}
 
 -- what lines come to, by its parts
 abbrev pub made : List Counted → List ℕ → Place → AnswerCounts

@@ -11,7 +11,7 @@ use Rattle.fabric_script.specs.Texts.{hex_text}
 use Rattle.fabric_script.proofs.HexWords.{hex_text-injective}
 use Rattle.fabric_script.specs.Words.{words_left}
 use Rattle.port_lines.proofs.RequestLaws.{some_left}
-use Rattle.port_lines.specs.Kinds.{send_word, most_id}
+use Rattle.port_lines.specs.Kinds.{most_id}
 use Rattle.port_lines.specs.Requests.{SpellsPacket, AsksRequest}
 use Rattle.port_lines.specs.declared.requests.PortRequest.{PortRequest}
 use Rattle.port_lines.specs.declared.requests.PortRequest.TheVariants.{Got, Turn, TimeOut, Send, Take, State, Reset, Clock}

@@ -1,5 +1,5 @@
 -- What a device owes and sends, one after another.
-use Rattle.std.proofs.Common.{◌≡◌, ℕ, ◌≤◌, ◌+◌, ◌↔◌, IsTrue, IsFalse, true, false, Bool, MatchBool, List, [], ◌∷◌, ◌++◌, All, map, refl, sym, ap, ◌∙◌, subst}
+use Rattle.std.proofs.Common.{◌≡◌, ℕ, ◌≤◌, ◌+◌, ◌↔◌, IsTrue, IsFalse, true, false, Bool, MatchBool, List, [], ◌∷◌, ◌++◌, map, refl, sym, ap, ◌∙◌, subst}
 use Rattle.std.proofs.lemmas.List.Elements.{All-nil}
 use Rattle.fabric_script.specs.Scripts.{pieces_of}
 use Rattle.conform_lines.specs.declared.counting.Counted.{Counted}

@@ -1,8 +1,7 @@
 -- What counts in the answers of a device that is judged with tolerance.
-use Rattle.std.specs.Prelude.{◌≡◌, ℕ, ◌==◌, ◌⊎◌, ◌||◌, if◌then◌else◌, List, [], ◌∷◌, ◌++◌, codes}
+use Rattle.std.specs.Prelude.{◌≡◌, ℕ, ◌==◌, ◌⊎◌, if◌then◌else◌, List, [], ◌∷◌, ◌++◌, codes}
 use Rattle.std.specs.List.{flat_map}
 use Rattle.rio_chars.specs.declared.chars.Char.{Char}
-use Rattle.rio_symbols.specs.Fields.{Fields}
 use Rattle.link_model.specs.Places.{Place}
 use Rattle.link_model.specs.Prelude.{place_after, said}
 use Rattle.link_model.specs.declared.event.Event.{Event}

@@ -1,9 +1,8 @@
 -- Lines one after another are parted by their line feeds in one way.
-use Rattle.std.proofs.Common.{◌≡◌, ◌≢◌, ℕ, nat_le, Bool, true, List, [], ◌∷◌, ◌++◌, All, codes, refl, sym, ap, ◌∙◌, subst, append_assoc, arith}
+use Rattle.std.proofs.Common.{◌≡◌, ◌≢◌, ℕ, nat_le, Bool, true, List, [], ◌∷◌, ◌++◌, All, codes, refl, sym, ap, ◌∙◌, subst, append_assoc}
 use Rattle.std.specs.List.{flat_map, list_all}
 use Rattle.std.proofs.lemmas.List.Folds.{list_all-append}
 use Rattle.std.proofs.lemmas.List.Elements.{All-nil, All-cons, All-head, All-tail}
-use Rattle.std.proofs.lemmas.Bool.Decides.{nat_tests}
 use Rattle.fabric_script.proofs.Points.{and_parts}
 use Rattle.live_lines.specs.Lines.{IsLine, HasNoFeed, with_feed}
 

@@ -4,23 +4,19 @@ use Rattle.std.specs.List.{flat_map}
 use Rattle.std.specs.Io.KnownBytes.{Consumes, IsAtEnd}
 use Rattle.std.proofs.lemmas.List.Elements.{All-head, All-tail}
 use Rattle.fabric_script.specs.Scripts.{pieces_of}
-use Rattle.fabric_script.specs.Lines.{words_of}
 use Rattle.link_model.specs.Places.{Place}
 use Rattle.live_lines.specs.Lines.{with_feed}
 use Rattle.port_lines.specs.Clocks.{ClockedState}
-use Rattle.port_lines.specs.Answers.{request_answer}
 use Rattle.port_lines.specs.Lines.{asked_answer}
 use Rattle.port_lines.specs.declared.faults.RequestRefusal.{RequestRefusal}
 use Rattle.port_lines.specs.declared.requests.PortRequest.{PortRequest}
-use Rattle.conform_lines.specs.declared.judging.Leeway.{Leeway}
-use Rattle.conform_lines.specs.declared.judging.Owed.{Owed}
 use Rattle.conform_lines.specs.Counting.{AnswerCounts, LineComesTo, LinesComeTo, counts_none, counts_chars, counts_line, counts_then}
 use Rattle.conform_lines.specs.Stimuli.{ReadsStimulus}
 use Rattle.conform_lines.specs.Tolerances.{JudgeState, IsAllowedAnswer, Pays, judge_start, judged_by, leeway_of, owed_since}
 use Rattle.conform_lines.proofs.CountLaws.{LinesComeTo-once}
 use Rattle.conform_lines.proofs.JudgeLaws.{Pays-all, Pays-once, allowed_itself}
-use Rattle.rio_conform.specs.Answers.{IsDeviceAnswer, HasNoAnswer}
-use Rattle.rio_conform.specs.Plays.{Played, PassesAnswer, IsPlayed, ArePlayed, DeviceEnded, Plays}
+use Rattle.rio_conform.specs.Answers.{IsDeviceAnswer}
+use Rattle.rio_conform.specs.Plays.{Played, PassesAnswer, ArePlayed, Plays}
 use Rattle.rio_conform.specs.RightDevices.{AsksSomething, GivesRightAnswers, PassesOrStops}
 use Rattle.rio_conform.specs.declared.verdict.Verdict.{Verdict}
 use Rattle.rio_conform.specs.declared.verdict.Verdict.TheVariants.{Passes, Differs, Ended, Misspelled, Stopped}

@@ -1,5 +1,5 @@
 -- The answers of the tables are lines, of which none but the last is `ok`.
-use Rattle.std.proofs.Common.{◌≡◌, ◌≢◌, ℕ, zero, suc, ◌<◌, ◌+◌, ◌/◌, ◌%◌, ◌==◌, if◌then◌else◌, nat_le, nat_lt, Bool, true, false, Option, Some, None, Ok, List, [], ◌∷◌, ◌++◌, All, codes, length, length-append, refl, sym, ap, ◌∙◌, subst, append_assoc, append-nil, arith}
+use Rattle.std.proofs.Common.{◌≡◌, ◌≢◌, ℕ, zero, suc, ◌<◌, ◌/◌, ◌%◌, ◌==◌, if◌then◌else◌, nat_le, nat_lt, Bool, true, false, Option, Some, None, List, [], ◌∷◌, ◌++◌, All, codes, length, length-append, refl, sym, ap, ◌∙◌, subst, append_assoc, append-nil, arith}
 use Rattle.std.specs.List.{flat_map}
 use Rattle.std.specs.Fmt.{decimal, digits, digits_onto, digit_glyph}
 use Rattle.std.proofs.lemmas.Grind.{flat_map-append}
@@ -13,7 +13,7 @@ use Rattle.rio_symbols.specs.Fields.{Fields}
 use Rattle.rio_packets.specs.Fields.{prio_of}
 use Rattle.link_model.specs.Prelude.{symbol_chars_of}
 use Rattle.link_buffers.specs.Prelude.{packet_count}
-use Rattle.link_port.specs.Prelude.{PortState, Acted, prios_of, waiting_in, turns_to, turn_sends, timed_out}
+use Rattle.link_port.specs.Prelude.{PortState, Acted, prios_of, waiting_in, turns_to, turn_sends}
 use Rattle.link_port.specs.Steps.{takes}
 use Rattle.link_port.specs.Halves.{out_kind_of, in_kind_of}
 use Rattle.link_port.specs.declared.kinds.OutKind.{OutKind}
@@ -22,7 +22,7 @@ use Rattle.link_port.specs.declared.kinds.InKind.{InKind}
 use Rattle.link_port.specs.declared.kinds.InKind.TheVariants as in_half
 use Rattle.live_lines.specs.Lines.{HasNoFeed, with_feed}
 use Rattle.port_lines.specs.Taking.{gives_at_once, gives_next}
-use Rattle.port_lines.specs.Texts.{sent_text, packet_text, held_text, freed_text, reply_text, taken_text, packets_text, acted_text, fire_text, burst_text, output_word, input_word, yes_or_no, state_text}
+use Rattle.port_lines.specs.Texts.{sent_text, packet_text, held_text, freed_text, reply_text, taken_text, packets_text, acted_text, fire_text, output_word, input_word, yes_or_no, state_text}
 use Rattle.port_lines.specs.Clocks.{ClockedState, clocks, clocks_to, clock_fires, clock_text, given_text}
 use Rattle.port_lines.specs.Answers.{PortAnswer, answers_chars, turns_on, answers_turns, answers_packet, answers_held, port_has_room, request_answer}
 use Rattle.port_lines.specs.declared.requests.PortRequest.{PortRequest}

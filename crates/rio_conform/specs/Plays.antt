@@ -1,5 +1,5 @@
 -- A scenario that is played: what a device is asked, and what it has to answer.
-use Rattle.std.specs.Prelude.{◌≡◌, ◌≢◌, ℕ, List, [], ◌∷◌, ◌++◌, Bool, true, false, Option, Ok, Err, length}
+use Rattle.std.specs.Prelude.{◌≡◌, ℕ, List, [], ◌∷◌, ◌++◌, Bool, true, false, Option, Ok, Err, length}
 use Rattle.std.specs.Io.KnownBytes.{Consumes, Appends, IsAtEnd}
 use Rattle.rio_chars.specs.Written.{Outgoing, Writes}
 use Rattle.port_lines.specs.Clocks.{ClockedState}

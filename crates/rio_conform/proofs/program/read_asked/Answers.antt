@@ -1,4 +1,4 @@
-use Rattle.std.proofs.Common.{◌≡◌, ◌-◌, ◌∷◌, length, map, take, drop, codes, sym, ap, ◌∙◌}
+use Rattle.std.proofs.Common.{◌-◌, ◌∷◌, length, map, take, drop, ap, ◌∙◌}
 use Rattle.std.specs.String.{string_bytes}
 use Rattle.rio_conform.proofs.AskLaws.{asks_strictly}
 use Rattle.rio_conform.proofs.PlayLaws.{front_any}

@@ -1,5 +1,4 @@
 use Rattle.std.proofs.Common.{refl, inl, inr}
-use Rattle.std.proofs.KnownBytes.{Keeps-refl}
 use Rattle.rio_conform.specs.Program.{play_asked}
 use Rattle.rio_conform.proofs.program.serve_words.Goals as goal
 
