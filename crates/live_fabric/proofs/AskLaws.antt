@@ -183,7 +183,8 @@ module _ (quiet : Bool) (taken : Taken) (number tid host : ℕ) (out next : Outg
   -- the host has collected
   pub collected_done : (did : Did)
       → Happens quiet taken number (Collect host) out next now (told_as.Did did)
-      → RoundDone quiet taken number tid (Collect host ∷ []) out next now (as_reply (reply_by tid did))
+      → RoundDone quiet taken number tid (Collect host ∷ []) out next now
+      (as_reply (reply_by tid did))
   collected_done did h = record {
     text = block_told quiet taken number (Collect host) h.block;
     end = taken_with taken number (Collect host) h.block;

@@ -80,7 +80,8 @@ abbrev pub reply_by : ℕ → Did → Option Response
 reply_by tid (Left packet) = option_and_then (if_tid tid) (response_of packet)
 reply_by tid _ = None
 
--- the response with this transaction number that left with the last line of the trace: behind a round that is what the host has collected
+-- the response with this transaction number that left with the last line of the trace: behind a
+-- round that is what the host has collected
 abbrev pub reply_of : ℕ → Taken → Option Response
 reply_of tid taken = reply_in tid (last_line taken.trace)
 

@@ -102,7 +102,8 @@ fn ask_round<K: Sink>(
     nodes: &[u8],
     outbox: &mut Outbox<K>,
 ) -> Result<Reply, BrokenOff>
-    requires { (taken : Taken) × LiveHolds live.old taken × MayCollectWith taken nodes.now ask.host }
+    requires { (taken : Taken) × LiveHolds live.old taken
+        × MayCollectWith taken nodes.now ask.host }
     ensures done { IfOk result (λ reply. (taken : Taken) → LiveHolds live.old taken
         → MayCollectWith taken nodes.now ask.host
         → RoundDone telling.quiet taken telling.number ask.tid (ask_round nodes.now ask.host)

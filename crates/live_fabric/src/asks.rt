@@ -63,8 +63,8 @@ pub(crate) fn ask_of(event: &Line) -> Option<Ask>
     }
 }
 
-/// The event that a line spells behind these lines of set-up, and what it asks. A line of set-up and
-/// any other event are of no form.
+/// The event that a line spells behind these lines of set-up, and what it asks. A line of set-up
+/// and any other event are of no form.
 pub(crate) fn read_ask(alloc: Global, set_up: &SetUp, line: &[u8]) -> Result<(Line, Ask), EventEnd>
     ensures asks { IfOk result (λ read. SpellsAsk set_up.now.known line.now read.0 read.1) }
     ensures refused { (number : ℕ) → IsErrOf result (EventEnd.Refused number)
