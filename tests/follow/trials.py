@@ -11,6 +11,7 @@ import time
 from xml.etree import ElementTree
 
 sys.dont_write_bytecode = True
+import reactions  # noqa: E402
 from pair import TOP, answered, changed, differ, inputs  # noqa: E402
 
 PROGRAM, RIO = sys.argv[1:3]
@@ -273,9 +274,18 @@ def drawings():
         yield f"same {' '.join(words)}: {done.stdout}", done.stdout.endswith(" passed, 0 failed\n") and done.stdout[0] != "0"
 
 
+def judged():
+    """Reactions are judged; a wrong one is told before the input ends."""
+    for trials in (reactions.over_examples, reactions.over_rules, reactions.over_ends):
+        yield from trials(run)
+    it = Open("reactions")
+    it.give(SET_UP + TRACE[4] + b"\n")
+    yield "a wrong reaction is told at its line", it.wait(8) == b"wrong 5\n" and it.end() == (10, b"")
+
+
 def main():
     passed = failed = 0
-    for trials in (cases, reports, open_streams, ends, examples, changes, drawings, long_streams):
+    for trials in (cases, reports, open_streams, ends, examples, changes, drawings, judged, long_streams):
         for name, good in trials():
             passed, failed = passed + bool(good), failed + (not good)
             if not good:

@@ -18,7 +18,7 @@ use Rattle.follow_lines.specs.declared.ends.FollowEnd.TheVariants as F
 use Rattle.follow_lines.specs.declared.setting.SetUpRead.{SetUpRead}
 use Rattle.follow_lines.specs.FollowEnds.{end_of_check}
 use Rattle.follow_lines.specs.Telling.{ok_text}
-use Rattle.follow_lines.specs.Following.{AreRefused, FollowsInput, FollowsTrace, IsWritten, ReadingStops, ReadsLines, ReadsSetUp, SetUpSays, StandBefore, TraceSays}
+use Rattle.follow_lines.specs.Following.{AreRefused, FollowsInput, FollowsTrace, IsRefusedSetUp, IsWritten, ReadingStops, ReadsLines, ReadsSetUp, SetUpSays, StandBefore, TraceSays}
 use Rattle.follow_lines.proofs.ReadingLaws.{Reads-none, Reads-join}
 
 -- an error that is handed on
@@ -35,6 +35,52 @@ are_refused script (C.Refused refusal) hits never = hits refusal refl
 are_refused script (C.Unlawful hit) hits never = absurd (never hit refl)
 are_refused script C.NoMemory hits never = tt
 
+-- ---- set-up lines that were read
+
+module _ {left left_mid : Option (List ℕ)} {faults faults_mid : ℕ} {script pending_mid : List ℕ}
+  where
+    -- why they are refused
+    pub refused_says : (read : SetUpRead) (refusal : Refusal)
+        → (h : ReadsSetUp (Ok read) script [] pending_mid left left_mid faults faults_mid)
+        → RefusedIn of_set_up script refusal.line refusal.reason
+        ⊎ ((read.parted ≡ false) × ((set_up : SetUpLines) × IsSetUpOf script set_up)
+        × (refusal ≡ record { line = read.lines + 1; reason = 15 }))
+        → IsRefusedSetUp h.lines left_mid h.behind refusal
+    refused_says read refusal h why =
+        let is = h.says.0 in
+        record {
+          before = is.before;
+          parted = read.parted;
+          none_parts = is.none_parts;
+          stand = is.stand;
+          refused = subst (λ (s : List ℕ). RefusedIn of_set_up s refusal.line refusal.reason
+              ⊎ ((read.parted ≡ false) × ((set_up : SetUpLines) × IsSetUpOf s set_up)
+              × (refusal ≡ record { line = length is.before + 1; reason = 15 }))) is.script_is
+              (subst (λ n. RefusedIn of_set_up script refusal.line refusal.reason
+              ⊎ ((read.parted ≡ false) × ((set_up : SetUpLines) × IsSetUpOf script set_up)
+              × (refusal ≡ record { line = n + 1; reason = 15 }))) is.count why);
+        }
+
+    -- behind the line between stand these lines of the trace
+    pub parted_split : (read : SetUpRead) (texts : List (List ℕ))
+        → (h : ReadsSetUp (Ok read) script [] pending_mid left left_mid faults faults_mid)
+        → read.parted ≡ true → h.lines ++ texts ≡ h.says.0.before ++ codes "---" ∷ texts
+    parted_split read texts h parted =
+        let set = h.says.0 in
+        let all : h.lines ≡ set.before ++ codes "---" ∷ [] =
+        subst (λ b. StandBefore b h.lines set.before left_mid h.behind) parted set.stand in
+        ap (λ l. l ++ texts) all ∙ append_assoc set.before (codes "---" ∷ []) texts
+
+    -- all of them were read
+    pub parted_reads : (read : SetUpRead) (texts : List (List ℕ)) (left_after : Option (List ℕ))
+        (behind : List ℕ)
+        → (h : ReadsSetUp (Ok read) script [] pending_mid left left_mid faults faults_mid)
+        → read.parted ≡ true → ReadsLines pending_mid left_mid left_after texts behind
+        → ReadsLines [] left left_after (h.lines ++ texts) behind
+    parted_reads read texts left_after behind h parted more =
+        Reads-join [] pending_mid behind left left_mid left_after h.lines texts
+        (subst (λ b. ReadsLines [] left left_mid h.lines b) (h.says.0.next parted) h.reads) more
+
 module _ (tell : Bool) (expected : Option Expected) (left left_mid : Option (List ℕ))
     (faults faults_mid : ℕ)
     (script pending_mid : List ℕ) (out : Outgoing) (fine : out.failed ≡ false)
@@ -45,6 +91,7 @@ module _ (tell : Bool) (expected : Option Expected) (left left_mid : Option (Lis
   is_written F.Words lines behind says = absurd says
   is_written (F.Refused refusal) lines behind says = (fine, empty)
   is_written (F.Unlawful line reason) lines behind says = absurd says
+  is_written (F.Wrong line wrong) lines behind says = absurd says
   is_written F.ReadFault lines behind says = (fine, empty)
   is_written F.WriteFault lines behind says = absurd says
   is_written F.NoMemory lines behind says = (fine, empty)
@@ -74,32 +121,16 @@ module _ (tell : Bool) (expected : Option Expected) (left left_mid : Option (Lis
       ⊎ ((read.parted ≡ false) × ((set_up : SetUpLines) × IsSetUpOf script set_up)
       × (refusal ≡ record { line = read.lines + 1; reason = 15 }))
       → FollowsInput tell (Err (F.Refused refusal)) expected left left_mid faults faults_mid out out
-  refused read refusal h why =
-      let is = h.says.0 in
-      record {
-        lines = h.lines;
-        behind = h.behind;
-        told = [];
-        reads = h.reads;
-        stops = h.says.1;
-        says = inl (
-          refl,
-          record {
-            before = is.before;
-            parted = read.parted;
-            none_parts = is.none_parts;
-            stand = is.stand;
-            refused = subst (λ (s : List ℕ). RefusedIn of_set_up s refusal.line refusal.reason
-                ⊎ ((read.parted ≡ false) × ((set_up : SetUpLines) × IsSetUpOf s set_up)
-                × (refusal ≡ record { line = length is.before + 1; reason = 15 }))) is.script_is
-                (subst (λ n. RefusedIn of_set_up script refusal.line refusal.reason
-                ⊎ ((read.parted ≡ false) × ((set_up : SetUpLines) × IsSetUpOf script set_up)
-                × (refusal ≡ record { line = n + 1; reason = 15 }))) is.count why);
-          },
-        );
-        writes = Writes-nil out;
-        is_written = (fine, empty);
-      }
+  refused read refusal h why = record {
+    lines = h.lines;
+    behind = h.behind;
+    told = [];
+    reads = h.reads;
+    stops = h.says.1;
+    says = inl (refl, refused_says read refusal h why);
+    writes = Writes-nil out;
+    is_written = (fine, empty);
+  }
 
   -- no check was made of them
   pub set_up_refused : (read : SetUpRead) (end : FollowEnd)
@@ -120,6 +151,7 @@ module _ (tell : Bool) (expected : Option Expected) (left left_mid : Option (Lis
   set_up_refused read F.Done h hit = absurd hit
   set_up_refused read F.Words h hit = absurd hit
   set_up_refused read (F.Unlawful line reason) h hit = absurd hit
+  set_up_refused read (F.Wrong line wrong) h hit = absurd hit
   set_up_refused read F.ReadFault h hit = absurd hit
   set_up_refused read F.WriteFault h hit = absurd hit
   set_up_refused read F.LineTooLong h hit = absurd hit
@@ -150,23 +182,17 @@ module _ (tell : Bool) (expected : Option Expected) (left left_mid : Option (Lis
   with_trace read set_up verdict before left_after faults_after mid out_after h is parted counted
       ok k =
       let set = h.says.0 in
-      let all : h.lines ≡ set.before ++ codes "---" ∷ [] =
-      subst (λ b. StandBefore b h.lines set.before left_mid h.behind) parted set.stand in
-      let more : ReadsLines [] left left_mid h.lines pending_mid =
-      subst (λ b. ReadsLines [] left left_mid h.lines b) (set.next parted) h.reads in
       record {
         lines = h.lines ++ k.texts;
         behind = k.behind;
         told = ok_text tell ++ k.told;
-        reads = Reads-join [] pending_mid k.behind left left_mid left_after h.lines k.texts more
-            k.reads;
+        reads = parted_reads read k.texts left_after k.behind h parted k.reads;
         stops = subst (λ n. ReadingStops verdict left_after n faults_after k.behind) h.says.1
             k.stops;
         says = inr record {
           before = set.before;
           texts = k.texts;
-          split = ap (λ l. l ++ k.texts) all
-              ∙ append_assoc set.before (codes "---" ∷ []) k.texts;
+          split = parted_split read k.texts h parted;
           none_parts = set.none_parts;
           set_up = set_up;
           is_set_up = subst (λ s. IsSetUpOf s set_up) set.script_is is;

@@ -3,3 +3,4 @@ pub mod SettingLaws
 pub mod TracingLaws
 pub mod InputLaws
 pub mod TellingLaws
+pub mod ReactingLaws

@@ -45,6 +45,7 @@ by_end F.Done written written_after faults faults_after text other all = all
 by_end F.Words written written_after faults faults_after text other all = all
 by_end (F.Refused refusal) written written_after faults faults_after text other all = all
 by_end (F.Unlawful line reason) written written_after faults faults_after text other all = all
+by_end (F.Wrong line wrong) written written_after faults faults_after text other all = all
 by_end F.ReadFault written written_after faults faults_after text other all = all
 by_end F.WriteFault written written_after faults faults_after text other all = absurd (other refl)
 by_end F.NoMemory written written_after faults faults_after text other all = all
@@ -68,11 +69,51 @@ not_fault (Err F.Words) end mid out last written told fine (inl is) same = absur
 not_fault (Err (F.Refused refusal)) end mid out last written told fine (inl is) same = absurd cc
 not_fault (Err (F.Unlawful line reason)) end mid out last written told fine (inl is) same =
     absurd cc
+not_fault (Err (F.Wrong line wrong)) end mid out last written told fine (inl is) same = absurd cc
 not_fault (Err F.ReadFault) end mid out last written told fine (inl is) same = absurd cc
 not_fault (Err F.NoMemory) end mid out last written told fine (inl is) same = absurd cc
 not_fault (Err F.LineTooLong) end mid out last written told fine (inl is) same = absurd cc
 not_fault (Err F.SetUpTooLong) end mid out last written told fine (inl is) same = absurd cc
 not_fault (Err F.TooManyLines) end mid out last written told fine (inl is) same = absurd cc
+
+-- a text and a verdict behind it were written, or a front of them
+pub written_to_end : (verdict : Result ℕ FollowEnd) (end : FollowEnd) (begun mid out : Outgoing)
+    (text last : List ℕ) → begun.failed ≡ false → begun.waiting ≡ [] → IsWritten verdict mid
+    → Writes begun mid text → Writes mid out last → HasWritten verdict end out
+    → WritesToEnd end begun.written out.written begun.faults out.faults (text ++ last)
+written_to_end verdict end begun mid out text last fresh clear is_written before told written =
+    by_failed out.failed refl
+  where
+    all : Writes begun out (text ++ last)
+    all = Writes-then text last before told
+
+    by_failed : (b : Bool) → out.failed ≡ b
+        → WritesToEnd end begun.written out.written begun.faults out.faults (text ++ last)
+    by_failed true failed =
+        subst (λ (e : FollowEnd).
+        WritesToEnd e begun.written out.written begun.faults out.faults (text ++ last))
+        (sym (written.fault failed)) (
+          Writes-front begun out (text ++ last) clear all,
+          Writes-rose begun out (text ++ last) fresh all failed,
+        )
+    by_failed false fine =
+        by_end end begun.written out.written begun.faults out.faults (text ++ last)
+        (not_fault verdict end mid out last is_written told fine (written.fine fine))
+        (Writes-whole begun out (text ++ last) clear all fine written.empty, all.counts fine)
+
+-- how it ends
+pub ends_so : (verdict : Result ℕ FollowEnd) (end : FollowEnd) (out : Outgoing)
+    → HasWritten verdict end out
+    → (end ≡ end_of_verdict verdict) ⊎ ((end ≡ F.WriteFault) ⊎ (end ≡ F.NoMemory))
+ends_so verdict end out written = by_failed out.failed refl
+  where
+    by_failed : (b : Bool) → out.failed ≡ b
+        → (end ≡ end_of_verdict verdict) ⊎ ((end ≡ F.WriteFault) ⊎ (end ≡ F.NoMemory))
+    by_failed true failed = inr (inl (written.fault failed))
+    by_failed false fine =
+        elim (written.fine fine)
+        as (λ _. (end ≡ end_of_verdict verdict) ⊎ ((end ≡ F.WriteFault) ⊎ (end ≡ F.NoMemory)))
+        [ inl is ↦ inl is | inr memory ↦ inr (inr memory) ]
 
 -- the lines were read, and the verdict is told
 pub follows_told : (tell : Bool) (verdict : Result ℕ FollowEnd) (end : FollowEnd)
@@ -93,34 +134,10 @@ follows_told tell verdict end expected left left_after faults faults_after begun
       stops = h.stops;
       says = h.says;
       tells = tells;
-      writes = writes_by out.failed refl;
-      ends = ends_by out.failed refl;
+      writes = written_to_end verdict end begun mid out h.told last fresh clear h.is_written
+          h.writes told written;
+      ends = ends_so verdict end out written;
     }
-  where
-    all : Writes begun out (h.told ++ last)
-    all = Writes-then h.told last h.writes told
-
-    writes_by : (b : Bool) → out.failed ≡ b
-        → WritesToEnd end begun.written out.written begun.faults out.faults (h.told ++ last)
-    writes_by true failed =
-        subst (λ (e : FollowEnd).
-        WritesToEnd e begun.written out.written begun.faults out.faults (h.told ++ last))
-        (sym (written.fault failed)) (
-          Writes-front begun out (h.told ++ last) clear all,
-          Writes-rose begun out (h.told ++ last) fresh all failed,
-        )
-    writes_by false fine =
-        by_end end begun.written out.written begun.faults out.faults (h.told ++ last)
-        (not_fault verdict end mid out last h.is_written told fine (written.fine fine))
-        (Writes-whole begun out (h.told ++ last) clear all fine written.empty, all.counts fine)
-
-    ends_by : (b : Bool) → out.failed ≡ b
-        → (end ≡ end_of_verdict verdict) ⊎ ((end ≡ F.WriteFault) ⊎ (end ≡ F.NoMemory))
-    ends_by true failed = inr (inl (written.fault failed))
-    ends_by false fine =
-        elim (written.fine fine)
-        as (λ _. (end ≡ end_of_verdict verdict) ⊎ ((end ≡ F.WriteFault) ⊎ (end ≡ F.NoMemory)))
-        [ inl is ↦ inl is | inr memory ↦ inr (inr memory) ]
 
 -- nothing was read or written, since memory was not given
 pub follows_none : (tell : Bool) (expected : Option Expected) (left written : Option (List ℕ))

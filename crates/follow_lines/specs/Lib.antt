@@ -1,4 +1,5 @@
 pub mod FollowEnds
 pub mod Following
 pub mod Noting
+pub mod Reacting
 pub mod Telling

@@ -17,6 +17,7 @@ oks_text tell lines = flat_map (λ line. ok_text tell) lines
 abbrev pub end_line_text : FollowEnd → List ℕ
 end_line_text (F.Unlawful line reason) =
     codes "unlawful " ++ (decimal line ++ (codes " " ++ (decimal reason ++ codes "\n")))
+end_line_text (F.Wrong line wrong) = codes "wrong " ++ (decimal line ++ codes "\n")
 end_line_text (F.Refused refusal) =
     codes "refused " ++ (decimal refusal.line ++ (codes " " ++ (decimal refusal.reason ++ codes "\n")))
 end_line_text end = []

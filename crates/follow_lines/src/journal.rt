@@ -5,6 +5,7 @@ use crate::steps::StepCounts;
 use std::alloc::{AllocError, Global};
 use std::collections::VecDeque;
 use trace_check::Checker;
+use trace_reactions::Judge;
 
 /// How many lines of a trace are kept: twenty, the one that is told, and the one behind it.
 const MOST_KEPT: usize = 22;
@@ -13,7 +14,7 @@ const MOST_KEPT: usize = 22;
 const MOST_BYTES: usize = 201;
 
 /// What was read: the set-up lines as bytes, how many lines stand before the trace, the last line,
-/// notes of the lines of the trace, and the checker that took these.
+/// notes of the lines of the trace, and the checker or the judge of reactions that took these.
 #[derive(Drop)]
 pub struct Journal {
     pub script: Vec<u8>,
@@ -21,6 +22,7 @@ pub struct Journal {
     pub line: Vec<u8>,
     pub notes: Notes,
     pub checker: Option<Checker>,
+    pub judge: Option<Judge>,
 }
 
 impl Journal {
@@ -35,6 +37,7 @@ impl Journal {
             line: Vec::new(alloc),
             notes: Notes::new(alloc, counts),
             checker: None,
+            judge: None,
         }
     }
 }

@@ -6,6 +6,8 @@
 //! so far; and what would have been lawful at that line. Left out: the words that say why.
 //!
 //! - [`follow_all`]: reads, judges and tells, up to the verdict or the end of input
+//! - [`follow_reactions`]: the same, but that the reactions of a trace are judged in place of what
+//!   is lawful
 //! - [`FollowEnd`], `end_number` and `end_words`: how it ended, the number of that, and what is
 //!   said
 //! - [`Journal`]: what is kept of what was read, for words and reports: the set-up lines, the last
@@ -15,6 +17,7 @@
 mod ends;
 mod following;
 mod journal;
+mod reacting;
 mod setting;
 mod steps;
 mod telling;
@@ -23,4 +26,5 @@ mod tracing;
 pub use ends::{FollowEnd, end_number, end_words};
 pub use following::follow_all;
 pub use journal::{Journal, Notes};
+pub use reacting::follow_reactions;
 pub use steps::{StepCount, StepCounts};

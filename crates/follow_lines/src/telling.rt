@@ -4,9 +4,10 @@ ghost use Rattle.std.specs.String.{string_bytes};
 ghost use Rattle.rio_chars.specs.Written.{Writes};
 ghost use Rattle.follow_lines.specs.declared.ends.FollowEnd.TheVariants as F;
 ghost use Rattle.follow_lines.specs.Following.{HasWritten, TellsVerdict};
+ghost use Rattle.follow_lines.specs.Reacting.{answered_line_text, TellsAnswered};
 ghost use Rattle.follow_lines.specs.Telling.{end_line_text, ok_text, verdict_line_text};
 
-use crate::ends::{FollowEnd, verdict_end};
+use crate::ends::{FollowEnd, answered_end, verdict_end};
 use fabric_script::Refusal;
 use rio_chars::{Outbox, Sink};
 use std::alloc::{AllocError, Global};
@@ -33,6 +34,21 @@ pub(crate) fn tell_verdict<K: Sink>(
 {
     match verdict_line(alloc, verdict) {
         Ok(text) => tell_line(text.as_bytes(), verdict_end(verdict), outbox),
+        Err(_) => tell_line(b"", FollowEnd::NoMemory, outbox),
+    }
+}
+
+/// The same if reactions are judged.
+pub(crate) fn tell_answered<K: Sink>(
+    alloc: Global,
+    verdict: Result<u64, FollowEnd>,
+    outbox: &mut Outbox<K>,
+) -> FollowEnd
+    ensures { (last : List ℕ) × TellsAnswered verdict result last
+        × Writes outbox.old outbox.new last × HasWritten verdict result outbox.new }
+{
+    match answered_line(alloc, verdict) {
+        Ok(text) => tell_line(text.as_bytes(), answered_end(verdict), outbox),
         Err(_) => tell_line(b"", FollowEnd::NoMemory, outbox),
     }
 }
@@ -70,12 +86,23 @@ fn verdict_line(alloc: Global, verdict: Result<u32, FollowEnd>) -> Result<String
     }
 }
 
+/// The line of a verdict on reactions, or nothing if there is none.
+fn answered_line(alloc: Global, verdict: Result<u64, FollowEnd>) -> Result<String, AllocError>
+    ensures { IfOk result (λ text. string_bytes text ≡ answered_line_text verdict) }
+{
+    match verdict {
+        Ok(count) => format!(in alloc; "answered {count}\n"),
+        Err(end) => end_line(alloc, end),
+    }
+}
+
 /// The line of an end, if it is a verdict.
 fn end_line(alloc: Global, end: FollowEnd) -> Result<String, AllocError>
     ensures { IfOk result (λ text. string_bytes text ≡ end_line_text end) }
 {
     match end {
         FollowEnd::Unlawful { line, reason } => format!(in alloc; "unlawful {line} {reason}\n"),
+        FollowEnd::Wrong { line, .. } => format!(in alloc; "wrong {line}\n"),
         FollowEnd::Refused(refusal) => refusal_line(alloc, refusal),
         _ => Ok(String::new(alloc)),
     }

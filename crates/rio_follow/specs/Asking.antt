@@ -16,3 +16,8 @@ AskFollow (kind ∷ form ∷ []) request =
 AskFollow (word ∷ kind ∷ form ∷ []) request =
     (word ≡ codes "tell") × AsksReport kind form × (request ≡ record { tell = true; report = true })
 AskFollow (word ∷ kind ∷ form ∷ more ∷ words) request = ⊥
+
+-- the words ask that reactions are judged
+abbrev pub AskReactions : List (List ℕ) → Type 0
+AskReactions (word ∷ []) = word ≡ codes "reactions"
+AskReactions words = ⊥

@@ -10,11 +10,13 @@ use Rattle.follow_lines.specs.declared.ends.FollowEnd.TheVariants as F
 use Rattle.follow_lines.specs.FollowEnds.{end_value}
 use Rattle.follow_lines.specs.Following.{FollowsAll}
 use Rattle.rio_follow.specs.declared.request.FollowRequest.{FollowRequest}
-use Rattle.rio_follow.specs.Asking.{AskFollow}
+use Rattle.follow_lines.specs.Reacting.{JudgesAll}
+use Rattle.rio_follow.specs.Asking.{AskFollow, AskReactions}
 
 -- how the program is used, on several lines
 abbrev pub follow_help : List ℕ
-follow_help = codes "usage: rio_follow [tell] [--report tap] < LINES\n\n"
+follow_help = codes "usage: rio_follow [tell] [--report tap] < LINES\n"
+    ++ codes "       rio_follow reactions < LINES\n\n"
     ++ codes "Reads set-up lines, a line --- and the lines of a trace, and judges each line\n"
     ++ codes "before the next is read. At the first line that is not lawful it says which and\n"
     ++ codes "why, and ends.\n\n"
@@ -23,6 +25,11 @@ follow_help = codes "usage: rio_follow [tell] [--report tap] < LINES\n\n"
     ++ codes "refused LINE REASON      the set-up lines are refused\n"
     ++ codes "tell                     and ok for the line --- and for each line behind it\n"
     ++ codes "--report tap             a report on standard error, in place of why\n\n"
+    ++ codes "With reactions it judges the acceptances, retries, refusals and link-responses\n"
+    ++ codes "that ports send, and not what is lawful.\n\n"
+    ++ codes "answered COUNT           the input has ended, and so many were sent, each due\n"
+    ++ codes "wrong LINE               this line has one that was not due\n"
+    ++ codes "unlawful LINE 21         this line is no line of a trace\n\n"
     ++ codes "docs/checking.md has the reasons, and man rio the lines.\n"
 
 -- A question was answered, or a front of the answer was written since a write failed.
@@ -40,7 +47,8 @@ abbrev pub KeepsInput : Option (List ℕ) → Option (List ℕ) → ℕ → ℕ 
 KeepsInput left left_after read_faults read_faults_after =
     Keeps left left_after × (read_faults_after ≡ read_faults)
 
--- The words ask that a trace is followed, and it was; or they ask a question, and it was answered;
+-- The words ask that a trace is followed, and it was; or that reactions are judged, and they were;
+-- or they ask a question, and it was answered;
 -- or they ask for nothing, and nothing was read or written.
 abbrev pub FollowDid : List (List ℕ) → FollowEnd → Option (List ℕ) → Option (List ℕ) → ℕ → ℕ
     → Option (List ℕ) → Option (List ℕ) → ℕ → ℕ → Type 0
@@ -49,12 +57,14 @@ FollowDid words end left left_after read_faults read_faults_after written writte
     ((request : FollowRequest) × AskFollow words request × ((expected : Option Expected)
     × FollowsAll request.tell end expected left left_after read_faults read_faults_after written
     written_after write_faults write_faults_after))
+    ⊎ ((AskReactions words × JudgesAll end left left_after read_faults read_faults_after written
+    written_after write_faults write_faults_after)
     ⊎ ((FollowTold words end written written_after write_faults write_faults_after
     × KeepsInput left left_after read_faults read_faults_after)
-    ⊎ (((request : FollowRequest) → ¬ AskFollow words request) × AsksNoQuestion words
-    × (end ≡ F.Words)
+    ⊎ (((request : FollowRequest) → ¬ AskFollow words request) × (¬ AskReactions words)
+    × AsksNoQuestion words × (end ≡ F.Words)
     × Keeps written written_after × (write_faults_after ≡ write_faults)
-    × KeepsInput left left_after read_faults read_faults_after))
+    × KeepsInput left left_after read_faults read_faults_after)))
 
 -- It ends with the number of an end.
 pub record FollowRan {S : Type 0} {K : Type 0} (words : List (List ℕ)) (number : ℕ)

@@ -4,8 +4,8 @@ ghost use Rattle.std.specs.String.{string_bytes};
 ghost use Rattle.follow_lines.specs.declared.ends.FollowEnd.TheVariants as F;
 ghost use Rattle.rio_follow.specs.Program.{FollowDid, FollowRan};
 
-use crate::following::follow;
-use crate::request::asked;
+use crate::following::{follow, react};
+use crate::request::{asked, asks_reactions};
 use follow_lines::{FollowEnd, end_number, end_words};
 use program_start::{answer_question, question_of};
 use rio_chars::{Sink, Source, write_unless};
@@ -13,6 +13,7 @@ use std::alloc::Global;
 
 /// How the program is used.
 const HELP: &[u8] = b"usage: rio_follow [tell] [--report tap] < LINES
+       rio_follow reactions < LINES
 
 Reads set-up lines, a line --- and the lines of a trace, and judges each line
 before the next is read. At the first line that is not lawful it says which and
@@ -23,6 +24,13 @@ unlawful LINE REASON     this line is not lawful, or it is missing
 refused LINE REASON      the set-up lines are refused
 tell                     and ok for the line --- and for each line behind it
 --report tap             a report on standard error, in place of why
+
+With reactions it judges the acceptances, retries, refusals and link-responses
+that ports send, and not what is lawful.
+
+answered COUNT           the input has ended, and so many were sent, each due
+wrong LINE               this line has one that was not due
+unlawful LINE 21         this line is no line of a trace
 
 docs/checking.md has the reasons, and man rio the lines.
 ";
@@ -61,6 +69,9 @@ fn follow_words<S: Source, K: Sink, M: Sink>(
 {
     if let Some(question) = question_of(words) {
         return told(answer_question(sink, b"rio_follow", HELP, question));
+    }
+    if asks_reactions(words) {
+        return react(alloc, source, sink, messages);
     }
     match asked(words) {
         Some(request) => follow(alloc, request, source, sink, messages),

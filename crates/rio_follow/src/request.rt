@@ -1,7 +1,7 @@
 //! What the words behind the program's name ask for.
 ghost use Rattle.std.specs.Prelude.{map, codes, MatchBool, MatchOption, true, false, ◌≡◌, ◌≢◌};
 ghost use Rattle.std.specs.String.{string_bytes};
-ghost use Rattle.rio_follow.specs.Asking.{AskFollow, AsksReport};
+ghost use Rattle.rio_follow.specs.Asking.{AskFollow, AskReactions, AsksReport};
 
 /// That a trace is followed: whether `ok` is told of each line, and whether a report is written.
 #[derive(Clone, Copy, Debug, PartialEq, Eq)]
@@ -29,6 +29,27 @@ pub(crate) fn asked(words: &[String]) -> Option<FollowRequest>
             form.as_str().as_bytes(),
         ),
         _ => None,
+    }
+}
+
+/// Whether the words ask that reactions are judged.
+pub(crate) fn asks_reactions(words: &[String]) -> bool
+    ensures { MatchBool result (AskReactions (map string_bytes words.now))
+        (¬ AskReactions (map string_bytes words.now)) }
+{
+    match words {
+        [word] => is_reactions(word.as_str().as_bytes()),
+        _ => false,
+    }
+}
+
+/// Whether a word is the one that asks for reactions.
+fn is_reactions(word: &[u8]) -> bool
+    ensures { MatchBool result (word.now ≡ codes "reactions") (word.now ≢ codes "reactions") }
+{
+    match word {
+        b"reactions" => true,
+        _ => false,
     }
 }
 

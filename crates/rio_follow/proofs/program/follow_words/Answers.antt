@@ -3,7 +3,7 @@ use Rattle.std.proofs.KnownBytes.{Keeps-refl}
 use Rattle.rio_follow.proofs.program.follow_words.Goals as goal
 
 pub returns-in-Some : goal.returns-in-Some
-returns-in-Some g c = inr (inl (
+returns-in-Some g c = inr (inr (inl (
   record {
     question = c.in-Some.question;
     asks = c.in-Some.ensures;
@@ -12,4 +12,8 @@ returns-in-Some g c = inr (inl (
     ends = c.told.ensures;
   },
   (Keeps-refl _, refl),
-))
+)))
+
+pub returns-then-asks_reactions : goal.returns-then-asks_reactions
+returns-then-asks_reactions g c =
+    inr (inl (rw c.if-asks_reactions.true at c.asks_reactions.ensures, c.react.ensures))

@@ -1,0 +1,26 @@
+use Rattle.std.proofs.Common.{[], inl, inr, refl, ◌∙◌}
+use Rattle.follow_lines.specs.declared.ends.FollowEnd.TheVariants as F
+use Rattle.follow_lines.proofs.TellingLaws.{has_written, no_memory}
+use Rattle.follow_lines.proofs.telling.tell_answered.Goals as goal
+
+pub returns-in-Ok : goal.returns-in-Ok
+returns-in-Ok g c = (
+  c.as_bytes.result.now,
+  inl (c.as_bytes.ensures.value ∙ c.in-Ok.ensures),
+  c.tell_line.ensures.told,
+  has_written c.args.verdict c.answered_end.result c.tell_line.result c.tell_line.new.outbox
+      (inl c.answered_end.ensures) c.tell_line.ensures.end c.tell_line.ensures.empty,
+)
+
+pub returns-in-Err : goal.returns-in-Err
+returns-in-Err g c = (
+  [],
+  inr (
+    refl,
+    no_memory c.tell_line-in-Err.result c.tell_line-in-Err.new.outbox
+        c.tell_line-in-Err.ensures.end,
+  ),
+  c.tell_line-in-Err.ensures.told,
+  has_written c.args.verdict F.NoMemory c.tell_line-in-Err.result c.tell_line-in-Err.new.outbox
+      (inr refl) c.tell_line-in-Err.ensures.end c.tell_line-in-Err.ensures.empty,
+)
