@@ -95,8 +95,8 @@ FOUR = SET_UP + b"buffers B.0 4\n"
 # name, set-up lines, lines, what is answered (the place of the line that is wrong, or how many reactions were sent), words
 RULES = [
     ("two come before the first is answered", SET_UP, [got(packet(0)), got(packet(1)), sent(0, 0), sent(0, 1)], 2, b""),
-    ("a packet in two pieces", SET_UP, [got(packet(0)[:40]), got(packet(0)[41:]), sent(0, 0)], 1, b""),
-    ("an acceptance before the end of its packet", SET_UP, [got(packet(0)[:40]), sent(0, 0), got(packet(0)[41:])], (1,),
+    ("a packet in two pieces", SET_UP, [got(packet(0)[:39]), got(packet(0)[40:]), sent(0, 0)], 1, b""),
+    ("an acceptance before the end of its packet", SET_UP, [got(packet(0)[:39]), sent(0, 0), got(packet(0)[40:])], (1,),
      b"B.0 sent packet-accepted 0, and no reaction was due"),
     ("no room behind one of priority 0", FOUR, [got(packet(0)), sent(0, 0), got(packet(1)), sent(1, 1)], 2, b""),
     ("an acceptance without room", FOUR, [got(packet(0)), sent(0, 0), got(packet(1)), sent(0, 1)], (3,),
