@@ -14,7 +14,7 @@ use Rattle.trace_reactions.specs.declared.all_ports.WrongReaction.{WrongReaction
 use Rattle.trace_reactions.specs.declared.judge.Judge.{Judge}
 use Rattle.trace_reactions.specs.declared.judge.JudgeEnd.{JudgeEnd}
 use Rattle.trace_reactions.specs.declared.judge.JudgeEnd.TheVariants as J
-use Rattle.trace_reactions.specs.Judged.{AreCounted, HasJudged, IsNoLine, IsWrongText}
+use Rattle.trace_reactions.specs.Judged.{AreAllAnswered, HasJudged, IsNoLine, IsWrongText}
 use Rattle.follow_lines.specs.declared.ends.FollowEnd.{FollowEnd}
 use Rattle.follow_lines.specs.declared.ends.FollowEnd.TheVariants as F
 use Rattle.follow_lines.specs.declared.setting.SetUpRead.{SetUpRead}
@@ -56,7 +56,7 @@ reacts_early judge L.NoMemory e is =
 
 -- the input ended, and all lines pass
 pub reacts_all : (judge : Judge) (end : LineEnd) (count : ℕ) → end_of_lines end ≡ None
-    → ((texts : List (List ℕ)) → HasJudged texts judge → AreCounted judge.set_up texts count)
+    → ((texts : List (List ℕ)) → HasJudged texts judge → AreAllAnswered judge.set_up texts count)
     → EndReacts judge end (Ok count)
 reacts_all judge L.End count is counts = record {
   says = λ before texts left faults faults_after behind has stop.

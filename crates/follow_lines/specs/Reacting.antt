@@ -7,7 +7,7 @@ use Rattle.live_lines.specs.Lines.{LinesStop}
 use Rattle.trace_check.specs.Taken.{IsSetUpOf}
 use Rattle.trace_reactions.specs.declared.all_ports.WrongReaction.{WrongReaction}
 use Rattle.trace_reactions.specs.declared.judge.Judge.{Judge}
-use Rattle.trace_reactions.specs.Judged.{AreAnswered, AreCounted, HasJudged, IsNoLine, IsWrongText}
+use Rattle.trace_reactions.specs.Judged.{AreAnswered, AreAllAnswered, HasJudged, IsNoLine, IsWrongText}
 use Rattle.trace_reactions.specs.Judging.{ReactionsKept}
 use Rattle.follow_lines.specs.declared.ends.FollowEnd.{FollowEnd}
 use Rattle.follow_lines.specs.declared.ends.FollowEnd.TheVariants as F
@@ -39,7 +39,7 @@ pub record LastIsWrong (set_up : SetUpLines) (texts : List (List ℕ)) (wrong : 
 
 -- What is so of lines of a trace, behind so many others, with this verdict.
 abbrev pub TraceReacts : SetUpLines → ℕ → Result ℕ FollowEnd → List (List ℕ) → Type 0
-TraceReacts set_up before (Ok count) texts = AreCounted set_up texts count
+TraceReacts set_up before (Ok count) texts = AreAllAnswered set_up texts count
 TraceReacts set_up before (Err (F.Wrong line wrong)) texts =
     (line ≡ before + length texts) × LastIsWrong set_up texts wrong
 TraceReacts set_up before (Err (F.Unlawful line reason)) texts =

@@ -4,12 +4,12 @@ use Rattle.fabric_script.specs.Known.{Known}
 use Rattle.fabric_script.specs.SetUps.{SetUpLines}
 use Rattle.trace_lines.specs.Lines.{TraceLine}
 use Rattle.trace_lines.specs.Words.{SpellsLine}
-use Rattle.trace_reactions.specs.Judged.{AreAnswered, AreSpelled}
+use Rattle.trace_reactions.specs.Judged.{AreAnswered, TextsSpell}
 use Rattle.trace_reactions.specs.Judging.{after_line, after_lines, LineReacts, LinesReact, reactions_before, ReactionsKept}
 
 spelled_more : (known : Known) (texts : List (List ℕ)) (lines : List TraceLine) (text : List ℕ)
-    (line : TraceLine) → AreSpelled known texts lines → SpellsLine known text line
-    → AreSpelled known (texts ++ text ∷ []) (lines ++ line ∷ [])
+    (line : TraceLine) → TextsSpell known texts lines → SpellsLine known text line
+    → TextsSpell known (texts ++ text ∷ []) (lines ++ line ∷ [])
 spelled_more known [] [] text line are is = (is, tt)
 spelled_more known [] (x ∷ lines) text line are is = absurd are
 spelled_more known (t ∷ texts) [] text line are is = absurd are

@@ -10,12 +10,12 @@ use Rattle.fabric_model.specs.Network.{same_port}
 use Rattle.fabric_model.proofs.Peers.{port_is}
 use Rattle.trace_reactions.specs.declared.all_ports.Reactions.{Reactions}
 use Rattle.trace_reactions.specs.declared.port.PortReactions.{PortReactions}
-use Rattle.trace_reactions.specs.Judging.{buffers_after, buffers_by, KeepsPort, KeepsPorts, KeepsReactions, key_of, reactions_before, reactions_with, same_key, with_port}
-use Rattle.trace_reactions.specs.PortsKept.{new_port, port_kept, PortKept}
+use Rattle.trace_reactions.specs.Judging.{buffers_after, buffers_by, KeepsPort, KeepsPorts, KeepsReactions, port_key, reactions_before, reactions_with, same_key, with_port_kept}
+use Rattle.trace_reactions.specs.PortsKept.{unheard_port, port_kept, PortKept}
 
 -- one port is put in, or changed
 pub port_put : {ports more : PortRef → PortKept} (old new : Reactions) (p : PortRef)
-    (put : PortReactions) → Updates same_key old.ports new.ports (key_of p) (Some put)
+    (put : PortReactions) → Updates same_key old.ports new.ports (port_key p) (Some put)
     → ((q : PortRef) → same_port p q ≡ true → more q ≡ port_kept put)
     → ((q : PortRef) → same_port p q ≡ false → more q ≡ ports q)
     → KeepsPorts ports old → KeepsPorts more new
@@ -23,23 +23,23 @@ port_put {ports} {more} old new p put updates same other kept q =
     by_port (same_port p q) refl
   where
     by_port : (b : Bool) → same_port p q ≡ b
-        → KeepsPort (more q) (get same_key new.ports (key_of q))
+        → KeepsPort (more q) (get same_key new.ports (port_key q))
     by_port true is = subst (KeepsPort (more q))
-        (sym (updates.0 (key_of q)
-        ∙ ap (λ b. cond b (Some put) (get same_key old.ports (key_of q))) is)) (same q is)
+        (sym (updates.0 (port_key q)
+        ∙ ap (λ b. cond b (Some put) (get same_key old.ports (port_key q))) is)) (same q is)
     by_port false is =
-        let there : get same_key new.ports (key_of q) ≡ get same_key old.ports (key_of q)
-        = updates.2 (key_of q) is in
+        let there : get same_key new.ports (port_key q) ≡ get same_key old.ports (port_key q)
+        = updates.2 (port_key q) is in
         subst (KeepsPort (more q)) (sym there)
-        (subst (λ port. KeepsPort port (get same_key old.ports (key_of q))) (sym (other q is))
+        (subst (λ port. KeepsPort port (get same_key old.ports (port_key q))) (sym (other q is))
         (kept q))
 
 -- a port that is kept becomes another
 pub port_changed : (ports : PortRef → PortKept) (old new : Reactions) (p : PortRef)
     (was now : PortReactions) (after : PortKept → PortKept)
-    → Updates same_key old.ports new.ports (key_of p) (Some now)
-    → get same_key old.ports (key_of p) ≡ Some was → port_kept now ≡ after (port_kept was)
-    → KeepsPorts ports old → KeepsPorts (with_port ports p after) new
+    → Updates same_key old.ports new.ports (port_key p) (Some now)
+    → get same_key old.ports (port_key p) ≡ Some was → port_kept now ≡ after (port_kept was)
+    → KeepsPorts ports old → KeepsPorts (with_port_kept ports p after) new
 port_changed ports old new p was now after updates there changes kept =
     port_put old new p now updates
     (λ q same. ap (λ b. if b then after (ports q) else ports q) same
@@ -51,20 +51,20 @@ port_changed ports old new p was now after updates there changes kept =
 
 -- a port of which nothing was kept is new
 pub port_known : (ports : PortRef → PortKept) (old new : Reactions) (p : PortRef)
-    (put : PortReactions) → Updates same_key old.ports new.ports (key_of p) (Some put)
-    → get same_key old.ports (key_of p) ≡ None → port_kept put ≡ new_port 8
+    (put : PortReactions) → Updates same_key old.ports new.ports (port_key p) (Some put)
+    → get same_key old.ports (port_key p) ≡ None → port_kept put ≡ unheard_port 8
     → KeepsPorts ports old → KeepsPorts ports new
 port_known ports old new p put updates none is kept =
     port_put old new p put updates
     (λ q same. ap ports (sym (port_is p q same)) ∙ own ∙ sym is)
     (λ q other. refl) kept
   where
-    own : ports p ≡ new_port 8
+    own : ports p ≡ unheard_port 8
     own = subst (KeepsPort (ports p)) none (kept p)
 
 -- what is kept of a port
 pub port_read : (ports : PortRef → PortKept) (reactions : Reactions) (p : PortRef)
-    (there : Option PortReactions) → get same_key reactions.ports (key_of p) ≡ there
+    (there : Option PortReactions) → get same_key reactions.ports (port_key p) ≡ there
     → KeepsPorts ports reactions → KeepsPort (ports p) there
 port_read ports reactions p there is kept = subst (KeepsPort (ports p)) is (kept p)
 
@@ -84,7 +84,7 @@ buffers_more (first ∷ lines) line n p = buffers_more lines line (buffers_by n 
 before_more : (lines : List Numbered) (line : Numbered) → reactions_before (lines ++ line ∷ [])
     ≡ reactions_with (λ p. buffers_by (buffers_after 8 p lines) p line.line)
 before_more lines line = λ i. record {
-  ports = λ p. new_port (buffers_more lines line 8 p i);
+  ports = λ p. unheard_port (buffers_more lines line 8 p i);
   answered = 0;
 }
 

@@ -14,8 +14,8 @@ use Rattle.rio_framer.specs.declared.events.Told.{Told}
 use Rattle.rio_framer.specs.Framing.{Framing, framing_after}
 use Rattle.rio_framer.specs.Giving.{listed, told_of_events}
 use Rattle.rio_framer.proofs.GivingLaws.{events_by-front, listed-front}
-use Rattle.trace_reactions.specs.InputHalves.{events_told, InputKept, takes, takes_all}
-use Rattle.trace_reactions.specs.PortsKept.{hears, PortKept}
+use Rattle.trace_reactions.specs.InputHalves.{events_of_told, InputKept, after_one_event, after_events}
+use Rattle.trace_reactions.specs.PortsKept.{after_got, PortKept}
 
 -- ---- events and places
 
@@ -76,14 +76,14 @@ pub record TakesRun (from : Place) (chars left : List Char) (told : Told) (frame
 
 module _ {from : Place} {chars left : List Char} {told : Told} {framer : Framing} where
   pub events_on : TakesRun from chars left told framer
-      → events_told told framer.ended ≡ (telling_front from chars).step.gives
+      → events_of_told told framer.ended ≡ (telling_front from chars).step.gives
   events_on run =
-      (λ i. events_told (run.told_is i) (run.framer_is i).ended)
+      (λ i. events_of_told (run.told_is i) (run.framer_is i).ended)
       ∙ ap (λ (e : Events). listed e.first e.second) (events_by-front from chars)
       ∙ listed-front from chars
 
   pub said_on : TakesRun from chars left told framer
-      → said from chars ≡ events_told told framer.ended ++ said framer.place left
+      → said from chars ≡ events_of_told told framer.ended ++ said framer.place left
   said_on run =
       said_front from chars run.some
       ∙ (λ i. sym (events_on run) i ++ said (sym run.framer_is i).place (sym run.left_is i))
@@ -96,29 +96,29 @@ module _ {from : Place} {chars left : List Char} {told : Told} {framer : Framing
 -- ---- a port
 
 takes-append : (xs ys : List Event) (kept : InputKept)
-    → takes_all kept (xs ++ ys) ≡ takes_all (takes_all kept xs) ys
+    → after_events kept (xs ++ ys) ≡ after_events (after_events kept xs) ys
 takes-append [] ys kept = refl
-takes-append (x ∷ xs) ys kept = takes-append xs ys (takes kept x)
+takes-append (x ∷ xs) ys kept = takes-append xs ys (after_one_event kept x)
 
 -- a run of characters is taken, and then those behind it
 pub hears_on : (port : PortKept) (chars left : List Char) (told : Told) (framer : Framing)
     → TakesRun port.hearing chars left told framer
-    → hears (record {
+    → after_got (record {
       hearing = framer.place;
       sending = port.sending;
-      input = takes_all port.input (events_told told framer.ended);
-    }) left ≡ hears port chars
+      input = after_events port.input (events_of_told told framer.ended);
+    }) left ≡ after_got port chars
 hears_on port chars left told framer run = λ i. record {
   hearing = sym (place_on run) i;
   sending = port.sending;
-  input = (sym (takes-append (events_told told framer.ended) (said framer.place left) port.input)
-      ∙ ap (takes_all port.input) (sym (said_on run))) i;
+  input = (sym (takes-append (events_of_told told framer.ended) (said framer.place left) port.input)
+      ∙ ap (after_events port.input) (sym (said_on run))) i;
 }
 
 -- after no characters
-pub hears_none : (port : PortKept) (left : List Char) → length left ≤ 0 → hears port left ≡ port
+pub hears_none : (port : PortKept) (left : List Char) → length left ≤ 0 → after_got port left ≡ port
 hears_none port left few = λ i. record {
   hearing = place_none port.hearing left few i;
   sending = port.sending;
-  input = ap (takes_all port.input) (said_none port.hearing left few) i;
+  input = ap (after_events port.input) (said_none port.hearing left few) i;
 }

@@ -18,7 +18,7 @@ use Rattle.rio_framer.specs.Giving.{told_of_events}
 use Rattle.trace_reactions.specs.declared.port.WrongAnswer.{WrongAnswer}
 use Rattle.trace_reactions.specs.declared.reactions.Reaction.{Reaction}
 use Rattle.trace_reactions.specs.InputHalves.{InputKept}
-use Rattle.trace_reactions.specs.PortsKept.{AreDue, IsWrongAnswer, PortKept, reaction_told, sends, sent_by}
+use Rattle.trace_reactions.specs.PortsKept.{AreDue, IsWrongAnswer, PortKept, reaction_told, after_sending, reactions_sent}
 use Rattle.trace_reactions.specs.Reactions.{reaction_of, reactions_in, reactions_of}
 use Rattle.trace_reactions.proofs.ReadingOn.{events_on, place_none, place_on, said_none, said_on, TakesRun}
 
@@ -76,7 +76,7 @@ sent_on from chars left told framer run =
 pub record HasSent (port : PortKept) (chars : List Char) (now : PortKept) (left : List Char) :
     Type 0 where
   pub front : List Reaction
-  pub sent : sent_by port chars ≡ front ++ sent_by now left
+  pub sent : reactions_sent port chars ≡ front ++ reactions_sent now left
   pub due : port.input.due ≡ front ++ now.input.due
   pub place : place_after port.sending chars ≡ place_after now.sending left
   pub hearing : now.hearing ≡ port.hearing
@@ -139,18 +139,18 @@ sent_wrong {left = left} {behind} {now} told framer wrong had run some first oth
 -- no characters are left: all reactions were the first that were due
 pub sent_due : {port : PortKept} {chars left : List Char} {now : PortKept}
     → HasSent port chars now left → length left ≤ 0
-    → port.input.due ≡ sent_by port chars ++ now.input.due
+    → port.input.due ≡ reactions_sent port chars ++ now.input.due
 sent_due {left = left} {now} had few =
     let all = had.sent ∙ ap (λ (es : List Event). had.front ++ reactions_in es)
     (said_none now.sending left few) ∙ append-nil had.front in
     had.due ∙ ap (λ (l : List Reaction). l ++ now.input.due) (sym all)
 
 pub sent_all : {port : PortKept} {chars left : List Char} {now : PortKept}
-    → HasSent port chars now left → length left ≤ 0 → now ≡ sends port chars
+    → HasSent port chars now left → length left ≤ 0 → now ≡ after_sending port chars
 sent_all {port} {chars} {left} {now} had few =
-    let left_due : now.input.due ≡ drop (length (sent_by port chars)) port.input.due
-    = sym (ap (drop (length (sent_by port chars))) (sent_due had few)
-    ∙ drop-append_seam (sent_by port chars) now.input.due) in
+    let left_due : now.input.due ≡ drop (length (reactions_sent port chars)) port.input.due
+    = sym (ap (drop (length (reactions_sent port chars))) (sent_due had few)
+    ∙ drop-append_seam (reactions_sent port chars) now.input.due) in
     λ i. record {
       hearing = had.hearing i;
       sending = (sym (place_none now.sending left few) ∙ sym had.place) i;
@@ -160,10 +160,10 @@ sent_all {port} {chars} {left} {now} had few =
 -- so many fewer are due as there are reactions
 pub sent_count : {port : PortKept} {chars left : List Char} {now : PortKept}
     → HasSent port chars now left → length left ≤ 0
-    → length port.input.due - length now.input.due ≡ length (sent_by port chars)
+    → length port.input.due - length now.input.due ≡ length (reactions_sent port chars)
 sent_count {port} {chars} {left} {now} had few =
     let due = ap length (sent_due had few) in
-    let both = length-append (sent_by port chars) now.input.due in
+    let both = length-append (reactions_sent port chars) now.input.due in
     omega (arith, due, both)
 
 -- a reaction that was not due shows that not all were

@@ -10,23 +10,23 @@ use Rattle.trace_reactions.specs.declared.judge.Judge.{Judge}
 use Rattle.trace_reactions.specs.Judging.{after_lines, IsWrongLine, KeepsReactions, LinesReact, reactions_before, ReactionsKept}
 
 -- each text spells the line at its place
-abbrev pub AreSpelled : Known → List (List ℕ) → List TraceLine → Type 0
-AreSpelled known [] [] = Unit {0}
-AreSpelled known (text ∷ texts) (line ∷ lines) =
-    SpellsLine known text line × AreSpelled known texts lines
-AreSpelled known texts lines = ⊥
+abbrev pub TextsSpell : Known → List (List ℕ) → List TraceLine → Type 0
+TextsSpell known [] [] = Unit {0}
+TextsSpell known (text ∷ texts) (line ∷ lines) =
+    SpellsLine known text line × TextsSpell known texts lines
+TextsSpell known texts lines = ⊥
 
 -- The texts behind these set-up lines spell lines that pass, and this is kept behind them.
 pub record AreAnswered (set_up : SetUpLines) (texts : List (List ℕ)) (kept : ReactionsKept) :
     Type 0 where
   pub lines : List TraceLine
-  pub spelled : AreSpelled set_up.known texts lines
+  pub spelled : TextsSpell set_up.known texts lines
   pub react : LinesReact (reactions_before set_up.lines) lines
   pub kept_is : kept ≡ after_lines (reactions_before set_up.lines) lines
 
 -- so many reactions were sent, and each was due
-abbrev pub AreCounted : SetUpLines → List (List ℕ) → ℕ → Type 0
-AreCounted set_up texts count =
+abbrev pub AreAllAnswered : SetUpLines → List (List ℕ) → ℕ → Type 0
+AreAllAnswered set_up texts count =
     (kept : ReactionsKept) × AreAnswered set_up texts kept × (count ≡ kept.answered)
 
 -- so many reactions of a port are due behind them

@@ -11,7 +11,7 @@ use Rattle.trace_lines.specs.Lines.{Got, Sent, Signed, Stepped, TraceLine}
 use Rattle.trace_reactions.specs.declared.port.PortReactions.{PortReactions}
 use Rattle.trace_reactions.specs.declared.all_ports.Reactions.{Reactions}
 use Rattle.trace_reactions.specs.declared.all_ports.WrongReaction.{WrongReaction}
-use Rattle.trace_reactions.specs.PortsKept.{AreDue, gives, hears, IsWrongAnswer, new_port, port_kept, PortKept, sends, sent_by}
+use Rattle.trace_reactions.specs.PortsKept.{AreDue, gives, after_got, IsWrongAnswer, unheard_port, port_kept, PortKept, after_sending, reactions_sent}
 
 -- what is kept of each port, and how many reactions were sent and were due
 pub record ReactionsKept : Type 0 where
@@ -31,7 +31,7 @@ buffers_after n p (line ∷ lines) = buffers_after (buffers_by n p line.line) p 
 
 -- before the first line, if each port has so many buffers
 abbrev pub reactions_with : (PortRef → ℕ) → ReactionsKept
-reactions_with buffers = record { ports = λ p. new_port (buffers p); answered = 0 }
+reactions_with buffers = record { ports = λ p. unheard_port (buffers p); answered = 0 }
 
 -- behind set-up lines: a port has 8 buffers, if no line says how many
 abbrev pub reactions_before : List Numbered → ReactionsKept
@@ -40,8 +40,8 @@ reactions_before lines = reactions_with (λ p. buffers_after 8 p lines)
 -- ---- a line
 
 -- one port becomes another
-abbrev pub with_port : (PortRef → PortKept) → PortRef → (PortKept → PortKept) → PortRef → PortKept
-with_port ports p after q = if same_port p q then after (ports q) else ports q
+abbrev pub with_port_kept : (PortRef → PortKept) → PortRef → (PortKept → PortKept) → PortRef → PortKept
+with_port_kept ports p after q = if same_port p q then after (ports q) else ports q
 
 -- the port from which a step takes a packet that it holds
 abbrev pub gone_from : Step → Option PortRef
@@ -53,15 +53,15 @@ gone_from _ = None
 
 abbrev pub after_gone : (PortRef → PortKept) → Option PortRef → PortRef → PortKept
 after_gone ports None = ports
-after_gone ports (Some p) = with_port ports p gives
+after_gone ports (Some p) = with_port_kept ports p gives
 
 -- after a line; lines of other kinds change nothing
 abbrev pub after_line : ReactionsKept → TraceLine → ReactionsKept
 after_line kept (Signed (Got p chars)) =
-    record kept { ports = with_port kept.ports p (λ port. hears port chars) }
+    record kept { ports = with_port_kept kept.ports p (λ port. after_got port chars) }
 after_line kept (Signed (Sent p chars)) = record {
-  ports = with_port kept.ports p (λ port. sends port chars);
-  answered = kept.answered + length (sent_by (kept.ports p) chars);
+  ports = with_port_kept kept.ports p (λ port. after_sending port chars);
+  answered = kept.answered + length (reactions_sent (kept.ports p) chars);
 }
 after_line kept (Stepped step) =
     record kept { ports = after_gone kept.ports (gone_from step) }
@@ -94,20 +94,20 @@ LinesReact kept (line ∷ lines) = LineReacts kept line × LinesReact (after_lin
 abbrev pub Key : Type 0
 Key = ℕ × ℕ
 
-abbrev pub key_of : PortRef → Key
-key_of p = (p.node, p.port)
+abbrev pub port_key : PortRef → Key
+port_key p = (p.node, p.port)
 
 abbrev pub same_key : Key → Key → Bool
 same_key p q = (p.0 == q.0) && (p.1 == q.1)
 
 -- a port of which nothing is kept is new, with 8 buffers
 abbrev pub KeepsPort : PortKept → Option PortReactions → Type 0
-KeepsPort port None = port ≡ new_port 8
+KeepsPort port None = port ≡ unheard_port 8
 KeepsPort port (Some kept) = port ≡ port_kept kept
 
 abbrev pub KeepsPorts : (PortRef → PortKept) → Reactions → Type 0
 KeepsPorts ports reactions =
-    (p : PortRef) → KeepsPort (ports p) (get same_key reactions.ports (key_of p))
+    (p : PortRef) → KeepsPort (ports p) (get same_key reactions.ports (port_key p))
 
 pub record KeepsReactions (kept : ReactionsKept) (reactions : Reactions) : Type 0 where
   pub ports : KeepsPorts kept.ports reactions

@@ -6,7 +6,7 @@ use Rattle.link_model.specs.Said.{said}
 use Rattle.trace_reactions.specs.declared.port.PortReactions.{PortReactions}
 use Rattle.trace_reactions.specs.declared.port.WrongAnswer.{WrongAnswer}
 use Rattle.trace_reactions.specs.declared.reactions.Reaction.{Reaction}
-use Rattle.trace_reactions.specs.InputHalves.{input_kept, InputKept, new_input, takes_all}
+use Rattle.trace_reactions.specs.InputHalves.{input_kept, InputKept, new_input, after_events}
 use Rattle.rio_framer.specs.declared.events.Told.{Told}
 use Rattle.rio_framer.specs.declared.events.Told.TheVariants as T
 use Rattle.trace_reactions.specs.Reactions.{reaction_of, reactions_in}
@@ -18,32 +18,32 @@ pub record PortKept : Type 0 where
   pub input : InputKept
 
 -- a port with so many receive buffers, before the first line
-abbrev pub new_port : ℕ → PortKept
-new_port buffers =
+abbrev pub unheard_port : ℕ → PortKept
+unheard_port buffers =
     record { hearing = place_start; sending = place_start; input = new_input buffers }
 
 -- after characters that it got
-abbrev pub hears : PortKept → List Char → PortKept
-hears port chars = record {
+abbrev pub after_got : PortKept → List Char → PortKept
+after_got port chars = record {
   hearing = place_after port.hearing chars;
   sending = port.sending;
-  input = takes_all port.input (said port.hearing chars);
+  input = after_events port.input (said port.hearing chars);
 }
 
 -- the reactions among the symbols of characters that it sends
-abbrev pub sent_by : PortKept → List Char → List Reaction
-sent_by port chars = reactions_in (said port.sending chars)
+abbrev pub reactions_sent : PortKept → List Char → List Reaction
+reactions_sent port chars = reactions_in (said port.sending chars)
 
 -- they are the first that are due
 abbrev pub AreDue : PortKept → List Char → Type 0
-AreDue port chars = (left : List Reaction) × (port.input.due ≡ sent_by port chars ++ left)
+AreDue port chars = (left : List Reaction) × (port.input.due ≡ reactions_sent port chars ++ left)
 
 -- after characters that it sent: their reactions are due no more
-abbrev pub sends : PortKept → List Char → PortKept
-sends port chars = record {
+abbrev pub after_sending : PortKept → List Char → PortKept
+after_sending port chars = record {
   hearing = port.hearing;
   sending = place_after port.sending chars;
-  input = record port.input { due = drop (length (sent_by port chars)) port.input.due };
+  input = record port.input { due = drop (length (reactions_sent port chars)) port.input.due };
 }
 
 -- after a packet that has gone from it
@@ -55,7 +55,7 @@ pub record IsWrongAnswer (port : PortKept) (chars : List Char) (wrong : WrongAns
   pub front : List Reaction
   pub behind : List Reaction
   pub left : List Reaction
-  pub sent : sent_by port chars ≡ front ++ wrong.sent ∷ behind
+  pub sent : reactions_sent port chars ≡ front ++ wrong.sent ∷ behind
   pub due : port.input.due ≡ front ++ left
   pub first : wrong.due ≡ slice_get left 0
   pub other : wrong.due ≡ Some wrong.sent → ⊥

@@ -26,9 +26,9 @@ reactions_of None = []
 reactions_of (Some reaction) = reaction ∷ []
 
 -- the reaction that a reply is, if there is one
-abbrev pub replied : Option Fields → List Reaction
-replied None = []
-replied (Some symbol) = reactions_of (reaction_of symbol)
+abbrev pub reply_due : Option Fields → List Reaction
+reply_due None = []
+reply_due (Some symbol) = reactions_of (reaction_of symbol)
 
 -- the reactions among events, in order
 abbrev pub reactions_in : List Event → List Reaction

@@ -4,8 +4,8 @@ ghost use Rattle.std.specs.Prelude.{◌≡◌, ◌+◌, ℕ, length, Some, IfOk,
 ghost use Rattle.std.specs.HashMap.{get, Updates};
 ghost use Rattle.fabric_script.specs.declared.ports.PortRef.{PortRef as APortRef};
 ghost use Rattle.trace_lines.specs.Reads.{line_read, step_read};
-ghost use Rattle.trace_reactions.specs.Judging.{after_line, buffers_by, gone_from, IsWrongLine, KeepsPorts, KeepsReactions, key_of, LineReacts, reactions_before, reactions_with, ReactionsKept, same_key, with_port};
-ghost use Rattle.trace_reactions.specs.PortsKept.{AreDue, gives, hears, IsWrongAnswer, PortKept, sends, sent_by};
+ghost use Rattle.trace_reactions.specs.Judging.{after_line, buffers_by, gone_from, IsWrongLine, KeepsPorts, KeepsReactions, port_key, LineReacts, reactions_before, reactions_with, ReactionsKept, same_key, with_port_kept};
+ghost use Rattle.trace_reactions.specs.PortsKept.{AreDue, gives, after_got, IsWrongAnswer, PortKept, after_sending, reactions_sent};
 ghost use Rattle.trace_reactions.specs.declared.all_ports.ReactionEnd.TheVariants.{NoMemory as OutOfMemory};
 
 use crate::port::{PortReactions, WrongAnswer};
@@ -135,7 +135,7 @@ impl Reactions {
     /// A port got characters.
     fn got(&mut self, alloc: Global, port: PortRef, chars: &[Char]) -> Result<(), AllocError>
         ensures kept { IfOk result (λ _. (ports : APortRef → PortKept) → KeepsPorts ports self.old
-            → KeepsPorts (with_port ports port (λ p. hears p chars.now)) self.new) }
+            → KeepsPorts (with_port_kept ports port (λ p. after_got p chars.now)) self.new) }
         ensures answered { self.new.answered ≡ self.old.answered }
     {
         self.know(alloc, port)?;
@@ -151,7 +151,7 @@ impl Reactions {
     /// A packet has gone from a port.
     fn gone(&mut self, alloc: Global, port: PortRef) -> Result<(), AllocError>
         ensures kept { IfOk result (λ _. (ports : APortRef → PortKept) → KeepsPorts ports self.old
-            → KeepsPorts (with_port ports port gives) self.new) }
+            → KeepsPorts (with_port_kept ports port gives) self.new) }
         ensures answered { self.new.answered ≡ self.old.answered }
     {
         self.know(alloc, port)?;
@@ -170,8 +170,8 @@ impl Reactions {
             → AreDue (kept.ports port) chars.now) }
         ensures taken { IfOk result (λ _. (kept : ReactionsKept) → KeepsReactions kept self.old
             → KeepsReactions (record {
-              ports = with_port kept.ports port (λ p. sends p chars.now);
-              answered = kept.answered + length (sent_by (kept.ports port) chars.now);
+              ports = with_port_kept kept.ports port (λ p. after_sending p chars.now);
+              answered = kept.answered + length (reactions_sent (kept.ports port) chars.now);
             }) self.new) }
         ensures wrong { (wrong : _) → IsErrOf result (ReactionEnd.Wrong wrong)
             → (kept : ReactionsKept) → KeepsReactions kept self.old
@@ -199,7 +199,7 @@ impl Reactions {
     fn know(&mut self, alloc: Global, port: PortRef) -> Result<(), AllocError>
         ensures kept { IfOk result (λ _. (ports : APortRef → PortKept)
             → KeepsPorts ports self.old → KeepsPorts ports self.new) }
-        ensures known { IfOk result (λ _. IsSome (get same_key self.new.ports (key_of port))) }
+        ensures known { IfOk result (λ _. IsSome (get same_key self.new.ports (port_key port))) }
         ensures answered { self.new.answered ≡ self.old.answered }
     {
         if self.ports.contains_key(&(port.node, port.port)) {
@@ -212,7 +212,7 @@ impl Reactions {
     /// This is kept of a port.
     fn put(&mut self, port: PortRef, kept: PortReactions) -> Result<(), AllocError>
         ensures put { IfOk result (λ _. Updates same_key self.old.ports self.new.ports
-            (key_of port) (Some kept)) }
+            (port_key port) (Some kept)) }
         ensures answered { self.new.answered ≡ self.old.answered }
     {
         self.ports.insert((port.node, port.port), kept)?;

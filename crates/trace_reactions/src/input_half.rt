@@ -8,7 +8,7 @@ ghost use Rattle.link_model.specs.declared.event.Event.TheVariants.{Bad as ABad,
 ghost use Rattle.link_model.specs.Input.{input_accepted, input_error, LinkRequest, receives, RestartFromRetry};
 ghost use Rattle.link_model.specs.Reports.{untold};
 ghost use Rattle.trace_reactions.specs.declared.input_half.InputState.TheVariants as S;
-ghost use Rattle.trace_reactions.specs.InputHalves.{after_entry, events_told, has_room, input_kept, new_input, takes, takes_all};
+ghost use Rattle.trace_reactions.specs.InputHalves.{after_entry, events_of_told, has_room_behind, input_kept, new_input, after_one_event, after_events};
 
 use crate::reactions::{Reaction, ReactionKind};
 use rio_framer::{Framer, Told};
@@ -65,7 +65,7 @@ impl InputHalf {
     pub(crate) fn take(&mut self, told: Told, framer: &Framer) -> Result<(), AllocError>
         requires { (symbol : Fields) → told ≡ Told.Ends symbol → IsSome framer.now.ended }
         ensures { IfOk result (λ _. input_kept self.new
-            ≡ takes_all (input_kept self.old) (events_told told framer.now.ended)) }
+            ≡ after_events (input_kept self.old) (events_of_told told framer.now.ended)) }
     {
         match told {
             Told::Nothing => Ok(()),
@@ -84,7 +84,7 @@ impl InputHalf {
     /// A good packet comes.
     fn packet(&mut self, ack: u8, form: &[u8]) -> Result<(), AllocError>
         ensures { IfOk result (λ _. input_kept self.new
-            ≡ takes (input_kept self.old) (APkt ack form.now)) }
+            ≡ after_one_event (input_kept self.old) (APkt ack form.now)) }
     {
         if self.state != InputState::Ok {
             return Ok(());
@@ -117,7 +117,7 @@ impl InputHalf {
 
     /// Whether a packet of this priority has room.
     fn has_room(&self, prio: u8) -> bool
-        ensures { result ≡ has_room self.now.held self.now.buffers prio }
+        ensures { result ≡ has_room_behind self.now.held self.now.buffers prio }
     {
         let buffers = u64::from(self.buffers);
         let higher = 3u8.saturating_sub(prio);
@@ -130,7 +130,7 @@ impl InputHalf {
     /// A symbol comes.
     fn symbol(&mut self, symbol: &Symbol) -> Result<(), AllocError>
         ensures { IfOk result (λ _. input_kept self.new
-            ≡ takes (input_kept self.old) (ACtl symbol.now)) }
+            ≡ after_one_event (input_kept self.old) (ACtl symbol.now)) }
     {
         match symbol.s1 {
             RESTART_FROM_RETRY => self.restart(),
@@ -166,7 +166,7 @@ impl InputHalf {
     /// What comes is neither a symbol nor a packet.
     fn bad(&mut self) -> Result<(), AllocError>
         ensures { IfOk result (λ _. (cause : Cause) → input_kept self.new
-            ≡ takes (input_kept self.old) (ABad cause)) }
+            ≡ after_one_event (input_kept self.old) (ABad cause)) }
     {
         match self.state {
             InputState::Ok => self.stop(),

@@ -30,7 +30,7 @@ pub struct Judge {
 }
 
 impl Judge {
-    ghost use Rattle.trace_reactions.specs.Judged.{AreCounted, AreStillDue, HasJudged, IsNoLine, IsWrongText};
+    ghost use Rattle.trace_reactions.specs.Judged.{AreAllAnswered, AreStillDue, HasJudged, IsNoLine, IsWrongText};
 
     /// A judge of a trace of the fabric that these set-up lines make, of at most 16,777,216 bytes,
     /// before its first line. Refused comes exactly if a reason hits the set-up lines, unless
@@ -59,7 +59,7 @@ impl Judge {
     /// How many reactions were sent, of which each was due.
     pub fn answered(&self) -> u64
         ensures { (texts : List (List ℕ)) → HasJudged texts self.now
-            → AreCounted self.now.set_up texts result }
+            → AreAllAnswered self.now.set_up texts result }
     {
         self.reactions.answered()
     }

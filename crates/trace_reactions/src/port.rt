@@ -2,7 +2,7 @@
 
 ghost use Rattle.std.specs.Prelude.{◌≡◌, ◌≢◌, ◌∷◌, ◌++◌, length, slice_get, Some, IfErr, IfOk, OnErr, OnOk};
 ghost use Rattle.trace_reactions.specs.Reactions.{reactions_of};
-ghost use Rattle.trace_reactions.specs.PortsKept.{AreDue, gives, hears, IsWrongAnswer, new_port, port_kept, reaction_told, sends, sent_by};
+ghost use Rattle.trace_reactions.specs.PortsKept.{AreDue, gives, after_got, IsWrongAnswer, unheard_port, port_kept, reaction_told, after_sending, reactions_sent};
 
 use crate::input_half::InputHalf;
 use crate::reactions::{Reaction, reaction_of};
@@ -28,7 +28,7 @@ pub(crate) struct PortReactions {
 impl PortReactions {
     /// A port with so many receive buffers, before the first line.
     pub(crate) fn new(alloc: Global, buffers: u8) -> PortReactions
-        ensures { port_kept result ≡ new_port buffers }
+        ensures { port_kept result ≡ unheard_port buffers }
     {
         PortReactions {
             hearing: Framer::new(),
@@ -47,7 +47,7 @@ impl PortReactions {
     /// The port got characters.
     pub(crate) fn hear(&mut self, chars: &[Char]) -> Result<(), AllocError>
         ensures { IfOk result (λ _. port_kept self.new
-            ≡ hears (port_kept self.old) chars.now) }
+            ≡ after_got (port_kept self.old) chars.now) }
     {
         let mut left = chars;
         while !left.is_empty() {
@@ -63,8 +63,8 @@ impl PortReactions {
     pub(crate) fn send(&mut self, chars: &[Char]) -> Result<usize, WrongAnswer>
         ensures due { OnOk result (AreDue (port_kept self.old) chars.now) }
         ensures count { IfOk result (λ count. count
-            ≡ length (sent_by (port_kept self.old) chars.now)) }
-        ensures sent { OnOk result (port_kept self.new ≡ sends (port_kept self.old) chars.now) }
+            ≡ length (reactions_sent (port_kept self.old) chars.now)) }
+        ensures sent { OnOk result (port_kept self.new ≡ after_sending (port_kept self.old) chars.now) }
         ensures wrong { IfErr result (IsWrongAnswer (port_kept self.old) chars.now) }
         ensures not_due { OnErr result (AreDue (port_kept self.old) chars.now → ⊥) }
     {

@@ -2,8 +2,8 @@ use Rattle.std.proofs.Common.{◌≡◌, ◌+◌, Some, length, refl, sym, ap, �
 use Rattle.std.specs.HashMap.{get}
 use Rattle.trace_reactions.specs.declared.all_ports.Reactions.{Reactions}
 use Rattle.trace_reactions.specs.declared.all_ports.WrongReaction.{WrongReaction}
-use Rattle.trace_reactions.specs.Judging.{key_of, same_key}
-use Rattle.trace_reactions.specs.PortsKept.{AreDue, IsWrongAnswer, PortKept, sends, sent_by}
+use Rattle.trace_reactions.specs.Judging.{port_key, same_key}
+use Rattle.trace_reactions.specs.PortsKept.{AreDue, IsWrongAnswer, PortKept, after_sending, reactions_sent}
 use Rattle.trace_reactions.proofs.JudgingLaws.{port_changed, port_read}
 use Rattle.trace_reactions.proofs.all_ports.Reactions.sent.Goals as goal
 
@@ -12,7 +12,7 @@ returns-in-Err-clause-wrong c = λ wrong is kept has.
     let port = c.args.port in
     let old = c.know.new.self in
     let was = c.in-Some.kept.now in
-    let there : get same_key old.ports (key_of port) ≡ Some was = search rules in
+    let there : get same_key old.ports (port_key port) ≡ Some was = search rules in
     let own = port_read kept.ports old port (Some was) there
     (c.in_ok-know.ensures.kept kept.ports has.ports) in
     let mine : WrongReaction = record { port = port; answer = c.in-Err.answer } in
@@ -29,7 +29,7 @@ returns-in-Err-clause-not_due c = λ wrong is kept has due.
     let port = c.args.port in
     let old = c.know.new.self in
     let was = c.in-Some.kept.now in
-    let there : get same_key old.ports (key_of port) ≡ Some was = search rules in
+    let there : get same_key old.ports (port_key port) ≡ Some was = search rules in
     let own = port_read kept.ports old port (Some was) there
     (c.in_ok-know.ensures.kept kept.ports has.ports) in
     c.in-Err.ensures.not_due (subst (λ r. AreDue r c.args.chars.now) own due)
@@ -39,7 +39,7 @@ returns-clause-passes c = λ kept has.
     let port = c.args.port in
     let old = c.know.new.self in
     let was = c.in-Some.kept.now in
-    let there : get same_key old.ports (key_of port) ≡ Some was = search rules in
+    let there : get same_key old.ports (port_key port) ≡ Some was = search rules in
     let own = port_read kept.ports old port (Some was) there
     (c.in_ok-know.ensures.kept kept.ports has.ports) in
     subst (λ r. AreDue r c.args.chars.now) (sym own) c.in-Ok.ensures.due
@@ -51,15 +51,15 @@ returns-clause-taken c = λ kept has.
     let was = c.in-Some.kept.now in
     let now = c.send.new.self in
     let new : Reactions = record old { ports = c.get_mut.follows.lender now } in
-    let there : get same_key old.ports (key_of port) ≡ Some was = search rules in
+    let there : get same_key old.ports (port_key port) ≡ Some was = search rules in
     let own = port_read kept.ports old port (Some was) there
     (c.in_ok-know.ensures.kept kept.ports has.ports) in
     record {
-      ports = port_changed kept.ports old new port was now (λ p. sends p c.args.chars.now)
+      ports = port_changed kept.ports old new port was now (λ p. after_sending p c.args.chars.now)
           ((c.get_mut.follows.holds now).3 c.in_ok-know.ensures.known) there c.in-Ok.ensures.sent
           (c.in_ok-know.ensures.kept kept.ports has.ports);
       answered = c.in-Some-checked_add.ensures.1 ∙ (λ i.
           (c.know.ensures.answered ∙ has.answered) i
           + (c.in-Ok.ensures.count
-          ∙ ap (λ (r : PortKept). length (sent_by r c.args.chars.now)) (sym own)) i);
+          ∙ ap (λ (r : PortKept). length (reactions_sent r c.args.chars.now)) (sym own)) i);
     }

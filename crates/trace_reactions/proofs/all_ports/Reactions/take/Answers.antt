@@ -1,15 +1,15 @@
 use Rattle.std.proofs.Common.{List, Option, IfOk, sym, ◌∙◌, subst}
 use Rattle.rio_chars.specs.declared.chars.Char.{Char}
 use Rattle.fabric_script.specs.declared.ports.PortRef.{PortRef}
-use Rattle.trace_reactions.specs.Judging.{after_gone, KeepsPorts, KeepsReactions, ReactionsKept, with_port}
-use Rattle.trace_reactions.specs.PortsKept.{AreDue, hears}
+use Rattle.trace_reactions.specs.Judging.{after_gone, KeepsPorts, KeepsReactions, ReactionsKept, with_port_kept}
+use Rattle.trace_reactions.specs.PortsKept.{AreDue, after_got}
 use Rattle.trace_reactions.proofs.all_ports.Reactions.take.Goals as goal
 
 pub returns-in_ok-got-in-Got-clause-taken : goal.returns-in_ok-got-in-Got-clause-taken
 returns-in_ok-got-in-Got-clause-taken c = λ kept has.
     rw c.in-Got.is record {
       ports = subst (λ (l : List Char).
-          KeepsPorts (with_port kept.ports c.in-Got.port (λ p. hears p l)) c.got.new.self)
+          KeepsPorts (with_port_kept kept.ports c.in-Got.port (λ p. after_got p l)) c.got.new.self)
           c.as_slice.ensures.value (c.in_ok-got-in-Got.ensures.kept kept.ports has.ports);
       answered = c.got.ensures.answered ∙ has.answered;
     }

@@ -16,7 +16,7 @@ loop-left-preserved c =
     let left = c.loop-left.left.now in
     let behind = c.split_at.result.1.now in
     let new = c.answer_told.new.self in
-    let takes : TakesRun now.sending left behind run.result.1 run.new.self = record {
+    let after_one_event : TakesRun now.sending left behind run.result.1 run.new.self = record {
       some = search rules;
       told_is = run.ensures.told;
       framer_is = run.ensures.state;
@@ -24,7 +24,7 @@ loop-left-preserved c =
     } in
     subst (λ (kept : PortReactions). HasSent port c.args.chars.now (port_kept kept) behind)
     (sym c.answer_told.ensures.rest)
-    (sent_run run.result.1 run.new.self new.input.due.items c.loop-left.invariant takes
+    (sent_run run.result.1 run.new.self new.input.due.items c.loop-left.invariant after_one_event
     (search rules))
 
 pub returns-in-Err : goal.returns-in-Err
@@ -34,14 +34,14 @@ returns-in-Err c =
     let now = port_kept c.loop-left.self in
     let left = c.loop-left.left.now in
     let behind = c.split_at.result.1.now in
-    let takes : TakesRun now.sending left behind run.result.1 run.new.self = record {
+    let after_one_event : TakesRun now.sending left behind run.result.1 run.new.self = record {
       some = search rules;
       told_is = run.ensures.told;
       framer_is = run.ensures.state;
       left_is = search rules;
     } in
     let is : IsWrongAnswer port c.args.chars.now c.in-Err.wrong
-    = sent_wrong run.result.1 run.new.self c.in-Err.wrong c.loop-left.invariant takes
+    = sent_wrong run.result.1 run.new.self c.in-Err.wrong c.loop-left.invariant after_one_event
     c.in-Err.ensures.sent c.in-Err.ensures.first c.in-Err.ensures.other in
     record { due = tt; count = tt; sent = tt; wrong = is; not_due = wrong_answer is }
 
