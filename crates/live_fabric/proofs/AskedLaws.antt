@@ -15,7 +15,7 @@ use Rattle.live_fabric.specs.declared.asks.Ask.{Ask}
 use Rattle.live_fabric.specs.declared.session.Session.{Session}
 use Rattle.live_fabric.specs.Lines.{SaysWhy}
 use Rattle.live_fabric.specs.Holding.{MayBeCarried, MayCollect}
-use Rattle.live_fabric.specs.Asking.{SpellsAsk, IsNoAsk, ask_of, beside, TellsAsk, IsAskFront, reply_told}
+use Rattle.live_fabric.specs.Asking.{SpellsAsk, IsNoAsk, ask_of, others_than, TellsAsk, IsAskFront, reply_told}
 use Rattle.live_fabric.specs.AskCourse.{MayCollectWith, ReplyGoes, AskDone, AskBreaks, reply_said, after_reply}
 use Rattle.live_fabric.specs.Sessions.{SessionHeld, nodes_served, SessionHolds, SessionGoes, AreServed, AskTold, AskFalls, RequestCarried, RequestBroke}
 use Rattle.live_fabric.proofs.RequestLaws.{said_told}
@@ -93,7 +93,7 @@ module _ (held : SessionHeld) (number : ℕ) (words : List ℕ) where
 
 module _ (held : SessionHeld) (number : ℕ) (event : Line) (ask : Ask) (session : Session)
     (nodes : List ℕ) (holds : SessionHolds session held)
-    (at : nodes ≡ beside ask.host (nodes_served held)) where
+    (at : nodes ≡ others_than ask.host (nodes_served held)) where
   pub request_carried : (now : Session) (out mid next : Outgoing) (reply : Reply)
       → now.quiet ≡ session.quiet → now.served ≡ session.served
       → AskDone session.quiet held.taken number nodes event ask out mid now.live reply
@@ -103,8 +103,8 @@ module _ (held : SessionHeld) (number : ℕ) (event : Line) (ask : Ask) (session
     text = d.text;
     end = d.end;
     tells =
-        subst (λ q. TellsAsk q held.taken number (beside ask.host (nodes_served held)) event ask
-        d.text d.end) holds.quiet
+        subst (λ q. TellsAsk q held.taken number (others_than ask.host (nodes_served held))
+        event ask d.text d.end) holds.quiet
         (subst (λ ns. TellsAsk session.quiet held.taken number ns event ask d.text d.end) at d.is);
     told =
         Writes-then d.text (reply_told ask d.end) d.told
@@ -125,8 +125,8 @@ module _ (held : SessionHeld) (number : ℕ) (event : Line) (ask : Ask) (session
   request_broke out next b = record {
     text = b.text;
     is =
-        subst (λ q. IsAskFront q held.taken number (beside ask.host (nodes_served held)) event ask
-        b.text) holds.quiet
+        subst (λ q. IsAskFront q held.taken number (others_than ask.host (nodes_served held))
+        event ask b.text) holds.quiet
         (subst (λ ns. IsAskFront session.quiet held.taken number ns event ask b.text) at b.is);
     told = b.told;
   }
@@ -139,7 +139,7 @@ request_falls held number event ask out =
 
 -- the nodes beside a host may collect, and then the host
 pub may_ask : (held : SessionHeld) (event : Line) (ask : Ask) (nodes others : List ℕ)
-    → AreServed held nodes → others ≡ beside ask.host nodes → MayBeCarried held.taken event
+    → AreServed held nodes → others ≡ others_than ask.host nodes → MayBeCarried held.taken event
     → ask_of event ≡ Some ask → MayCollectWith held.taken others ask.host
 may_ask held event ask nodes others served at may asks = (
   subst (MayCollect held.taken) (sym at)
@@ -150,5 +150,5 @@ may_ask held event ask nodes others served at may asks = (
 
 -- the nodes beside a host, by those that are served
 pub beside_are : (held : SessionHeld) (host : ℕ) (nodes others : List ℕ) → AreServed held nodes
-    → others ≡ beside host nodes → others ≡ beside host (nodes_served held)
-beside_are held host nodes others served at = at ∙ ap (beside host) served.0
+    → others ≡ others_than host nodes → others ≡ others_than host (nodes_served held)
+beside_are held host nodes others served at = at ∙ ap (others_than host) served.0

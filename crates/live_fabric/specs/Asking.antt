@@ -52,8 +52,8 @@ IsNoAsk known words reason =
 -- ---- a round
 
 -- these nodes but for the host
-abbrev pub beside : ℕ → List ℕ → List ℕ
-beside host nodes = filter (λ node. not (node == host)) nodes
+abbrev pub others_than : ℕ → List ℕ → List ℕ
+others_than host nodes = filter (λ node. not (node == host)) nodes
 
 -- The events of a round: links and switches carry what they can, each of these nodes collects, and
 -- then the host does.

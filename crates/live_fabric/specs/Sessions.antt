@@ -14,7 +14,7 @@ use Rattle.live_fabric.specs.declared.session.Session.{Session}
 use Rattle.live_fabric.specs.Lines.{Taken, nothing_taken, Outcome, ReadsAs, SaysWhy, IsEventLine, MetUnsent, taken_after, IsSent}
 use Rattle.live_fabric.specs.Served.{with_served, served_of, events_carried}
 use Rattle.live_fabric.specs.Telling.{IsNoEvent, plain_told, TellsEvents, IsEventsFront}
-use Rattle.live_fabric.specs.Asking.{SpellsAsk, IsNoAsk, beside, TellsAsk, IsAskFront, reply_told}
+use Rattle.live_fabric.specs.Asking.{SpellsAsk, IsNoAsk, others_than, TellsAsk, IsAskFront, reply_told}
 use Rattle.live_fabric.specs.Holding.{LiveHolds, IsTrace, MayCollect}
 
 -- The lines that were taken, whether those with characters are left out of the answers, and which
@@ -111,8 +111,8 @@ pub record AskTaken (held : SessionHeld) (number : ℕ) (words text : List ℕ) 
   pub spells : SpellsAsk (for_event held.taken.known) words event ask
   pub told : List ℕ
   pub end : Taken
-  pub tells : TellsAsk held.quiet held.taken number (beside ask.host (nodes_served held)) event ask
-      told end
+  pub tells : TellsAsk held.quiet held.taken number (others_than ask.host (nodes_served held))
+      event ask told end
   pub answer : text ≡ (told ++ reply_told ask end) ++ codes "ok\n"
   pub then : next ≡ record held { taken = end }
 
@@ -192,8 +192,8 @@ pub record IsAskAnswerFront (held : SessionHeld) (number : ℕ) (words text : Li
   pub event : Line
   pub ask : Ask
   pub spells : SpellsAsk (for_event held.taken.known) words event ask
-  pub front : IsAskFront held.quiet held.taken number (beside ask.host (nodes_served held)) event
-      ask text
+  pub front : IsAskFront held.quiet held.taken number (others_than ask.host (nodes_served held))
+      event ask text
 
 -- the text is a front of the answer of this line, or nothing
 abbrev pub IsSessionFront : SessionHeld → ℕ → List ℕ → List ℕ → Type 0
@@ -276,8 +276,8 @@ pub record RequestCarried (held : SessionHeld) (number : ℕ) (event : Line) (as
     (old new : Outgoing) (session : Session) (going : AfterLine) : Type 0 where
   pub text : List ℕ
   pub end : Taken
-  pub tells : TellsAsk held.quiet held.taken number (beside ask.host (nodes_served held)) event ask
-      text end
+  pub tells : TellsAsk held.quiet held.taken number (others_than ask.host (nodes_served held))
+      event ask text end
   pub told : Writes old new (text ++ reply_told ask end)
   pub goes : SessionGoes going session (record held { taken = end })
 
@@ -285,6 +285,6 @@ pub record RequestCarried (held : SessionHeld) (number : ℕ) (event : Line) (as
 pub record RequestBroke (held : SessionHeld) (number : ℕ) (event : Line) (ask : Ask)
     (old new : Outgoing) : Type 0 where
   pub text : List ℕ
-  pub is : IsAskFront held.quiet held.taken number (beside ask.host (nodes_served held)) event ask
-      text
+  pub is : IsAskFront held.quiet held.taken number (others_than ask.host (nodes_served held))
+      event ask text
   pub told : Writes old new text

@@ -1,7 +1,7 @@
 //! What a host's request of a register asks, and what is said of its response.
 ghost use Rattle.std.specs.Prelude.{◌≡◌, ℕ, IfOk, IsErrOf};
 ghost use Rattle.rio_chars.specs.Written.{Writes};
-ghost use Rattle.live_fabric.specs.Asking.{SpellsAsk, IsNoAsk, ask_of, beside, reply_by, word_at_offset, done_text, response_said};
+ghost use Rattle.live_fabric.specs.Asking.{SpellsAsk, IsNoAsk, ask_of, others_than, reply_by, word_at_offset, done_text, response_said};
 
 use fabric_ports::Happened;
 use fabric_script::{EventEnd, Line, SetUp, put_value};
@@ -81,8 +81,8 @@ pub(crate) fn read_ask(alloc: Global, set_up: &SetUp, line: &[u8]) -> Result<(Li
 }
 
 /// The nodes but for the host.
-pub(crate) fn beside(alloc: Global, host: u8, nodes: &[u8]) -> Result<Vec<u8>, NoMemory>
-    ensures { IfOk result (λ others. others.items ≡ beside host nodes.now) }
+pub(crate) fn others_than(alloc: Global, host: u8, nodes: &[u8]) -> Result<Vec<u8>, NoMemory>
+    ensures { IfOk result (λ others. others.items ≡ others_than host nodes.now) }
 {
     let others = nodes
         .iter()

@@ -6,7 +6,7 @@ ghost use Rattle.live_fabric.specs.Sessions.{SessionHeld, nothing_held, SessionH
 
 use crate::answers::{AfterLine, BrokenOff, read_line, refuse};
 use crate::asking::{carry_ask, tell_reply};
-use crate::asks::{Ask, beside, read_ask};
+use crate::asks::{Ask, others_than, read_ask};
 use crate::carrying::{Telling, carry_line};
 use crate::live::Live;
 use crate::own_lines::{OwnLine, ask_words, own_line, serve_words};
@@ -160,7 +160,7 @@ impl Session {
             → RequestBroke held number event.now ask outbox.old outbox.new) }
     {
         let nodes = self.nodes_served(alloc)?;
-        let others = beside(alloc, ask.host, nodes.as_slice())?;
+        let others = others_than(alloc, ask.host, nodes.as_slice())?;
         let telling = Telling {
             quiet: self.quiet,
             number,

@@ -1,5 +1,5 @@
 use Rattle.std.proofs.Common.{◌≡◌, refl, sym, ap, ◌∙◌, subst}
-use Rattle.live_fabric.specs.Asking.{beside}
+use Rattle.live_fabric.specs.Asking.{others_than}
 use Rattle.live_fabric.specs.Sessions.{RequestCarried}
 use Rattle.live_fabric.specs.declared.session.Session.{Session}
 use Rattle.live_fabric.proofs.AnsweringLaws.{on_err}
@@ -23,9 +23,9 @@ carry_ask-requires g c =
     let may = c.requires in
     let ask = c.args.ask in
     let others = c.as_slice-nodes.result.now in
-    let at : others ≡ beside ask.host c.in_ok-nodes.nodes.items =
+    let at : others ≡ others_than ask.host c.in_ok-nodes.nodes.items =
     c.as_slice-nodes.ensures.value ∙ c.in_ok-others.ensures
-    ∙ ap (beside ask.host) c.as_slice.ensures.value in
+    ∙ ap (others_than ask.host) c.as_slice.ensures.value in
     record {
       asks = may.3;
       holds = (
@@ -46,9 +46,9 @@ returns-in_err-reply-clause-breaks g c =
     let nodes = c.in_ok-nodes.nodes.items in
     let others = c.as_slice-nodes.result.now in
     let served = c.in_ok-nodes.ensures held holds in
-    let at : others ≡ beside ask.host nodes =
+    let at : others ≡ others_than ask.host nodes =
     c.as_slice-nodes.ensures.value ∙ c.in_ok-others.ensures
-    ∙ ap (beside ask.host) c.as_slice.ensures.value in
+    ∙ ap (others_than ask.host) c.as_slice.ensures.value in
     request_broke held c.args.number event ask c.args.self.now others holds
     (beside_are held ask.host nodes others served at) c.args.outbox.now c.carry_ask.new.outbox
     (c.in_err-reply.ensures.breaks held.taken holds.live may
@@ -63,9 +63,9 @@ returns-clause-told g c = λ held holds may asks.
     let nodes = c.in_ok-nodes.nodes.items in
     let others = c.as_slice-nodes.result.now in
     let served = c.in_ok-nodes.ensures held holds in
-    let at : others ≡ beside ask.host nodes =
+    let at : others ≡ others_than ask.host nodes =
     c.as_slice-nodes.ensures.value ∙ c.in_ok-others.ensures
-    ∙ ap (beside ask.host) c.as_slice.ensures.value in
+    ∙ ap (others_than ask.host) c.as_slice.ensures.value in
     subst (λ going. RequestCarried held c.args.number event ask c.args.outbox.now
     c.tell_reply.new.outbox now going) (sym c.tell_reply.ensures.after)
     (request_carried held c.args.number event ask session others holds

@@ -68,13 +68,15 @@ returns-in-Ok-clause-breaks g c =
     spells.1))
     c.carry_request.ensures.breaks
 
-pub returns-in_err-refuse-in-Err-Refused-clause-breaks : goal.returns-in_err-refuse-in-Err-Refused-clause-breaks
+pub returns-in_err-refuse-in-Err-Refused-clause-breaks :
+    goal.returns-in_err-refuse-in-Err-Refused-clause-breaks
 returns-in_err-refuse-in-Err-Refused-clause-breaks g c =
     on_err c.from_residual.result
     (λ held holds. ask_falls_at_once held c.args.number c.args.words.now c.args.outbox.now
     c.refuse.new.outbox c.in_err-refuse-in-Err-Refused.ensures.same)
 
-pub returns-in_ok-refuse-in-Err-Refused-clause-told : goal.returns-in_ok-refuse-in-Err-Refused-clause-told
+pub returns-in_ok-refuse-in-Err-Refused-clause-told :
+    goal.returns-in_ok-refuse-in-Err-Refused-clause-told
 returns-in_ok-refuse-in-Err-Refused-clause-told g c = λ held holds.
     ask_refused held c.args.number c.args.words.now c.args.outbox.now c.refuse.new.outbox
     c.args.self.now c.in-Err-Refused.reason holds
