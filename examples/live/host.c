@@ -33,43 +33,31 @@ static void start(const char *program) {
     from_fabric = fdopen(up[0], "r");
 }
 
-/* Writes a line and reads its answer up to `ok`. Answers whether a packet has left at the host, and puts the bytes of
- * the last one there. */
-static int say(const char *line, unsigned char *packet) {
-    char next[4096], name[16];
-    unsigned byte, count, left = 0;
+/* Writes a line and reads its answer up to `ok`, and puts the last line before that there, or none. */
+static void say(const char *line, char answer[4096]) {
+    char next[4096];
+    answer[0] = 0;
     fprintf(to_fabric, "%s\n", line);
     fflush(to_fabric);
     while (fgets(next, sizeof next, from_fabric)) {
-        if (!strcmp(next, "ok\n")) return left;
-        if (sscanf(next, "leave %15s", name) != 1 || strcmp(name, host)) continue;
-        const char *came = next + strlen("leave ") + strlen(name) + 1;
-        for (count = 0; sscanf(came, "%2x", &byte) == 1 && count < 276; came += 2) packet[count++] = byte;
-        left = 1;
+        if (!strcmp(next, "ok\n")) return;
+        strcpy(answer, next);
     }
     fprintf(stderr, "the fabric has ended at: %s\n", line);
     exit(1);
 }
 
-/* Sends a request for a register, and runs the fabric until the response leaves, which has its transaction number in
- * byte 5, its status in the low half of byte 4, and two words from byte 10 on. In each round of a run links and switches
- * carry what they can, and every endpoint answers, since all are served. False if none came, or the register could not
- * be read or written. */
+/* Reads a register, or writes it: one line, and an answer whose last line says what came of it. The fabric runs until the
+ * response has come, and every endpoint answers, since all are served. False if none came, or the register could not be
+ * read or written. */
 static int ask(unsigned dest, unsigned hop, unsigned offset, const unsigned *write, unsigned *read) {
     static unsigned tid;
-    unsigned char packet[276] = {0};
-    char line[96];
+    char line[96], answer[4096];
     tid = (tid + 1) % 256;
-    if (write) snprintf(line, sizeof line, "write %s 0 %u %u %u %06x %08x", host, dest, hop, tid, offset, *write);
-    else snprintf(line, sizeof line, "read %s 0 %u %u %u %06x", host, dest, hop, tid, offset);
-    say(line, packet);
-    for (unsigned rounds = 0; rounds < 140; rounds++) {
-        if (!say("run 1", packet) || packet[5] != tid) continue;
-        const unsigned char *word = packet + 10 + (offset & 4);
-        if (read) *read = (unsigned)word[0] << 24 | word[1] << 16 | word[2] << 8 | word[3];
-        return (packet[4] & 15) == 0;
-    }
-    return 0;
+    if (write) snprintf(line, sizeof line, "ask write %s 0 %u %u %u %06x %08x", host, dest, hop, tid, offset, *write);
+    else snprintf(line, sizeof line, "ask read %s 0 %u %u %u %06x", host, dest, hop, tid, offset);
+    say(line, answer);
+    return write ? !strcmp(answer, "written\n") : sscanf(answer, "value %8x", read) == 1;
 }
 
 static int read_at(unsigned dest, unsigned hop, unsigned offset, unsigned *value) {
@@ -90,14 +78,13 @@ static void finish(void) {
 /* Sets the fabric up by the lines of standard input, and notes the ID of the host. No answer has characters, and every
  * endpoint is served: its registers answer in each round. */
 static void set_up(void) {
-    char line[256], name[16];
-    unsigned char none[276];
+    char line[256], name[16], answer[4096];
     unsigned id;
-    say("quiet", none);
-    say("serve all", none);
+    say("quiet", answer);
+    say("serve all", answer);
     while (fgets(line, sizeof line, stdin)) {
         line[strcspn(line, "\n")] = 0;
-        say(line, none);
+        say(line, answer);
         if (sscanf(line, "endpoint %15s %u", name, &id) == 2 && !strcmp(name, host)) host_id = id;
     }
 }

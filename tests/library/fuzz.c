@@ -20,7 +20,8 @@ static const char *const LINES[] = {
     "state", "take", "timeout", "got k1c d00 dff d16", "alter A.0 0 k7c", "insert B.0 0 d00", "erase A.0 1", "fire A.0", "end",
     "take A 000f0201cafe0001a9bb0000", "sent A.0 k7c d80 df8 d1f", "got B.0 k7c d80", "hold B.0 000f0201cafe0001a9bb0000",
     "free A 000f0201cafe0001a9bb0000", "leave B 000f0201cafe0001a9bb0000", "> run 1", "short", "read A 0 2 0 1 0",
-    "write A 0 2 0 1 000068 00000001", "noise A.0 100 1", "hold A.0", "discover A", "own A 000000", "", "# a remark", "---"};
+    "write A 0 2 0 1 000068 00000001", "noise A.0 100 1", "hold A.0", "discover A", "own A 000000", "", "# a remark", "---",
+    "quiet", "loud", "serve all", "serve B", "ask read A 0 2 255 7 000068", "ask write B 0 1 255 8 00006c 0000beef", "ask run 1"};
 
 static uint64_t state;
 static struct kigvarp_port ports[2];

@@ -22,7 +22,9 @@ void *__wrap_realloc(void *at, size_t size) { return refuses() ? 0 : __real_real
 
 static const char *const PORT[] = {"send 0 15 1 2 00112233", "turn 2", "state", "got k1c d00 dff d16", "clock kbc kbc", "nonsense", 0};
 static const char *const FABRIC[] = {"endpoint A 1",           "endpoint B 2",          "link A.0 B.0", "stop",
-                                     "send A 0 15 2 cafe0001", "settle A.0", "collect B",    "run 5", 0};
+                                     "send A 0 15 2 cafe0001", "settle A.0", "collect B",    "run 5",
+                                     "serve all", "ask read A 0 2 255 7 000068", "quiet",
+                                     "ask write A 0 2 255 8 00006c 0000beef", 0};
 
 static int failed;
 static struct kigvarp_port port;

@@ -4,7 +4,7 @@ import sys
 from array import array
 from pathlib import Path
 
-from kigvarp import Closed, Fabric, NotAsked, Port, Status, chars_of, text_of
+from kigvarp import Closed, Fabric, Host, NotAsked, NotDone, Port, Status, chars_of, text_of
 
 TOP = Path(__file__).resolve().parents[2]
 PACKET = "000f0201cafe0001a9bb0000"
@@ -92,6 +92,34 @@ def lines():
         script = (TOP / "examples/first.script").read_text().splitlines()
         trace = (TOP / "examples/first.trace").read_text().splitlines()
         equal("trace", [*fabric.run(script), "end"], trace)
+    with Fabric() as fabric:
+        set_up = ["endpoint H 0", "endpoint A 1", "link H.0 A.0", "serve all", "quiet"]
+        equal("set up", [*fabric.run(set_up)], [])
+        told = fabric.ask("ask read H 0 1 0 7 000068")
+        equal("a register by one line", told[-1], "value 0000ffff")
+        equal("quietly", [line for line in told if line.startswith(("sent", "got"))], [])
+
+
+def hosts():
+    """Registers of docs/registers.md: a component tag is written and read, a base device ID has both sizes."""
+    with Fabric() as fabric:
+        for line in ("endpoint H 0", "large H 7", "endpoint A 1", "large A 258", "link H.0 A.0", "serve all", "quiet"):
+            equal(line, fabric.ask(line), [])
+        host, large = Host(fabric, "H"), Host(fabric, "H", large=True, prio=2)
+        host.write(1, 255, 0x6C, 0xCAFE)
+        equal("read back", host.read(1, 255, 0x6C), 0xCAFE)
+        equal("by 16 bits", large.read(258, 255, 0x60), 0x00010102)
+        for number in range(300):
+            equal("again", host.read(1, 0, 0x6C), 0xCAFE)
+        for what, said in (
+            (lambda: host.read(1, 0, 1), "error 7"),
+            (lambda: host.write(1, 0, 0, 1), "error 7"),
+            (lambda: host.read(1, 256, 0), "refused 2 word 5 must be a number from 0 to 255 in decimal"),
+        ):
+            try:
+                sys.exit(f"{said}: {what()}")
+            except NotDone as done:
+                equal("not done", done.said, said)
 
 
 def texts():
@@ -99,5 +127,5 @@ def texts():
     equal("numbers", chars_of("k1c dff inv"), [0x11C, 0xFF, 0x200])
 
 
-for case in (packets, runs, clocks, statuses, lines, texts):
+for case in (packets, runs, clocks, statuses, lines, hosts, texts):
     case()

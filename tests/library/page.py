@@ -34,7 +34,7 @@ def boot_host(functions):
     """A boot host over pipes, and one with these functions of the page."""
     text = (TOP / "examples/live/host.c").read_text()
     own = '#include "kigvarp.h"\n' + text
-    for first, behind in (("/* Starts the program", "/* Sends a request"), ("/* Ends the input", "/* Sets the fabric up")):
+    for first, behind in (("/* Starts the program", "/* Reads a register"), ("/* Ends the input", "/* Sets the fabric up")):
         own = own[:own.index(first)] + functions + own[own.index(behind):]
         functions = ""
     ring = (TOP / "examples/ring.fabric").read_text()

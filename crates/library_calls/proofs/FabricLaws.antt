@@ -1,78 +1,67 @@
 -- What was written of the answer of a line.
-use Rattle.std.proofs.Common.{◌≡◌, ◌≢◌, ℕ, ◌+◌, List, [], ◌∷◌, ◌++◌, Some, Bool, true, false, Result, Ok, Err, IfOk, OnErr, inl, inr, refl, sym, ap, ◌∙◌, subst, append_assoc, arith}
+use Rattle.std.proofs.Common.{◌≡◌, ◌≢◌, ℕ, ◌+◌, List, [], Option, Some, Bool, true, false, Result, Ok, Err, IfOk, OnErr, inl, inr, refl, sym, ap, ◌∙◌, subst, append-nil, arith}
 use Rattle.std.proofs.lemmas.Grind.{common_steps}
 use Rattle.std.specs.Io.KnownBytes.{Appends}
 use Rattle.rio_chars.specs.Written.{Outgoing, Writes}
-use Rattle.live_fabric.specs.declared.live.Live.{Live}
 use Rattle.live_fabric.specs.declared.answers.AfterLine.{AfterLine}
 use Rattle.live_fabric.specs.declared.answers.AfterLine.TheVariants as Goings
 use Rattle.live_fabric.specs.declared.answers.BrokenOff.{BrokenOff}
-use Rattle.live_fabric.specs.Lines.{Taken, IsAnswerFront, answer_text, taken_after}
-use Rattle.live_fabric.specs.Holding.{LiveHolds}
-use Rattle.live_fabric.specs.Answers.{LineAnswered, AnswersFront}
+use Rattle.live_fabric.specs.declared.session.Session.{Session}
+use Rattle.live_fabric.specs.Sessions.{SessionHeld, LineAnswers, IsSessionFront, SessionHolds, SessionAnswered, SessionBreaks}
 use Rattle.library_calls.specs.FabricsSeen.{FabricSeen, FabricHolds, is_fabric_spent}
-use Rattle.library_calls.specs.FabricLines.{FabricAnswered, FabricLineTold, FabricLineCut, TellsFabricLine}
+use Rattle.library_calls.specs.FabricLines.{FabricAnswered, IsFabricFront, FabricLineTold, FabricLineCut, TellsFabricLine}
 use Rattle.library_calls.proofs.TextLaws.{front_told, all_told}
 
-nothing_before : (front rest : List ℕ) → [] ≡ front ++ rest → front ≡ []
-nothing_before [] rest is = refl
-nothing_before (x ∷ front) rest is = absurd cc
-
--- a front of a front is one
-front_of_front : (taken : Taken) (number : ℕ) (line text front rest : List ℕ)
-    → IsAnswerFront taken number line text → text ≡ front ++ rest
-    → IsAnswerFront taken number line front
-front_of_front taken number line text front rest (inl none) is =
-    inl (nothing_before front rest (sym none ∙ is))
-front_of_front taken number line text front rest (inr (outcome, more, reads, whole)) is =
-    inr (
-      outcome,
-      rest ++ more,
-      reads,
-      whole ∙ ap (λ (t : List ℕ). t ++ more) is ∙ append_assoc front rest more,
-    )
-
-module _ (taken : Taken) (number : ℕ) (line : List ℕ) (out mid last : Outgoing)
-    (before live : Live) (holds : LiveHolds before taken) (empty : out.waiting ≡ [])
+module _ (held : SessionHeld) (number : ℕ) (line : List ℕ) (out mid last : Outgoing)
+    (before session : Session) (holds : SessionHolds before held) (empty : out.waiting ≡ [])
     (flush : Writes mid last []) where
   -- all of the answer was written
   pub tells_whole : (answered : Result AfterLine BrokenOff)
-      → IfOk answered (λ goes. (t : Taken) → LiveHolds before t
-      → LineAnswered t number line out mid live goes)
-      → OnErr answered ((t : Taken) → LiveHolds before t → AnswersFront t number line out mid)
+      → IfOk answered (λ goes. (h : SessionHeld) → SessionHolds before h
+      → SessionAnswered h number line out mid session goes)
+      → OnErr answered ((h : SessionHeld) → SessionHolds before h
+      → SessionBreaks h number line out mid)
       → last.failed ≡ false → last.waiting ≡ []
-      → TellsFabricLine taken number line answered live out.written last.written
+      → TellsFabricLine held number line answered session out.written last.written
   tells_whole (Ok goes) ok err fine none =
-      let said = ok taken holds in
-      let text = answer_text taken number line said.outcome in (
-        text,
-        record { outcome = said.outcome; reads = said.reads; is = refl; stands = said.goes },
-        all_told out mid last text empty said.told flush fine none,
+      let said = ok held holds in (
+        said.text,
+        record { next = said.next; answers = said.answers; stands = said.goes },
+        all_told out mid last said.text empty said.told flush fine none,
       )
   tells_whole (Err broken) ok err fine none =
-      let said = err taken holds in (
+      let said = err held holds in (
         said.text,
-        said.is,
+        ([], inr (subst (IsSessionFront held number line) (sym (append-nil said.text)) said.is)),
         all_told out mid last said.text empty said.told flush fine none,
       )
 
   -- a front of it was
   pub tells_front : (answered : Result AfterLine BrokenOff)
-      → IfOk answered (λ goes. (t : Taken) → LiveHolds before t
-      → LineAnswered t number line out mid live goes)
-      → OnErr answered ((t : Taken) → LiveHolds before t → AnswersFront t number line out mid)
-      → (text : List ℕ) × IsAnswerFront taken number line text
+      → IfOk answered (λ goes. (h : SessionHeld) → SessionHolds before h
+      → SessionAnswered h number line out mid session goes)
+      → OnErr answered ((h : SessionHeld) → SessionHolds before h
+      → SessionBreaks h number line out mid)
+      → (text : List ℕ) × IsFabricFront held number line text
       × Appends out.written last.written text
   tells_front (Ok goes) ok err =
-      let said = ok taken holds in
-      let text = answer_text taken number line said.outcome in
-      let told = front_told out mid last text empty said.told flush in
-      (told.front, inr (said.outcome, told.rest, said.reads, told.whole), told.told)
-  tells_front (Err cause) ok err =
-      let said = err taken holds in
+      let said = ok held holds in
       let told = front_told out mid last said.text empty said.told flush in (
         told.front,
-        front_of_front taken number line said.text told.front told.rest said.is told.whole,
+        (
+          told.rest,
+          inl (
+            said.next,
+            subst (λ t. LineAnswers held number line t said.next) told.whole said.answers,
+          ),
+        ),
+        told.told,
+      )
+  tells_front (Err cause) ok err =
+      let said = err held holds in
+      let told = front_told out mid last said.text empty said.told flush in (
+        told.front,
+        (told.rest, inr (subst (IsSessionFront held number line) told.whole said.is)),
         told.told,
       )
 
@@ -85,15 +74,15 @@ pub line_told : (old new : FabricSeen) (line : List ℕ) (spent : Bool) (goes : 
     (answered : Result AfterLine BrokenOff)
     → is_fabric_spent old ≡ false → answered ≡ Ok goes
     → new.number ≡ old.number + 1 → new.spent ≡ spent
-    → ((taken : Taken) → LiveHolds old.live taken
-    → TellsFabricLine taken (old.number + 1) line answered new.live (Some []) (Some new.text))
+    → ((held : SessionHeld) → SessionHolds old.session held
+    → TellsFabricLine held (old.number + 1) line answered new.session (Some []) (Some new.text))
     → FabricLineTold old line spent goes new
 line_told old new line spent goes answered going is counts spent_is told = record {
   going = going;
-  answered = λ taken holds.
-      let said = subst (λ (r : Result AfterLine BrokenOff). TellsFabricLine taken (old.number + 1)
-      line r new.live (Some []) (Some new.text)) is (told taken holds) in
-      subst (λ (t : List ℕ). FabricAnswered taken (old.number + 1) line t new.live goes)
+  answered = λ held holds.
+      let said = subst (λ (r : Result AfterLine BrokenOff). TellsFabricLine held (old.number + 1)
+      line r new.session (Some []) (Some new.text)) is (told held holds) in
+      subst (λ (t : List ℕ). FabricAnswered held (old.number + 1) line t new.session goes)
       (sym (same_text new.text said.0 said.2)) said.1;
   counts = counts;
   spent_is = spent_is;
@@ -102,15 +91,15 @@ line_told old new line spent goes answered going is counts spent_is told = recor
 pub line_cut : (old new : FabricSeen) (line : List ℕ) (answered : Result AfterLine BrokenOff)
     (broken : BrokenOff) → is_fabric_spent old ≡ false → answered ≡ Err broken
     → new.number ≡ old.number + 1 → new.spent ≡ true
-    → ((taken : Taken) → LiveHolds old.live taken
-    → TellsFabricLine taken (old.number + 1) line answered new.live (Some []) (Some new.text))
+    → ((held : SessionHeld) → SessionHolds old.session held
+    → TellsFabricLine held (old.number + 1) line answered new.session (Some []) (Some new.text))
     → FabricLineCut old line new
 line_cut old new line answered broken going is counts spent_is told = record {
   going = going;
-  front = λ taken holds.
-      let said = subst (λ (r : Result AfterLine BrokenOff). TellsFabricLine taken (old.number + 1)
-      line r new.live (Some []) (Some new.text)) is (told taken holds) in
-      subst (IsAnswerFront taken (old.number + 1) line) (sym (same_text new.text said.0 said.2))
+  front = λ held holds.
+      let said = subst (λ (r : Result AfterLine BrokenOff). TellsFabricLine held (old.number + 1)
+      line r new.session (Some []) (Some new.text)) is (told held holds) in
+      subst (IsFabricFront held (old.number + 1) line) (sym (same_text new.text said.0 said.2))
       said.1;
   counts = counts;
   spent_is = spent_is;
@@ -122,7 +111,18 @@ pub line_holds : (old new : FabricSeen) (line : List ℕ) → FabricHolds old �
 line_holds old new line holds going told = λ _.
     let held = holds going in
     let said = told.answered held.0 held.1 in
-    (taken_after held.0 (old.number + 1) line said.outcome, said.stands)
+    (said.next, said.stands)
+
+-- the same by what was told of a line
+pub told_stands : (held : SessionHeld) (number : ℕ) (line : List ℕ)
+    (answered : Result AfterLine BrokenOff) (goes : AfterLine) (session : Session)
+    (written written_after : Option (List ℕ)) → answered ≡ Ok goes → goes ≡ Goings.On
+    → TellsFabricLine held number line answered session written written_after
+    → (next : SessionHeld) × SessionHolds session next
+told_stands held number line answered goes session written written_after is on told =
+    let said = subst (λ (r : Result AfterLine BrokenOff). TellsFabricLine held number line r session
+    written written_after) (is ∙ ap (λ (g : AfterLine). Ok g) on) told in
+    (said.1.next, said.1.stands)
 
 pub not_spent : (fabric : FabricSeen) → fabric.spent ≡ false → fabric.number ≢ 4294967295
     → is_fabric_spent fabric ≡ false

@@ -1,13 +1,12 @@
 //! An open fabric, and its lines.
 ghost use Rattle.std.specs.Prelude.{◌≡◌, [], IfOk, drop};
-ghost use Rattle.live_fabric.specs.Lines.{Taken};
-ghost use Rattle.live_fabric.specs.Holding.{LiveHolds};
+ghost use Rattle.live_fabric.specs.Sessions.{SessionHeld, SessionHolds};
 ghost use Rattle.library_calls.specs.FabricsSeen.{FabricHolds, IsOpenedFabric, FabricTextTaken};
 ghost use Rattle.library_calls.specs.FabricLines.{FabricLineDid, TellsFabricLine};
 
 use crate::status::CallStatus;
 use crate::texts::take_text;
-use live_fabric::{AfterLine, BrokenOff, Live, answer};
+use live_fabric::{AfterLine, BrokenOff, Session};
 use live_lines::TextSink;
 use rio_chars::{NoMemory, Outbox, Sink, TextBuffer};
 use std::alloc::Global;
@@ -17,7 +16,7 @@ use std::marker::Model;
 /// room that its calls need.
 #[derive(Drop)]
 pub struct OpenFabric {
-    live: Live,
+    session: Session,
     number: u32,
     spent: bool,
     sink: TextSink,
@@ -33,7 +32,7 @@ impl Model for OpenFabric {
     ghost Value = { FabricSeen };
 
     ghost view = { λ opened. record {
-      live = opened.live;
+      session = opened.session;
       number = opened.number;
       spent = opened.spent;
       text = drop opened.taken opened.sink.text.items;
@@ -46,7 +45,7 @@ impl OpenFabric {
         ensures { IfOk result (λ opened. IsOpenedFabric opened) }
     {
         Ok(OpenFabric {
-            live: Live::new(alloc)?,
+            session: Session::new(alloc)?,
             number: 0,
             spent: false,
             sink: TextSink::new(alloc),
@@ -70,7 +69,7 @@ impl OpenFabric {
         self.spent = true;
         let told = tell(
             alloc,
-            &mut self.live,
+            &mut self.session,
             self.number,
             line,
             &mut self.buffer,
@@ -97,19 +96,19 @@ impl OpenFabric {
 /// Answers the line of a number, and tells the answer.
 fn tell<K: Sink>(
     alloc: Global,
-    live: &mut Live,
+    session: &mut Session,
     number: u32,
     line: &[u8],
     buffer: &mut TextBuffer,
     sink: &mut K,
 ) -> Result<AfterLine, BrokenOff>
-    requires { (taken : Taken) × LiveHolds live.old taken }
-    ensures { (taken : Taken) → LiveHolds live.old taken
-        → TellsFabricLine taken number line.now result live.new (K.written sink.old)
+    requires { (held : SessionHeld) × SessionHolds session.old held }
+    ensures { (held : SessionHeld) → SessionHolds session.old held
+        → TellsFabricLine held number line.now result session.new (K.written sink.old)
         (K.written sink.new) }
 {
     let mut outbox = Outbox::new(buffer, sink);
-    let told = tell_whole(alloc, live, number, line, &mut outbox);
+    let told = tell_whole(alloc, session, number, line, &mut outbox);
     outbox.into_sink();
     told
 }
@@ -117,19 +116,19 @@ fn tell<K: Sink>(
 /// The same through an outbox.
 fn tell_whole<K: Sink>(
     alloc: Global,
-    live: &mut Live,
+    session: &mut Session,
     number: u32,
     line: &[u8],
     outbox: &mut Outbox<K>,
 ) -> Result<AfterLine, BrokenOff>
-    requires holds { (taken : Taken) × LiveHolds live.old taken }
+    requires holds { (held : SessionHeld) × SessionHolds session.old held }
     requires empty { outbox.old.waiting ≡ [] }
-    ensures told { (taken : Taken) → LiveHolds live.old taken
-        → TellsFabricLine taken number line.now result live.new outbox.old.written
+    ensures told { (held : SessionHeld) → SessionHolds session.old held
+        → TellsFabricLine held number line.now result session.new outbox.old.written
         outbox.new.written }
     ensures same { outbox.new.sink ≡ outbox.old.sink }
 {
-    let answered = answer(alloc, live, number, line, outbox);
+    let answered = session.answer(alloc, number, line, outbox);
     outbox.flush();
     if outbox.failed() {
         return Err(BrokenOff);

@@ -12,11 +12,12 @@ says what each call does and what is proved of it.
 """
 from .checker import Checker
 from .fabric import Fabric
+from .host import Host, NotDone
 from .library import Broken, Closed, KigvarpError, NotAsked, OutOfMemory, Refused, Spent, Status, Unlawful
 from .port import CharDid, ClocksDid, Port, RunDid, State
 from .text import char_text, chars_of, text_of
 from .words import Bad, Event, Packet, Reading, Symbol, decode
 
-__all__ = ["Bad", "Broken", "CharDid", "Checker", "ClocksDid", "Closed", "Event", "Fabric", "KigvarpError", "NotAsked",
-           "OutOfMemory", "Packet", "Port", "Reading", "Refused", "RunDid", "Spent", "State", "Status", "Symbol", "Unlawful",
-           "char_text", "chars_of", "decode", "text_of"]
+__all__ = ["Bad", "Broken", "CharDid", "Checker", "ClocksDid", "Closed", "Event", "Fabric", "Host", "KigvarpError", "NotAsked",
+           "NotDone", "OutOfMemory", "Packet", "Port", "Reading", "Refused", "RunDid", "Spent", "State", "Status", "Symbol",
+           "Unlawful", "char_text", "chars_of", "decode", "text_of"]
