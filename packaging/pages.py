@@ -19,7 +19,7 @@ SYNOPSES = {
         "rio_capture FORM --help",
     ),
     "rio_conform": ("rio_conform [--strict] BUFFERS NAME LINE ..",),
-    "rio_follow": ("rio_follow [tell] [--report tap]",),
+    "rio_follow": ("rio_follow [tell] [--report tap]", "rio_follow reactions"),
     "rio_lane": tuple(f"rio_lane {task} [COMMAS]" for task in ("groups", "chars", "bits", "sent", "got"))
     + tuple(f"rio_lane --lanes 4 {task} [COMMAS]" for task in ("groups", "chars")),
     "rio_port": ("rio_port [--log A B] [BUFFERS] [--take] [--timeout CLOCKS]",),
