@@ -157,7 +157,7 @@ def files_of(made):
 
 
 def mode_of(path):
-    return 0o755 if re.match(r"usr/bin/|.*/ld-linux", path) else 0o644
+    return 0o755 if re.match(r"usr/bin/|.*/ld-linux|usr/share/kigvarp/conformance/(rio-conform|junit)$", path) else 0o644
 
 
 def folders(paths):
