@@ -47,6 +47,12 @@ def faults():
     return [f"{path} has {other}, and {PLACE} has {told}" for path, other in others() if other != told]
 
 
+def released(changes, head):
+    """What is not released yet becomes this release; if nothing is, the release has nothing of its own."""
+    new, count = re.subn(r"^## Not released yet$", head, changes, count=1, flags=re.M)
+    return new if count else re.sub(r"^## ", f"{head}\n\n## ", changes, count=1, flags=re.M)
+
+
 def write(wanted, date):
     """Writes another number to all places, and makes what is not released yet the release of this number."""
     for path, text in texts():
@@ -54,7 +60,7 @@ def write(wanted, date):
         if path == PLACE:
             new = TOLD.sub(wanted, new)
         elif path == "CHANGELOG.md":
-            new = re.sub(r"^## Not released yet$", f"## {wanted}, {date}", new, count=1, flags=re.M)
+            new = released(new, f"## {wanted}, {date}")
         if new != text:
             (TOP / path).write_text(new, encoding="utf-8")
             yield path

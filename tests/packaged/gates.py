@@ -46,7 +46,7 @@ def trials_of_pages(trees):
         ("a table with another head", "docs/running.md", "| status | name |", "| status | called |",
          "status | name"),
         ("a changelog without heads", "CHANGELOG.md", "## ", "", "CHANGELOG.md"),
-        ("a version of its own in the changelog", "CHANGELOG.md", "## Not released yet", "## 7.6.5, 2026-01-01",
+        ("a version of its own in the changelog", "CHANGELOG.md", "next one.\n", "next one.\n\n## 7.6.5, 2026-01-01\n",
          "the newest release of CHANGELOG.md is 7.6.5"),
     ):
         with changed(trees.one, page, old, new):
