@@ -121,6 +121,7 @@ def main(words):
         if len(left) == len(node.left["A"]) == count:
             break
     node.port.end()
+    fabric.live.end()
     print("end")
     good = by_priority(left) == by_priority(forms[0]) and by_priority(node.left["A"]) == by_priority(forms[1])
     print("%d packets each way%s" % (count, "" if good else ": NOT as they were sent"), file=sys.stderr)
