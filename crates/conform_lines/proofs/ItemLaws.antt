@@ -3,10 +3,11 @@ use Rattle.std.proofs.Common.{◌+◌, ◌*◌, ◌==◌, ◌||◌, true≢false
 use denote.Ref.{Bor}
 use Rattle.std.specs.Fmt.{decimal}
 use Rattle.std.proofs.lemmas.Fmt.{decimal_injective}
-use Rattle.rio_packets.specs.Carries.{Carries, at_origin}
-use Rattle.rio_packets.specs.LinkForm.{LinkForm}
+use Rattle.rio_packets.specs.LinkForm.{LinkForm, Passes}
 use Rattle.rio_packets.specs.Fields.{body_of}
 use Rattle.rio_packets.proofs.FormLaws.{Passes-from_form, LinkForm-one}
+use Rattle.link_model.specs.ReadingSpelt.{bytes_with_ack}
+use Rattle.link_model.proofs.ReadingSpeltLaws.{length-bytes_with_ack}
 use Rattle.fabric_script.specs.Texts.{hex_text}
 use Rattle.fabric_script.proofs.HexWords.{hex_text-injective}
 use Rattle.fabric_script.specs.Words.{words_left}
@@ -22,11 +23,19 @@ use Rattle.conform_lines.specs.declared.symbols.SymbolName.TheVariants as Names
 use Rattle.conform_lines.specs.Names.{symbol_word}
 use Rattle.conform_lines.specs.Items.{SpellsParameters, SpellsLinkBytes, SpellsPart, SpellsItem}
 
+pub first_same : {word other : List ℕ} {words xs ys : List (List ℕ)} → words ≡ word ∷ xs
+    → words ≡ other ∷ ys → word ≡ other
+first_same h k = let both = sym h ∙ k in cc
+
+pub rest_same : {word other : List ℕ} {words xs ys : List (List ℕ)} → words ≡ word ∷ xs
+    → words ≡ other ∷ ys → xs ≡ ys
+rest_same h k = let both = sym h ∙ k in cc
+
 -- numbers below 2^16 have one text each
-number_once : (a b : ℕ) → a ≤ 65535 → b ≤ 65535 → decimal a ≡ decimal b → a ≡ b
+pub number_once : (a b : ℕ) → a ≤ 65535 → b ≤ 65535 → decimal a ≡ decimal b → a ≡ b
 number_once a b h k is = decimal_injective a b (omega (arith, h)) (omega (arith, k)) is
 
-id_fits : (large : Bool) (id : ℕ) → id ≤ most_id large → id ≤ 65535
+pub id_fits : (large : Bool) (id : ℕ) → id ≤ most_id large → id ≤ 65535
 id_fits false id h = omega (arith, h)
 id_fits true id h = h
 
@@ -60,7 +69,7 @@ packet_once large words p q h k =
     LinkForm-one (body_of b.prio b.ftype large b.dest b.source k.bytes) p q
     (subst (λ x. LinkForm x p) body h.form) k.form
 
-send_once : (words : List (List ℕ)) (p q : List ℕ) → AsksRequest (Send p) words
+pub send_once : (words : List (List ℕ)) (p q : List ℕ) → AsksRequest (Send p) words
     → AsksRequest (Send q) words → p ≡ q
 send_once words p q (false, behind, is, h) (false, other, same, k) =
     let rest : behind ≡ other = let both = sym is ∙ same in cc in
@@ -73,30 +82,42 @@ send_once words p q (false, behind, is, h) (true, other, same, k) =
 send_once words p q (true, behind, is, h) (false, other, same, k) =
     let both = sym is ∙ same in absurd cc
 
-length-at_origin : (bytes : List ℕ) → length (at_origin bytes) ≡ length bytes
-length-at_origin [] = refl
-length-at_origin (b ∷ bytes) = refl
+-- a packet that words ask for stands in its link form
+pub send_passes : (words : List (List ℕ)) (packet : List ℕ) → AsksRequest (Send packet) words
+    → Passes packet
+send_passes words packet h =
+    let its = h.3.header in
+    Passes-from_form (body_of its.prio its.ftype h.0 its.dest its.source h.3.bytes) packet h.3.form
 
-packet_length : (bytes : List ℕ) (ack : ℕ) (packet : List ℕ) → Carries bytes ack packet
-    → length bytes ≡ length packet
-packet_length bytes ack packet h = sym (length-at_origin bytes) ∙ ap length h.packet_is
+-- words spell one packet with an ackID
+pub link_bytes_once : (words : List (List ℕ)) (one other : List ℕ) → SpellsLinkBytes words one
+    → SpellsLinkBytes words other → one ≡ other
+link_bytes_once words one other h k =
+    let ack : h.ack ≡ k.ack =
+    number_once h.ack k.ack (omega (arith, h.small)) (omega (arith, k.small))
+    (first_same h.words_are k.words_are) in
+    let packet =
+    send_once k.line h.packet k.packet
+    (subst (λ l. AsksRequest (Send h.packet) l) (rest_same h.words_are k.words_are) h.asks)
+    k.asks in
+    h.bytes_are ∙ ap (λ a. bytes_with_ack a h.packet) ack ∙ ap (bytes_with_ack k.ack) packet
+    ∙ sym k.bytes_are
 
--- all bytes that words spell are of one length
-pub link_bytes_length : (words : List (List ℕ)) (one other : List ℕ) → SpellsLinkBytes words one
-    → SpellsLinkBytes words other → length one ≡ length other
-link_bytes_length words one other h k =
-    let both = sym h.words_are ∙ k.words_are in
-    let line : h.line ≡ k.line = cc in
-    packet_length one h.ack h.packet h.carries
-    ∙ ap length (send_once k.line h.packet k.packet
-    (subst (λ l. AsksRequest (Send h.packet) l) line h.asks) k.asks)
-    ∙ sym (packet_length other k.ack k.packet k.carries)
+link_bytes_length : (words : List (List ℕ)) (bytes : List ℕ) (h : SpellsLinkBytes words bytes)
+    → length bytes ≡ length h.packet
+link_bytes_length words bytes h = ap length h.bytes_are ∙ length-bytes_with_ack h.packet h.ack
 
 pub link_bytes_long : (words : List (List ℕ)) (bytes : List ℕ) → SpellsLinkBytes words bytes
     → 8 ≤ length bytes
 link_bytes_long words bytes h =
-    let form = Passes-from_form h.carries.body h.packet h.carries.form in
-    omega (arith, form.least, packet_length bytes h.ack h.packet h.carries)
+    let form = send_passes h.line h.packet h.asks in
+    omega (arith, form.least, link_bytes_length words bytes h)
+
+pub link_bytes_most : (words : List (List ℕ)) (bytes : List ℕ) → SpellsLinkBytes words bytes
+    → length bytes ≤ 276
+link_bytes_most words bytes h =
+    let form = send_passes h.line h.packet h.asks in
+    omega (arith, form.most, link_bytes_length words bytes h)
 
 -- words with another first one ask for no packet to be sent
 no_send : (word : List ℕ) (words behind : List (List ℕ)) (packet : List ℕ) → word ≢ codes "send"
@@ -134,12 +155,6 @@ asks_no_send (Clock chars) words packet other h =
     no_send (codes "clock") words h.0 packet (λ e. let n : 5 ≡ 4 = ap length e in omega (arith, n))
     (λ e. let n : 5 ≡ 6 = ap length e in omega (arith, n)) h.1
 
-pub link_bytes_most : (words : List (List ℕ)) (bytes : List ℕ) → SpellsLinkBytes words bytes
-    → length bytes ≤ 276
-link_bytes_most words bytes h =
-    let form = Passes-from_form h.carries.body h.packet h.carries.form in
-    omega (arith, form.most, packet_length bytes h.ack h.packet h.carries)
-
 -- ---- no item
 
 -- whether a word is the first one of an item that is no symbol, of the words that are
@@ -176,14 +191,6 @@ cons_first a b xs ys is = cc
 
 cons_rest : (a b : List ℕ) (xs ys : List (List ℕ)) → a ∷ xs ≡ b ∷ ys → xs ≡ ys
 cons_rest a b xs ys is = cc
-
-pub first_same : {word other : List ℕ} {words xs ys : List (List ℕ)} → words ≡ word ∷ xs
-    → words ≡ other ∷ ys → word ≡ other
-first_same h k = let both = sym h ∙ k in cc
-
-pub rest_same : {word other : List ℕ} {words xs ys : List (List ℕ)} → words ≡ word ∷ xs
-    → words ≡ other ∷ ys → xs ≡ ys
-rest_same h k = let both = sym h ∙ k in cc
 
 -- words of which the first names a symbol spell none, if those behind are no parameters
 pub no_symbol : (name : SymbolName) (words behind : List (List ℕ))
@@ -303,7 +310,7 @@ part_within words behind first second part bytes from to is one other small few 
     let ended : to ≡ h.to =
     decimal_injective to h.to (omega (arith, few)) (omega (arith, ends.1))
     (sym other ∙ cons_first second (decimal h.to) behind h.behind rest) in
-    let same = link_bytes_length behind bytes h.bytes link
+    let same = ap length (link_bytes_once behind bytes h.bytes link
     (subst (λ ws. SpellsLinkBytes ws h.bytes)
-    (sym (cons_rest second (decimal h.to) behind h.behind rest)) h.spells) in
+    (sym (cons_rest second (decimal h.to) behind h.behind rest)) h.spells)) in
     (omega (arith, begins, ended, h.ordered), omega (arith, ended, same, h.within))

@@ -3,8 +3,7 @@ use Rattle.std.specs.Prelude.{◌≡◌, ℕ, ◌+◌, ◌-◌, ◌%◌, ◌<◌
 use Rattle.std.specs.Fmt.{decimal}
 use Rattle.rio_chars.specs.declared.chars.Char.{Char}
 use Rattle.fabric_script.specs.Texts.{hex_text}
-use Rattle.rio_packets.specs.Carries.{Carries}
-use Rattle.link_model.specs.ReadingSpelt.{data_chars, symbol_chars_of}
+use Rattle.link_model.specs.ReadingSpelt.{data_chars, symbol_chars_of, bytes_with_ack}
 use Rattle.port_lines.specs.Requests.{AsksRequest}
 use Rattle.port_lines.specs.declared.requests.PortRequest.TheVariants.{Send}
 use Rattle.conform_lines.specs.declared.items.LinkItem.{LinkItem}
@@ -22,14 +21,16 @@ SpellsParameters (first ∷ second ∷ []) p0 p1 = (p0 < 32) × (p1 < 32)
     × (first ≡ decimal p0) × (second ≡ decimal p1)
 SpellsParameters _ p0 p1 = ⊥
 
--- The words spell an ackID, and a line by which a port is given a packet; these bytes carry both.
+-- The words spell an ackID, and a line by which a port is given a packet; these are the bytes that
+-- a port sends for both.
 pub record SpellsLinkBytes (words : List (List ℕ)) (bytes : List ℕ) : Type 0 where
   pub ack : ℕ
   pub line : List (List ℕ)
   pub packet : List ℕ
+  pub small : ack < 32
   pub words_are : words ≡ decimal ack ∷ line
   pub asks : AsksRequest (Send packet) line
-  pub carries : Carries bytes ack packet
+  pub bytes_are : bytes ≡ bytes_with_ack ack packet
 
 -- a byte whose lowest bit is turned
 abbrev pub bit_turned : ℕ → ℕ

@@ -1,5 +1,6 @@
-use Rattle.std.proofs.Common.{◌∷◌, ap, ◌∙◌, subst}
+use Rattle.std.proofs.Common.{◌∷◌, ap, ◌∙◌, rules, subst}
 use Rattle.fabric_script.specs.Words.{words_left}
+use Rattle.link_model.specs.ReadingSpelt.{bytes_with_ack}
 use Rattle.port_lines.specs.Requests.{AsksRequest}
 use Rattle.port_lines.specs.declared.requests.PortRequest.TheVariants.{Send}
 use Rattle.conform_lines.proofs.ItemLaws.{rest_same}
@@ -12,3 +13,7 @@ returns-in-None c = λ bytes h.
     ∙ ap (λ r. c.split_word.result.0.now ∷ words_left r) c.in-Some-rest.is in
     none h.packet
     (subst (λ ws. AsksRequest (Send h.packet) ws) (rest_same h.words_are here) h.asks)
+
+pub returns-in-Some-2 : goal.returns-in-Some-2
+unfolding bytes_with_ack
+returns-in-Some-2 c = search rules
