@@ -2,3 +2,5 @@ pub mod TellingLaws
 pub mod CountLaws
 pub mod JudgeLaws
 pub mod ItemLaws
+pub mod OnceLaws
+pub mod StimulusLaws

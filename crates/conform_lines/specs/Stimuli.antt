@@ -16,13 +16,16 @@ abbrev pub SpellsWire : PortRequest → List (List ℕ) → Type 0
 SpellsWire request words =
     (item : LinkItem) × SpellsItem item words × (request ≡ Got (item_chars item))
 
--- What was read of a line of a scenario: that characters come which its words spell, or what it
--- asks of a port as it is; or it spells no characters and asks nothing of a port, and this is why.
+-- the words spell nothing that is put on the wire
+abbrev pub SpellsNoWire : List (List ℕ) → Type 0
+SpellsNoWire words = (request : PortRequest) → ¬ SpellsWire request words
+
+-- What was read of a line of a scenario: that characters come which its words spell; or else what
+-- it asks of a port as it is, or why it asks nothing of one. So `reset` is the control symbol.
 abbrev pub ReadsStimulus : List ℕ → Result PortRequest RequestRefusal → Type 0
-ReadsStimulus line (Ok request) =
-    SpellsWire request (words_of line) ⊎ AsksRequest request (words_of line)
-ReadsStimulus line (Err refusal) =
-    ((request : PortRequest) → ¬ SpellsWire request (words_of line)) × ReadsLine line (Err refusal)
+ReadsStimulus line (Ok request) = SpellsWire request (words_of line)
+    ⊎ (SpellsNoWire (words_of line) × AsksRequest request (words_of line))
+ReadsStimulus line (Err refusal) = SpellsNoWire (words_of line) × ReadsLine line (Err refusal)
 
 -- the line that a device is asked, without its line feed
 abbrev pub stimulus_line : List ℕ → PortRequest → List ℕ

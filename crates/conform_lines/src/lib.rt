@@ -24,6 +24,9 @@ mod symbols;
 pub use counting::Counted;
 pub use expected::expect;
 pub use judging::{Judge, Leeway, Owed, leeway_of};
-pub use laws::{allowed_answers_send_the_same, right_answers_are_allowed};
+pub use laws::{
+    a_stimulus_is_read_as_its_request, allowed_answers_send_the_same, right_answers_are_allowed,
+    stimuli_are_read_once,
+};
 pub use saying::write_said;
 pub use stimuli::{read_stimulus, write_stimulus};

@@ -14,10 +14,11 @@ use Rattle.conform_lines.specs.Counting.{AnswerCounts, LineComesTo, LinesComeTo,
 use Rattle.conform_lines.specs.Stimuli.{ReadsStimulus}
 use Rattle.conform_lines.specs.Tolerances.{JudgeState, IsAllowedAnswer, Pays, judge_start, judged_by, leeway_of, owed_since}
 use Rattle.conform_lines.proofs.CountLaws.{LinesComeTo-once}
+use Rattle.conform_lines.proofs.OnceLaws.{stimulus_once, stimulus_read}
 use Rattle.conform_lines.proofs.JudgeLaws.{Pays-all, Pays-once, allowed_itself}
 use Rattle.rio_conform.specs.Answers.{IsDeviceAnswer}
 use Rattle.rio_conform.specs.Plays.{Played, PassesAnswer, ArePlayed, Plays}
-use Rattle.rio_conform.specs.RightDevices.{AsksSomething, GivesRightAnswers, PassesOrStops}
+use Rattle.rio_conform.specs.RightDevices.{GivesRightAnswers, PassesOrStops}
 use Rattle.rio_conform.specs.declared.verdict.Verdict.{Verdict}
 use Rattle.rio_conform.specs.declared.verdict.Verdict.TheVariants.{Passes, Differs, Ended, Misspelled, Stopped}
 use Rattle.rio_conform.proofs.FeedLaws.{answers_once, no_answer, lines_of}
@@ -109,6 +110,17 @@ record GivesOn (port : ClockedState) (at : JudgeState) (lines : List (List ℕ))
   even : IsEven at
   gives : GivesRightAnswers port lines given
 
+-- the right answer of what a line is read as
+right_for : (port : ClockedState) (line : List ℕ) (lines : List (List ℕ)) (given : List ℕ)
+    (request : PortRequest) → ReadsStimulus line (Ok request)
+    → GivesRightAnswers port (line ∷ lines) given → (rest : List ℕ)
+    × (given ≡ right_text port request ++ rest)
+    × GivesRightAnswers (asked_answer port (Ok request)).stands lines rest
+right_for port line lines given request reads gives =
+    subst (λ r. (rest : List ℕ) × (given ≡ right_text port r ++ rest)
+    × GivesRightAnswers (asked_answer port (Ok r)).stands lines rest)
+    (stimulus_once line gives.0 request gives.1 reads) (gives.2, gives.3, gives.4)
+
 gives_on : (strict : Bool) (port : ClockedState) (at : JudgeState) (done rest : List (List ℕ))
     (played : Played) (given more : List ℕ) → IsEven at → ArePlayed strict port at done played
     → GivesRightAnswers port (done ++ rest) given → played.answers ++ more ≡ given
@@ -125,7 +137,7 @@ gives_on strict port at (line ∷ done) rest played given more even are gives is
     let first = are.0 in
     let last = are.1 in
     let one = are.2 in
-    let right = gives one.request one.reads in
+    let right = right_for port line (done ++ rest) given one.request one.reads gives in
     let begins : one.came ++ (last.answers ++ more)
     ≡ right_text port one.request ++ right.0 =
     ap (λ (p : Played). p.answers ++ (last.answers ++ more)) (sym one.is)
@@ -144,40 +156,36 @@ gives_on strict port at (line ∷ done) rest played given more even are gives is
     (subst (λ p. GivesRightAnswers p (done ++ rest) right.0) stands right.2) once.1)
 
 -- what was read is the front of what the device gives
-front_of : (given bytes : List ℕ) (after : Option (List ℕ)) → Consumes (Some given) after bytes
+pub front_of : (given bytes : List ℕ) (after : Option (List ℕ)) → Consumes (Some given) after bytes
     → (more : List ℕ) × (given ≡ bytes ++ more) × (IsAtEnd after → more ≡ [])
 front_of given bytes None h = absurd h
 front_of given bytes (Some more) h = (more, h, λ end. end)
 
-among : (P : List ℕ → Type 0) (done rest : List (List ℕ)) (line : List ℕ)
-    → All P (done ++ line ∷ rest) → P line
-among P [] rest line h = All-head P line rest h
-among P (other ∷ done) rest line h =
-    among P done rest line (All-tail P other (done ++ line ∷ rest) h)
-
--- a line that asks for something is not refused
-asked_or_not : (line : List ℕ) (refusal : RequestRefusal) → AsksSomething line
-    → ¬ ReadsStimulus line (Err refusal)
-asked_or_not line refusal (request, inl wire) h = h.0 request wire
-asked_or_not line refusal (request, inr asks) h = h.1.0 request asks
+-- each line asks for something
+asks_among : (port : ClockedState) (done rest : List (List ℕ)) (line given : List ℕ)
+    → GivesRightAnswers port (done ++ line ∷ rest) given
+    → (request : PortRequest) × ReadsStimulus line (Ok request)
+asks_among port [] rest line given gives = (gives.0, gives.1)
+asks_among port (other ∷ done) rest line given gives =
+    asks_among (asked_answer port (Ok gives.0)).stands done rest line gives.2 gives.4
 
 pub right_passes : (strict : Bool) (port : ClockedState) (lines : List (List ℕ))
     (given : List ℕ) (verdict : Verdict) (left_after written written_after : Option (List ℕ))
-    → All (λ line. AsksSomething line) lines → GivesRightAnswers port lines given
+    → GivesRightAnswers port lines given
     → Plays strict port judge_start lines verdict (Some given) left_after written written_after
     → PassesOrStops verdict
-right_passes strict port lines given Passes left_after written written_after all gives plays = tt
-right_passes strict port lines given (Stopped status) left_after written written_after all gives
-    plays = tt
-right_passes strict port lines given (Misspelled count) left_after written written_after all gives
+right_passes strict port lines given Passes left_after written written_after gives plays = tt
+right_passes strict port lines given (Stopped status) left_after written written_after gives plays =
+    tt
+right_passes strict port lines given (Misspelled count) left_after written written_after gives
     plays =
+    let line = plays.says.0 in
     let goes = plays.says.1 in
     let refused = plays.says.2 in
-    absurd (asked_or_not plays.says.0 refused.0
-    (among (λ l. AsksSomething l) plays.done goes.0 plays.says.0
-    (subst (λ ls. All (λ l. AsksSomething l) ls) goes.1 all)) refused.1)
-right_passes strict port lines given (Differs count) left_after written written_after all gives
-    plays =
+    let asks = asks_among port plays.done goes.0 line given
+    (subst (λ ls. GivesRightAnswers port ls given) goes.1 gives) in
+    absurd (stimulus_read line asks.0 refused.0 asks.1 refused.1)
+right_passes strict port lines given (Differs count) left_after written written_after gives plays =
     let line = plays.says.0 in
     let goes = plays.says.1 in
     let wrong = plays.says.2 in
@@ -193,13 +201,12 @@ right_passes strict port lines given (Differs count) left_after written written_
     let on = gives_on strict port judge_start plays.done (line ∷ goes.0) played given behind
     even_start plays.are_played
     (subst (λ ls. GivesRightAnswers port ls given) goes.1 gives) is in
-    let right = on.gives wrong.request wrong.reads in
+    let right = right_for played.port line goes.0 behind wrong.request wrong.reads on.gives in
     let once = right_came played.port wrong.request wrong.came (wrong.gave.0 ++ front.0) right.0
     wrong.answer right.1 in
     absurd (right_is_right strict wrong.request (right_text played.port wrong.request) wrong.came
     played.judged on.even once.0 wrong.wrong)
-right_passes strict port lines given (Ended count) left_after written written_after all gives
-    plays =
+right_passes strict port lines given (Ended count) left_after written written_after gives plays =
     let line = plays.says.0 in
     let goes = plays.says.1 in
     let ended = plays.says.2 in
@@ -212,12 +219,10 @@ right_passes strict port lines given (Ended count) left_after written written_af
     let on = gives_on strict port judge_start plays.done (line ∷ goes.0) played given ended.came
     even_start plays.are_played
     (subst (λ ls. GivesRightAnswers port ls given) goes.1 gives) is in
-    let asks = among (λ l. AsksSomething l) plays.done goes.0 line
-    (subst (λ ls. All (λ l. AsksSomething l) ls) goes.1 all) in
-    let right = on.gives asks.0 asks.1 in
-    let text = right_lines played.port asks.0 in
-    absurd (no_answer ended.none.lines text.lines ended.none.behind right.0
+    let right = on.gives in
+    let text = right_lines played.port right.0 in
+    absurd (no_answer ended.none.lines text.lines ended.none.behind right.2
     (lines_of ended.none.lines ended.none.are_lines) ended.none.none_ends ended.none.no_feed
     text.no_feeds text.none_ends
-    (sym ended.none.came_is ∙ right.1 ∙ ap (λ l. (l ++ codes "ok\n") ++ right.0) text.text_is
-    ∙ append_assoc (flat_map with_feed text.lines) (codes "ok\n") right.0))
+    (sym ended.none.came_is ∙ right.3 ∙ ap (λ l. (l ++ codes "ok\n") ++ right.2) text.text_is
+    ∙ append_assoc (flat_map with_feed text.lines) (codes "ok\n") right.2))

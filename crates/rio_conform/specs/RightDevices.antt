@@ -7,16 +7,12 @@ use Rattle.conform_lines.specs.Stimuli.{ReadsStimulus}
 use Rattle.rio_conform.specs.declared.verdict.Verdict.{Verdict}
 use Rattle.rio_conform.specs.declared.verdict.Verdict.TheVariants.{Passes, Differs, Ended, Misspelled, Stopped}
 
--- the line asks for something
-abbrev pub AsksSomething : List ℕ → Type 0
-AsksSomething line = (request : PortRequest) × ReadsStimulus line (Ok request)
-
--- What a device gives is, one after another, the answers that the tables give to these lines from
--- this port on, whatever each is read as, and perhaps more.
+-- What a device gives is, one after another, the answers that the tables give from this port on to
+-- what these lines ask for, and perhaps more. Each line asks for something.
 abbrev pub GivesRightAnswers : ClockedState → List (List ℕ) → List ℕ → Type 0
 GivesRightAnswers port [] given = Unit {0}
 GivesRightAnswers port (line ∷ lines) given = (request : PortRequest)
-    → ReadsStimulus line (Ok request) → (rest : List ℕ)
+    × ReadsStimulus line (Ok request) × (rest : List ℕ)
     × (given ≡ (asked_answer port (Ok request)).text ++ rest)
     × GivesRightAnswers (asked_answer port (Ok request)).stands lines rest
 

@@ -1,9 +1,9 @@
 //! What holds of every device. The call does nothing.
-ghost use Rattle.std.specs.Prelude.{All, Bool, List, Option, Some, ℕ};
+ghost use Rattle.std.specs.Prelude.{Bool, List, Option, Some, ℕ};
 ghost use Rattle.port_lines.specs.Clocks.{ClockedState};
 ghost use Rattle.conform_lines.specs.Tolerances.{judge_start};
 ghost use Rattle.rio_conform.specs.Plays.{Plays};
-ghost use Rattle.rio_conform.specs.RightDevices.{AsksSomething, GivesRightAnswers, PassesOrStops};
+ghost use Rattle.rio_conform.specs.RightDevices.{GivesRightAnswers, PassesOrStops};
 ghost use Rattle.rio_conform.specs.declared.verdict.Verdict.{Verdict as AVerdict};
 
 /// A device passes that gives the answers of the tables to lines that ask for something: strictly
@@ -11,7 +11,7 @@ ghost use Rattle.rio_conform.specs.declared.verdict.Verdict.{Verdict as AVerdict
 pub fn right_devices_pass()
     ensures { (strict : Bool) (port : ClockedState) (lines : List (List ℕ)) (given : List ℕ)
         (verdict : AVerdict) (left_after written written_after : Option (List ℕ))
-        → All (λ line. AsksSomething line) lines → GivesRightAnswers port lines given
+        → GivesRightAnswers port lines given
         → Plays strict port judge_start lines verdict (Some given) left_after written written_after
         → PassesOrStops verdict }
 {}
