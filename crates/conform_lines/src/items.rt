@@ -165,15 +165,11 @@ fn read_part(alloc: Global, words: Option<&[u8]>) -> Result<Option<LinkItem>, Al
     let Some(bytes) = read_link_bytes(alloc, last)? else {
         return Ok(None);
     };
-    let (from, to) = (from as usize, to as usize);
-    if to < from {
+    let Some(within) = bytes.as_slice().get(from as usize..to as usize) else {
         return Ok(None);
-    }
-    if bytes.len() < to {
-        return Ok(None);
-    }
+    };
     let mut part = Vec::new(alloc);
-    part.extend_from_slice(&bytes.as_slice()[from..to])?;
+    part.extend_from_slice(within)?;
     Ok(Some(LinkItem::Part(part)))
 }
 

@@ -4,3 +4,4 @@ pub mod AskLaws
 pub mod FeedLaws
 pub mod RightTexts
 pub mod PassLaws
+pub mod ReferenceLaws

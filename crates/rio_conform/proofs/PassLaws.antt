@@ -1,14 +1,12 @@
 -- A device that gives the answers of the tables passes.
-use Rattle.std.proofs.Common.{◌≡◌, ℕ, inl, inr, Bool, true, false, Option, Some, None, Ok, Err, List, [], ◌∷◌, ◌++◌, All, codes, map, refl, sym, ap, ◌∙◌, subst, append_assoc, append-nil}
+use Rattle.std.proofs.Common.{◌≡◌, ℕ, inl, inr, Bool, true, false, Option, Some, None, Ok, List, [], ◌∷◌, ◌++◌, codes, map, refl, sym, ap, ◌∙◌, subst, append_assoc, append-nil}
 use Rattle.std.specs.List.{flat_map}
 use Rattle.std.specs.Io.KnownBytes.{Consumes, IsAtEnd}
-use Rattle.std.proofs.lemmas.List.Elements.{All-head, All-tail}
 use Rattle.fabric_script.specs.Scripts.{pieces_of}
 use Rattle.link_model.specs.Places.{Place}
 use Rattle.live_lines.specs.Lines.{with_feed}
 use Rattle.port_lines.specs.Clocks.{ClockedState}
 use Rattle.port_lines.specs.Lines.{asked_answer}
-use Rattle.port_lines.specs.declared.faults.RequestRefusal.{RequestRefusal}
 use Rattle.port_lines.specs.declared.requests.PortRequest.{PortRequest}
 use Rattle.conform_lines.specs.Counting.{AnswerCounts, LineComesTo, LinesComeTo, counts_none, counts_chars, counts_line, counts_then}
 use Rattle.conform_lines.specs.Stimuli.{ReadsStimulus}
@@ -17,7 +15,7 @@ use Rattle.conform_lines.proofs.CountLaws.{LinesComeTo-once}
 use Rattle.conform_lines.proofs.OnceLaws.{stimulus_once, stimulus_read}
 use Rattle.conform_lines.proofs.JudgeLaws.{Pays-all, Pays-once, allowed_itself}
 use Rattle.rio_conform.specs.Answers.{IsDeviceAnswer}
-use Rattle.rio_conform.specs.Plays.{Played, PassesAnswer, ArePlayed, Plays}
+use Rattle.rio_conform.specs.Plays.{Played, PassesAnswer, ArePlayed, AnswersWrong, DeviceEnded, Plays}
 use Rattle.rio_conform.specs.RightDevices.{GivesRightAnswers, PassesOrStops}
 use Rattle.rio_conform.specs.declared.verdict.Verdict.{Verdict}
 use Rattle.rio_conform.specs.declared.verdict.Verdict.TheVariants.{Passes, Differs, Ended, Misspelled, Stopped}
@@ -169,6 +167,49 @@ asks_among port [] rest line given gives = (gives.0, gives.1)
 asks_among port (other ∷ done) rest line given gives =
     asks_among (asked_answer port (Ok gives.0)).stands done rest line gives.2 gives.4
 
+module _ (strict : Bool) (port : ClockedState) (done rest : List (List ℕ)) (line : List ℕ)
+    (played : Played) (given : List ℕ) (left_after : Option (List ℕ))
+    (are : ArePlayed strict port judge_start done played)
+    (gives : GivesRightAnswers port (done ++ line ∷ rest) given) where
+  -- no answer is called wrong
+  pub not_wrong : (request : PortRequest) → ReadsStimulus line (Ok request)
+      → ¬ AnswersWrong strict played.port played.judged request (Some given) left_after
+      played.answers
+  not_wrong request reads wrong =
+      let front = front_of given ((played.answers ++ wrong.came) ++ wrong.gave.0) left_after
+      wrong.gave.1 in
+      let behind = wrong.came ++ (wrong.gave.0 ++ front.0) in
+      let is : played.answers ++ behind ≡ given =
+      ap (λ l. played.answers ++ l) (sym (append_assoc wrong.came wrong.gave.0 front.0))
+      ∙ sym (append_assoc played.answers (wrong.came ++ wrong.gave.0) front.0)
+      ∙ ap (λ l. l ++ front.0) (sym (append_assoc played.answers wrong.came wrong.gave.0))
+      ∙ sym front.1 in
+      let on = gives_on strict port judge_start done (line ∷ rest) played given behind even_start
+      are gives is in
+      let right = right_for played.port line rest behind request reads on.gives in
+      let once = right_came played.port request wrong.came (wrong.gave.0 ++ front.0) right.0
+      wrong.answer right.1 in
+      right_is_right strict request (right_text played.port request) wrong.came played.judged
+      on.even once.0 wrong.wrong
+
+  -- the device is not said to have ended
+  pub not_ended : ¬ DeviceEnded (Some given) left_after played.answers
+  not_ended ended =
+      let front = front_of given (played.answers ++ ended.came) left_after ended.gave in
+      let is : played.answers ++ ended.came ≡ given =
+      sym (append-nil (played.answers ++ ended.came))
+      ∙ ap (λ l. (played.answers ++ ended.came) ++ l) (sym (front.2 ended.at_end))
+      ∙ sym front.1 in
+      let on = gives_on strict port judge_start done (line ∷ rest) played given ended.came
+      even_start are gives is in
+      let right = on.gives in
+      let text = right_lines played.port right.0 in
+      no_answer ended.none.lines text.lines ended.none.behind right.2
+      (lines_of ended.none.lines ended.none.are_lines) ended.none.none_ends ended.none.no_feed
+      text.no_feeds text.none_ends
+      (sym ended.none.came_is ∙ right.3 ∙ ap (λ l. (l ++ codes "ok\n") ++ right.2) text.text_is
+      ∙ append_assoc (flat_map with_feed text.lines) (codes "ok\n") right.2)
+
 pub right_passes : (strict : Bool) (port : ClockedState) (lines : List (List ℕ))
     (given : List ℕ) (verdict : Verdict) (left_after written written_after : Option (List ℕ))
     → GivesRightAnswers port lines given
@@ -186,43 +227,12 @@ right_passes strict port lines given (Misspelled count) left_after written writt
     (subst (λ ls. GivesRightAnswers port ls given) goes.1 gives) in
     absurd (stimulus_read line asks.0 refused.0 asks.1 refused.1)
 right_passes strict port lines given (Differs count) left_after written written_after gives plays =
-    let line = plays.says.0 in
     let goes = plays.says.1 in
-    let wrong = plays.says.2 in
-    let played = plays.played in
-    let front = front_of given ((played.answers ++ wrong.came) ++ wrong.gave.0) left_after
-    wrong.gave.1 in
-    let behind = wrong.came ++ (wrong.gave.0 ++ front.0) in
-    let is : played.answers ++ behind ≡ given =
-    ap (λ l. played.answers ++ l) (sym (append_assoc wrong.came wrong.gave.0 front.0))
-    ∙ sym (append_assoc played.answers (wrong.came ++ wrong.gave.0) front.0)
-    ∙ ap (λ l. l ++ front.0) (sym (append_assoc played.answers wrong.came wrong.gave.0))
-    ∙ sym front.1 in
-    let on = gives_on strict port judge_start plays.done (line ∷ goes.0) played given behind
-    even_start plays.are_played
-    (subst (λ ls. GivesRightAnswers port ls given) goes.1 gives) is in
-    let right = right_for played.port line goes.0 behind wrong.request wrong.reads on.gives in
-    let once = right_came played.port wrong.request wrong.came (wrong.gave.0 ++ front.0) right.0
-    wrong.answer right.1 in
-    absurd (right_is_right strict wrong.request (right_text played.port wrong.request) wrong.came
-    played.judged on.even once.0 wrong.wrong)
+    let asked = plays.says.2 in
+    absurd (not_wrong strict port plays.done goes.0 plays.says.0 plays.played given left_after
+    plays.are_played (subst (λ ls. GivesRightAnswers port ls given) goes.1 gives) asked.request
+    asked.reads plays.says.3)
 right_passes strict port lines given (Ended count) left_after written written_after gives plays =
-    let line = plays.says.0 in
     let goes = plays.says.1 in
-    let ended = plays.says.2 in
-    let played = plays.played in
-    let front = front_of given (played.answers ++ ended.came) left_after ended.gave in
-    let is : played.answers ++ ended.came ≡ given =
-    sym (append-nil (played.answers ++ ended.came))
-    ∙ ap (λ l. (played.answers ++ ended.came) ++ l) (sym (front.2 ended.at_end))
-    ∙ sym front.1 in
-    let on = gives_on strict port judge_start plays.done (line ∷ goes.0) played given ended.came
-    even_start plays.are_played
-    (subst (λ ls. GivesRightAnswers port ls given) goes.1 gives) is in
-    let right = on.gives in
-    let text = right_lines played.port right.0 in
-    absurd (no_answer ended.none.lines text.lines ended.none.behind right.2
-    (lines_of ended.none.lines ended.none.are_lines) ended.none.none_ends ended.none.no_feed
-    text.no_feeds text.none_ends
-    (sym ended.none.came_is ∙ right.3 ∙ ap (λ l. (l ++ codes "ok\n") ++ right.2) text.text_is
-    ∙ append_assoc (flat_map with_feed text.lines) (codes "ok\n") right.2))
+    absurd (not_ended strict port plays.done goes.0 plays.says.0 plays.played given left_after
+    plays.are_played (subst (λ ls. GivesRightAnswers port ls given) goes.1 gives) plays.says.3)

@@ -10,11 +10,10 @@ use Rattle.rio_conform.specs.declared.playing.Failing.{Failing}
 use Rattle.rio_conform.specs.declared.playing.Failing.TheVariants as TheFailing
 use Rattle.live_lines.specs.declared.status.LiveStatus.{LiveStatus}
 use Rattle.port_lines.specs.Lines.{asked_answer}
-use Rattle.port_lines.specs.declared.requests.PortRequest.{PortRequest}
-use Rattle.conform_lines.specs.Stimuli.{ReadsStimulus}
+use Rattle.conform_lines.specs.Stimuli.{stimulus_text}
 use Rattle.conform_lines.specs.Tolerances.{JudgeState}
 use Rattle.rio_conform.specs.declared.verdict.Verdict.TheVariants.{Passes, Stopped}
-use Rattle.rio_conform.specs.Plays.{Played, PassesAnswer, IsPlayed, ArePlayed, played_none, played_then, Plays, PlaysRight, AnswerFails, RequestFails, Fails, failing_verdict}
+use Rattle.rio_conform.specs.Plays.{Played, PassesAnswer, IsPlayed, ArePlayed, played_none, played_then, Plays, PlaysRight, WasAsked, AnswerFails, RequestFails, StimulusTold, Fails, failing_verdict}
 
 -- the first of some values, and those behind it
 pub front_any : {A : Type 0} (xs : List A) (x : A) → x ≡ get_or xs 0 x → 1 ≤ length xs
@@ -162,29 +161,42 @@ module _ (strict : Bool) (begun : Outgoing) (port : ClockedState) (at : JudgeSta
       same = r.told.same ∙ h.same;
     }
 
+    -- what is written then, if this line is told
+    was_asked : (next : Outgoing) → begun.waiting ≡ [] → (told : StimulusTold line out next)
+        → WasAsked line begun.written next.written h.played.asked
+    was_asked next clear told =
+        let text = stimulus_text line told.request in
+        record {
+          request = told.request;
+          reads = told.reads;
+          wrote =
+              Writes-whole begun next (h.played.asked ++ text) clear
+              (Writes-then h.played.asked text h.told told.told) told.fine told.empty;
+        }
+
     -- the scenario ends at this line
-    pub SoFar-fails : {written : Option (List ℕ)} {left_next : Option (List ℕ)}
-        (pending_next : List ℕ) (failing : Failing) (count : ℕ)
+    pub SoFar-fails : {left_next : Option (List ℕ)} (next : Outgoing) (pending_next : List ℕ)
+        (failing : Failing) (count : ℕ) → begun.waiting ≡ []
         → count ≡ length lines - length rest
-        → Fails strict failing line now judged left_now left_next pending pending_next
+        → Fails strict failing line now judged out next left_now left_next pending pending_next
         → Plays strict port at lines (failing_verdict failing count) left left_next
-        begun.written written
-    SoFar-fails {written} {left_next} pending_next TheFailing.Differs count counted f = record {
+        begun.written next.written
+    unfolding was_asked
+    SoFar-fails {left_next} next pending_next TheFailing.Differs count clear counted f = record {
       done = h.done;
       played = h.played;
       are_played = h.are_played;
       says = (
         line,
         (behind, goes_on, number),
+        was_asked next clear f.0,
         record {
-          request = f.0;
-          reads = f.1;
-          came = f.2.0;
-          answer = f.2.1;
+          came = f.1.0;
+          answer = f.1.1;
           gave = (
             pending_next,
-            read_on left left_now left_next h.played.answers pending f.2.2.taken f.2.0
-                pending_next h.gave f.2.2.read f.2.2.are,
+            read_on left left_now left_next h.played.answers pending f.1.2.taken f.1.0
+                pending_next h.gave f.1.2.read f.1.2.are,
           );
           wrong = wrong;
         },
@@ -195,28 +207,29 @@ module _ (strict : Bool) (begun : Outgoing) (port : ClockedState) (at : JudgeSta
         number =
             omega (arith, counted, ap length h.lines_are, length-append h.done rest)
 
-        wrong : (next : JudgeState) → ¬ PassesAnswer strict f.0
-            (asked_answer h.played.port (Ok f.0)).text f.2.0 h.played.judged next
+        wrong : (next : JudgeState) → ¬ PassesAnswer strict f.0.request
+            (asked_answer h.played.port (Ok f.0.request)).text f.1.0 h.played.judged next
         wrong =
-            subst (λ p. (next : JudgeState) → ¬ PassesAnswer strict f.0
-            (asked_answer p (Ok f.0)).text f.2.0 h.played.judged next) h.stands
-            (subst (λ j. (next : JudgeState) → ¬ PassesAnswer strict f.0
-            (asked_answer now (Ok f.0)).text f.2.0 j next) h.judges f.2.3)
-    SoFar-fails {written} {left_next} pending_next TheFailing.Ended count counted f = record {
+            subst (λ p. (next : JudgeState) → ¬ PassesAnswer strict f.0.request
+            (asked_answer p (Ok f.0.request)).text f.1.0 h.played.judged next) h.stands
+            (subst (λ j. (next : JudgeState) → ¬ PassesAnswer strict f.0.request
+            (asked_answer now (Ok f.0.request)).text f.1.0 j next) h.judges f.1.3)
+    SoFar-fails {left_next} next pending_next TheFailing.Ended count clear counted f = record {
       done = h.done;
       played = h.played;
       are_played = h.are_played;
       says = (
         line,
         (behind, goes_on, number),
+        was_asked next clear f.0,
         record {
-          at_end = f.at_end;
-          came = pending ++ f.taken;
+          at_end = f.1.at_end;
+          came = pending ++ f.1.taken;
           gave =
-              subst (Consumes left left_next) (append_assoc h.played.answers pending f.taken)
-              (Consumes-trans left left_now left_next (h.played.answers ++ pending) f.taken h.gave
-              f.read);
-          none = f.none;
+              subst (Consumes left left_next) (append_assoc h.played.answers pending f.1.taken)
+              (Consumes-trans left left_now left_next (h.played.answers ++ pending) f.1.taken
+              h.gave f.1.read);
+          none = f.1.none;
         },
       );
     }
@@ -224,7 +237,7 @@ module _ (strict : Bool) (begun : Outgoing) (port : ClockedState) (at : JudgeSta
         number : count ≡ length h.done
         number =
             omega (arith, counted, ap length h.lines_are, length-append h.done rest)
-    SoFar-fails {written} {left_next} pending_next TheFailing.Misspelled count counted f = record {
+    SoFar-fails {left_next} next pending_next TheFailing.Misspelled count clear counted f = record {
       done = h.done;
       played = h.played;
       are_played = h.are_played;
@@ -234,7 +247,7 @@ module _ (strict : Bool) (begun : Outgoing) (port : ClockedState) (at : JudgeSta
         number : count ≡ length h.done
         number =
             omega (arith, counted, ap length h.lines_are, length-append h.done rest)
-    SoFar-fails {written} {left_next} pending_next (TheFailing.Stopped status) count counted f =
+    SoFar-fails {left_next} next pending_next (TheFailing.Stopped status) count clear counted f =
         record {
           done = h.done;
           played = h.played;
@@ -271,23 +284,29 @@ Plays-stopped strict port at lines status left left_after written written_after 
   says = tt;
 }
 
-module _ (strict : Bool) (line : List ℕ) (port : ClockedState) (at : JudgeState)
-    (left left_after : Option (List ℕ)) (pending pending_after : List ℕ) where
-  -- the answer of a line that asks for this does not pass
-  pub Fails-answer : (failing : Failing) (request : PortRequest)
-      → ReadsStimulus line (Ok request)
-      → AnswerFails strict failing request (asked_answer port (Ok request)).text at
-      left left_after pending pending_after
-      → Fails strict failing line port at left left_after pending pending_after
-  Fails-answer TheFailing.Differs request reads h = (request, reads, h)
-  Fails-answer TheFailing.Ended request reads h = h
-  Fails-answer TheFailing.Misspelled request reads h = absurd h
-  Fails-answer (TheFailing.Stopped status) request reads h = tt
+-- a text that was told and flushed
+pub told_flushed : (out mid next : Outgoing) (text : List ℕ) → Writes out mid text
+    → Writes mid next [] → Writes out next text
+told_flushed out mid next text told flushed =
+    subst (Writes out next) (append-nil text) (Writes-then text [] told flushed)
 
-  -- a line is not asked
-  pub Fails-request : (failing : Failing) → RequestFails failing line
-      → Fails strict failing line port at left left_after pending pending_after
-  Fails-request TheFailing.Differs h = absurd h
-  Fails-request TheFailing.Ended h = absurd h
-  Fails-request TheFailing.Misspelled h = h
-  Fails-request (TheFailing.Stopped status) h = tt
+module _ (strict : Bool) (line : List ℕ) (port : ClockedState) (at : JudgeState)
+    (out out_after : Outgoing) (left left_after : Option (List ℕ)) (pending pending_after : List ℕ)
+  where
+    -- the answer of a line does not pass
+    pub Fails-answer : (failing : Failing) (told : StimulusTold line out out_after)
+        → AnswerFails strict failing told.request (asked_answer port (Ok told.request)).text at
+        left left_after pending pending_after
+        → Fails strict failing line port at out out_after left left_after pending pending_after
+    Fails-answer TheFailing.Differs told h = (told, h)
+    Fails-answer TheFailing.Ended told h = (told, h)
+    Fails-answer TheFailing.Misspelled told h = absurd h
+    Fails-answer (TheFailing.Stopped status) told h = tt
+
+    -- a line is not asked
+    pub Fails-request : (failing : Failing) → RequestFails failing line
+        → Fails strict failing line port at out out_after left left_after pending pending_after
+    Fails-request TheFailing.Differs h = absurd h
+    Fails-request TheFailing.Ended h = absurd h
+    Fails-request TheFailing.Misspelled h = h
+    Fails-request (TheFailing.Stopped status) h = tt

@@ -87,11 +87,16 @@ pub record DeviceEnded (left left_after : Option (List ℕ)) (before : List ℕ)
   pub gave : Consumes left left_after (before ++ came)
   pub none : HasNoAnswer came
 
--- the answer of the next line is an answer, and does not pass
-pub record AnswersWrong (strict : Bool) (port : ClockedState) (at : JudgeState) (line : List ℕ)
-    (left left_after : Option (List ℕ)) (before : List ℕ) : Type 0 where
+-- A line was asked after others that ask this: what it asks for, and what was written.
+pub record WasAsked (line : List ℕ) (written written_after : Option (List ℕ)) (before : List ℕ)
+    : Type 0 where
   pub request : PortRequest
   pub reads : ReadsStimulus line (Ok request)
+  pub wrote : Appends written written_after (before ++ stimulus_text line request)
+
+-- The answer of the next line, which asks for this, is an answer, and does not pass.
+pub record AnswersWrong (strict : Bool) (port : ClockedState) (at : JudgeState)
+    (request : PortRequest) (left left_after : Option (List ℕ)) (before : List ℕ) : Type 0 where
   pub came : List ℕ
   pub answer : IsDeviceAnswer came
   pub gave : DeviceGave left left_after (before ++ came)
@@ -106,9 +111,11 @@ VerdictSays strict Passes lines done played left left_after written written_afte
     × Appends written written_after played.asked
 VerdictSays strict (Differs count) lines done played left left_after written written_after =
     (line : List ℕ) × ScenarioGoesOn lines done line count
-    × AnswersWrong strict played.port played.judged line left left_after played.answers
+    × (asked : WasAsked line written written_after played.asked)
+    × AnswersWrong strict played.port played.judged asked.request left left_after played.answers
 VerdictSays strict (Ended count) lines done played left left_after written written_after =
     (line : List ℕ) × ScenarioGoesOn lines done line count
+    × WasAsked line written written_after played.asked
     × DeviceEnded left left_after played.answers
 VerdictSays strict (Misspelled count) lines done played left left_after written written_after =
     (line : List ℕ) × ScenarioGoesOn lines done line count
@@ -168,19 +175,27 @@ RequestFails TheFailing.Misspelled line =
     (refusal : RequestRefusal) × ReadsStimulus line (Err refusal)
 RequestFails (TheFailing.Stopped status) line = Unit {0}
 
--- why the answer of a line does not pass
-abbrev pub Fails : Bool → Failing → List ℕ → ClockedState → JudgeState
+-- a line was told, and nothing of it waits
+pub record StimulusTold (line : List ℕ) (out out_after : Outgoing) : Type 0 where
+  pub request : PortRequest
+  pub reads : ReadsStimulus line (Ok request)
+  pub told : Writes out out_after (stimulus_text line request)
+  pub fine : out_after.failed ≡ false
+  pub empty : out_after.waiting ≡ []
+
+-- why the answer of a line does not pass, or why it is not asked
+abbrev pub Fails : Bool → Failing → List ℕ → ClockedState → JudgeState → Outgoing → Outgoing
     → Option (List ℕ) → Option (List ℕ) → List ℕ → List ℕ → Type 0
-Fails strict TheFailing.Differs line port at left left_after pending pending_after =
-    (request : PortRequest) × ReadsStimulus line (Ok request)
-    × AnswerFails strict TheFailing.Differs request (asked_answer port (Ok request)).text at
-    left left_after pending pending_after
-Fails strict TheFailing.Ended line port at left left_after pending pending_after =
-    EndsEarly left left_after pending
-Fails strict TheFailing.Misspelled line port at left left_after pending pending_after =
-    (refusal : RequestRefusal) × ReadsStimulus line (Err refusal)
-Fails strict (TheFailing.Stopped status) line port at left left_after pending pending_after =
-    Unit {0}
+Fails strict TheFailing.Differs line port at out out_after left left_after pending pending_after =
+    (told : StimulusTold line out out_after)
+    × AnswerFails strict TheFailing.Differs told.request
+    (asked_answer port (Ok told.request)).text at left left_after pending pending_after
+Fails strict TheFailing.Ended line port at out out_after left left_after pending pending_after =
+    StimulusTold line out out_after × EndsEarly left left_after pending
+Fails strict TheFailing.Misspelled line port at out out_after left left_after pending
+    pending_after = (refusal : RequestRefusal) × ReadsStimulus line (Err refusal)
+Fails strict (TheFailing.Stopped status) line port at out out_after left left_after pending
+    pending_after = Unit {0}
 
 abbrev pub failing_verdict : Failing → ℕ → Verdict
 failing_verdict TheFailing.Differs count = Differs count

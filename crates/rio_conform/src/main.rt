@@ -9,7 +9,8 @@
 //! - `run`: the whole program, over any source, sink and sink of messages; `main` gives it the
 //!   words and the standard streams by `start_lines` of `live_lines`, and does nothing more.
 //! - `play`: the same of the lines of a scenario; [`Verdict`]: what came of it.
-//! - `right_devices_pass`: a law, that a device passes which gives the answers of the tables.
+//! - `right_devices_pass`: a law, that a device passes which gives the answers of the tables;
+//!   `the_reference_passes`: so does `rio_port`, by its own contract.
 //!
 //! If the system does not give the arguments, the status is 1 and nothing is written.
 #![tactic(auto)]
@@ -22,7 +23,7 @@ mod report;
 mod trial;
 mod verdict;
 
-pub use laws::right_devices_pass;
+pub use laws::{right_devices_pass, the_reference_passes};
 use live_lines::start_lines;
 pub use playing::play;
 use program::read_asked;

@@ -116,7 +116,7 @@ fn play_line<S: Source, K: Sink>(
         trial.old.judge trial.new.judge outbox.old outbox.new
         (S.left source.old) (S.left source.new) trial.old.input trial.new.input) }
     ensures fails { IfErr result (λ failing. Fails strict failing line.now
-        trial.old.port trial.old.judge
+        trial.old.port trial.old.judge outbox.old outbox.new
         (S.left source.old) (S.left source.new) trial.old.input trial.new.input) }
 {
     let request = match request_of(alloc, line) {

@@ -31,8 +31,9 @@ returns-in-Err-clause-plays g c =
     c.play_line.new.outbox.written) (sym c.verdict_of.ensures)
     (SoFar-fails c.args.strict c.args.outbox.now c.args.trial.now.port c.args.trial.now.judge
     (g.S.Source.left c.args.source.now) lines
-    line rest h.so_far split c.play_line.new.trial.input c.in-Err.failing
-    (length c.args.lines.now - length left) (count_of_texts string_bytes c.args.lines.now left)
+    line rest h.so_far split c.play_line.new.outbox c.play_line.new.trial.input c.in-Err.failing
+    (length c.args.lines.now - length left) c.requires.empty
+    (count_of_texts string_bytes c.args.lines.now left)
     c.in-Err.ensures.fails)
 
 pub loop-left-preserved : goal.loop-left-preserved
