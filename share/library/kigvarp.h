@@ -110,6 +110,22 @@ struct kigvarp_packet { uint8_t ack, prio, tt, ftype; uint16_t source, dest; };
 /* The line that a reason hits, counted from 1, and the least reason that hits it, or zeros. */
 struct kigvarp_hit { uint32_t line, reason; };
 
+/* A request of a register: priority 0 to 3, hop count and transaction number; IDs of 16 bits, or of 8 if large is 0; a write of
+   value, or a read if write is 0; the destination ID, and an offset of 24 bits. */
+struct kigvarp_ask { uint8_t prio, hop, tid, large, write; uint16_t dest; uint32_t offset, value; };
+
+/* What comes of it. */
+enum {
+  KIGVARP_VALUE = 1,      /* value was read */
+  KIGVARP_WRITTEN = 2,    /* it was written */
+  KIGVARP_NOT_DONE = 3,   /* a response says that it is not done: value is its status */
+  KIGVARP_UNANSWERED = 4, /* no response came */
+  KIGVARP_NOT_ASKED = 5   /* it was not carried out: value is the number of the reason (docs/refusals.md) */
+};
+
+/* One of these and a value, which is 0 of others; or zeros if the status is neither KIGVARP_OK nor KIGVARP_CLOSED. */
+struct kigvarp_reply { uint32_t kind, value; };
+
 /* ---- a port */
 
 /* Opens a port of 4 to 30 receive buffers, which tells its free buffers if tells is not 0. */
@@ -167,6 +183,12 @@ uint32_t kigvarp_fabric_close(struct kigvarp_fabric *fabric);
 
 /* Answers a line of rio_live, without its line feed. The text of the line before is forgotten. */
 uint32_t kigvarp_fabric_line(struct kigvarp_fabric *fabric, const uint8_t *line, size_t length);
+
+/* Asks for a register as the line `ask` of rio_live does, by numbers: the host is an endpoint, by its name without a zero after
+   it. The text of the line before is forgotten, and the answer of that line waits. A name that a script cannot say and a field
+   out of range are KIGVARP_ARGUMENT. KIGVARP_NO_MEMORY: nothing was done. */
+uint32_t kigvarp_fabric_ask(struct kigvarp_fabric *fabric, const uint8_t *host, size_t length, const struct kigvarp_ask *ask,
+                            struct kigvarp_reply *reply);
 
 /* Takes the text that waits, as much of it as has room: count is how many bytes, and 0 if no more waits. */
 uint32_t kigvarp_fabric_text(struct kigvarp_fabric *fabric, uint8_t *out, size_t room, size_t *count);

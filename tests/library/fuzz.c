@@ -204,6 +204,22 @@ static void lines(int end) {
   if (chance(20) == 0) is("fabric_open", kigvarp_fabric_open(&fabric));
 }
 
+static void asks(void) {
+  static const char *const hosts[] = {"A", "B", "S", "", "A1", "Abcdefghi", "A B"};
+  const char *host = hosts[chance(sizeof hosts / sizeof *hosts)];
+  size_t length = strlen(host);
+  struct kigvarp_ask *it = edge(1, sizeof *it);
+  struct kigvarp_reply *told = edge(2, sizeof *told);
+  int wild = chance(6) == 0;
+  it->prio = (uint8_t)chance(4 + wild), it->hop = (uint8_t)chance(256), it->tid = (uint8_t)chance(256);
+  it->large = (uint8_t)(chance(4) == 0), it->write = (uint8_t)chance(3), it->dest = (uint16_t)chance(wild ? 65536 : 256);
+  it->offset = chance((1u << 24) + (wild ? 1u << 24 : 0)), it->value = (uint32_t)state;
+  uint32_t status = is("fabric_ask", kigvarp_fabric_ask(&fabric, memcpy(edge(0, length), host, length), length, it, told));
+  is_closed(fabric.open != 0, status);
+  if (status == KIGVARP_OK) want(told->kind - 1 < KIGVARP_NOT_ASKED, "what came of it is one of them");
+  else if (status != KIGVARP_CLOSED) want(!told->kind && !told->value, "nothing is told");
+}
+
 static void checks(void) {
   struct kigvarp_hit *hit = edge(1, sizeof *hit);
   uint32_t *steps = edge(2, sizeof *steps);
@@ -270,7 +286,7 @@ static void words(void) {
 
 static void one(void) {
   int end = (int)chance(2);
-  switch (chance(11)) {
+  switch (chance(12)) {
     case 0: case 1: port_characters(end); break;
     case 10: port_clocks(end); break;
     case 2: port_turns(end); break;
@@ -281,6 +297,7 @@ static void one(void) {
     case 7: checks(); break;
     case 8: readings(); break;
     case 9: words(); break;
+    case 11: asks(); break;
   }
 }
 

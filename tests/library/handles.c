@@ -24,6 +24,8 @@ static struct kigvarp_run_did run_did;
 static struct kigvarp_clocks_did clocks = {7, 7, 7, 7};
 static struct kigvarp_state told;
 static const struct kigvarp_header header = {0, 15, 0, 1, 2};
+static const struct kigvarp_ask ask = {.dest = 1, .hop = 255, .offset = 0x68};
+static struct kigvarp_reply reply = {7, 7};
 
 /* Whether the rooms have what was put there, and nothing is counted. */
 static int untouched(void) {
@@ -60,6 +62,7 @@ static void closed_fabric(void) {
   want(kigvarp_fabric_close(&fabric) == KIGVARP_CLOSED, "a closed fabric is not closed");
   want(kigvarp_fabric_line(&fabric, line, 5) == KIGVARP_CLOSED, "no line of a closed fabric");
   want(kigvarp_fabric_text(&fabric, bytes, sizeof bytes, &count) == KIGVARP_CLOSED, "no text of a closed fabric");
+  want(kigvarp_fabric_ask(&fabric, line, 1, &ask, &reply) == KIGVARP_CLOSED && reply.kind == 7, "no ask of a closed fabric");
   want(untouched() && !fabric.open && !fabric.at, "a closed fabric changes nothing");
 }
 
@@ -180,6 +183,27 @@ static void texts(void) {
   want(kigvarp_fabric_close(&fabric) == KIGVARP_OK, "an open fabric is closed");
 }
 
+static uint32_t asks(const char *host, struct kigvarp_ask it) {
+  reply = (struct kigvarp_reply){7, 7};
+  return kigvarp_fabric_ask(&fabric, (const uint8_t *)host, strlen(host), &it, &reply);
+}
+
+/* Names and fields that no line says: nothing is done, and the text that waits stays. */
+static void asks_out_of_range(void) {
+  static const char *const names[] = {"", "1A", "A B", "A\n", "Abcdefghi"};
+  want(kigvarp_fabric_open(&fabric) == KIGVARP_OK && gives("nonsense") == KIGVARP_OK, "a line is refused, and its text waits");
+  for (size_t i = 0; i < sizeof names / sizeof *names; i++)
+    want(asks(names[i], ask) == KIGVARP_ARGUMENT && !reply.kind && !reply.value, "a name that is none");
+  want(asks("A", (struct kigvarp_ask){.prio = 4}) == KIGVARP_ARGUMENT && !reply.kind, "priority 4");
+  want(asks("A", (struct kigvarp_ask){.dest = 256}) == KIGVARP_ARGUMENT && !reply.kind, "a long destination");
+  want(asks("A", (struct kigvarp_ask){.offset = 1 << 24}) == KIGVARP_ARGUMENT && !reply.kind, "a long offset");
+  want(kigvarp_fabric_text(&fabric, bytes, sizeof bytes, &count) == KIGVARP_OK && count > 3, "the text waits still");
+  want(asks("A", ask) == KIGVARP_OK && reply.kind == KIGVARP_NOT_ASKED && reply.value, "no such node");
+  want(asks("A", (struct kigvarp_ask){.large = 1, .dest = 256}) == KIGVARP_OK && reply.kind == KIGVARP_NOT_ASKED, "nor now");
+  want(kigvarp_fabric_close(&fabric) == KIGVARP_OK, "an open fabric is closed");
+  reply = (struct kigvarp_reply){7, 7};
+}
+
 int main(void) {
   want(!strcmp(kigvarp_status_words(KIGVARP_REFUSED), "refused"), "a status has words");
   want(!strcmp(kigvarp_status_words(KIGVARP_REFUSED + 1), "no status"), "and what is none has others");
@@ -192,6 +216,7 @@ int main(void) {
   out_of_range();
   full();
   texts();
+  asks_out_of_range();
   clocks = (struct kigvarp_clocks_did){7, 7, 7, 7};
   closed_port();
   closed_fabric();

@@ -67,6 +67,27 @@ static int line(int is_fabric, int at, const char *text, long number) {
   return status == KIGVARP_CUT && is_fabric;
 }
 
+/* The same of an ask by numbers: the words are refused memory, or what their line does is. Answers whether the request was
+   reached. */
+static int asks(long number) {
+  static const struct kigvarp_ask it = {.tid = 7, .hop = 255, .dest = 2, .offset = 0x68};
+  struct kigvarp_reply reply = {7, 7};
+  refused = -1;
+  want(opens(1) == KIGVARP_OK, "opened", number);
+  for (int at = 0; at < 3; at++)
+    want(!kigvarp_fabric_line(&fabric, (const uint8_t *)FABRIC[at], strlen(FABRIC[at])), "set up", number);
+  asked = 0, refused = number;
+  uint32_t status = kigvarp_fabric_ask(&fabric, (const uint8_t *)"A", 1, &it, &reply);
+  int reached = asked > number;
+  refused = -1;
+  want(status == KIGVARP_OK || status == KIGVARP_NO_MEMORY || status == KIGVARP_CUT, "a status of memory", number);
+  want(status == KIGVARP_OK ? reply.kind == KIGVARP_UNANSWERED : !reply.kind && !reply.value, "what came of it", number);
+  uint32_t again = kigvarp_fabric_ask(&fabric, (const uint8_t *)"A", 1, &it, &reply);
+  want(again == (status == KIGVARP_CUT ? KIGVARP_SPENT : KIGVARP_OK), "spent if it was cut, and else asked again", number);
+  want(closes(1) == KIGVARP_OK, "closed", number);
+  return reached;
+}
+
 /* All lines, and whether the refused request was reached. */
 static int lines(int is_fabric, long number) {
   const char *const *texts = is_fabric ? FABRIC : PORT;
@@ -147,6 +168,8 @@ int main(void) {
     for (long number = 0; checks(number); number++) tried++;
   for (later = 0; later < 2; later++)
     for (long number = 0; clocks(number); number++) tried++;
+  for (later = 0; later < 2; later++)
+    for (long number = 0; asks(number); number++) tried++;
   printf("%ld refusals\n", tried);
   return failed || tried < 40;
 }

@@ -2,12 +2,13 @@
 ghost use Rattle.std.specs.Prelude.{◌≡◌, ◌∷◌, [], List, MatchOption, IfSome};
 ghost use Rattle.library_calls.specs.FabricsSeen.{FabricSeen, FabricHolds, FabricTextTaken};
 ghost use Rattle.library_calls.specs.FabricLines.{FabricLineDid};
+ghost use Rattle.library_calls.specs.FabricAsks.{FabricAskDid};
 ghost use Rattle.kigvarp_c.specs.Handles.{IsFabricHandle, OpensFabric};
 ghost use Rattle.kigvarp_c.specs.Calls.{Calls, Always, OpensBy, ClosesBy};
 
 use crate::fabric_handle::FabricHandle;
 use crate::parts::Parts;
-use library_calls::{CallStatus, OpenFabric, call_number};
+use library_calls::{CallStatus, OpenFabric, RegisterAsk, RegisterReply, call_number};
 use std::alloc::Global;
 use std::mem;
 
@@ -92,6 +93,28 @@ pub extern "C" fn kigvarp_fabric_line(alloc: Global, fabric: &mut KigvarpFabric,
         return call_number(CallStatus::Closed);
     };
     let status = opened.line(alloc, line);
+    put_fabric(fabric, opened);
+    call_number(status)
+}
+
+/// Asks for a register by numbers, as the line `ask` of this host does, and tells what came of it.
+#[unsafe(no_mangle)]
+pub extern "C" fn kigvarp_fabric_ask(
+    alloc: Global,
+    fabric: &mut KigvarpFabric,
+    host: &[u8],
+    ask: &RegisterAsk,
+    told: &mut RegisterReply,
+) -> u32
+    requires { IsFabricHandle fabric.old }
+    ensures handle { IsFabricHandle fabric.new }
+    ensures does { Calls (told.new ≡ told.old) (FabricAskDid host.now ask.now told.new)
+        fabric.old.handle.fabrics result fabric.new.handle.fabrics }
+{
+    let Some(mut opened) = take_fabric(alloc, fabric) else {
+        return call_number(CallStatus::Closed);
+    };
+    let status = opened.ask(alloc, host, ask, told);
     put_fabric(fabric, opened);
     call_number(status)
 }

@@ -67,7 +67,7 @@ module _ (held : SessionHeld) (number : ℕ) (line : List ℕ) (out mid last : O
 
 -- ---- the fabric behind a line
 
-same_text : (items text : List ℕ) → Appends (Some []) (Some items) text → items ≡ text
+pub same_text : (items text : List ℕ) → Appends (Some []) (Some items) text → items ≡ text
 same_text items text appends = appends
 
 pub line_told : (old new : FabricSeen) (line : List ℕ) (spent : Bool) (goes : AfterLine)

@@ -5,4 +5,5 @@ pub mod CheckLaws
 pub mod RunLaws
 pub mod TextLaws
 pub mod FabricLaws
+pub mod FabricAskLaws
 pub mod ClockCounts

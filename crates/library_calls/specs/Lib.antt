@@ -13,3 +13,4 @@ pub mod Packets
 pub mod States
 pub mod FabricsSeen
 pub mod FabricLines
+pub mod FabricAsks

@@ -16,13 +16,13 @@ use std::marker::Model;
 /// room that its calls need.
 #[derive(Drop)]
 pub struct OpenFabric {
-    session: Session,
-    number: u32,
-    spent: bool,
-    sink: TextSink,
+    pub(crate) session: Session,
+    pub(crate) number: u32,
+    pub(crate) spent: bool,
+    pub(crate) sink: TextSink,
     /// How many bytes of it were taken.
-    taken: usize,
-    buffer: TextBuffer,
+    pub(crate) taken: usize,
+    pub(crate) buffer: TextBuffer,
 }
 
 impl Model for OpenFabric {

@@ -141,3 +141,36 @@ pub struct HitTold {
     /// The number of the least reason that hits it, or 0.
     pub reason: u32,
 }
+
+/// A request of a register.
+#[repr(C)]
+#[derive(Clone, Copy)]
+pub struct RegisterAsk {
+    /// The priority, 0 to 3.
+    pub prio: u8,
+    /// The hop count.
+    pub hop: u8,
+    /// The transaction number.
+    pub tid: u8,
+    /// Whether the IDs have 16 bits, or 8 if it is 0.
+    pub large: u8,
+    /// Whether the register is written, or read if it is 0.
+    pub write: u8,
+    /// The destination ID.
+    pub dest: u16,
+    /// The offset of the register, of 24 bits.
+    pub offset: u32,
+    /// The value that is written.
+    pub value: u32,
+}
+
+/// What came of a request of a register.
+#[repr(C)]
+#[derive(Clone, Copy)]
+pub struct RegisterReply {
+    /// 0 nothing, 1 a value was read, 2 it was written, 3 it is not done, 4 it is unanswered, 5 it
+    /// was refused.
+    pub kind: u32,
+    /// The value that was read, the status of what is not done, the reason of a refusal, or 0.
+    pub value: u32,
+}

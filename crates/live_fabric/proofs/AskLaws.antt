@@ -1,8 +1,6 @@
 -- What is told of a request, and of what its host collects.
-use Rattle.std.proofs.Common.{◌≡◌, ◌≢◌, ◌==◌, codes, inr, ℕ, ◌-◌, Bool, true, false, List, [], ◌∷◌, ◌++◌, length, slice_get, Option, Some, None, if◌then◌else◌, refl, sym, ap, ◌∙◌, subst, arith, length-append, append-nil, append_assoc}
-use Rattle.std.specs.Fmt.{decimal}
-use Rattle.std.proofs.lemmas.Bool.Decides.{nat_tests}
-use Rattle.rio_chars.specs.Written.{Outgoing, Writes}
+use Rattle.std.proofs.Common.{◌≡◌, inr, ℕ, ◌-◌, Bool, true, false, List, [], ◌∷◌, ◌++◌, length, slice_get, Option, Some, None, if◌then◌else◌, refl, sym, ap, ◌∙◌, subst, arith, length-append, append-nil, append_assoc}
+use Rattle.rio_chars.specs.Written.{Outgoing}
 use Rattle.maint_packets.specs.declared.response.Response.{Response}
 use Rattle.switch_core.specs.EndpointSteps.{collected}
 use Rattle.switch_core.specs.declared.endpoint.Collected.{Collected}
@@ -30,7 +28,7 @@ use Rattle.live_fabric.specs.Lines.{Taken, seen_so_far, taken_with}
 use Rattle.live_fabric.specs.Telling.{block_told, TellsEvents}
 use Rattle.live_fabric.specs.Holding.{LiveHolds}
 use Rattle.live_fabric.specs.Answers.{Happens}
-use Rattle.live_fabric.specs.Asking.{ask_of, last_line, reply_in, reply_by, reply_of, most_ask_rounds, rounds_behind, done_text, response_said}
+use Rattle.live_fabric.specs.Asking.{ask_of, last_line, reply_in, reply_by, reply_of, most_ask_rounds, rounds_behind}
 use Rattle.live_fabric.specs.AskCourse.{as_reply, ReplyGoes, RoundDone}
 use Rattle.live_fabric.proofs.TakenLaws.{is_sent}
 
@@ -206,14 +204,3 @@ module _ (quiet : Bool) (taken : Taken) (number tid host : ℕ) (out next : Outg
     told = h.text;
     goes = h.goes;
   }
-
--- ---- what is said of a response
-
--- it is not done
-pub error_said : (out next : Outgoing) (offset : ℕ) (response : Response) → response.status ≢ 0
-    → Writes out next (codes "error " ++ decimal response.status ++ codes "\n")
-    → Writes out next (response_said offset (Some response))
-error_said out next offset response other said =
-    let not_done : (response.status == 0) ≡ false = grind (arith, nat_tests, other) in
-    subst (λ b. Writes out next (if b then done_text offset response.words
-    else codes "error " ++ decimal response.status ++ codes "\n")) (sym not_done) said

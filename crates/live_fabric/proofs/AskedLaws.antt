@@ -1,5 +1,5 @@
 -- A register is asked for.
-use Rattle.std.proofs.Common.{◌≡◌, ◌==◌, not, ℕ, List, [], ◌++◌, Some, inl, inr, refl, sym, ap, ◌∙◌, subst}
+use Rattle.std.proofs.Common.{◌≡◌, ◌==◌, not, ℕ, List, [], ◌++◌, Some, codes, inl, inr, refl, sym, ap, ◌∙◌, subst}
 use Rattle.std.proofs.lemmas.List.Elements.{All-filter}
 use Rattle.rio_chars.specs.Written.{Outgoing, Writes}
 use Rattle.rio_chars.proofs.WrittenLaws.{Writes-nil, Writes-then}
@@ -7,18 +7,18 @@ use Rattle.fabric_script.specs.declared.lines.Line.{Line}
 use Rattle.fabric_script.specs.declared.lines.Line.TheVariants.{Collect}
 use Rattle.fabric_script.specs.SetUps.{SetUpLines, for_event}
 use Rattle.refusal_words.specs.Citing.{refusal_line}
-use Rattle.live_fabric.specs.declared.answers.AfterLine.{AfterLine}
-use Rattle.live_fabric.specs.declared.answers.AfterLine.TheVariants as Goings
+use Rattle.live_fabric.specs.declared.asking.AskOutcome.{AskOutcome}
+use Rattle.live_fabric.specs.declared.asking.AskOutcome.TheVariants.{Refused}
 use Rattle.live_fabric.specs.declared.asking.Reply.{Reply}
 use Rattle.live_fabric.specs.declared.asking.Reply.TheVariants.{Came, Missing, Undetected}
 use Rattle.live_fabric.specs.declared.asks.Ask.{Ask}
 use Rattle.live_fabric.specs.declared.session.Session.{Session}
 use Rattle.live_fabric.specs.Lines.{SaysWhy}
 use Rattle.live_fabric.specs.Holding.{MayBeCarried, MayCollect}
-use Rattle.live_fabric.specs.Asking.{SpellsAsk, IsNoAsk, ask_of, others_than, TellsAsk, IsAskFront, reply_told}
-use Rattle.live_fabric.specs.AskCourse.{MayCollectWith, ReplyGoes, AskDone, AskBreaks, reply_said, after_reply}
-use Rattle.live_fabric.specs.Sessions.{SessionHeld, nodes_served, SessionHolds, SessionGoes, AreServed, AskTold, AskFalls, RequestCarried, RequestBroke}
-use Rattle.live_fabric.proofs.RequestLaws.{said_told}
+use Rattle.live_fabric.specs.Asking.{SpellsAsk, IsNoAsk, ask_of, others_than, TellsAsk, IsAskFront, reply_told, after_ask}
+use Rattle.live_fabric.specs.AskCourse.{MayCollectWith, ReplyGoes, AskDone, AskBreaks, reply_said, reply_outcome}
+use Rattle.live_fabric.specs.Sessions.{SessionHeld, nodes_served, SessionHolds, SessionGoes, AreServed, AskTold, AskAnswered, AskFalls, RequestCarried, RequestBroke}
+use Rattle.live_fabric.proofs.RequestLaws.{said_told, outcome_came}
 use Rattle.live_fabric.proofs.TakenLaws.{may_collect_of}
 use Rattle.live_fabric.proofs.KeptLaws.{kept_behind}
 
@@ -33,22 +33,25 @@ spells_held held session read words event ask holds same spells =
 
 module _ (held : SessionHeld) (number : ℕ) (words : List ℕ) where
   pub ask_taken : (out next : Outgoing) (now : Session) (event : Line) (ask : Ask)
-      (going : AfterLine) → SpellsAsk (for_event held.taken.known) words event ask
-      → RequestCarried held number event ask out next now going
-      → AskTold held number words out next now going
-  ask_taken out next now event ask going spells e = record {
+      (outcome : AskOutcome) → SpellsAsk (for_event held.taken.known) words event ask
+      → RequestCarried held number event ask out next now outcome
+      → AskTold held number words out next now outcome
+  ask_taken out next now event ask outcome spells e = record {
     text = e.text ++ reply_told ask e.end;
     next = record held { taken = e.end };
-    answers = inl (record {
-      event = event;
-      ask = ask;
-      spells = spells;
-      told = e.text;
-      end = e.end;
-      tells = e.tells;
-      answer = refl;
-      then = refl;
-    });
+    answers = inl (
+      record {
+        event = event;
+        ask = ask;
+        spells = spells;
+        told = e.text;
+        end = e.end;
+        tells = e.tells;
+        answer = refl;
+        then = refl;
+      },
+      e.came,
+    );
     told = e.told;
     goes = e.goes;
   }
@@ -56,20 +59,35 @@ module _ (held : SessionHeld) (number : ℕ) (words : List ℕ) where
   pub ask_refused : (out next : Outgoing) (session : Session) (reason : ℕ)
       → SessionHolds session held → IsNoAsk session.live.set_up.known words reason
       → ((why : List ℕ) × SaysWhy words reason why × Writes out next (refusal_line reason why))
-      → AskTold held number words out next session Goings.On
+      → AskTold held number words out next session (Refused reason)
   ask_refused out next session reason holds refused told = record {
     text = refusal_line reason told.0;
     next = held;
-    answers = inr (record {
-      reason = reason;
-      why = told.0;
-      refused = subst (λ k. IsNoAsk k words reason) holds.live.known refused;
-      says = told.1;
-      answer = refl;
-      then = refl;
-    });
+    answers = inr (
+      record {
+        reason = reason;
+        why = told.0;
+        refused = subst (λ k. IsNoAsk k words reason) holds.live.known refused;
+        says = told.1;
+        answer = refl;
+        then = refl;
+      },
+      refl,
+    );
     told = told.2;
     goes = holds;
+  }
+
+  -- and its last line
+  pub ask_answered : (out mid next : Outgoing) (session : Session) (outcome : AskOutcome)
+      → AskTold held number words out mid session outcome → Writes mid next (codes "ok\n")
+      → AskAnswered held number words out next session outcome
+  ask_answered out mid next session outcome t ok = record {
+    text = t.text ++ codes "ok\n";
+    next = t.next;
+    answers = t.answers;
+    told = Writes-then t.text (codes "ok\n") t.told ok;
+    goes = t.goes;
   }
 
   pub ask_breaks : (out next : Outgoing) (event : Line) (ask : Ask)
@@ -98,7 +116,7 @@ module _ (held : SessionHeld) (number : ℕ) (event : Line) (ask : Ask) (session
       → now.quiet ≡ session.quiet → now.served ≡ session.served
       → AskDone session.quiet held.taken number nodes event ask out mid now.live reply
       → Writes mid next (reply_said ask.offset reply)
-      → RequestCarried held number event ask out next now (after_reply reply)
+      → RequestCarried held number event ask out next now (reply_outcome ask.offset reply)
   request_carried now out mid next reply quiet served d said = record {
     text = d.text;
     end = d.end;
@@ -109,11 +127,13 @@ module _ (held : SessionHeld) (number : ℕ) (event : Line) (ask : Ask) (session
     told =
         Writes-then d.text (reply_told ask d.end) d.told
         (subst (Writes mid next) (said_told ask reply now.live d.end d.goes) said);
+    came = outcome_came ask reply now.live d.end d.goes;
     goes = by_reply reply d.goes;
   }
     where
       by_reply : (r : Reply) → ReplyGoes ask.tid r now.live d.end
-          → SessionGoes (after_reply r) now (record held { taken = d.end })
+          → SessionGoes (after_ask (reply_outcome ask.offset r)) now
+          (record held { taken = d.end })
       by_reply (Came response) goes =
           kept_behind held session now d.end holds quiet served goes.0
       by_reply Missing goes = kept_behind held session now d.end holds quiet served goes.0

@@ -1,21 +1,24 @@
 -- A request with the rounds behind it, and what came of it.
-use Rattle.std.proofs.Common.{◌≡◌, inl, inr, ℕ, Bool, List, [], ◌++◌, Some, None, refl, sym, ap, ◌∙◌, subst, append-nil}
+use Rattle.std.proofs.Common.{◌≡◌, inl, inr, ℕ, Bool, List, [], ◌++◌, Option, Some, None, refl, sym, ap, ◌∙◌, subst, append-nil}
 use Rattle.rio_chars.specs.Written.{Outgoing}
 use Rattle.rio_chars.proofs.WrittenLaws.{Writes-nil, Writes-then}
+use Rattle.maint_packets.specs.declared.response.Response.{Response}
 use Rattle.fabric_script.specs.declared.lines.Line.{Line}
+use Rattle.fabric_trace.specs.Known.{UndetectedAt}
 use Rattle.fabric_ports.specs.declared.answers.Happened.{Happened as Did}
 use Rattle.fabric_ports.specs.declared.answers.Happened.TheVariants.{Full}
 use Rattle.live_fabric.specs.declared.answers.Told.TheVariants as told_as
+use Rattle.live_fabric.specs.declared.asking.AskOutcome.{AskOutcome}
 use Rattle.live_fabric.specs.declared.asking.Reply.{Reply}
 use Rattle.live_fabric.specs.declared.asking.Reply.TheVariants.{Came, Missing, Undetected}
 use Rattle.live_fabric.specs.declared.asks.Ask.{Ask}
 use Rattle.live_fabric.specs.declared.live.Live.{Live}
-use Rattle.live_fabric.specs.Lines.{Taken, taken_with}
+use Rattle.live_fabric.specs.Lines.{Taken, seen_so_far, taken_with}
 use Rattle.live_fabric.specs.Telling.{block_told}
 use Rattle.live_fabric.specs.Holding.{LiveHolds}
 use Rattle.live_fabric.specs.Answers.{Happens, HappensFront}
-use Rattle.live_fabric.specs.Asking.{ask_of, ask_round, last_line, reply_of, most_ask_rounds, response_said, reply_told, unless_unsent, rounds_behind, TellsRounds, IsRoundsFront}
-use Rattle.live_fabric.specs.AskCourse.{MayCollectWith, ReplyGoes, RoundsDone, RoundsBreak, AskDone, AskBreaks, reply_said}
+use Rattle.live_fabric.specs.Asking.{ask_of, ask_round, last_line, reply_of, most_ask_rounds, register_said, said_text, reply_told, unless_unsent, said_unless, ask_outcome, rounds_behind, TellsRounds, IsRoundsFront}
+use Rattle.live_fabric.specs.AskCourse.{MayCollectWith, ReplyGoes, RoundsDone, RoundsBreak, AskDone, AskBreaks, reply_said, reply_outcome}
 use Rattle.live_fabric.proofs.CourseLaws.{one_breaks}
 use Rattle.live_fabric.proofs.TakenLaws.{is_sent}
 use Rattle.live_fabric.proofs.AskLaws.{rounds_by, rounds_all, request_missing, request_rounds, one_told}
@@ -154,15 +157,32 @@ module _ (quiet : Bool) (taken : Taken) (number : ℕ) (nodes : List ℕ) (event
 
 -- ---- what is said of the response
 
-pub said_told : (ask : Ask) (reply : Reply) (live : Live) (end : Taken)
-    → ReplyGoes ask.tid reply live end → reply_said ask.offset reply ≡ reply_told ask end
-said_told ask (Came response) live end goes =
-    ap (response_said ask.offset) (sym goes.1)
-    ∙ ap (λ u. unless_unsent u (response_said ask.offset (reply_of ask.tid end)))
-    (sym (is_sent live end goes.0))
-said_told ask Missing live end goes =
-    ap (response_said ask.offset) (sym goes.1)
-    ∙ ap (λ u. unless_unsent u (response_said ask.offset (reply_of ask.tid end)))
-    (sym (is_sent live end goes.0))
-said_told ask Undetected live end goes =
-    ap (λ u. unless_unsent u (response_said ask.offset (reply_of ask.tid end))) (sym goes.1.1)
+-- by the lines that were taken, each of which was sent
+at_end : {X : Type 0} (f : Option UndetectedAt → Option Response → X) (ask : Ask) (live : Live)
+    (end : Taken) (reply : Option Response) → LiveHolds live end → reply_of ask.tid end ≡ reply
+    → f None reply ≡ f (seen_so_far end).undetected (reply_of ask.tid end)
+at_end f ask live end reply holds is =
+    ap (f None) (sym is) ∙ ap (λ u. f u (reply_of ask.tid end)) (sym (is_sent live end holds))
+
+module _ (ask : Ask) where
+  abbrev told_by : Option UndetectedAt → Option Response → List ℕ
+  told_by u reply = unless_unsent u (said_text (register_said ask.offset reply))
+
+  abbrev outcome_by : Option UndetectedAt → Option Response → AskOutcome
+  outcome_by u reply = said_unless u (register_said ask.offset reply)
+
+  pub said_told : (reply : Reply) (live : Live) (end : Taken)
+      → ReplyGoes ask.tid reply live end → reply_said ask.offset reply ≡ reply_told ask end
+  said_told (Came response) live end goes =
+      at_end told_by ask live end (Some response) goes.0 goes.1
+  said_told Missing live end goes = at_end told_by ask live end None goes.0 goes.1
+  said_told Undetected live end goes =
+      ap (λ u. told_by u (reply_of ask.tid end)) (sym goes.1.1)
+
+  pub outcome_came : (reply : Reply) (live : Live) (end : Taken)
+      → ReplyGoes ask.tid reply live end → reply_outcome ask.offset reply ≡ ask_outcome ask end
+  outcome_came (Came response) live end goes =
+      at_end outcome_by ask live end (Some response) goes.0 goes.1
+  outcome_came Missing live end goes = at_end outcome_by ask live end None goes.0 goes.1
+  outcome_came Undetected live end goes =
+      ap (λ u. outcome_by u (reply_of ask.tid end)) (sym goes.1.1)

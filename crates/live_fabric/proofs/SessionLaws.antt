@@ -8,16 +8,18 @@ use Rattle.fabric_script.specs.SetUps.{IsRefused}
 use Rattle.refusal_words.specs.Citing.{refusal_line}
 use Rattle.live_fabric.specs.declared.answers.AfterLine.{AfterLine}
 use Rattle.live_fabric.specs.declared.answers.AfterLine.TheVariants as Goings
+use Rattle.live_fabric.specs.declared.asking.AskOutcome.{AskOutcome}
 use Rattle.live_fabric.specs.declared.live.Live.{Live}
 use Rattle.live_fabric.specs.declared.own_lines.OwnLine.{OwnLine}
 use Rattle.live_fabric.specs.declared.session.Session.{Session}
 use Rattle.live_fabric.specs.Lines.{Taken, IsSent, SaysWhy, IsEventLine, taken_after}
+use Rattle.live_fabric.specs.Asking.{after_ask}
 use Rattle.live_fabric.specs.Served.{with_served, events_carried}
 use Rattle.live_fabric.specs.Telling.{plain_told, TellsEvents, IsEventsFront}
 use Rattle.live_fabric.specs.Holding.{LiveHolds, MayBeCarried, MayCollect}
 use Rattle.live_fabric.specs.Answers.{LiveGoes, ReadPlainly}
 use Rattle.live_fabric.specs.Course.{EventsDone, EventsBreak}
-use Rattle.live_fabric.specs.Sessions.{SessionHeld, own_text, held_after, serve_text, ask_text, collect_text, nodes_served, IsNoOwnLine, IsScriptLine, LineAnswers, AnswersSession, IsAskAnswerFront, IsSessionFront, SessionHolds, SessionAnswered, SessionGoes, SessionBreaks, SessionTold, ServeTold, AreServed, AskTold, AskFalls}
+use Rattle.live_fabric.specs.Sessions.{SessionHeld, own_text, held_after, serve_text, ask_text, collect_text, nodes_served, IsNoOwnLine, IsScriptLine, LineAnswers, AnswersSession, IsAskAnswerFront, IsSessionFront, SessionHolds, SessionAnswered, SessionGoes, SessionBreaks, SessionTold, ServeTold, AreServed, AskTaken, AskRefused, AskComesTo, AskTold, AskFalls}
 use Rattle.live_fabric.proofs.TakenLaws.{may_be_carried}
 use Rattle.live_fabric.proofs.KeptLaws.{kept_behind}
 
@@ -164,13 +166,25 @@ module _ (held : SessionHeld) (number : ℕ) (line : List ℕ) where
     told = subst (λ o. Writes out o []) (sym same) (Writes-nil out);
   }
 
-  pub told_ask : (out next : Outgoing) (now : Session) (words : List ℕ) (going : AfterLine)
-      → line ≡ ask_text words → AskTold held number words out next now going
-      → SessionTold held number line out next now going
-  told_ask out next now words going is a = record {
+  -- it asks for a register
+  pub ask_answers : (words text : List ℕ) (next : SessionHeld) (outcome : AskOutcome)
+      → line ≡ ask_text words → AskComesTo held number words text next outcome
+      → LineAnswers held number line text next
+  ask_answers words text next outcome is comes =
+      inr (inr (inl (record { words = words; is = is; answers = either comes })))
+    where
+      either : AskComesTo held number words text next outcome
+          → AskTaken held number words text next ⊎ AskRefused held words text next
+      either (inl taken) = inl taken.0
+      either (inr refused) = inr refused.0
+
+  pub told_ask : (out next : Outgoing) (now : Session) (words : List ℕ) (outcome : AskOutcome)
+      → line ≡ ask_text words → AskTold held number words out next now outcome
+      → SessionTold held number line out next now (after_ask outcome)
+  told_ask out next now words outcome is a = record {
     text = a.text;
     next = a.next;
-    answers = inr (inr (inl (record { words = words; is = is; answers = a.answers })));
+    answers = ask_answers words (a.text ++ codes "ok\n") a.next outcome is a.answers;
     told = a.told;
     goes = a.goes;
   }

@@ -4,8 +4,8 @@ use Rattle.rio_chars.specs.Written.{Outgoing, Writes}
 use Rattle.fabric_script.specs.declared.lines.Line.{Line}
 use Rattle.fabric_script.specs.declared.lines.Line.TheVariants.{Collect}
 use Rattle.maint_packets.specs.declared.response.Response.{Response}
-use Rattle.live_fabric.specs.declared.answers.AfterLine.{AfterLine}
-use Rattle.live_fabric.specs.declared.answers.AfterLine.TheVariants as After
+use Rattle.live_fabric.specs.declared.asking.AskOutcome.{AskOutcome}
+use Rattle.live_fabric.specs.declared.asking.AskOutcome.TheVariants as Outcomes
 use Rattle.live_fabric.specs.declared.asking.Reply.{Reply}
 use Rattle.live_fabric.specs.declared.asking.Reply.TheVariants.{Came, Missing, Undetected}
 use Rattle.live_fabric.specs.declared.asks.Ask.{Ask}
@@ -13,7 +13,7 @@ use Rattle.live_fabric.specs.declared.live.Live.{Live}
 use Rattle.live_fabric.specs.Lines.{Taken, MetUnsent}
 use Rattle.live_fabric.specs.Telling.{TellsEvents}
 use Rattle.live_fabric.specs.Holding.{LiveHolds, MayBeCarried, MayCollect, IsTrace, SameSetUp}
-use Rattle.live_fabric.specs.Asking.{reply_of, response_said, TellsRounds, IsRoundsFront, TellsAsk, IsAskFront}
+use Rattle.live_fabric.specs.Asking.{reply_of, register_said, said_text, TellsRounds, IsRoundsFront, TellsAsk, IsAskFront}
 
 -- each of these nodes may collect, and then the host
 abbrev pub MayCollectWith : Taken → List ℕ → ℕ → Type 0
@@ -85,15 +85,16 @@ pub record AskBreaks (quiet : Bool) (taken : Taken) (number : ℕ) (nodes : List
   pub is : IsAskFront quiet taken number nodes event ask text
   pub told : Writes old new text
 
--- ---- what is said behind it
+-- ---- what is said after it
 
 -- of what came of an ask of the register at this offset
 abbrev pub reply_said : ℕ → Reply → List ℕ
-reply_said offset (Came response) = response_said offset (Some response)
-reply_said offset Missing = response_said offset None
+reply_said offset (Came response) = said_text (register_said offset (Some response))
+reply_said offset Missing = said_text (register_said offset None)
 reply_said offset Undetected = []
 
--- whether there may be a further line
-abbrev pub after_reply : Reply → AfterLine
-after_reply Undetected = After.Undetected
-after_reply _ = After.On
+-- the same as a value
+abbrev pub reply_outcome : ℕ → Reply → AskOutcome
+reply_outcome offset (Came response) = Outcomes.Said (register_said offset (Some response))
+reply_outcome offset Missing = Outcomes.Said (register_said offset None)
+reply_outcome offset Undetected = Outcomes.Undetected

@@ -17,7 +17,13 @@ use Rattle.fabric_trace.specs.Known.{UndetectedAt}
 use Rattle.fabric_ports.specs.declared.answers.Happened.{Happened as Did}
 use Rattle.fabric_ports.specs.declared.answers.Happened.TheVariants.{Left}
 use Rattle.trace_lines.specs.Lines.{Full, TraceLine, Stepped, Lacked}
+use Rattle.live_fabric.specs.declared.answers.AfterLine.{AfterLine}
+use Rattle.live_fabric.specs.declared.answers.AfterLine.TheVariants as Goings
+use Rattle.live_fabric.specs.declared.asking.AskOutcome.{AskOutcome}
+use Rattle.live_fabric.specs.declared.asking.AskOutcome.TheVariants.{Said, Undetected}
 use Rattle.live_fabric.specs.declared.asks.Ask.{Ask}
+use Rattle.live_fabric.specs.declared.asks.RegisterSaid.{RegisterSaid}
+use Rattle.live_fabric.specs.declared.asks.RegisterSaid.TheVariants.{Value, Written, Failed, Unanswered}
 use Rattle.live_fabric.specs.Lines.{Taken, seen_so_far}
 use Rattle.live_fabric.specs.Served.{round_events}
 use Rattle.live_fabric.specs.Telling.{TellsEvents, IsEventsFront}
@@ -146,24 +152,45 @@ abbrev pub word_at_offset : ℕ → ℕ × ℕ → ℕ
 word_at_offset offset words = if names_second offset then words.1 else words.0
 
 -- the value that was read, or that a register was written
-abbrev pub done_text : ℕ → Option (ℕ × ℕ) → List ℕ
-done_text offset None = codes "written\n"
-done_text offset (Some words) =
-    codes "value " ++ digits_text 8 (word_at_offset offset words) ++ codes "\n"
+abbrev pub done_said : ℕ → Option (ℕ × ℕ) → RegisterSaid
+done_said offset None = Written
+done_said offset (Some words) = Value (word_at_offset offset words)
 
 -- what a response says of the register at an offset, or that none came
-abbrev pub response_said : ℕ → Option Response → List ℕ
-response_said offset None = codes "unanswered\n"
-response_said offset (Some response) =
-    if response.status == 0 then done_text offset response.words
-    else codes "error " ++ decimal response.status ++ codes "\n"
+abbrev pub register_said : ℕ → Option Response → RegisterSaid
+register_said offset None = Unanswered
+register_said offset (Some response) =
+    if response.status == 0 then done_said offset response.words else Failed response.status
 
--- nothing is said behind an event that was acted on and not sent
+-- the line that says it
+abbrev pub said_text : RegisterSaid → List ℕ
+said_text (Value value) = codes "value " ++ digits_text 8 value ++ codes "\n"
+said_text Written = codes "written\n"
+said_text (Failed status) = codes "error " ++ decimal status ++ codes "\n"
+said_text Unanswered = codes "unanswered\n"
+
+-- nothing is said after an event that was acted on and not sent
 abbrev pub unless_unsent : Option UndetectedAt → List ℕ → List ℕ
 unless_unsent None text = text
 unless_unsent (Some found) text = []
 
--- what is said of the response behind an ask
+-- what is said of the response after an ask
 abbrev pub reply_told : Ask → Taken → List ℕ
-reply_told ask end =
-    unless_unsent (seen_so_far end).undetected (response_said ask.offset (reply_of ask.tid end))
+reply_told ask end = unless_unsent (seen_so_far end).undetected
+    (said_text (register_said ask.offset (reply_of ask.tid end)))
+
+-- ---- what came of an ask
+
+abbrev pub said_unless : Option UndetectedAt → RegisterSaid → AskOutcome
+said_unless None said = Said said
+said_unless (Some found) said = Undetected
+
+-- the same as a value
+abbrev pub ask_outcome : Ask → Taken → AskOutcome
+ask_outcome ask end = said_unless (seen_so_far end).undetected
+    (register_said ask.offset (reply_of ask.tid end))
+
+-- whether there may be a further line
+abbrev pub after_ask : AskOutcome → AfterLine
+after_ask Undetected = Goings.Undetected
+after_ask _ = Goings.On

@@ -5,6 +5,8 @@ use Rattle.fabric_script.specs.declared.lines.Line.{Line}
 use Rattle.fabric_script.specs.Reading.{Spells}
 use Rattle.fabric_script.specs.SetUps.{for_event, IsRefused}
 use Rattle.refusal_words.specs.Citing.{refusal_line}
+use Rattle.live_fabric.specs.declared.asking.AskOutcome.{AskOutcome}
+use Rattle.live_fabric.specs.declared.asking.AskOutcome.TheVariants.{Refused}
 use Rattle.live_fabric.specs.declared.asks.Ask.{Ask}
 use Rattle.live_fabric.specs.declared.answers.AfterLine.{AfterLine}
 use Rattle.live_fabric.specs.declared.answers.AfterLine.TheVariants.{On, Undetected}
@@ -14,7 +16,7 @@ use Rattle.live_fabric.specs.declared.session.Session.{Session}
 use Rattle.live_fabric.specs.Lines.{Taken, nothing_taken, Outcome, ReadsAs, SaysWhy, IsEventLine, MetUnsent, taken_after, IsSent}
 use Rattle.live_fabric.specs.Served.{with_served, served_of, events_carried}
 use Rattle.live_fabric.specs.Telling.{IsNoEvent, plain_told, TellsEvents, IsEventsFront}
-use Rattle.live_fabric.specs.Asking.{SpellsAsk, IsNoAsk, others_than, TellsAsk, IsAskFront, reply_told}
+use Rattle.live_fabric.specs.Asking.{SpellsAsk, IsNoAsk, others_than, TellsAsk, IsAskFront, reply_told, ask_outcome, after_ask}
 use Rattle.live_fabric.specs.Holding.{LiveHolds, IsTrace, MayCollect}
 
 -- The lines that were taken, whether those with characters are left out of the answers, and which
@@ -125,6 +127,13 @@ pub record AskRefused (held : SessionHeld) (words text : List ℕ) (next : Sessi
     pub says : SaysWhy words reason why
     pub answer : text ≡ refusal_line reason why ++ codes "ok\n"
     pub then : next ≡ held
+
+-- one of both, and this came of it
+abbrev pub AskComesTo : SessionHeld → ℕ → List ℕ → List ℕ → SessionHeld → AskOutcome → Type 0
+AskComesTo held number words text next outcome =
+    ((taken : AskTaken held number words text next)
+    × (outcome ≡ ask_outcome taken.ask taken.end))
+    ⊎ ((refused : AskRefused held words text next) × (outcome ≡ Refused refused.reason))
 
 -- a line that asks for a register
 pub record AskAnswers (held : SessionHeld) (number : ℕ) (line text : List ℕ) (next : SessionHeld)
@@ -252,13 +261,21 @@ pub record ServeTold (held : SessionHeld) (words : List ℕ) (old new : Outgoing
 -- a request was carried out and its answer written but for the last line, or it was told why the
 -- words are none
 pub record AskTold (held : SessionHeld) (number : ℕ) (words : List ℕ) (old new : Outgoing)
-    (session : Session) (going : AfterLine) : Type 0 where
+    (session : Session) (outcome : AskOutcome) : Type 0 where
   pub text : List ℕ
   pub next : SessionHeld
-  pub answers : AskTaken held number words (text ++ codes "ok\n") next
-      ⊎ AskRefused held words (text ++ codes "ok\n") next
+  pub answers : AskComesTo held number words (text ++ codes "ok\n") next outcome
   pub told : Writes old new text
-  pub goes : SessionGoes going session next
+  pub goes : SessionGoes (after_ask outcome) session next
+
+-- the same with the last line
+pub record AskAnswered (held : SessionHeld) (number : ℕ) (words : List ℕ) (old new : Outgoing)
+    (session : Session) (outcome : AskOutcome) : Type 0 where
+  pub text : List ℕ
+  pub next : SessionHeld
+  pub answers : AskComesTo held number words text next outcome
+  pub told : Writes old new text
+  pub goes : SessionGoes (after_ask outcome) session next
 
 -- it broke off, and a front of it was written, or nothing
 pub record AskFalls (held : SessionHeld) (number : ℕ) (words : List ℕ) (old new : Outgoing)
@@ -273,13 +290,14 @@ AreServed held nodes = (nodes ≡ nodes_served held) × MayCollect held.taken no
 
 -- a request was carried out, and what is told of it and said of the response was written
 pub record RequestCarried (held : SessionHeld) (number : ℕ) (event : Line) (ask : Ask)
-    (old new : Outgoing) (session : Session) (going : AfterLine) : Type 0 where
+    (old new : Outgoing) (session : Session) (outcome : AskOutcome) : Type 0 where
   pub text : List ℕ
   pub end : Taken
   pub tells : TellsAsk held.quiet held.taken number (others_than ask.host (nodes_served held))
       event ask text end
   pub told : Writes old new (text ++ reply_told ask end)
-  pub goes : SessionGoes going session (record held { taken = end })
+  pub came : outcome ≡ ask_outcome ask end
+  pub goes : SessionGoes (after_ask outcome) session (record held { taken = end })
 
 -- it broke off, and a front of that was written, or nothing
 pub record RequestBroke (held : SessionHeld) (number : ℕ) (event : Line) (ask : Ask)

@@ -5,11 +5,11 @@ ghost use Rattle.fabric_script.specs.declared.lines.Line.TheVariants.{Collect};
 ghost use Rattle.live_fabric.specs.Lines.{Taken};
 ghost use Rattle.live_fabric.specs.Holding.{LiveHolds, MayBeCarried};
 ghost use Rattle.live_fabric.specs.Course.{EventsBreak};
-ghost use Rattle.live_fabric.specs.Asking.{ask_of, ask_round, reply_of, most_ask_rounds};
-ghost use Rattle.live_fabric.specs.AskCourse.{MayCollectWith, as_reply, reply_said, after_reply, RoundDone, RoundsDone, RoundsBreak, AskDone, AskBreaks};
+ghost use Rattle.live_fabric.specs.Asking.{ask_of, ask_round, reply_of, most_ask_rounds, after_ask};
+ghost use Rattle.live_fabric.specs.AskCourse.{MayCollectWith, as_reply, reply_said, reply_outcome, RoundDone, RoundsDone, RoundsBreak, AskDone, AskBreaks};
 
 use crate::answers::{AfterLine, BrokenOff, Told};
-use crate::asks::{Ask, reply_by, write_reply};
+use crate::asks::{Ask, RegisterSaid, put_said, register_said, reply_by};
 use crate::carrying::{Telling, carry_out, carry_round};
 use crate::live::Live;
 use fabric_ports::Happened;
@@ -29,6 +29,27 @@ pub(crate) enum Reply {
     Missing,
     /// A port acted on an event that was not sent.
     Undetected,
+}
+
+/// What came of an ask.
+#[derive(Clone, Copy, Debug, PartialEq, Eq)]
+pub enum AskOutcome {
+    /// It was carried out, and this was said of the register.
+    Said(RegisterSaid),
+    /// It was carried out up to an event that a port acted on and that was not sent.
+    Undetected,
+    /// The words are no request of a register, for the reason of this number.
+    Refused(u8),
+}
+
+/// Whether there may be a further line after an ask of which this came.
+pub(crate) fn after_ask(outcome: AskOutcome) -> AfterLine
+    ensures { result ≡ after_ask outcome }
+{
+    match outcome {
+        AskOutcome::Undetected => AfterLine::Undetected,
+        AskOutcome::Said(_) | AskOutcome::Refused(_) => AfterLine::On,
+    }
 }
 
 /// Carries out a request, and rounds until its response leaves at the host. In a round these nodes
@@ -159,17 +180,18 @@ fn as_reply(reply: Option<Response>) -> Reply
     }
 }
 
-/// Says what came of an ask of the register at an offset, and answers whether there may be a
-/// further line: of an event that was not sent nothing more is said.
-pub(crate) fn tell_reply<K: Sink>(outbox: &mut Outbox<K>, offset: u32, reply: Reply) -> AfterLine
+/// Says what came of an ask of the register at an offset, and answers it: after an event that was
+/// not sent nothing more is said.
+pub(crate) fn tell_reply<K: Sink>(outbox: &mut Outbox<K>, offset: u32, reply: Reply) -> AskOutcome
     ensures said { Writes outbox.old outbox.new (reply_said offset reply) }
-    ensures after { result ≡ after_reply reply }
+    ensures outcome { result ≡ reply_outcome offset reply }
 {
     let response = match reply {
         Reply::Came(response) => Some(response),
         Reply::Missing => None,
-        Reply::Undetected => return AfterLine::Undetected,
+        Reply::Undetected => return AskOutcome::Undetected,
     };
-    write_reply(outbox, offset, response);
-    AfterLine::On
+    let said = register_said(offset, response);
+    put_said(outbox, said);
+    AskOutcome::Said(said)
 }

@@ -1,7 +1,8 @@
 //! What a host's request of a register asks, and what is said of its response.
 ghost use Rattle.std.specs.Prelude.{◌≡◌, ℕ, IfOk, IsErrOf};
 ghost use Rattle.rio_chars.specs.Written.{Writes};
-ghost use Rattle.live_fabric.specs.Asking.{SpellsAsk, IsNoAsk, ask_of, others_than, reply_by, word_at_offset, done_text, response_said};
+ghost use Rattle.live_fabric.specs.declared.asks.RegisterSaid.TheVariants.{Value};
+ghost use Rattle.live_fabric.specs.Asking.{SpellsAsk, IsNoAsk, ask_of, others_than, reply_by, word_at_offset, done_said, register_said, said_text};
 
 use fabric_ports::Happened;
 use fabric_script::{EventEnd, Line, SetUp, put_value};
@@ -24,6 +25,19 @@ pub(crate) struct Ask {
     pub(crate) tid: u8,
     /// The offset of the register.
     pub(crate) offset: u32,
+}
+
+/// What a response says of a register.
+#[derive(Clone, Copy, Debug, PartialEq, Eq)]
+pub enum RegisterSaid {
+    /// This value was read.
+    Value(u32),
+    /// It was written.
+    Written,
+    /// What was asked is not done: this is the status of the response.
+    Failed(u8),
+    /// No response has come.
+    Unanswered,
 }
 
 /// What an event asks, if it is a request of a register.
@@ -107,33 +121,50 @@ pub(crate) fn reply_by(tid: u8, happened: &Happened) -> Option<Response>
     }
 }
 
-/// Says what a response says of the register at an offset, or that none came.
-pub(crate) fn write_reply<K: Sink>(outbox: &mut Outbox<K>, offset: u32, reply: Option<Response>)
-    ensures { Writes outbox.old outbox.new (response_said offset reply) }
+/// What a response says of the register at an offset, or that none came.
+pub(crate) fn register_said(offset: u32, reply: Option<Response>) -> RegisterSaid
+    ensures { result ≡ register_said offset reply }
 {
     match reply {
-        Some(response) if response.status == 0 => write_done(outbox, offset, response.words),
-        Some(response) => {
-            outbox.write(b"error ");
-            outbox.write_decimal(u32::from(response.status));
-            outbox.write(b"\n");
-        }
-        None => outbox.write(b"unanswered\n"),
+        Some(response) if response.status == 0 => done_said(offset, response.words),
+        Some(response) => RegisterSaid::Failed(response.status),
+        None => RegisterSaid::Unanswered,
     }
 }
 
-/// Says the value that was read, or that a register was written.
-fn write_done<K: Sink>(outbox: &mut Outbox<K>, offset: u32, words: Option<(u32, u32)>)
-    ensures { Writes outbox.old outbox.new (done_text offset words) }
+/// The value that was read, or that a register was written.
+fn done_said(offset: u32, words: Option<(u32, u32)>) -> RegisterSaid
+    ensures { result ≡ done_said offset words }
 {
     match words {
-        Some(words) => {
-            outbox.write(b"value");
-            put_value(outbox, word_at_offset(offset, words));
+        Some(words) => RegisterSaid::Value(word_at_offset(offset, words)),
+        None => RegisterSaid::Written,
+    }
+}
+
+/// Writes what is said of a register.
+pub(crate) fn put_said<K: Sink>(outbox: &mut Outbox<K>, said: RegisterSaid)
+    ensures { Writes outbox.old outbox.new (said_text said) }
+{
+    match said {
+        RegisterSaid::Value(value) => put_said_value(outbox, value),
+        RegisterSaid::Written => outbox.write(b"written\n"),
+        RegisterSaid::Failed(status) => {
+            outbox.write(b"error ");
+            outbox.write_decimal(u32::from(status));
             outbox.write(b"\n");
         }
-        None => outbox.write(b"written\n"),
+        RegisterSaid::Unanswered => outbox.write(b"unanswered\n"),
     }
+}
+
+/// Writes the value that was read.
+fn put_said_value<K: Sink>(outbox: &mut Outbox<K>, value: u32)
+    ensures { Writes outbox.old outbox.new (said_text (Value value)) }
+{
+    outbox.write(b"value");
+    put_value(outbox, value);
+    outbox.write(b"\n");
 }
 
 /// Of two words, the one that the offset names.

@@ -2,10 +2,10 @@
 ghost use Rattle.std.specs.Prelude.{◌≡◌, Some, IfOk, OnOk, OnErr};
 ghost use Rattle.live_fabric.specs.Asking.{ask_of};
 ghost use Rattle.live_fabric.specs.Holding.{MayBeCarried};
-ghost use Rattle.live_fabric.specs.Sessions.{SessionHeld, nothing_held, SessionHolds, SessionAnswered, SessionBreaks, SessionTold, ServeTold, AreServed, AskTold, AskFalls, RequestCarried, RequestBroke, held_after, IsScriptLine};
+ghost use Rattle.live_fabric.specs.Sessions.{SessionHeld, nothing_held, SessionHolds, SessionAnswered, SessionBreaks, SessionTold, ServeTold, AreServed, AskTold, AskAnswered, AskFalls, RequestCarried, RequestBroke, held_after, IsScriptLine};
 
 use crate::answers::{AfterLine, BrokenOff, read_line, refuse};
-use crate::asking::{carry_ask, tell_reply};
+use crate::asking::{AskOutcome, after_ask, carry_ask, tell_reply};
 use crate::asks::{Ask, others_than, read_ask};
 use crate::carrying::{Telling, carry_line};
 use crate::live::Live;
@@ -55,7 +55,28 @@ impl Session {
         Ok(going)
     }
 
-    /// The same without the last line.
+    /// Carries out the request of a register that these words are, writes the answer of the line
+    /// `ask` with them, and tells what came of it. If the answer breaks off, a front of it was
+    /// written.
+    pub fn ask<K: Sink>(
+        &mut self,
+        alloc: Global,
+        number: u32,
+        words: &[u8],
+        outbox: &mut Outbox<K>,
+    ) -> Result<AskOutcome, BrokenOff>
+        requires { (held : SessionHeld) × SessionHolds self.old held }
+        ensures answered { IfOk result (λ outcome. (held : SessionHeld) → SessionHolds self.old held
+            → AskAnswered held number words.now outbox.old outbox.new self.new outcome) }
+        ensures breaks { OnErr result ((held : SessionHeld) → SessionHolds self.old held
+            → AskFalls held number words.now outbox.old outbox.new) }
+    {
+        let outcome = self.tell_ask(alloc, number, words, outbox)?;
+        outbox.write(b"ok\n");
+        Ok(outcome)
+    }
+
+    /// The answer of a line without the last one of it.
     fn tell<K: Sink>(
         &mut self,
         alloc: Global,
@@ -78,7 +99,8 @@ impl Session {
             return Ok(AfterLine::On);
         }
         if let Some(words) = ask_words(line) {
-            return self.tell_ask(alloc, number, words, outbox);
+            let outcome = self.tell_ask(alloc, number, words, outbox)?;
+            return Ok(after_ask(outcome));
         }
         self.tell_script(alloc, number, line, outbox)
     }
@@ -124,10 +146,10 @@ impl Session {
         number: u32,
         words: &[u8],
         outbox: &mut Outbox<K>,
-    ) -> Result<AfterLine, BrokenOff>
+    ) -> Result<AskOutcome, BrokenOff>
         requires { (held : SessionHeld) × SessionHolds self.old held }
-        ensures told { IfOk result (λ going. (held : SessionHeld) → SessionHolds self.old held
-            → AskTold held number words.now outbox.old outbox.new self.new going) }
+        ensures told { IfOk result (λ outcome. (held : SessionHeld) → SessionHolds self.old held
+            → AskTold held number words.now outbox.old outbox.new self.new outcome) }
         ensures breaks { OnErr result ((held : SessionHeld) → SessionHolds self.old held
             → AskFalls held number words.now outbox.old outbox.new) }
     {
@@ -135,7 +157,7 @@ impl Session {
             Ok((event, ask)) => self.carry_request(alloc, number, &event, ask, outbox),
             Err(EventEnd::Refused(reason)) => {
                 refuse(alloc, words, reason, outbox)?;
-                Ok(AfterLine::On)
+                Ok(AskOutcome::Refused(reason))
             }
             Err(EventEnd::NoMemory) => Err(BrokenOff),
         }
@@ -149,12 +171,12 @@ impl Session {
         event: &Line,
         ask: Ask,
         outbox: &mut Outbox<K>,
-    ) -> Result<AfterLine, BrokenOff>
+    ) -> Result<AskOutcome, BrokenOff>
         requires { (held : SessionHeld) × SessionHolds self.old held
             × MayBeCarried held.taken event.now × (ask_of event.now ≡ Some ask) }
-        ensures told { IfOk result (λ going. (held : SessionHeld) → SessionHolds self.old held
+        ensures told { IfOk result (λ outcome. (held : SessionHeld) → SessionHolds self.old held
             → MayBeCarried held.taken event.now → ask_of event.now ≡ Some ask
-            → RequestCarried held number event.now ask outbox.old outbox.new self.new going) }
+            → RequestCarried held number event.now ask outbox.old outbox.new self.new outcome) }
         ensures breaks { OnErr result ((held : SessionHeld) → SessionHolds self.old held
             → MayBeCarried held.taken event.now → ask_of event.now ≡ Some ask
             → RequestBroke held number event.now ask outbox.old outbox.new) }

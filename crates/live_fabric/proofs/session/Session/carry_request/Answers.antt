@@ -66,8 +66,8 @@ returns-clause-told g c = λ held holds may asks.
     let at : others ≡ others_than ask.host nodes =
     c.as_slice-nodes.ensures.value ∙ c.in_ok-others.ensures
     ∙ ap (others_than ask.host) c.as_slice.ensures.value in
-    subst (λ going. RequestCarried held c.args.number event ask c.args.outbox.now
-    c.tell_reply.new.outbox now going) (sym c.tell_reply.ensures.after)
+    subst (λ outcome. RequestCarried held c.args.number event ask c.args.outbox.now
+    c.tell_reply.new.outbox now outcome) (sym c.tell_reply.ensures.outcome)
     (request_carried held c.args.number event ask session others holds
     (beside_are held ask.host nodes others served at) now c.args.outbox.now c.carry_ask.new.outbox
     c.tell_reply.new.outbox c.in_ok-reply.reply refl refl

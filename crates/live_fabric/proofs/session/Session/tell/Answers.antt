@@ -1,6 +1,6 @@
-use Rattle.std.proofs.Common.{rules}
-use Rattle.live_fabric.specs.Sessions.{SessionHeld, SessionHolds, SessionBreaks, SessionTold, AskTold, AskFalls}
-use Rattle.live_fabric.proofs.AnsweringLaws.{on_each, on_each_err}
+use Rattle.std.proofs.Common.{rules, sym, subst}
+use Rattle.live_fabric.specs.Sessions.{SessionTold}
+use Rattle.live_fabric.proofs.AnsweringLaws.{on_err}
 use Rattle.live_fabric.proofs.SessionLaws.{told_own, told_serve, told_ask, breaks_ask}
 use Rattle.live_fabric.proofs.session.Session.tell.Goals as goal
 
@@ -16,36 +16,20 @@ returns-in-Some-serve_words-clause-told g c = λ held holds.
     (c.in_ok-serve.ensures.told held holds)
 
 pub returns-in-Some-ask_words-clause-told : goal.returns-in-Some-ask_words-clause-told
-returns-in-Some-ask_words-clause-told g c =
-    let session = c.args.self.now in
+returns-in-Some-ask_words-clause-told g c = λ held holds.
     let number = c.args.number in
     let line = c.args.line.now in
-    let words = c.in-Some-ask_words.words.now in
     let out = c.args.outbox.now in
     let next = c.tell_ask.new.outbox in
     let now = c.tell_ask.new.self in
-    on_each
-    (λ going. (held : SessionHeld) → SessionHolds session held
-    → AskTold held number words out next now going)
-    (λ going. (held : SessionHeld) → SessionHolds session held
-    → SessionTold held number line out next now going)
-    c.tell_ask.result
-    (λ going told held holds. told_ask held number line out next now words going
-    c.in-Some-ask_words.ensures (told held holds))
-    c.tell_ask.ensures.told
+    let outcome = c.in_ok-outcome.outcome in
+    subst (λ going. SessionTold held number line out next now going) (sym c.after_ask.ensures)
+    (told_ask held number line out next now c.in-Some-ask_words.words.now outcome
+    c.in-Some-ask_words.ensures (c.in_ok-outcome.ensures.told held holds))
 
-pub returns-in-Some-ask_words-clause-breaks : goal.returns-in-Some-ask_words-clause-breaks
-returns-in-Some-ask_words-clause-breaks g c =
-    let session = c.args.self.now in
-    let number = c.args.number in
-    let line = c.args.line.now in
-    let words = c.in-Some-ask_words.words.now in
-    let out = c.args.outbox.now in
-    let next = c.tell_ask.new.outbox in
-    on_each_err
-    ((held : SessionHeld) → SessionHolds session held → AskFalls held number words out next)
-    ((held : SessionHeld) → SessionHolds session held → SessionBreaks held number line out next)
-    c.tell_ask.result
-    (λ breaks held holds. breaks_ask held number line out next words c.in-Some-ask_words.ensures
-    (breaks held holds))
-    c.tell_ask.ensures.breaks
+pub returns-in_err-outcome-clause-breaks : goal.returns-in_err-outcome-clause-breaks
+returns-in_err-outcome-clause-breaks g c =
+    on_err c.from_residual-in_err-outcome.result
+    (λ held holds. breaks_ask held c.args.number c.args.line.now c.args.outbox.now
+    c.tell_ask.new.outbox c.in-Some-ask_words.words.now c.in-Some-ask_words.ensures
+    (c.in_err-outcome.ensures.breaks held holds))

@@ -33,15 +33,15 @@ returns-in-Ok-clause-told g c =
     let next = c.carry_request.new.outbox in
     let now = c.carry_request.new.self in
     on_each
-    (λ going. (held : SessionHeld) → SessionHolds session held → MayBeCarried held.taken event
-    → ask_of event ≡ Some ask → RequestCarried held number event ask out next now going)
-    (λ going. (held : SessionHeld) → SessionHolds session held
-    → AskTold held number words out next now going)
+    (λ outcome. (held : SessionHeld) → SessionHolds session held → MayBeCarried held.taken event
+    → ask_of event ≡ Some ask → RequestCarried held number event ask out next now outcome)
+    (λ outcome. (held : SessionHeld) → SessionHolds session held
+    → AskTold held number words out next now outcome)
     c.carry_request.result
-    (λ going carried held holds.
+    (λ outcome carried held holds.
     let spells = spells_held held session c.set_up.result.now words event ask holds
     c.set_up.ensures c.in-Ok.ensures.asks in
-    ask_taken held number words out next now event ask going spells
+    ask_taken held number words out next now event ask outcome spells
     (carried held holds (may_be_carried session.live held.taken words event holds.live spells.0)
     spells.1))
     c.carry_request.ensures.told
