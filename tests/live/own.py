@@ -254,6 +254,38 @@ def others_leave(program):
     equal("the end", fabric.end(), 0)
 
 
+def block(fabric, hop):
+    """What is read at the offsets that standard hosts look for: at the switch S for hop 0, at the endpoint B for 255."""
+    return [fabric.ask(f"ask read A 0 2 {hop} 7 {offset}")[-1] for offset in ("000018", "00001c", "000100")]
+
+
+def shows_standard(program):
+    """The devices that a line `standard` names show what docs/registers.md has, and no others do. No set-up follows it."""
+    absent = 3 * ["error 7"]
+    endpoint = ["value 0000f000", "value 0000f000", "value 00000001"]
+    switch = ["value 00000000", "value 00000000", "value 00000003"]
+    after_event = "refused 12 a line that sets the fabric up may not come after an event"
+    for line, at_endpoint, at_switch in [
+        ("standard B", endpoint, absent),
+        ("standard S", absent, switch),
+        ("standard all", endpoint, switch),
+    ]:
+        fabric = Port(program)
+        answered(fabric, TREE + ["serve all", "quiet"])
+        equal(line, fabric.ask(line), [])
+        equal("no set-up", fabric.ask("endpoint D 7"), [after_event])
+        equal(line, (block(fabric, 255), block(fabric, 0)), (at_endpoint, at_switch))
+        equal("the end", fabric.end(), 0)
+    fabric = Port(program)
+    answered(fabric, TREE + ["serve all", "quiet"])
+    equal("no device", fabric.ask("standard D"), ["refused 5 no node of an earlier line has this name"])
+    equal("set-up goes on", fabric.ask("endpoint D 7"), [])
+    equal("nobody asked", (block(fabric, 255), block(fabric, 0)), (absent, absent))
+    equal("later", fabric.ask("standard all"), [])
+    equal("later", (block(fabric, 255), block(fabric, 0)), (endpoint, switch))
+    equal("the end", fabric.end(), 0)
+
+
 def main(program, rio):
     is_quiet(program, rio)
     is_served(program, rio)
@@ -262,6 +294,7 @@ def main(program, rio):
     is_not_asked(program)
     finds_no_room(program)
     others_leave(program)
+    shows_standard(program)
     refusals(program)
     undetected(program)
 

@@ -1,32 +1,48 @@
--- Devices that were written to: they stay of their kinds, with their ports.
+-- Devices that were changed: they stay of their kinds, with their ports.
 use Rattle.std.proofs.Common.{◌≡◌, ℕ, zero, suc, ◌+◌, ◌<◌, true, false, List, [], ◌∷◌, Some, option_map, slice_get, slice_set, refl, sym, ap, ◌∙◌, subst, arith}
 use Rattle.maint_registers.specs.Devices.{Registers, IsSameDevice, is_switch}
 use Rattle.maint_registers.specs.declared.registers.Kind.{Kind}
 use Rattle.switch_core.specs.Faces.{AllAlike}
 use Rattle.fabric_ports.specs.Places.{AreFirsts, port_count, HasPort, IsEndpointAt, IsSwitchAt}
 
+-- of the kind that it was, with as many ports
+pub record HasForm (before after : Registers) : Type 0 where
+  pub kind : after.kind ≡ before.kind
+  pub ports : after.ports ≡ before.ports
+
 abbrev pub AreSameDevices : List Registers → List Registers → Type 0
-AreSameDevices old new = AllAlike IsSameDevice old new
+AreSameDevices old new = AllAlike HasForm old new
 
-pub same_device : (device : Registers) → IsSameDevice device device
-same_device device = record { kind = refl; ports = refl; linked = refl; large_id = refl }
+same_form : (device : Registers) → HasForm device device
+same_form device = record { kind = refl; ports = refl }
 
-pub same_devices : (devices : List Registers) → AreSameDevices devices devices
+same_devices : (devices : List Registers) → AreSameDevices devices devices
 same_devices [] = tt
-same_devices (device ∷ devices) = (same_device device, same_devices devices)
+same_devices (device ∷ devices) = (same_form device, same_devices devices)
+
+-- one device was changed
+pub one_changed : (devices : List Registers) (n : ℕ) (device next : Registers)
+    → slice_get devices n ≡ Some device → HasForm device next
+    → AreSameDevices devices (slice_set devices n next)
+one_changed [] n device next stands same = tt
+one_changed (d ∷ devices) zero device next stands same =
+    let own : d ≡ device = cc in
+    (subst (λ e. HasForm e next) (sym own) same, same_devices devices)
+one_changed (d ∷ devices) (suc n) device next stands same =
+    (same_form d, one_changed devices n device next stands same)
+
+-- what was written to has its form
+pub written_form : {device next : Registers} → IsSameDevice device next → HasForm device next
+written_form same = record { kind = same.kind; ports = same.ports }
 
 -- one device was written to
 pub one_written : (devices : List Registers) (n : ℕ) (device next : Registers)
     → slice_get devices n ≡ Some device → IsSameDevice device next
     → AreSameDevices devices (slice_set devices n next)
-one_written [] n device next stands same = tt
-one_written (d ∷ devices) zero device next stands same =
-    let own : d ≡ device = cc in
-    (subst (λ e. IsSameDevice e next) (sym own) same, same_devices devices)
-one_written (d ∷ devices) (suc n) device next stands same =
-    (same_device d, one_written devices n device next stands same)
+one_written devices n device next stands same =
+    one_changed devices n device next stands (written_form same)
 
-kind_is : (d e : Registers) → IsSameDevice d e → is_switch e ≡ is_switch d
+kind_is : (d e : Registers) → HasForm d e → is_switch e ≡ is_switch d
 kind_is d e same = ap (λ (k : Kind). is_switch (record d { kind = k })) same.kind
 
 pub kinds_stay : (old new : List Registers) (n : ℕ) → AreSameDevices old new

@@ -10,6 +10,7 @@ pub mod CarryAllLaws
 pub mod IdleLaws
 pub mod IdleLinks
 pub mod CarryLaws
+pub mod ChangedLaws
 pub mod Changes
 pub mod CollectLaws
 pub mod DeviceLaws
@@ -40,6 +41,7 @@ pub mod SendLaws
 pub mod ServeLaws
 pub mod SettlingLaws
 pub mod ShowLaws
+pub mod StandardLaws
 pub mod StandLaws
 pub mod StepLaws
 pub mod StepEnds

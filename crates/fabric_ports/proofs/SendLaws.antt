@@ -5,6 +5,7 @@ use Rattle.trace_lines.specs.declared.writer.TraceWriter.{TraceWriter}
 use Rattle.rio_packets.specs.Fields.{prio_of}
 use Rattle.link_buffers.specs.Queues.{appended}
 use Rattle.link_port.specs.Ports.{PortState, AreAlike}
+use Rattle.maint_registers.proofs.SameLaws.{same_device}
 use Rattle.switch_core.specs.Faces.{with_packet}
 use Rattle.fabric_model.specs.Network.{port_of, room_out}
 use Rattle.fabric_model.specs.Steps.{Take, AtNode, item_of, after}
@@ -18,7 +19,6 @@ use Rattle.fabric_ports.specs.declared.fabric.Fabric.{Fabric}
 use Rattle.fabric_ports.specs.Events.{Did, answer_taken}
 use Rattle.fabric_ports.specs.Places.{IsEndpointAt}
 use Rattle.fabric_ports.specs.Showing.{ShowsFabric}
-use Rattle.fabric_ports.proofs.DeviceLaws.{same_device}
 use Rattle.fabric_ports.proofs.FaceLaws.{more_own, more_other, face_of_port, port_faced, port_stays}
 use Rattle.fabric_ports.proofs.NodeLaws.{set_same, HasBoth, port_shows}
 

@@ -1,12 +1,12 @@
-//! The registers of an endpoint, which it reads and writes itself.
+//! What devices do with their own registers, without a packet.
 ghost use Rattle.std.specs.Prelude.{◌≡◌, List, Some, slice_get};
 ghost use Rattle.maint_registers.specs.Access.{value_at};
 ghost use Rattle.maint_registers.specs.Devices.{Registers};
 ghost use Rattle.fabric_trace.specs.Fold.{seen};
 ghost use Rattle.fabric_trace.specs.Known.{Seen};
 ghost use Rattle.trace_lines.specs.Lines.{TraceLine};
-ghost use Rattle.fabric_ports.specs.OwnRegisters.{HasEndpoint, OwnWritten};
-ghost use Rattle.fabric_ports.specs.Standing.{Stands};
+ghost use Rattle.fabric_ports.specs.OwnRegisters.{HasEndpoint, OwnWritten, HasDevice, StandardShown, AllStandardShown};
+ghost use Rattle.fabric_ports.specs.Standing.{Stands, StandsForLines};
 
 use crate::fabric::Fabric;
 
@@ -33,5 +33,36 @@ impl Fabric {
             → OwnWritten node device offset value from lines self.old self.new result }
     {
         self.devices[usize::from(node)].write(offset, value)
+    }
+
+    /// Has a device show, from now on, the registers that standard hosts look for besides the
+    /// others.
+    pub fn show_standard(&mut self, node: u8)
+        requires device { HasDevice self.old node }
+        ensures { (from : Seen) (lines : List TraceLine) → Stands from lines self.old
+            → StandardShown node from lines self.new }
+    {
+        self.show_standard_at(usize::from(node));
+    }
+
+    /// Has every device show them.
+    pub fn show_all_standard(&mut self)
+        requires stands { StandsForLines self.old }
+        ensures { (from : Seen) (lines : List TraceLine) → Stands from lines self.old
+            → AllStandardShown from lines self.new }
+    {
+        for place in 0..self.devices.len() {
+            self.show_standard_at(place);
+        }
+    }
+
+    /// Has the device at a place show them. It moves the same packets as before, so what has
+    /// nothing to do has nothing to do still.
+    fn show_standard_at(&mut self, place: usize)
+        requires device { HasDevice self.old place }
+        ensures { (from : Seen) (lines : List TraceLine) → Stands from lines self.old
+            → StandardShown place from lines self.new }
+    {
+        self.devices[place].show_standard();
     }
 }

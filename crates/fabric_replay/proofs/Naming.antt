@@ -1,5 +1,5 @@
 -- The ports that a replay tells of are of nodes that have names.
-use Rattle.std.proofs.Common.{◌≡◌, ◌≢◌, ℕ, ◌+◌, ◌<◌, ◌≤◌, suc, zero, Bool, true, false, List, [], ◌∷◌, ◌++◌, All, map, Some, length, length-append, slice_get, refl, sym, ap, ◌∙◌, subst, arith, if◌then◌else◌}
+use Rattle.std.proofs.Common.{◌≡◌, ◌≢◌, ℕ, ◌+◌, ◌<◌, ◌≤◌, suc, zero, Bool, true, false, List, [], ◌∷◌, ◌++◌, All, map, Some, None, length, length-append, slice_get, refl, sym, ap, ◌∙◌, subst, arith, if◌then◌else◌}
 use Rattle.std.proofs.lemmas.List.{length-map}
 use Rattle.std.proofs.lemmas.List.Elements.{All-head, All-tail}
 use Rattle.maint_registers.specs.Devices.{Registers, is_switch}
@@ -14,11 +14,12 @@ use Rattle.fabric_script.specs.Scripts.{PassesFrom, ScriptPasses}
 use Rattle.fabric_script.proofs.KnownLaws.{within_nodes}
 use Rattle.fabric_model.specs.Network.{Network, same_port, peer_in}
 use Rattle.fabric_model.proofs.Peers.{port_is}
+use Rattle.fabric_trace.specs.Boards.{IsSameBoard}
 use Rattle.fabric_trace.specs.Fold.{seen}
 use Rattle.fabric_trace.specs.Known.{UndetectedAt, Seen}
 use Rattle.trace_lines.specs.Lines.{TraceLine}
-use Rattle.fabric_trace.specs.Runs.{bare, set_up, set_up_all, begins, start}
-use Rattle.fabric_trace.proofs.Network.Boards.{seen_board, found_linked}
+use Rattle.fabric_trace.specs.Runs.{bare, set_up, set_up_all, start}
+use Rattle.fabric_trace.proofs.Network.Boards.{same_board, seen_board, found_linked}
 use Rattle.fabric_trace.proofs.SetUps.SettingUp.{made_by, set_up-kinds}
 use Rattle.fabric_ports.specs.Places.{HasPort}
 use Rattle.fabric_ports.specs.Showing.{ends_of, ShowsCable}
@@ -132,26 +133,41 @@ cable_port devices s (cable ∷ cables) port p shown linked =
 
 -- ---- of a fabric that stands
 
+module _ (names : List (List ℕ)) (script : List Numbered) (from : Seen) (lines : List TraceLine)
+    (fabric : Fabric) (passes : ScriptPasses names script)
+    (board : IsSameBoard (set_up_all bare script) from.network)
+    (stands : Stands from lines fabric) where
+  pub names_suffice_on : length fabric.devices.items ≤ length names
+  names_suffice_on =
+      let few = names_from nothing names bare script (omega arith) passes in
+      let known = sym ((seen_board lines from).count ∙ board.count)
+      ∙ ap length stands.shows.registers in
+      omega (arith, few, known)
+
+  pub found_named_on : (all : List TraceLine) (found : UndetectedAt) → from.undetected ≡ None
+      → (seen from all).undetected ≡ Some found → found.port.node < length names
+  found_named_on all found none finds =
+      let linked = found_linked all from found none finds in
+      let links = sym (seen_board lines from).links ∙ sym stands.shows.links in
+      let within = cable_port fabric.devices.items (seen from lines) fabric.cables.items
+      found.port linked.0 stands.shows.cables
+      (ap (λ (l : List (PortRef × PortRef)). peer_in l found.port) (sym links) ∙ linked.1) in
+      let few = names_suffice_on in
+      omega arith
+
 pub names_suffice : (names : List (List ℕ)) (script : List Numbered) (lines : List TraceLine)
     (fabric : Fabric) → ScriptPasses names script → Stands (start script) lines fabric
     → length fabric.devices.items ≤ length names
 names_suffice names script lines fabric passes stands =
     let net = set_up_all bare script in
-    let few = names_from nothing names bare script (omega arith) passes in
-    let known = sym (seen_board lines (begins net)).count ∙ ap length stands.shows.registers in
-    omega (arith, few, known)
+    names_suffice_on names script (start script) lines fabric passes (same_board net net refl)
+    stands
 
 pub found_named : (names : List (List ℕ)) (script : List Numbered) (lines all : List TraceLine)
     (fabric : Fabric) (found : UndetectedAt) → ScriptPasses names script
     → Stands (start script) lines fabric
-    → (seen (begins (set_up_all bare script)) all).undetected ≡ Some found → found.port.node
-    < length names
+    → (seen (start script) all).undetected ≡ Some found → found.port.node < length names
 found_named names script lines all fabric found passes stands finds =
     let net = set_up_all bare script in
-    let linked = found_linked all net found finds in
-    let links = sym (seen_board lines (begins net)).links ∙ sym stands.shows.links in
-    let within = cable_port fabric.devices.items (seen (begins net) lines) fabric.cables.items
-    found.port linked.0 stands.shows.cables
-    (ap (λ (l : List (PortRef × PortRef)). peer_in l found.port) (sym links) ∙ linked.1) in
-    let few = names_suffice names script lines fabric passes stands in
-    omega arith
+    found_named_on names script (start script) lines fabric passes (same_board net net refl)
+    stands all found refl finds

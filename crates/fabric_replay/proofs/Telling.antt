@@ -56,7 +56,7 @@ may_follow names script i item lines fabric passes is event stands = record {
   from = start script;
   lines = lines;
   stands = stands;
-  happens = happens_still names (set_up_all bare script) lines item.line
+  happens = happens_still names (start script) lines item.line
       (of_item (λ line. is_event line.line ≡ true → MayHappen names (set_up_all bare script)
       line.line) script i item (may_happen names script passes) is event);
   event = event;

@@ -5,6 +5,7 @@ pub mod Served
 pub mod Rounds
 pub mod Blocks
 pub mod Settings
+pub mod Boards
 pub mod Runs
 pub mod Links
 pub mod Parts

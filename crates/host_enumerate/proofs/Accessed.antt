@@ -23,7 +23,7 @@ pub record Keeps (before after : Registers) : Type 0 where
 
 pub keeps_itself : (device : Registers) → Keeps device device
 keeps_itself device = record {
-  same = record { kind = refl; ports = refl; linked = refl; large_id = refl };
+  same = record { kind = refl; ports = refl; linked = refl; large_id = refl; standard = refl };
   device = λ is. is;
   id = λ is. is;
   lock = λ is. is;

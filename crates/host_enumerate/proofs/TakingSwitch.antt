@@ -119,12 +119,14 @@ module _ (topology : Topology) (before now after : AllRegisters) (host_id next :
             ports = d.ports;
             linked = d.linked;
             large_id = d.large_id;
+            standard = d.standard;
           }) set_up.same.rest
               ∙ ap (λ (d : Registers). record (after at.node) {
                 kind = d.kind;
                 ports = d.ports;
                 linked = d.linked;
                 large_id = d.large_id;
+                standard = d.standard;
               }) taken.changes.rest;
           routes = λ id most less apart.
               set_up.kept id most (λ same.

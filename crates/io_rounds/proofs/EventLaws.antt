@@ -58,7 +58,7 @@ follows names course line may = record {
   from = start may.script;
   lines = may.trace;
   stands = may.holds.stands;
-  happens = happens_still names (set_up_all bare may.script) may.trace line may.happens;
+  happens = happens_still names (start may.script) may.trace line may.happens;
   event = is_an_event line may.kind;
   names_suffice = names_suffice names may.script may.trace course.fabric may.holds.passes
       may.holds.stands;

@@ -17,9 +17,10 @@ use Rattle.live_fabric.specs.Asking.{after_ask}
 use Rattle.live_fabric.specs.Served.{with_served, events_carried}
 use Rattle.live_fabric.specs.Telling.{plain_told, TellsEvents, IsEventsFront}
 use Rattle.live_fabric.specs.Holding.{LiveHolds, MayBeCarried, MayCollect}
+use Rattle.live_fabric.specs.OwnRegisters.{collect_text}
 use Rattle.live_fabric.specs.Answers.{LiveGoes, ReadPlainly}
 use Rattle.live_fabric.specs.Course.{EventsDone, EventsBreak}
-use Rattle.live_fabric.specs.Sessions.{SessionHeld, own_text, held_after, serve_text, ask_text, collect_text, nodes_served, IsNoOwnLine, IsScriptLine, LineAnswers, AnswersSession, IsAskAnswerFront, IsSessionFront, SessionHolds, SessionAnswered, SessionGoes, SessionBreaks, SessionTold, ServeTold, AreServed, AskTaken, AskRefused, AskComesTo, AskTold, AskFalls}
+use Rattle.live_fabric.specs.Sessions.{SessionHeld, own_text, held_after, serve_text, ask_text, nodes_served, IsNoOwnLine, IsScriptLine, LineAnswers, AnswersSession, IsAskAnswerFront, IsSessionFront, SessionHolds, SessionAnswered, SessionGoes, SessionBreaks, SessionTold, ServeTold, AreServed, AskTaken, AskRefused, AskComesTo, AskTold, AskFalls}
 use Rattle.live_fabric.proofs.TakenLaws.{may_be_carried}
 use Rattle.live_fabric.proofs.KeptLaws.{kept_behind}
 
@@ -207,14 +208,14 @@ module _ (held : SessionHeld) (number : ℕ) (line : List ℕ) where
   told_plain out next session now holds other quiet served p = record {
     text = plain_told p.outcome;
     next = record held { taken = taken_after held.taken number line p.outcome };
-    answers = inr (inr (inr (inl (record {
+    answers = inr (inr (inr (inr (inl (record {
       other = other;
       outcome = p.outcome;
       plain = p.plain;
       reads = p.reads;
       answer = refl;
       then = refl;
-    }))));
+    })))));
     told = p.told;
     goes =
         kept_behind held session now (taken_after held.taken number line p.outcome) holds quiet
@@ -244,7 +245,7 @@ module _ (held : SessionHeld) (number : ℕ) (line : List ℕ) (session : Sessio
       record {
         text = d.text;
         next = record held { taken = d.end };
-        answers = inr (inr (inr (inr (record {
+        answers = inr (inr (inr (inr (inr (record {
           other = other;
           event = event;
           is = read.1;
@@ -257,7 +258,7 @@ module _ (held : SessionHeld) (number : ℕ) (line : List ℕ) (session : Sessio
               d.text d.end) served.0 d.is);
           answer = refl;
           then = refl;
-        }))));
+        })))));
         told = subst (λ o. Writes o next d.text) read.2 d.told;
         goes = by_going going d.end d.goes;
       }

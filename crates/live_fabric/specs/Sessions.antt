@@ -4,19 +4,22 @@ use Rattle.rio_chars.specs.Written.{Outgoing, Writes}
 use Rattle.fabric_script.specs.declared.lines.Line.{Line}
 use Rattle.fabric_script.specs.Reading.{Spells}
 use Rattle.fabric_script.specs.SetUps.{for_event, IsRefused}
+use Rattle.fabric_trace.specs.Known.{Seen}
 use Rattle.refusal_words.specs.Citing.{refusal_line}
 use Rattle.live_fabric.specs.declared.asking.AskOutcome.{AskOutcome}
-use Rattle.live_fabric.specs.declared.asking.AskOutcome.TheVariants.{Refused}
+use Rattle.live_fabric.specs.declared.asking.AskOutcome.TheVariants.{Refused, Said}
+use Rattle.live_fabric.specs.declared.asks.RegisterSaid.{RegisterSaid}
 use Rattle.live_fabric.specs.declared.asks.Ask.{Ask}
 use Rattle.live_fabric.specs.declared.answers.AfterLine.{AfterLine}
 use Rattle.live_fabric.specs.declared.answers.AfterLine.TheVariants.{On, Undetected}
 use Rattle.live_fabric.specs.declared.own_lines.OwnLine.{OwnLine}
 use Rattle.live_fabric.specs.declared.own_lines.OwnLine.TheVariants.{Quiet, Loud, ServeAll}
 use Rattle.live_fabric.specs.declared.session.Session.{Session}
-use Rattle.live_fabric.specs.Lines.{Taken, nothing_taken, Outcome, ReadsAs, SaysWhy, IsEventLine, MetUnsent, taken_after, IsSent}
+use Rattle.live_fabric.specs.Lines.{Taken, nothing_taken, Outcome, ReadsAs, SaysWhy, IsEventLine, MetUnsent, taken_after, taken_anew, seen_so_far, IsSent}
 use Rattle.live_fabric.specs.Served.{with_served, served_of, events_carried}
 use Rattle.live_fabric.specs.Telling.{IsNoEvent, plain_told, TellsEvents, IsEventsFront}
 use Rattle.live_fabric.specs.Asking.{SpellsAsk, IsNoAsk, others_than, TellsAsk, IsAskFront, reply_told, ask_outcome, after_ask}
+use Rattle.live_fabric.specs.OwnRegisters.{collect_text, standard_text, IsNoStandardLine, ShowsStandard, NamesNoDevice, NamesOwn, NamesNoOwn, OwnRead, OwnWrites}
 use Rattle.live_fabric.specs.Holding.{LiveHolds, IsTrace, MayCollect}
 
 -- The lines that were taken, whether those with characters are left out of the answers, and which
@@ -58,10 +61,6 @@ serve_text words = codes "serve " ++ words
 
 abbrev pub IsNoServeLine : List ℕ → Type 0
 IsNoServeLine line = (words : List ℕ) → line ≢ serve_text words
-
--- the line of a script that has the node collect: it names an endpoint, or is refused
-abbrev pub collect_text : List ℕ → List ℕ
-collect_text words = codes "collect " ++ words
 
 -- a line that asks for a register, by these words
 abbrev pub ask_text : List ℕ → List ℕ
@@ -142,11 +141,38 @@ pub record AskAnswers (held : SessionHeld) (number : ℕ) (line text : List ℕ)
   pub is : line ≡ ask_text words
   pub answers : AskTaken held number words text next ⊎ AskRefused held words text next
 
+-- Devices show from now on what standard hosts look for.
+pub record StandardTaken (held : SessionHeld) (words text : List ℕ) (next : SessionHeld) : Type 0
+  where
+    pub after : Seen
+    pub shows : ShowsStandard (for_event held.taken.known) words (seen_so_far held.taken) after
+    pub answer : text ≡ codes "ok\n"
+    pub then : next ≡ record held { taken = taken_anew held.taken after }
+
+-- or the words name no device, and nothing changes
+pub record StandardRefused (held : SessionHeld) (words text : List ℕ) (next : SessionHeld)
+    : Type 0 where
+  pub other : words ≢ codes "all"
+  pub reason : ℕ
+  pub why : List ℕ
+  pub refused : NamesNoDevice (for_event held.taken.known) words reason
+  pub says : SaysWhy (collect_text words) reason why
+  pub answer : text ≡ refusal_line reason why ++ codes "ok\n"
+  pub then : next ≡ held
+
+-- a line that asks that devices show it
+pub record StandardAnswers (held : SessionHeld) (line text : List ℕ) (next : SessionHeld)
+    : Type 0 where
+  pub words : List ℕ
+  pub is : line ≡ standard_text words
+  pub answers : StandardTaken held words text next ⊎ StandardRefused held words text next
+
 -- the line is none of those
 pub record IsScriptLine (line : List ℕ) : Type 0 where
   pub no_own : IsNoOwnLine line
   pub no_serve : IsNoServeLine line
   pub no_ask : IsNoAskLine line
+  pub no_standard : IsNoStandardLine line
 
 -- Any other line of this number is read as one of a script. If it is no event, what is told of it
 -- is its answer, with `ok` as its last line.
@@ -176,8 +202,8 @@ pub record EventAnswers (held : SessionHeld) (number : ℕ) (line text : List �
 abbrev pub LineAnswers : SessionHeld → ℕ → List ℕ → List ℕ → SessionHeld → Type 0
 LineAnswers held number line text next =
     OwnAnswers held line text next ⊎ (ServeAnswers held line text next
-    ⊎ (AskAnswers held number line text next
-    ⊎ (PlainAnswers held number line text next ⊎ EventAnswers held number line text next)))
+    ⊎ (AskAnswers held number line text next ⊎ (StandardAnswers held line text next
+    ⊎ (PlainAnswers held number line text next ⊎ EventAnswers held number line text next))))
 
 -- Lines, of which the first has this number, are answered by a text, and so much is held then. No
 -- line is answered behind an event that was acted on and not sent.
@@ -256,6 +282,40 @@ pub record ServeTold (held : SessionHeld) (words : List ℕ) (old new : Outgoing
   pub answers : ServeTaken held words (text ++ codes "ok\n") next
       ⊎ ServeRefused held words (text ++ codes "ok\n") next
   pub told : Writes old new text
+  pub holds : SessionHolds session next
+
+-- devices show what standard hosts look for, or it was told why the words name none
+pub record StandardTold (held : SessionHeld) (words : List ℕ) (old new : Outgoing)
+    (session : Session) : Type 0 where
+  pub text : List ℕ
+  pub next : SessionHeld
+  pub answers : StandardTaken held words (text ++ codes "ok\n") next
+      ⊎ StandardRefused held words (text ++ codes "ok\n") next
+  pub told : Writes old new text
+  pub holds : SessionHolds session next
+
+-- a node read one of its own registers, or these bytes name none
+pub record OwnReadCame (held : SessionHeld) (name : List ℕ) (offset : ℕ) (session : Session)
+    (outcome : AskOutcome) : Type 0 where
+  pub next : SessionHeld
+  pub came : ((node : ℕ) × (said : RegisterSaid) × (end : Taken)
+      × NamesOwn (for_event held.taken.known) name node
+      × OwnRead held.taken node offset said end
+      × (next ≡ record held { taken = end }) × (outcome ≡ Said said))
+      ⊎ ((reason : ℕ) × NamesNoOwn (for_event held.taken.known) name reason
+      × (next ≡ held) × (outcome ≡ Refused reason))
+  pub holds : SessionHolds session next
+
+-- or wrote one
+pub record OwnWriteCame (held : SessionHeld) (name : List ℕ) (offset value : ℕ)
+    (session : Session) (outcome : AskOutcome) : Type 0 where
+  pub next : SessionHeld
+  pub came : ((node : ℕ) × (said : RegisterSaid) × (end : Taken)
+      × NamesOwn (for_event held.taken.known) name node
+      × OwnWrites held.taken node offset value said end
+      × (next ≡ record held { taken = end }) × (outcome ≡ Said said))
+      ⊎ ((reason : ℕ) × NamesNoOwn (for_event held.taken.known) name reason
+      × (next ≡ held) × (outcome ≡ Refused reason))
   pub holds : SessionHolds session next
 
 -- a request was carried out and its answer written but for the last line, or it was told why the

@@ -1,5 +1,6 @@
 //! Lines that are of no script, and say how the others are answered.
-ghost use Rattle.std.specs.Prelude.{◌≡◌, MatchOption};
+ghost use Rattle.std.specs.Prelude.{◌≡◌, ◌↔◌, IsTrue, MatchOption, codes};
+ghost use Rattle.live_fabric.specs.OwnRegisters.{standard_text, IsNoStandardLine};
 ghost use Rattle.live_fabric.specs.Sessions.{own_text, serve_text, ask_text, IsNoOwnLine, IsNoServeLine, IsNoAskLine};
 
 /// A line of a session's own.
@@ -39,4 +40,19 @@ pub(crate) fn ask_words(line: &[u8]) -> Option<&[u8]>
         (λ words. line.now ≡ ask_text words.now) }
 {
     line.strip_prefix(b"ask ")
+}
+
+/// The words after the first of a line that asks that devices show what standard hosts look for.
+pub(crate) fn standard_words(line: &[u8]) -> Option<&[u8]>
+    ensures { MatchOption result (IsNoStandardLine line.now)
+        (λ words. line.now ≡ standard_text words.now) }
+{
+    line.strip_prefix(b"standard ")
+}
+
+/// Whether the words of such a line name all devices.
+pub(crate) fn are_all(words: &[u8]) -> bool
+    ensures { IsTrue result ↔ (words.now ≡ codes "all") }
+{
+    matches!(words, b"all")
 }

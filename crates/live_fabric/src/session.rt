@@ -2,14 +2,15 @@
 ghost use Rattle.std.specs.Prelude.{◌≡◌, Some, IfOk, OnOk, OnErr};
 ghost use Rattle.live_fabric.specs.Asking.{ask_of};
 ghost use Rattle.live_fabric.specs.Holding.{MayBeCarried};
-ghost use Rattle.live_fabric.specs.Sessions.{SessionHeld, nothing_held, SessionHolds, SessionAnswered, SessionBreaks, SessionTold, ServeTold, AreServed, AskTold, AskAnswered, AskFalls, RequestCarried, RequestBroke, held_after, IsScriptLine};
+ghost use Rattle.live_fabric.specs.Sessions.{SessionHeld, nothing_held, SessionHolds, SessionAnswered, SessionBreaks, SessionTold, ServeTold, StandardTold, OwnReadCame, OwnWriteCame, AreServed, AskTold, AskAnswered, AskFalls, RequestCarried, RequestBroke, held_after, IsScriptLine};
 
 use crate::answers::{AfterLine, BrokenOff, read_line, refuse};
 use crate::asking::{AskOutcome, after_ask, carry_ask, tell_reply};
 use crate::asks::{Ask, others_than, read_ask};
 use crate::carrying::{Telling, carry_line};
+use crate::device_names::{collect_line, read_device, read_endpoint};
 use crate::live::Live;
-use crate::own_lines::{OwnLine, ask_words, own_line, serve_words};
+use crate::own_lines::{OwnLine, are_all, ask_words, own_line, serve_words, standard_words};
 use crate::served::Served;
 use fabric_script::{EventEnd, Line};
 use rio_chars::{NoMemory, Outbox, Sink};
@@ -76,6 +77,50 @@ impl Session {
         Ok(outcome)
     }
 
+    /// Reads a register of the endpoint of this name without a packet, and tells what came of it.
+    /// The trace begins anew there.
+    pub fn own_read(
+        &mut self,
+        alloc: Global,
+        name: &[u8],
+        offset: u32,
+    ) -> Result<AskOutcome, NoMemory>
+        requires { (held : SessionHeld) × SessionHolds self.old held }
+        ensures { IfOk result (λ outcome. (held : SessionHeld) → SessionHolds self.old held
+            → OwnReadCame held name.now offset self.new outcome) }
+    {
+        match read_endpoint(alloc, self.live.set_up(), name) {
+            Ok(node) => {
+                let said = self.live.own_read(alloc, node, offset)?;
+                Ok(AskOutcome::Said(said))
+            }
+            Err(EventEnd::Refused(reason)) => Ok(AskOutcome::Refused(reason)),
+            Err(EventEnd::NoMemory) => Err(NoMemory),
+        }
+    }
+
+    /// Writes one.
+    pub fn own_write(
+        &mut self,
+        alloc: Global,
+        name: &[u8],
+        offset: u32,
+        value: u32,
+    ) -> Result<AskOutcome, NoMemory>
+        requires { (held : SessionHeld) × SessionHolds self.old held }
+        ensures { IfOk result (λ outcome. (held : SessionHeld) → SessionHolds self.old held
+            → OwnWriteCame held name.now offset value self.new outcome) }
+    {
+        match read_endpoint(alloc, self.live.set_up(), name) {
+            Ok(node) => {
+                let said = self.live.own_write(alloc, node, offset, value)?;
+                Ok(AskOutcome::Said(said))
+            }
+            Err(EventEnd::Refused(reason)) => Ok(AskOutcome::Refused(reason)),
+            Err(EventEnd::NoMemory) => Err(NoMemory),
+        }
+    }
+
     /// The answer of a line without the last one of it.
     fn tell<K: Sink>(
         &mut self,
@@ -101,6 +146,10 @@ impl Session {
         if let Some(words) = ask_words(line) {
             let outcome = self.tell_ask(alloc, number, words, outbox)?;
             return Ok(after_ask(outcome));
+        }
+        if let Some(words) = standard_words(line) {
+            self.standard(alloc, words, outbox)?;
+            return Ok(AfterLine::On);
         }
         self.tell_script(alloc, number, line, outbox)
     }
@@ -128,9 +177,7 @@ impl Session {
             → ServeTold held words.now outbox.old outbox.new self.new) }
         ensures same { OnErr result (outbox.new ≡ outbox.old) }
     {
-        let mut line = Vec::new(alloc);
-        line.extend_from_slice(b"collect ")?;
-        line.extend_from_slice(words)?;
+        let line = collect_line(alloc, words)?;
         match self.live.set_up().read_event(alloc, line.as_slice()) {
             Ok(event) => self.served.add(&event),
             Err(EventEnd::Refused(reason)) => refuse(alloc, line.as_slice(), reason, outbox),
@@ -198,6 +245,32 @@ impl Session {
             → AreServed held nodes.items) }
     {
         self.served.among(alloc, self.live.set_up().lines())
+    }
+
+    /// Has the devices that these words name show what standard hosts look for, or tells why they
+    /// name none.
+    fn standard<K: Sink>(
+        &mut self,
+        alloc: Global,
+        words: &[u8],
+        outbox: &mut Outbox<K>,
+    ) -> Result<(), NoMemory>
+        requires { (held : SessionHeld) × SessionHolds self.old held }
+        ensures told { OnOk result ((held : SessionHeld) → SessionHolds self.old held
+            → StandardTold held words.now outbox.old outbox.new self.new) }
+        ensures same { OnErr result (outbox.new ≡ outbox.old) }
+    {
+        if are_all(words) {
+            return self.live.show_all_standard(alloc);
+        }
+        match read_device(alloc, self.live.set_up(), words) {
+            Ok(node) => self.live.show_standard(alloc, node),
+            Err(EventEnd::Refused(reason)) => {
+                let line = collect_line(alloc, words)?;
+                refuse(alloc, line.as_slice(), reason, outbox)
+            }
+            Err(EventEnd::NoMemory) => Err(NoMemory),
+        }
     }
 
     /// Tells a line that is none of its own.

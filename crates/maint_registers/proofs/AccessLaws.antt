@@ -1,23 +1,24 @@
 -- What a device answers at the offsets that a host asks for, and what a write makes of it.
-use Rattle.std.proofs.Common.{◌≡◌, ℕ, ◌+◌, ◌*◌, ◌/◌, ◌%◌, ◌<◌, ◌≤◌, ◌&&◌, nat_lt, Bool, true, false, List, [], ◌∷◌, Option, Some, None, option_map, unwrap_or, slice_set, arith, refl, ap, ◌∙◌, if◌then◌else◌, ne_eqb, ltb-true}
+use Rattle.std.proofs.Common.{◌≡◌, ℕ, ◌+◌, ◌*◌, ◌/◌, ◌%◌, ◌<◌, ◌≤◌, ◌&&◌, nat_lt, Bool, true, false, List, [], ◌∷◌, ◌++◌, Option, Some, None, option_map, unwrap_or, slice_set, arith, refl, ap, sym, ◌∙◌, ◌==◌, if◌then◌else◌, ne_eqb, ltb-true}
 use Rattle.std.specs.Option.{option_and_then, option_or}
 use Rattle.maint_registers.specs.declared.registers.Kind.{Kind}
 use Rattle.maint_registers.specs.declared.registers.Kind.TheVariants.{Endpoint, Switch}
 use Rattle.maint_registers.specs.declared.table.Register.{Register}
 use Rattle.maint_registers.specs.declared.table.Register.TheVariants.{Fixed, PortInformation, BaseId, HostLock, ComponentTag, RouteSelect, RouteEntry, DefaultPort}
 use Rattle.maint_registers.specs.Devices.{Registers, is_switch}
-use Rattle.maint_registers.specs.Table.{Row, table, in_rows, status_offset, status_port, status_of, register_at}
+use Rattle.maint_registers.specs.Table.{Row, rows, table, standard_table, column, in_rows, status_offset, status_port, status_of, register_at}
 use Rattle.maint_registers.specs.Access.{value_of, value_at, locked, written_to, written_at, write_into}
-use Rattle.maint_registers.proofs.StatusLaws.{status_port-found}
+use Rattle.maint_registers.specs.Changes.{standard_shown}
+use Rattle.maint_registers.proofs.StatusLaws.{status_port-none, status_port-found}
 
 -- what stands in the rows of a device's kind stands at the offset
 in_its_rows : (device : Registers) (offset : ℕ) (kind : Kind) (register : Register)
-    → device.kind ≡ kind → in_rows kind table offset ≡ Some register
+    → device.kind ≡ kind → in_rows kind (rows device.standard) offset ≡ Some register
     → register_at device offset ≡ Some register
 in_its_rows device offset kind register is stands =
     ap (λ o. option_or o (option_map (λ n. Fixed (status_of device n))
     (status_port device.ports offset)))
-    (ap (λ k. in_rows k table offset) is ∙ stands)
+    (ap (λ k. in_rows k (rows device.standard) offset) is ∙ stands)
 
 pub kind-switch : (device : Registers) → is_switch device ≡ true → device.kind ≡ Switch
 kind-switch device is = go device.kind refl is
@@ -36,7 +37,8 @@ kind-endpoint device is = go device.kind is
 
 -- what stands at an offset in both columns
 in_both : (device : Registers) (offset : ℕ) (register : Register)
-    → in_rows Endpoint table offset ≡ Some register → in_rows Switch table offset ≡ Some register
+    → in_rows Endpoint (rows device.standard) offset ≡ Some register
+    → in_rows Switch (rows device.standard) offset ≡ Some register
     → register_at device offset ≡ Some register
 in_both device offset register endpoint switch = go device.kind refl
   where
@@ -137,6 +139,29 @@ default_port-written device value is =
     writes device 0x78 value DefaultPort
     (in_its_rows device 0x78 Switch DefaultPort (kind-switch device is) refl)
 
+-- Rows that do not have an offset change nothing there behind others.
+in_more_rows : (kind : Kind) (first second : List Row) (offset : ℕ)
+    → in_rows kind second offset ≡ None
+    → in_rows kind (first ++ second) offset ≡ in_rows kind first offset
+in_more_rows kind [] second offset none = none
+in_more_rows kind (row ∷ first) second offset none =
+    ap (λ o. if row.0 == offset then column kind row else o)
+    (in_more_rows kind first second offset none)
+
+-- a device that shows what standard hosts look for shows all else as before
+pub standard_adds : (device : Registers) (offset port : ℕ)
+    → in_rows device.kind standard_table offset ≡ None
+    → value_at (standard_shown device) offset port ≡ value_at device offset port
+standard_adds device offset port none =
+    ap (λ o. option_map (value_of device port) (option_or o
+    (option_map (λ n. Fixed (status_of device n)) (status_port device.ports offset))))
+    (in_more_rows device.kind table standard_table offset none ∙ sym (go device.standard))
+  where
+    go : (standard : Bool)
+        → in_rows device.kind (rows standard) offset ≡ in_rows device.kind table offset
+    go true = in_more_rows device.kind table standard_table offset none
+    go false = in_more_rows device.kind table [] offset refl
+
 -- every offset of these rows is less than a number
 abbrev are_less : List Row → ℕ → Bool
 are_less [] limit = true
@@ -160,13 +185,41 @@ past_rows kind (row ∷ rows) limit offset less past =
     go true false first rest both on = absurd (cc)
     go false b first rest both on = absurd (cc)
 
+-- where the error and status registers are, no row stands
+past_table : (kind : Kind) (standard : Bool) (n : ℕ)
+    → in_rows kind (rows standard) (status_offset n) ≡ None
+past_table kind true n = past_rows kind (rows true) 0x101 (status_offset n) refl (omega arith)
+past_table kind false n = past_rows kind (rows false) 0x101 (status_offset n) refl (omega arith)
+
+-- what is read there
+at_status : (device : Registers) (n port : ℕ) (found : Option ℕ)
+    → status_port device.ports (status_offset n) ≡ found
+    → value_at device (status_offset n) port ≡ option_map (status_of device) found
+at_status device n port found stands =
+    ap (λ o. option_map (value_of device port) (option_or o
+    (option_map (λ n. Fixed (status_of device n)) (status_port device.ports (status_offset n)))))
+    (past_table device.kind device.standard n)
+    ∙ ap (λ o. option_map (value_of device port) (option_map (λ n. Fixed (status_of device n)) o))
+    stands
+    ∙ go found
+  where
+    go : (o : Option ℕ)
+        → option_map (value_of device port) (option_map (λ n. Fixed (status_of device n)) o)
+        ≡ option_map (status_of device) o
+    go None = refl
+    go (Some n) = refl
+
 -- 2 of a port with a link, 1 of one without
 pub status-read : (device : Registers) (n port : ℕ) → n < device.ports
     → value_at device (status_offset n) port ≡ Some (status_of device n)
 status-read device n port below =
-    reads device (status_offset n) port (Fixed (status_of device n))
-    (ap (λ o. option_or o (option_map (λ n. Fixed (status_of device n))
-    (status_port device.ports (status_offset n))))
-    (past_rows device.kind table 0x79 (status_offset n) refl (omega arith))
-    ∙ ap (λ o. option_map (λ n. Fixed (status_of device n)) o)
-    (status_port-found device.ports (status_offset n) n below refl))
+    at_status device n port (Some n)
+    (status_port-found device.ports (status_offset n) n below refl)
+
+-- and nothing of one that the device has not
+pub status-none : (device : Registers) (n port : ℕ) → device.ports ≤ n
+    → value_at device (status_offset n) port ≡ None
+status-none device n port past =
+    at_status device n port None
+    (status_port-none device.ports (status_offset n)
+    (λ k below same. omega (arith, below, same, past)))

@@ -8,7 +8,7 @@ use Rattle.maint_registers.specs.declared.registers.Kind.TheVariants.{Endpoint, 
 use Rattle.maint_registers.specs.declared.table.Register.{Register}
 use Rattle.maint_registers.specs.declared.table.Register.TheVariants.{Fixed, PortInformation, BaseId, HostLock, ComponentTag, RouteSelect, RouteEntry, DefaultPort}
 use Rattle.maint_registers.specs.Devices.{Registers, is_switch}
-use Rattle.maint_registers.specs.Table.{Row, table, column, in_rows, status_port, status_of, register_at}
+use Rattle.maint_registers.specs.Table.{Row, rows, column, in_rows, status_port, status_of, register_at}
 use Rattle.maint_registers.specs.Access.{written_to, write_into}
 use Rattle.maint_registers.specs.Routes.{entry_of}
 use Rattle.maint_registers.proofs.AccessLaws.{kind-switch, kind-endpoint, by_register}
@@ -71,11 +71,11 @@ module _ (test : Register → Bool) (n : ℕ) (register : Register) (such : test
 
   -- a register that no status register is stands in the rows
   in_device : (device : Registers) (offset : ℕ) → ((value : ℕ) → test (Fixed value) ≡ false)
-      → have_offset test n device.kind table ≡ true
+      → have_offset test n device.kind (rows device.standard) ≡ true
       → register_at device offset ≡ Some register → offset ≡ n
   in_device device offset free all is =
-      in_table device.kind table offset all
-      (go (in_rows device.kind table offset) (status_port device.ports offset) is)
+      in_table device.kind (rows device.standard) offset all
+      (go (in_rows device.kind (rows device.standard) offset) (status_port device.ports offset) is)
     where
       go : (o : Option Register) (p : Option ℕ)
           → option_or o (option_map (λ n. Fixed (status_of device n)) p) ≡ Some register
@@ -86,18 +86,24 @@ module _ (test : Register → Bool) (n : ℕ) (register : Register) (such : test
           let found = same_Some (Fixed (status_of device n)) register is in
           absurd (let e = sym (free (status_of device n)) ∙ ap test found ∙ such in cc)
 
-lock_offset : (kind : Kind) → have_offset is_lock 0x68 kind table ≡ true
-lock_offset Endpoint = refl
-lock_offset Switch = refl
+lock_offset : (kind : Kind) (standard : Bool)
+    → have_offset is_lock 0x68 kind (rows standard) ≡ true
+lock_offset Endpoint true = refl
+lock_offset Endpoint false = refl
+lock_offset Switch true = refl
+lock_offset Switch false = refl
 
-tag_offset : (kind : Kind) → have_offset is_tag 0x6c kind table ≡ true
-tag_offset Endpoint = refl
-tag_offset Switch = refl
+tag_offset : (kind : Kind) (standard : Bool)
+    → have_offset is_tag 0x6c kind (rows standard) ≡ true
+tag_offset Endpoint true = refl
+tag_offset Endpoint false = refl
+tag_offset Switch true = refl
+tag_offset Switch false = refl
 
 -- No register of a kind stands in the rows if each of them stands at any offset.
 in_none : (test : Register → Bool) (register : Register) → test register ≡ true
     → ((value : ℕ) → test (Fixed value) ≡ false) → (device : Registers) (offset : ℕ)
-    → ((n : ℕ) → have_offset test n device.kind table ≡ true)
+    → ((n : ℕ) → have_offset test n device.kind (rows device.standard) ≡ true)
     → register_at device offset ≡ Some register → ⊥
 in_none test register such free device offset all at =
     absurd (let zero_is_one = sym (there 0) ∙ there 1 in cc)
@@ -105,9 +111,25 @@ in_none test register such free device offset all at =
     there : (n : ℕ) → offset ≡ n
     there n = in_device test n register such device offset free (all n) at
 
-entry_offset : (kind : Kind) → have_offset is_entry 0x74 kind table ≡ true
-entry_offset Endpoint = refl
-entry_offset Switch = refl
+entry_offset : (kind : Kind) (standard : Bool)
+    → have_offset is_entry 0x74 kind (rows standard) ≡ true
+entry_offset Endpoint true = refl
+entry_offset Endpoint false = refl
+entry_offset Switch true = refl
+entry_offset Switch false = refl
+
+-- a switch has no ID, and an endpoint no entry, at whatever offset
+no_id : (kind : Kind) (standard : Bool) (n : ℕ) → kind ≡ Switch
+    → have_offset is_id n kind (rows standard) ≡ true
+no_id Switch true n is = refl
+no_id Switch false n is = refl
+no_id Endpoint standard n is = absurd (cc)
+
+no_entry : (kind : Kind) (standard : Bool) (n : ℕ) → kind ≡ Endpoint
+    → have_offset is_entry n kind (rows standard) ≡ true
+no_entry Endpoint true n is = refl
+no_entry Endpoint false n is = refl
+no_entry Switch standard n is = absurd (cc)
 
 module _ (device : Registers) (offset value : ℕ) where
   -- what each write leaves to the register that stands there is left
@@ -127,7 +149,7 @@ module _ (device : Registers) (offset value : ℕ) where
       each BaseId at = refl
       each HostLock at =
           absurd (other (in_device is_lock 0x68 HostLock refl device offset (λ value. refl)
-          (lock_offset device.kind) at))
+          (lock_offset device.kind device.standard) at))
       each ComponentTag at = refl
       each RouteSelect at = refl
       each RouteEntry at = refl
@@ -144,7 +166,7 @@ module _ (device : Registers) (offset value : ℕ) where
       each HostLock at = refl
       each ComponentTag at =
           absurd (other (in_device is_tag 0x6c ComponentTag refl device offset (λ value. refl)
-          (tag_offset device.kind) at))
+          (tag_offset device.kind device.standard) at))
       each RouteSelect at = refl
       each RouteEntry at = refl
       each DefaultPort at = refl
@@ -160,7 +182,7 @@ module _ (device : Registers) (offset value : ℕ) where
       each PortInformation at = refl
       each BaseId at =
           absurd (in_none is_id BaseId refl (λ value. refl) device offset
-          (λ n. rw (kind-switch device is) refl) at)
+          (λ n. no_id device.kind device.standard n (kind-switch device is)) at)
       each HostLock at = refl
       each ComponentTag at = refl
       each RouteSelect at = refl
@@ -178,7 +200,7 @@ module _ (device : Registers) (offset value : ℕ) where
       switch true is at = is
       switch false is at =
           absurd (in_none is_entry RouteEntry refl (λ value. refl) device offset
-          (λ n. rw (kind-endpoint device is) refl) at)
+          (λ n. no_entry device.kind device.standard n (kind-endpoint device is)) at)
 
       each : (register : Register) → register_at device offset ≡ Some register
           → entry_of (unwrap_or (written_to device value register) device) dest
@@ -192,5 +214,5 @@ module _ (device : Registers) (offset value : ℕ) where
       each RouteEntry at =
           entry-set_other device.routes device.select dest (value % 0x100)
           (apart (in_device is_entry 0x74 RouteEntry refl device offset (λ value. refl)
-          (entry_offset device.kind) at) (switch (is_switch device) refl at))
+          (entry_offset device.kind device.standard) at) (switch (is_switch device) refl at))
       each DefaultPort at = refl

@@ -7,7 +7,7 @@ use Rattle.maint_registers.specs.Access.{written_to, write_into}
 use Rattle.maint_registers.proofs.AccessLaws.{by_register}
 
 pub same_device : (device : Registers) → IsSameDevice device device
-same_device device = record { kind = refl; ports = refl; linked = refl; large_id = refl }
+same_device device = record { kind = refl; ports = refl; linked = refl; large_id = refl; standard = refl }
 
 -- what is a switch stays one
 pub same_kind : (before after : Registers) → IsSameDevice before after
@@ -19,17 +19,17 @@ register_same : (device : Registers) (value : ℕ) (register : Register)
 register_same device value (Fixed shown) = same_device device
 register_same device value PortInformation = same_device device
 register_same device value BaseId =
-    record { kind = refl; ports = refl; linked = refl; large_id = refl }
+    record { kind = refl; ports = refl; linked = refl; large_id = refl; standard = refl }
 register_same device value HostLock =
-    record { kind = refl; ports = refl; linked = refl; large_id = refl }
+    record { kind = refl; ports = refl; linked = refl; large_id = refl; standard = refl }
 register_same device value ComponentTag =
-    record { kind = refl; ports = refl; linked = refl; large_id = refl }
+    record { kind = refl; ports = refl; linked = refl; large_id = refl; standard = refl }
 register_same device value RouteSelect =
-    record { kind = refl; ports = refl; linked = refl; large_id = refl }
+    record { kind = refl; ports = refl; linked = refl; large_id = refl; standard = refl }
 register_same device value RouteEntry =
-    record { kind = refl; ports = refl; linked = refl; large_id = refl }
+    record { kind = refl; ports = refl; linked = refl; large_id = refl; standard = refl }
 register_same device value DefaultPort =
-    record { kind = refl; ports = refl; linked = refl; large_id = refl }
+    record { kind = refl; ports = refl; linked = refl; large_id = refl; standard = refl }
 
 -- whatever is written, it is the same device
 pub write_same : (device : Registers) (offset value : ℕ)

@@ -8,8 +8,9 @@ use Rattle.maint_registers.specs.declared.registers.Kind.TheVariants.{Endpoint, 
 use Rattle.maint_registers.specs.declared.table.Register.{Register}
 use Rattle.maint_registers.specs.declared.table.Register.TheVariants.{Fixed, PortInformation, BaseId, HostLock, ComponentTag, RouteSelect, RouteEntry, DefaultPort}
 use Rattle.maint_registers.specs.Devices.{Registers, no_routes, new_endpoint, new_switch}
-use Rattle.maint_registers.specs.Table.{Row, table, column, in_rows, status_port, status_of, register_at}
+use Rattle.maint_registers.specs.Table.{Row, rows, column, in_rows, status_port, status_of, register_at}
 use Rattle.maint_registers.specs.Access.{value_of, value_at, locked, written_to, write_into}
+use Rattle.maint_registers.specs.Changes.{standard_shown}
 use Rattle.maint_registers.specs.Within.{IsWithin}
 use Rattle.maint_registers.proofs.AccessLaws.{by_register}
 
@@ -116,6 +117,11 @@ links_within device linked within =
     each_within within.ports within.base_id within.large_id within.lock within.tag within.select
     within.destinations within.routes within.default_port
 
+pub standard_within : (device : Registers) → IsWithin device → IsWithin (standard_shown device)
+standard_within device within =
+    each_within within.ports within.base_id within.large_id within.lock within.tag within.select
+    within.destinations within.routes within.default_port
+
 -- a lock that a host writes to
 pub locked_within : (lock id : ℕ) → lock < 0x10000 → id < 0x10000 → locked lock id < 0x10000
 locked_within lock id below range = go (lock == 0xffff) (lock == id)
@@ -184,9 +190,14 @@ status_fits device (Some n) = go (device.linked / 2 ^ n % 2 == 1)
     go true = refl
     go false = refl
 
+table_fits : (standard : Bool) → all_fit (rows standard) ≡ true
+table_fits true = refl
+table_fits false = refl
+
 registers_fit : (device : Registers) (offset : ℕ) → fit (register_at device offset) ≡ true
 registers_fit device offset =
-    go (in_rows device.kind table offset) (rows_fit device.kind table offset refl)
+    go (in_rows device.kind (rows device.standard) offset)
+    (rows_fit device.kind (rows device.standard) offset (table_fits device.standard))
   where
     go : (o : Option Register) → fit o ≡ true
         → fit (option_or o

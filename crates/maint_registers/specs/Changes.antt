@@ -1,5 +1,5 @@
 -- What the lines of a script and the answers of a device change in one of several devices.
-use Rattle.std.specs.Prelude.{ℕ, zero, suc, List, [], ◌∷◌, slice_set}
+use Rattle.std.specs.Prelude.{ℕ, zero, suc, true, List, [], ◌∷◌, slice_set}
 use Rattle.maint_registers.specs.Devices.{Registers, with_link}
 
 -- the registers of several devices, with those of one changed
@@ -23,6 +23,10 @@ defaulted port device = record device { default_port = port }
 -- an endpoint has this ID of 16 bits
 abbrev pub large_set : ℕ → Registers → Registers
 large_set id device = record device { large_id = id }
+
+-- a device shows the registers besides that standard hosts look for
+abbrev pub standard_shown : Registers → Registers
+standard_shown device = record device { standard = true }
 
 -- a host with this ID holds a device
 abbrev pub held_by : ℕ → Registers → Registers

@@ -6,7 +6,7 @@ use Rattle.maint_registers.specs.declared.registers.Kind.TheVariants.{Endpoint, 
 -- `ports` is how many ports there are, 1 for an endpoint. Bit n of `linked`, from the lowest, tells
 -- whether port n has a link. `base_id` is an endpoint's own ID of 8 bits, and `large_id` that of 16
 -- bits; both are 0 for a switch. `lock` is the ID of the host that holds the device, or 0xffff if
--- none does.
+-- none does. `standard` tells whether it shows the registers besides that standard hosts look for.
 -- `routes` has the entry of each destination from 0 to 1023, of either size; entry and default port
 -- count for a switch alone, and `select` is the destination whose entry can be read and written.
 pub record Registers : Type 0 where
@@ -20,15 +20,16 @@ pub record Registers : Type 0 where
   pub select : ℕ
   pub routes : List ℕ
   pub default_port : ℕ
+  pub standard : Bool
 
 -- It is the same device, whatever was written to it: of the same kind, with the same ports, the
--- same
--- links and the same ID of 16 bits, which no write changes.
+-- same links and the same ID of 16 bits, and it shows the same registers. No write changes these.
 pub record IsSameDevice (before after : Registers) : Type 0 where
   pub kind : after.kind ≡ before.kind
   pub ports : after.ports ≡ before.ports
   pub linked : after.linked ≡ before.linked
   pub large_id : after.large_id ≡ before.large_id
+  pub standard : after.standard ≡ before.standard
 
 abbrev pub is_switch : Registers → Bool
 is_switch device = is_kind device.kind
@@ -67,6 +68,7 @@ new_endpoint id linked = record {
   select = 0;
   routes = no_routes;
   default_port = 255;
+  standard = false;
 }
 
 -- a switch at first: nobody holds it, its tag is 0, and it discards every packet
@@ -82,4 +84,5 @@ new_switch ports linked = record {
   select = 0;
   routes = no_routes;
   default_port = 255;
+  standard = false;
 }

@@ -14,6 +14,7 @@ device_of fields = record {
   select = fields.select;
   routes = fields.routes;
   default_port = fields.default_port;
+  standard = fields.standard;
 }
 
 abbrev pub inside_of : Registers → Inside
@@ -28,4 +29,5 @@ inside_of device = record {
   select = device.select;
   routes = device.routes;
   default_port = device.default_port;
+  standard = device.standard;
 }

@@ -5,8 +5,9 @@ use Rattle.std.specs.Prelude.{◌≡◌, ◌≢◌, ℕ, ◌+◌, ◌*◌, ◌/�
 use Rattle.maint_registers.specs.declared.table.Register.{Register}
 use Rattle.maint_registers.specs.declared.table.Register.TheVariants.{Fixed, PortInformation, BaseId, HostLock, ComponentTag, RouteSelect, RouteEntry, DefaultPort}
 use Rattle.maint_registers.specs.Devices.{Registers, IsDevice, with_link}
-use Rattle.maint_registers.specs.Table.{status_of, register_at}
+use Rattle.maint_registers.specs.Table.{status_of, register_at, in_rows, standard_table}
 use Rattle.maint_registers.specs.Access.{value_at, locked, write_into}
+use Rattle.maint_registers.specs.Changes.{standard_shown}
 use Rattle.maint_registers.specs.Within.{IsWithin}
 
 -- some bits of a register: the lowest of them, and how many they are
@@ -88,3 +89,9 @@ abbrev pub OthersStay : Type 0
 OthersStay = (device : Registers) (port other : ℕ) → other ≢ port
     → status_of (record device { linked = with_link device.linked port }) other
     ≡ status_of device other
+
+-- A device that shows what standard hosts look for shows at every other offset what it showed.
+abbrev pub StandardAdds : Type 0
+StandardAdds = (device : Registers) (offset port : ℕ)
+    → in_rows device.kind standard_table offset ≡ None
+    → value_at (standard_shown device) offset port ≡ value_at device offset port

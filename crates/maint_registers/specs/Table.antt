@@ -1,7 +1,7 @@
 -- Which register stands at which offset of an endpoint and of a switch. `docs/registers.md` has the
 -- same table, with the
 -- public source of each row and what is this project's own.
-use Rattle.std.specs.Prelude.{ℕ, zero, suc, ◌+◌, ◌*◌, ◌/◌, ◌%◌, ◌^◌, ◌==◌, List, [], ◌∷◌, Option, Some, None, option_map, if◌then◌else◌}
+use Rattle.std.specs.Prelude.{ℕ, zero, suc, ◌+◌, ◌*◌, ◌/◌, ◌%◌, ◌^◌, ◌==◌, Bool, List, [], ◌∷◌, ◌++◌, Option, Some, None, option_map, if◌then◌else◌}
 use Rattle.std.specs.Option.{option_or}
 use Rattle.maint_registers.specs.declared.registers.Kind.{Kind}
 use Rattle.maint_registers.specs.declared.registers.Kind.TheVariants.{Endpoint, Switch}
@@ -27,6 +27,18 @@ table =
     ∷ (0x000074, None, Some RouteEntry)
     ∷ (0x000078, None, Some DefaultPort)
     ∷ []
+
+-- what a device shows besides if it is to show what standard hosts look for
+abbrev pub standard_table : List Row
+standard_table =
+    (0x000018, Some (Fixed 0x0000f000), Some (Fixed 0x00000000))  -- source operations
+    ∷ (0x00001c, Some (Fixed 0x0000f000), Some (Fixed 0x00000000))  -- destination operations
+    ∷ (0x000100, Some (Fixed 0x00000001), Some (Fixed 0x00000003))  -- extended features block
+    ∷ []
+
+-- the rows of a device that shows them, or does not
+abbrev pub rows : Bool → List Row
+rows standard = table ++ (if standard then standard_table else [])
 
 -- the column of a kind of device
 abbrev pub column : Kind → Row → Option Register
@@ -55,5 +67,5 @@ status_of device n = if device.linked / 2 ^ n % 2 == 1 then 2 else 1
 -- the register that stands at an offset of a device, if one does
 abbrev pub register_at : Registers → ℕ → Option Register
 register_at device offset =
-    option_or (in_rows device.kind table offset)
+    option_or (in_rows device.kind (rows device.standard) offset)
     (option_map (λ n. Fixed (status_of device n)) (status_port device.ports offset))

@@ -2,6 +2,7 @@
 use Rattle.std.specs.Prelude.{◌≡◌, ℕ, ◌<◌, ◌≤◌, Bool, length, All, slice_set, Some}
 use Rattle.maint_registers.specs.Devices.{Registers, new_endpoint, new_switch}
 use Rattle.maint_registers.specs.Access.{value_at, write_into}
+use Rattle.maint_registers.specs.Changes.{standard_shown}
 
 -- each number of a device fits its register
 pub record IsWithin (device : Registers) : Type 0 where
@@ -52,3 +53,7 @@ DefaultStaysWithin = (device : Registers) (port : ℕ) → IsWithin device → p
 abbrev pub LinksStayWithin : Type 0
 LinksStayWithin = (device : Registers) (linked : ℕ) → IsWithin device
     → IsWithin (record device { linked = linked })
+
+-- So does what it shows besides.
+abbrev pub StandardStaysWithin : Type 0
+StandardStaysWithin = (device : Registers) → IsWithin device → IsWithin (standard_shown device)

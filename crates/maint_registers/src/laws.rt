@@ -1,15 +1,16 @@
 //! Laws of registers, for whoever states something of devices.
 ghost use Rattle.std.specs.Prelude.{◌≡◌, true, Some, None};
-ghost use Rattle.maint_registers.specs.Devices.{new_endpoint};
+ghost use Rattle.maint_registers.specs.Devices.{new_endpoint, new_switch};
 ghost use Rattle.maint_registers.specs.Access.{read_from, write_into};
-ghost use Rattle.maint_registers.specs.Changes.{held_by};
+ghost use Rattle.maint_registers.specs.Changes.{held_by, standard_shown};
 ghost use Rattle.maint_registers.specs.Laws.{ShowsWritten, ShowsBoth, LargeStays, LockStays, TagStays};
 ghost use Rattle.maint_registers.specs.Laws.{IsTakenIfFree, StaysForOthers};
-ghost use Rattle.maint_registers.specs.Laws.{ShowsLink, OthersStay};
+ghost use Rattle.maint_registers.specs.Laws.{ShowsLink, OthersStay, StandardAdds};
 ghost use Rattle.maint_registers.specs.Within.{NewEndpointIsWithin, NewSwitchIsWithin, ReadsWord};
 ghost use Rattle.maint_registers.specs.Within.{WrittenStaysWithin, LargeStaysWithin};
 ghost use Rattle.maint_registers.specs.Within.{LockStaysWithin, RouteStaysWithin};
 ghost use Rattle.maint_registers.specs.Within.{DefaultStaysWithin, LinksStayWithin};
+ghost use Rattle.maint_registers.specs.Within.{StandardStaysWithin};
 
 /// An endpoint gives the value that it shows, and takes a write or refuses it.
 pub fn an_endpoint_is_accessed()
@@ -52,6 +53,28 @@ pub fn link_shows_at_its_port()
     ensures others { OthersStay }
 {}
 
+/// A standard host finds the block of LP-Serial registers at a device that shows it, and at no other
+/// (RapidIO Interconnect Specification 1.3, Part 6, register block headers).
+#[tactic(auto, unfolding(crate::specs::Table::status_port))]
+pub fn a_standard_host_finds_the_block()
+    ensures endpoint { read_from (standard_shown (new_endpoint 5 true)) 0x100 0
+        ≡ record { value = Some 1; device = standard_shown (new_endpoint 5 true) } }
+    ensures switch { read_from (standard_shown (new_switch 4 5)) 0x100 3
+        ≡ record { value = Some 3; device = standard_shown (new_switch 4 5) } }
+    ensures operations { read_from (standard_shown (new_endpoint 5 true)) 0x1c 0
+        ≡ record { value = Some 0xf000; device = standard_shown (new_endpoint 5 true) } }
+    ensures no_other { read_from (new_endpoint 5 true) 0x100 0
+        ≡ record { value = None; device = new_endpoint 5 true } }
+    ensures taken { write_into (standard_shown (new_endpoint 5 true)) 0x100 7
+        ≡ record { value = None; device = standard_shown (new_endpoint 5 true) } }
+{}
+
+/// A device that shows the registers that standard hosts look for shows all others as before.
+#[tactic(auto, using(crate::proofs::AccessLaws::standard_adds))]
+pub fn standard_registers_add()
+    ensures { StandardAdds }
+{}
+
 /// Each number of a new device fits its register.
 pub fn new_devices_are_within()
     ensures endpoint { NewEndpointIsWithin }
@@ -66,6 +89,7 @@ pub fn devices_stay_within()
     ensures route { RouteStaysWithin }
     ensures default_port { DefaultStaysWithin }
     ensures links { LinksStayWithin }
+    ensures standard { StandardStaysWithin }
 {}
 
 /// What is read fits a word.

@@ -23,8 +23,9 @@ mod table;
 mod tests;
 
 pub use laws::{
-    an_endpoint_is_accessed, devices_stay_within, link_shows_at_its_port, lock_is_taken_if_free,
-    new_devices_are_within, other_writes_leave_lock_and_tag, reads_are_words,
+    a_standard_host_finds_the_block, an_endpoint_is_accessed, devices_stay_within,
+    link_shows_at_its_port, lock_is_taken_if_free, new_devices_are_within,
+    other_writes_leave_lock_and_tag, reads_are_words, standard_registers_add,
     write_changes_its_bits, writes_leave_large_id,
 };
 pub use registers::Registers;

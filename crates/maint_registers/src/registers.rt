@@ -1,6 +1,7 @@
 //! `Registers`: what a device holds, and where a switch sends packets.
 ghost use Rattle.std.specs.Prelude.{◌≡◌, ◌≤◌, ◌<◌, Bool, true, false, slice_set, IsTrue, IfSome};
 ghost use Rattle.maint_registers.specs.Devices.{IsDevice, is_switch, with_link, no_routes, new_endpoint, new_switch};
+ghost use Rattle.maint_registers.specs.Changes.{standard_shown};
 ghost use Rattle.maint_registers.specs.Routes.{entry_of, next_port, port_named};
 
 use std::marker::Model;
@@ -39,6 +40,7 @@ pub struct Registers {
     pub(crate) select: u16,
     pub(crate) routes: [u8; DESTINATIONS],
     pub(crate) default_port: u8,
+    pub(crate) standard: bool,
 }
 
 impl Model for Registers {
@@ -80,6 +82,7 @@ impl Registers {
             select: 0,
             routes: no_routes(),
             default_port: NO_ENTRY,
+            standard: false,
         }
     }
 
@@ -101,7 +104,17 @@ impl Registers {
             select: 0,
             routes: no_routes(),
             default_port: NO_ENTRY,
+            standard: false,
         }
+    }
+
+    /// Has the device show, from now on, the registers that standard hosts look for besides the
+    /// others: the operations, and the header of the extended features (RapidIO Interconnect
+    /// Specification 1.3, Part 1 and Part 6; their values are this project's profile).
+    pub fn show_standard(&mut self)
+        ensures { self.new ≡ standard_shown self.old }
+    {
+        self.standard = true;
     }
 
     /// Returns whether the device is a switch.

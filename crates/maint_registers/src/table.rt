@@ -1,7 +1,7 @@
 //! The table of registers: what stands at an offset, and how it is read and written.
 ghost use Rattle.std.specs.Prelude.{◌≡◌, ◌<◌, ◌↔◌, false, IsTrue, IsSome, IfSome, unwrap_or, option_map};
 ghost use Rattle.maint_registers.specs.Devices.{IsSameDevice, is_switch};
-ghost use Rattle.maint_registers.specs.Table.{table, in_rows, status_port, status_of, register_at};
+ghost use Rattle.maint_registers.specs.Table.{rows, in_rows, status_port, status_of, register_at};
 ghost use Rattle.maint_registers.specs.Access.{value_of, value_at, locked, written_to, written_at};
 
 use crate::registers::{FREE, Kind, Registers};
@@ -100,8 +100,8 @@ impl Registers {
         ensures { result ≡ register_at self.now offset }
     {
         let register = match self.kind {
-            Kind::Endpoint => endpoint_register(offset),
-            Kind::Switch => switch_register(offset),
+            Kind::Endpoint => endpoint_register(offset, self.standard),
+            Kind::Switch => switch_register(offset, self.standard),
         };
         register.or(self.status_register(offset))
     }
@@ -120,8 +120,8 @@ impl Registers {
 }
 
 /// The registers that only an endpoint has, and those of both kinds as an endpoint shows them.
-fn endpoint_register(offset: u32) -> Option<Register>
-    ensures { result ≡ in_rows Kind.Endpoint table offset }
+fn endpoint_register(offset: u32, standard: bool) -> Option<Register>
+    ensures { result ≡ in_rows Kind.Endpoint (rows standard) offset }
 {
     Some(match offset {
         0x00_0000 => Register::Fixed(0x0001_ffff),
@@ -130,13 +130,15 @@ fn endpoint_register(offset: u32) -> Option<Register>
         0x00_0060 => Register::BaseId,
         0x00_0068 => Register::HostLock,
         0x00_006c => Register::ComponentTag,
+        0x00_0018 | 0x00_001c if standard => Register::Fixed(0x0000_f000),
+        0x00_0100 if standard => Register::Fixed(0x0000_0001),
         _ => return None,
     })
 }
 
 /// The registers that only a switch has, and those of both kinds as a switch shows them.
-fn switch_register(offset: u32) -> Option<Register>
-    ensures { result ≡ in_rows Kind.Switch table offset }
+fn switch_register(offset: u32, standard: bool) -> Option<Register>
+    ensures { result ≡ in_rows Kind.Switch (rows standard) offset }
 {
     Some(match offset {
         0x00_0000 => Register::Fixed(0x0002_ffff),
@@ -149,6 +151,8 @@ fn switch_register(offset: u32) -> Option<Register>
         0x00_0070 => Register::RouteSelect,
         0x00_0074 => Register::RouteEntry,
         0x00_0078 => Register::DefaultPort,
+        0x00_0018 | 0x00_001c if standard => Register::Fixed(0x0000_0000),
+        0x00_0100 if standard => Register::Fixed(0x0000_0003),
         _ => return None,
     })
 }

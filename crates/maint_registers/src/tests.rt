@@ -192,3 +192,20 @@ fn an_endpoint_routes_nothing(rt: HostRuntime) {
     assert_eq!(rt; endpoint().base_id(), 5);
     assert_eq!(rt; endpoint().next_port(5), None);
 }
+
+/// What a device shows at the offsets that standard hosts look for.
+fn block(registers: &Registers) -> [Option<u32>; 3] {
+    [0x18, 0x1c, 0x100].map(|offset| registers.read(offset, 0))
+}
+
+#[test]
+fn a_device_shows_what_standard_hosts_look_for_if_asked(rt: HostRuntime) {
+    let first = [Some(0x0000_f000), Some(0x0000_f000), Some(0x0000_0001)];
+    let second = [Some(0), Some(0), Some(0x0000_0003)];
+    for (mut registers, shown) in [(endpoint(), first), (switch(), second)] {
+        assert_eq!(rt; block(&registers), [None; 3]);
+        registers.show_standard();
+        assert_eq!(rt; block(&registers), shown);
+        assert!(rt; !registers.write(0x100, WRITTEN));
+    }
+}

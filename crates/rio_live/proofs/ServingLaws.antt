@@ -9,9 +9,13 @@ use Rattle.live_lines.specs.Serving.{ServesLines}
 use Rattle.live_lines.proofs.ServingLaws.{Going, Going-begin, Going-line, Going-told, served_none}
 use Rattle.live_fabric.specs.declared.answers.AfterLine.TheVariants as Goings
 use Rattle.live_fabric.specs.declared.session.Session.{Session}
+use Rattle.fabric_trace.specs.Runs.{bare}
+use Rattle.fabric_trace.proofs.Network.Boards.{same_board}
+use Rattle.live_fabric.specs.Holding.{IsTrace}
+use Rattle.live_fabric.specs.Lines.{nothing_taken}
 use Rattle.live_fabric.specs.Sessions.{SessionHeld, nothing_held, SessionHolds, SessionAnswered, LineAnswers, AnswersSession}
 use Rattle.rio_live.specs.Program.{LiveServes}
-use Rattle.live_fabric.proofs.TakenLaws.{nothing_is_trace, is_sent}
+use Rattle.live_fabric.proofs.TakenLaws.{is_sent}
 use Rattle.live_fabric.proofs.SessionLaws.{session_more}
 
 -- Lines were served so far, and these bytes were read behind the last one.
@@ -28,6 +32,17 @@ pub record Course (begun out : Outgoing) (session : Session) (left left_now : Op
 pub as_ok : {T E : Type 0} (P : T → Type 0) (result : Result T E) (x y : T) → result ≡ Ok x
     → x ≡ y → IfOk result P → P y
 as_ok P result x y is same p = subst P same (subst (λ r. IfOk r P) is p)
+
+-- no line has come
+nothing_is_trace : IsTrace nothing_taken
+nothing_is_trace = record {
+  passes = refl;
+  no_events = tt;
+  board = same_board bare bare refl;
+  sent = refl;
+  events = tt;
+  blocks = refl;
+}
 
 -- nothing was read or written, since memory was not given
 pub serves_none : (left written : Option (List ℕ)) (read_faults write_faults : ℕ)

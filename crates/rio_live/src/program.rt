@@ -22,6 +22,7 @@ send, pump, settle and such       are events, told as rio replay tells them
 quiet and loud                    leave characters out of answers, or not
 serve NODE and serve all          let endpoints answer in each round of a run
 ask LINE                          carries out a request until its response leaves
+standard NODE and standard all    let devices show what standard hosts look for
 
 docs/live.md says what is answered, and man rio has the lines.
 ";

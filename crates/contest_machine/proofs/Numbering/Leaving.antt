@@ -85,6 +85,7 @@ more_left before middle after one two node = record {
   ports = (two node).ports ∙ (one node).ports;
   linked = (two node).linked ∙ (one node).linked;
   large_id = (two node).large_id ∙ (one node).large_id;
+  standard = (two node).standard ∙ (one node).standard;
 }
 
 turn_left : (both after : Both) (side : Side) → AreLeft both after

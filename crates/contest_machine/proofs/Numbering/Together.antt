@@ -181,12 +181,19 @@ rest_only old new same =
     ap (λ k. record new { kind = k }) same.kind
     ∙ (ap (λ n. record new { kind = old.kind; ports = n }) same.ports
     ∙ (ap (λ l. record new { kind = old.kind; ports = old.ports; linked = l }) same.linked
-    ∙ ap (λ n. record new {
+    ∙ (ap (λ n. record new {
       kind = old.kind;
       ports = old.ports;
       linked = old.linked;
       large_id = n;
-    }) same.large_id))
+    }) same.large_id
+    ∙ ap (λ b. record new {
+      kind = old.kind;
+      ports = old.ports;
+      linked = old.linked;
+      large_id = old.large_id;
+      standard = b;
+    }) same.standard)))
 
 pub turns_leave_others : TurnsLeaveOthers
 turns_leave_others both turns begun untagged =

@@ -189,6 +189,7 @@ access_same before now at access same node = go (eqb node at.node) refl
       ports = is.ports ∙ (same at.node).ports;
       linked = is.linked ∙ (same at.node).linked;
       large_id = is.large_id ∙ (same at.node).large_id;
+      standard = is.standard ∙ (same at.node).standard;
     }
 
     go : (b : Bool) → eqb node at.node ≡ b → IsSameDevice (before node)

@@ -7,8 +7,7 @@ use Rattle.fabric_script.specs.Ports.{port_at}
 use Rattle.maint_registers.specs.Devices.{Registers, is_switch}
 use Rattle.maint_registers.specs.Table.{status_offset}
 use Rattle.maint_registers.specs.Access.{value_at}
-use Rattle.maint_registers.proofs.AccessLaws.{features-read, status-read}
-use Rattle.maint_registers.proofs.StatusLaws.{status_port-none}
+use Rattle.maint_registers.proofs.AccessLaws.{features-read, status-read, status-none}
 use Rattle.maint_registers.proofs.SameLaws.{same_kind}
 use Rattle.fabric_map.specs.Topology.{Topology, IsTopology, ports_followed, behind_port, entered}
 use Rattle.fabric_map.specs.Walked.{onward}
@@ -24,26 +23,6 @@ use Rattle.contest_machine.proofs.Turns.Lasting.{AreSameDevices}
 abbrev pub IsAtSwitch : Topology → List ℕ → Type 0
 IsAtSwitch view path = (at : PortRef) × (ports : ℕ) × (entered view path ≡ Some at)
     × (view.switch_ports at.node ≡ Some ports)
-
--- a port that the device does not have shows nothing
-status-none : (device : Registers) (n port : ℕ) → device.ports ≤ n
-    → value_at device (status_offset n) port ≡ None
-status-none device n port past =
-    rw (
-      ne_eqb 0 (status_offset n) (λ e. omega (arith, e)),
-      ne_eqb 0xc (status_offset n) (λ e. omega (arith, e)),
-      ne_eqb 0x10 (status_offset n) (λ e. omega (arith, e)),
-      ne_eqb 0x14 (status_offset n) (λ e. omega (arith, e)),
-      ne_eqb 0x34 (status_offset n) (λ e. omega (arith, e)),
-      ne_eqb 0x60 (status_offset n) (λ e. omega (arith, e)),
-      ne_eqb 0x68 (status_offset n) (λ e. omega (arith, e)),
-      ne_eqb 0x6c (status_offset n) (λ e. omega (arith, e)),
-      ne_eqb 0x70 (status_offset n) (λ e. omega (arith, e)),
-      ne_eqb 0x74 (status_offset n) (λ e. omega (arith, e)),
-      ne_eqb 0x78 (status_offset n) (λ e. omega (arith, e)),
-      status_port-none device.ports (status_offset n)
-          (λ k below same. omega (arith, below, same, past)),
-    ) refl
 
 -- what the features tell
 pub features_told : (device : Registers) (port : ℕ)

@@ -13,14 +13,16 @@ use Rattle.fabric_script.specs.declared.ports.PortRef.{PortRef}
 use Rattle.fabric_model.specs.Network.{Network, peer_in, switch_at}
 use Rattle.fabric_model.specs.Serving.{device_after}
 use Rattle.fabric_model.specs.Steps.{Hold, Free, Take, Leave, Move as MoveStep, Drop, Answer, Linked, AtNode, ByDevice, Step, after, after_hold}
-use Rattle.fabric_model.proofs.Devices.{length-with_device}
+use Rattle.maint_registers.specs.Devices.{Registers, is_switch}
+use Rattle.fabric_model.proofs.Devices.{length-with_device, kinds_stay}
 use Rattle.fabric_model.proofs.Flows.{switches_stay}
 use Rattle.fabric_model.proofs.Joining.{links_stay}
+use Rattle.fabric_trace.specs.Boards.{IsSameBoard}
+use Rattle.fabric_trace.specs.Settings.{with_change}
 use Rattle.fabric_trace.specs.Events.{HasLink, IsThere, MayHappen}
 use Rattle.fabric_trace.specs.Fold.{edit_of, taken_from, undetected_at, got_from, seen_line, seen}
 use Rattle.fabric_trace.specs.Known.{UndetectedAt, Seen, peer_of}
 use Rattle.trace_lines.specs.Lines.{TraceLine, Begun, Stepped, Signed, Lacked, Ended, Undetected, Sent, Got, Fired}
-use Rattle.fabric_trace.specs.Runs.{begins}
 use Rattle.fabric_trace.proofs.Parts.Folding.{edited_net, got_net, fired_net, edited_found, fired_found}
 
 -- ---- how many registers there are, of which kinds, and links stay
@@ -41,13 +43,7 @@ count_stays net (ByDevice (Drop p packet)) = refl
 count_stays net (ByDevice (Answer p packet response)) =
     length-with_device net.registers p.node (device_after p.port (request_of packet))
 
--- what no line changes of a network
-pub record IsSameBoard (net next : Network) : Type 0 where
-  pub count : length next.registers ≡ length net.registers
-  pub kinds : (n : ℕ) → switch_at next n ≡ switch_at net n
-  pub links : next.links ≡ net.links
-
-same_board : (net next : Network) → next ≡ net → IsSameBoard net next
+pub same_board : (net next : Network) → next ≡ net → IsSameBoard net next
 same_board net next is = record {
   count = ap (λ (n : Network). length n.registers) is;
   kinds = λ n. ap (λ (x : Network). switch_at x n) is;
@@ -78,6 +74,25 @@ seen_board (line ∷ lines) s =
       kinds = λ n. rest.kinds n ∙ one.kinds n;
       links = rest.links ∙ one.links;
     }
+
+-- one after another
+pub board_then : (net mid next : Network) → IsSameBoard net mid → IsSameBoard mid next
+    → IsSameBoard net next
+board_then net mid next one rest = record {
+  count = rest.count ∙ one.count;
+  kinds = λ n. rest.kinds n ∙ one.kinds n;
+  links = rest.links ∙ one.links;
+}
+
+-- nor does a device that changes its registers and stays of its kind
+pub changed_board : (net : Network) (node : ℕ) (change : Registers → Registers)
+    → ((device : Registers) → is_switch (change device) ≡ is_switch device)
+    → IsSameBoard net (with_change net node change)
+changed_board net node change same = record {
+  count = length-with_device net.registers node change;
+  kinds = λ n. kinds_stay net.registers node n change same;
+  links = refl;
+}
 
 -- ---- what is found is at a port with a link
 
@@ -126,13 +141,14 @@ lines_linked (line ∷ lines) s linked =
     (λ found finds. subst (λ (l : List (PortRef × PortRef)). IsLinked l found.port)
     (sym (line_board s line).links) (line_linked s line linked found finds))
 
--- an event that is found from the start of a trace on
-pub found_linked : (lines : List TraceLine) (net : Network) (found : UndetectedAt)
-    → (seen (begins net) lines).undetected ≡ Some found → IsLinked net.links found.port
-found_linked lines net found finds =
-    let linked = lines_linked lines (begins net) (λ other none. absurd cc) found finds in
+-- an event that is found where none was found before
+pub found_linked : (lines : List TraceLine) (s : Seen) (found : UndetectedAt)
+    → s.undetected ≡ None → (seen s lines).undetected ≡ Some found
+    → IsLinked s.network.links found.port
+found_linked lines s found none finds =
+    let linked = lines_linked lines s (λ other some. absurd cc) found finds in
     subst (λ (l : List (PortRef × PortRef)). IsLinked l found.port)
-    (seen_board lines (begins net)).links linked
+    (seen_board lines s).links linked
 
 -- ---- an event that may happen may still happen
 
@@ -170,11 +186,16 @@ there_still net next (Timeout port) same there = linked_still net next port same
 there_still net next (Settle port) same there = linked_still net next port same there
 there_still net next _ same there = tt
 
-pub happens_still : (names : List (List ℕ)) (net : Network) (lines : List TraceLine) (line : Line)
-    → MayHappen names net line → MayHappen names (seen (begins net) lines).network line
-happens_still names net lines line may =
+pub happens_on : (names : List (List ℕ)) (net next : Network) (line : Line)
+    → IsSameBoard net next → MayHappen names net line → MayHappen names next line
+happens_on names net next line same may =
     record {
       named = may.named;
       range = may.range;
-      there = there_still net _ line (seen_board lines (begins net)) may.there;
+      there = there_still net next line same may.there;
     }
+
+pub happens_still : (names : List (List ℕ)) (s : Seen) (lines : List TraceLine) (line : Line)
+    → MayHappen names s.network line → MayHappen names (seen s lines).network line
+happens_still names s lines line may =
+    happens_on names s.network _ line (seen_board lines s) may

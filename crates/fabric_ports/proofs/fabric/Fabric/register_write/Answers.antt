@@ -1,7 +1,8 @@
 use Rattle.std.proofs.Common.{Some, sym, subst, ap, ◌∙◌}
 use Rattle.maint_registers.specs.Devices.{Registers}
 use Rattle.fabric_ports.specs.OwnRegisters.{OwnWritten}
-use Rattle.fabric_ports.proofs.OwnLaws.{endpoint_at, own_is, own_written, with_registers}
+use Rattle.fabric_ports.proofs.ChangedLaws.{with_registers}
+use Rattle.fabric_ports.proofs.OwnLaws.{endpoint_at, own_is, own_written}
 use Rattle.fabric_ports.proofs.fabric.Fabric.register_write.Goals as goal
 
 pub returns : goal.returns

@@ -1,11 +1,12 @@
-use Rattle.std.proofs.Common.{◌≡◌, ℕ, List, ◌++◌, codes, refl, ap, ◌∙◌, subst}
+use Rattle.std.proofs.Common.{◌≡◌, ℕ, List, ◌∙◌, refl, subst}
 use Rattle.rio_chars.specs.Written.{Writes}
 use Rattle.fabric_script.specs.Reading.{Spells}
 use Rattle.fabric_script.specs.SetUps.{IsRefused, SetUpLines}
 use Rattle.refusal_words.specs.Citing.{refusal_line}
 use Rattle.live_fabric.specs.Lines.{SaysWhy}
+use Rattle.live_fabric.specs.OwnRegisters.{collect_text}
 use Rattle.live_fabric.specs.Served.{with_served}
-use Rattle.live_fabric.specs.Sessions.{SessionHeld, SessionHolds, ServeTold, collect_text}
+use Rattle.live_fabric.specs.Sessions.{SessionHeld, SessionHolds, ServeTold}
 use Rattle.live_fabric.proofs.AnsweringLaws.{on_each_ok}
 use Rattle.live_fabric.proofs.SessionLaws.{serve_taken, serve_refused}
 use Rattle.live_fabric.proofs.session.Session.serve.Goals as goal
@@ -17,10 +18,7 @@ returns-in-Ok-clause-told g c =
     let out = c.args.outbox.now in
     let event = c.in-Ok.event in
     let text : c.as_slice.result.now ≡ collect_text words =
-    c.as_slice.ensures.value ∙ c.in_ok-extend_from_slice-2.ensures.items
-    ∙ ap (λ (l : List ℕ). l ++ words)
-    (c.in_ok-extend_from_slice.ensures.items
-    ∙ ap (λ (l : List ℕ). l ++ codes "collect ") c.new-line.ensures.items) in
+    c.as_slice.ensures.value ∙ c.in_ok-line.ensures in
     let spells : Spells session.live.set_up.known (collect_text words) event =
     subst (λ (s : SetUpLines). Spells s.known (collect_text words) event) c.set_up.ensures
     (subst (λ (t : List ℕ). Spells c.set_up.result.now.known t event) text
@@ -42,14 +40,10 @@ returns-in-Err-Refused-clause-told g c =
     let out = c.args.outbox.now in
     let next = c.refuse.new.outbox in
     let reason = c.in-Err-Refused.reason in
-    let items : c.extend_from_slice-2.new.self.items ≡ collect_text words =
-    c.in_ok-extend_from_slice-2.ensures.items
-    ∙ ap (λ (l : List ℕ). l ++ words)
-    (c.in_ok-extend_from_slice.ensures.items
-    ∙ ap (λ (l : List ℕ). l ++ codes "collect ") c.new-line.ensures.items) in
-    let text : c.as_slice.result.now ≡ collect_text words = c.as_slice.ensures.value ∙ items in
+    let text : c.as_slice.result.now ≡ collect_text words =
+    c.as_slice.ensures.value ∙ c.in_ok-line.ensures in
     let again : c.as_slice-in-Err-Refused.result.now ≡ collect_text words =
-    c.as_slice-in-Err-Refused.ensures.value ∙ items in
+    c.as_slice-in-Err-Refused.ensures.value ∙ c.in_ok-line.ensures in
     let refused : IsRefused session.live.set_up.known (collect_text words) reason =
     subst (λ (s : SetUpLines). IsRefused s.known (collect_text words) reason) c.set_up.ensures
     (subst (λ (t : List ℕ). IsRefused c.set_up.result.now.known t reason) text

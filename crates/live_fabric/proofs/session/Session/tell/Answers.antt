@@ -2,6 +2,7 @@ use Rattle.std.proofs.Common.{rules, sym, subst}
 use Rattle.live_fabric.specs.Sessions.{SessionTold}
 use Rattle.live_fabric.proofs.AnsweringLaws.{on_err}
 use Rattle.live_fabric.proofs.SessionLaws.{told_own, told_serve, told_ask, breaks_ask}
+use Rattle.live_fabric.proofs.OwnedLaws.{told_standard}
 use Rattle.live_fabric.proofs.session.Session.tell.Goals as goal
 
 pub returns-in-Some-clause-told : goal.returns-in-Some-clause-told
@@ -33,3 +34,9 @@ returns-in_err-outcome-clause-breaks g c =
     (λ held holds. breaks_ask held c.args.number c.args.line.now c.args.outbox.now
     c.tell_ask.new.outbox c.in-Some-ask_words.words.now c.in-Some-ask_words.ensures
     (c.in_err-outcome.ensures.breaks held holds))
+
+pub returns-in-Some-standard_words-clause-told : goal.returns-in-Some-standard_words-clause-told
+returns-in-Some-standard_words-clause-told g c = λ held holds.
+    told_standard held c.in-Some-standard_words.words.now c.args.number c.args.line.now
+    c.args.outbox.now c.standard.new.outbox c.standard.new.self c.in-Some-standard_words.ensures
+    (c.in_ok-standard.ensures.told held holds)

@@ -1,0 +1,30 @@
+use Rattle.std.proofs.Common.{refl, subst}
+use Rattle.live_fabric.specs.OwnRegisters.{NamesOwn}
+use Rattle.live_fabric.proofs.NamingLaws.{endpoint_there}
+use Rattle.live_fabric.proofs.OwnedLaws.{known_held, own_read_came}
+use Rattle.live_fabric.proofs.session.Session.own_read.Goals as goal
+
+pub own_read-requires : goal.own_read-requires
+own_read-requires c =
+    let held = c.requires.0 in
+    let holds = c.requires.1 in
+    let name = c.args.name.now in
+    let named = subst (λ known. NamesOwn known name c.in-Ok.node)
+    (known_held held c.args.self.now c.set_up.result.now holds c.set_up.ensures)
+    c.in-Ok.ensures.named in (
+      held.taken,
+      holds.live,
+      endpoint_there c.args.self.now.live held.taken holds.live name c.in-Ok.node named,
+    )
+
+pub returns-in_ok-said-in-Ok : goal.returns-in_ok-said-in-Ok
+returns-in_ok-said-in-Ok c = λ held holds.
+    let session = c.args.self.now in
+    let name = c.args.name.now in
+    let node = c.in-Ok.node in
+    let named = subst (λ known. NamesOwn known name node)
+    (known_held held session c.set_up.result.now holds c.set_up.ensures) c.in-Ok.ensures.named in
+    own_read_came held name c.args.offset session (record session { live = c.own_read.new.self })
+    holds node c.in_ok-said-in-Ok.said refl refl named
+    (c.in_ok-said-in-Ok.ensures held.taken holds.live
+    (endpoint_there session.live held.taken holds.live name node named))
