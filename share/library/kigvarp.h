@@ -34,7 +34,8 @@ enum {
                              done up to there */
   KIGVARP_UNDETECTED = 7, /* a port acted on what was not sent, as the text says: the fabric is spent */
   KIGVARP_CUT = 8,        /* memory was refused while a line was answered: a front of the answer waits. A port went on as the
-                             answer says; a fabric or a checker is spent */
+                             answer says; a fabric or a checker is spent, and so is a fabric if memory was refused to
+                             kigvarp_fabric_own, which tells nothing */
   KIGVARP_SPENT = 9,      /* the fabric or the checker answers no further line: nothing was done */
   KIGVARP_BAD = 10,       /* the characters are no symbol, or the bytes carry no packet: nothing was done */
   KIGVARP_UNLAWFUL = 11,  /* a reason hits a line of the trace: the checker is spent */
@@ -114,11 +115,15 @@ struct kigvarp_hit { uint32_t line, reason; };
    value, or a read if write is 0; the destination ID, and an offset of 24 bits. */
 struct kigvarp_ask { uint8_t prio, hop, tid, large, write; uint16_t dest; uint32_t offset, value; };
 
-/* What comes of it. */
+/* A node's access to a register of its own: a write of value, or a read if write is 0, at an offset of 24 bits. */
+struct kigvarp_own { uint8_t write; uint32_t offset, value; };
+
+/* What comes of a request or an access. */
 enum {
   KIGVARP_VALUE = 1,      /* value was read */
   KIGVARP_WRITTEN = 2,    /* it was written */
-  KIGVARP_NOT_DONE = 3,   /* a response says that it is not done: value is its status */
+  KIGVARP_NOT_DONE = 3,   /* a response says that it is not done: value is its status. Of a node's own register it is 7: none
+                             stands there, or none that can be written */
   KIGVARP_UNANSWERED = 4, /* no response came */
   KIGVARP_NOT_ASKED = 5   /* it was not carried out: value is the number of the reason (docs/refusals.md) */
 };
@@ -188,6 +193,13 @@ uint32_t kigvarp_fabric_line(struct kigvarp_fabric *fabric, const uint8_t *line,
    it. The text of the line before is forgotten, and the answer of that line waits. A name that a script cannot say and a field
    out of range are KIGVARP_ARGUMENT. KIGVARP_NO_MEMORY: nothing was done. */
 uint32_t kigvarp_fabric_ask(struct kigvarp_fabric *fabric, const uint8_t *host, size_t length, const struct kigvarp_ask *ask,
+                            struct kigvarp_reply *reply);
+
+/* Has an endpoint, by its name without a zero after it, read or write a register of its own without a packet. This counts as no
+   line, and the text that waits stays. Set-up lines end before it, as before an event. A write is in no trace: what is told after
+   it goes on from the registers as they are. KIGVARP_NOT_ASKED: no endpoint has this name, and nothing was done. An offset out of
+   range is KIGVARP_ARGUMENT. KIGVARP_CUT: memory was refused, and the fabric is spent. */
+uint32_t kigvarp_fabric_own(struct kigvarp_fabric *fabric, const uint8_t *node, size_t length, const struct kigvarp_own *own,
                             struct kigvarp_reply *reply);
 
 /* Takes the text that waits, as much of it as has room: count is how many bytes, and 0 if no more waits. */

@@ -220,6 +220,21 @@ static void asks(void) {
   else if (status != KIGVARP_CLOSED) want(!told->kind && !told->value, "nothing is told");
 }
 
+static void owns(void) {
+  static const char *const nodes[] = {"A", "B", "S", "", "A1", "Abcdefghi", "A B", "A\nB", " A", "A # it"};
+  const char *node = nodes[chance(sizeof nodes / sizeof *nodes)];
+  size_t length = strlen(node);
+  struct kigvarp_own *it = edge(1, sizeof *it);
+  struct kigvarp_reply *told = edge(2, sizeof *told);
+  it->write = (uint8_t)chance(3), it->value = (uint32_t)state;
+  it->offset = chance(2) ? 4 * chance(0x60) : chance((1u << 24) + (chance(6) ? 0 : 1u << 24));
+  uint32_t status = is("fabric_own", kigvarp_fabric_own(&fabric, memcpy(edge(0, length), node, length), length, it, told));
+  is_closed(fabric.open != 0, status);
+  if (status == KIGVARP_OK)
+    want(told->kind - 1 < KIGVARP_NOT_ASKED && told->kind != KIGVARP_UNANSWERED, "what came of it is one of them");
+  else if (status != KIGVARP_CLOSED) want(!told->kind && !told->value, "nothing is told");
+}
+
 static void checks(void) {
   struct kigvarp_hit *hit = edge(1, sizeof *hit);
   uint32_t *steps = edge(2, sizeof *steps);
@@ -286,7 +301,7 @@ static void words(void) {
 
 static void one(void) {
   int end = (int)chance(2);
-  switch (chance(12)) {
+  switch (chance(13)) {
     case 0: case 1: port_characters(end); break;
     case 10: port_clocks(end); break;
     case 2: port_turns(end); break;
@@ -298,6 +313,7 @@ static void one(void) {
     case 8: readings(); break;
     case 9: words(); break;
     case 11: asks(); break;
+    case 12: owns(); break;
   }
 }
 

@@ -25,6 +25,7 @@ static struct kigvarp_clocks_did clocks = {7, 7, 7, 7};
 static struct kigvarp_state told;
 static const struct kigvarp_header header = {0, 15, 0, 1, 2};
 static const struct kigvarp_ask ask = {.dest = 1, .hop = 255, .offset = 0x68};
+static const struct kigvarp_own own = {.offset = 0x68};
 static struct kigvarp_reply reply = {7, 7};
 
 /* Whether the rooms have what was put there, and nothing is counted. */
@@ -63,6 +64,7 @@ static void closed_fabric(void) {
   want(kigvarp_fabric_line(&fabric, line, 5) == KIGVARP_CLOSED, "no line of a closed fabric");
   want(kigvarp_fabric_text(&fabric, bytes, sizeof bytes, &count) == KIGVARP_CLOSED, "no text of a closed fabric");
   want(kigvarp_fabric_ask(&fabric, line, 1, &ask, &reply) == KIGVARP_CLOSED && reply.kind == 7, "no ask of a closed fabric");
+  want(kigvarp_fabric_own(&fabric, line, 1, &own, &reply) == KIGVARP_CLOSED && reply.kind == 7, "no node of a closed one");
   want(untouched() && !fabric.open && !fabric.at, "a closed fabric changes nothing");
 }
 
@@ -204,6 +206,37 @@ static void asks_out_of_range(void) {
   reply = (struct kigvarp_reply){7, 7};
 }
 
+static uint32_t owns(const char *node, struct kigvarp_own it) {
+  reply = (struct kigvarp_reply){7, 7};
+  return kigvarp_fabric_own(&fabric, (const uint8_t *)node, strlen(node), &it, &reply);
+}
+
+static int came(uint32_t kind, uint32_t value) { return reply.kind == kind && reply.value == value; }
+
+/* Registers of a node's own, by docs/registers.md: the text that waits stays, and names that are none are refused. */
+static void own_registers(void) {
+  static const char *const names[] = {"S", "B", "", "1A", "A\n", "Abcdefghi"};
+  want(kigvarp_fabric_open(&fabric) == KIGVARP_OK && gives("endpoint A 5") == KIGVARP_OK, "an endpoint");
+  want(gives("switch S 4") == KIGVARP_OK && gives("nonsense") == KIGVARP_OK, "a line is refused, and its text waits");
+  want(owns("A", (struct kigvarp_own){.offset = 1 << 24}) == KIGVARP_ARGUMENT && came(0, 0), "a long offset");
+  for (size_t i = 0; i < sizeof names / sizeof *names; i++)
+    want(owns(names[i], own) == KIGVARP_OK && reply.kind == KIGVARP_NOT_ASKED && reply.value, "a name of no endpoint");
+  want(gives("link A.0 S.1") == KIGVARP_OK && gives("nonsense") == KIGVARP_OK, "the set-up goes on");
+  want(owns("A", (struct kigvarp_own){.offset = 0x60}) == KIGVARP_OK && came(KIGVARP_VALUE, 0x5ffff), "its ID is read");
+  want(owns("A", (struct kigvarp_own){1, 0x60, 0x70000}) == KIGVARP_OK && came(KIGVARP_WRITTEN, 0), "it has another");
+  want(owns("A", (struct kigvarp_own){.offset = 0x60}) == KIGVARP_OK && came(KIGVARP_VALUE, 0x7ffff), "which is read");
+  want(owns("A", (struct kigvarp_own){1, 0x6c, 0xdeadbeef}) == KIGVARP_OK && came(KIGVARP_WRITTEN, 0), "a tag is written");
+  want(owns("A", (struct kigvarp_own){.offset = 0x6c}) == KIGVARP_OK && came(KIGVARP_VALUE, 0xdeadbeef), "and read");
+  want(owns("A", (struct kigvarp_own){1, 0x10, 1}) == KIGVARP_OK && came(KIGVARP_NOT_DONE, 7), "features are not written");
+  want(owns("A", (struct kigvarp_own){.offset = 0x70}) == KIGVARP_OK && came(KIGVARP_NOT_DONE, 7), "no route select");
+  want(owns("A", (struct kigvarp_own){.offset = 0x6d}) == KIGVARP_OK && came(KIGVARP_NOT_DONE, 7), "between two registers");
+  want(kigvarp_fabric_text(&fabric, bytes, sizeof bytes, &count) == KIGVARP_OK && count > 3, "the text waits still");
+  want(gives("endpoint B 6") == KIGVARP_OK, "a set-up line is answered");
+  want(kigvarp_fabric_text(&fabric, bytes, sizeof bytes, &count) == KIGVARP_OK && !memcmp(bytes, "refused 12 ", 11), "too late");
+  want(kigvarp_fabric_close(&fabric) == KIGVARP_OK, "an open fabric is closed");
+  reply = (struct kigvarp_reply){7, 7};
+}
+
 int main(void) {
   want(!strcmp(kigvarp_status_words(KIGVARP_REFUSED), "refused"), "a status has words");
   want(!strcmp(kigvarp_status_words(KIGVARP_REFUSED + 1), "no status"), "and what is none has others");
@@ -217,6 +250,7 @@ int main(void) {
   full();
   texts();
   asks_out_of_range();
+  own_registers();
   clocks = (struct kigvarp_clocks_did){7, 7, 7, 7};
   closed_port();
   closed_fabric();

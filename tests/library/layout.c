@@ -21,6 +21,7 @@ IS(sizeof(struct kigvarp_reading), 8);
 IS(sizeof(struct kigvarp_packet), 8);
 IS(sizeof(struct kigvarp_hit), 8);
 IS(sizeof(struct kigvarp_ask), 16);
+IS(sizeof(struct kigvarp_own), 12);
 IS(sizeof(struct kigvarp_reply), 8);
 IS(sizeof(kigvarp_char), 2);
 AT(port, at, 0); AT(port, open, sizeof(void *));
@@ -38,6 +39,7 @@ AT(packet, ack, 0); AT(packet, prio, 1); AT(packet, tt, 2); AT(packet, ftype, 3)
 AT(hit, line, 0); AT(hit, reason, 4);
 AT(ask, prio, 0); AT(ask, hop, 1); AT(ask, tid, 2); AT(ask, large, 3); AT(ask, write, 4); AT(ask, dest, 6); AT(ask, offset, 8);
 AT(ask, value, 12);
+AT(own, write, 0); AT(own, offset, 4); AT(own, value, 8);
 AT(reply, kind, 0); AT(reply, value, 4);
 AT(state, output, 0); AT(state, input, 4); AT(state, outstanding, 8); AT(state, waiting, 12);
 

@@ -88,6 +88,27 @@ static int asks(long number) {
   return reached;
 }
 
+/* The same of a node's own register: what it wrote is read once memory is there, or the fabric is spent. */
+static int owns(long number) {
+  static const struct kigvarp_own read = {.offset = 0x6c}, write = {1, 0x6c, 0xcafe};
+  struct kigvarp_reply reply = {7, 7};
+  refused = -1;
+  want(opens(1) == KIGVARP_OK, "opened", number);
+  for (int at = 0; at < 3; at++)
+    want(!kigvarp_fabric_line(&fabric, (const uint8_t *)FABRIC[at], strlen(FABRIC[at])), "set up", number);
+  asked = 0, refused = number;
+  uint32_t status = kigvarp_fabric_own(&fabric, (const uint8_t *)"A", 1, &write, &reply);
+  int reached = asked > number;
+  refused = -1;
+  want(status == KIGVARP_OK || status == KIGVARP_CUT, "a status of memory", number);
+  want(!reply.value && reply.kind == (status == KIGVARP_OK ? KIGVARP_WRITTEN : 0), "what came of it", number);
+  uint32_t again = kigvarp_fabric_own(&fabric, (const uint8_t *)"A", 1, &read, &reply);
+  want(again == (status == KIGVARP_CUT ? KIGVARP_SPENT : KIGVARP_OK), "spent if it was cut, and else read", number);
+  want(again ? !reply.kind && !reply.value : reply.kind == KIGVARP_VALUE && reply.value == 0xcafe, "the value", number);
+  want(closes(1) == KIGVARP_OK, "closed", number);
+  return reached;
+}
+
 /* All lines, and whether the refused request was reached. */
 static int lines(int is_fabric, long number) {
   const char *const *texts = is_fabric ? FABRIC : PORT;
@@ -170,6 +191,8 @@ int main(void) {
     for (long number = 0; clocks(number); number++) tried++;
   for (later = 0; later < 2; later++)
     for (long number = 0; asks(number); number++) tried++;
+  for (later = 0; later < 2; later++)
+    for (long number = 0; owns(number); number++) tried++;
   printf("%ld refusals\n", tried);
   return failed || tried < 40;
 }

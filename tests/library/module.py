@@ -111,15 +111,50 @@ def hosts():
         equal("by 16 bits", large.read(258, 255, 0x60), 0x00010102)
         for number in range(300):
             equal("again", host.read(1, 0, 0x6C), 0xCAFE)
-        for what, said in (
+        not_done((
             (lambda: host.read(1, 0, 1), "error 7"),
             (lambda: host.write(1, 0, 0, 1), "error 7"),
-            (lambda: host.read(1, 256, 0), "refused 2 word 5 must be a number from 0 to 255 in decimal"),
-        ):
+            (lambda: Host(fabric, "N").read(1, 0, 0x6C), "refused 5"),
+        ))
+        for what in (lambda: host.read(1, 256, 0), lambda: host.read(256, 0, 0), lambda: host.write(1, 0, 1 << 24, 0),
+                     lambda: host.write(1, 0, 0x6C, -1), lambda: Host(fabric, "H", prio=4).read(1, 0, 0)):
             try:
-                sys.exit(f"{said}: {what()}")
-            except NotDone as done:
-                equal("not done", done.said, said)
+                sys.exit(f"out of range: {what()}")
+            except NotAsked as fault:
+                equal("status", fault.status, Status.ARGUMENT)
+
+
+def own():
+    """A host's own registers: what it writes another host reads, and the text that waits stays."""
+    with Fabric() as fabric:
+        for line in ("endpoint H 0", "switch S 2", "endpoint A 1", "endpoint B 2", "link H.0 A.0", "serve all", "quiet"):
+            equal(line, fabric.ask(line), [])
+        host, far = Host(fabric, "H"), Host(fabric, "A")
+        host.own_write(0x6C, 0xCAFE)
+        equal("by packets", far.read(0, 255, 0x6C), 0xCAFE)
+        far.write(0, 255, 0x6C, 0xBEEF)
+        equal("back", (host.own_read(0x6C), fabric.own_read("A", 0x6C)), (0xBEEF, 0))
+        fabric.own_write("A", 0x60, 9 << 16)
+        equal("another ID", host.read(9, 255, 0x60), 9 << 16 | 0xFFFF)
+        not_done((
+            (lambda: host.own_read(0x70), "error 7"),
+            (lambda: host.own_write(0x10, 1), "error 7"),
+            (lambda: fabric.own_read("S", 0x70), "refused 11"),
+            (lambda: fabric.own_read("N", 0x68), "refused 5"),
+            (lambda: Host(fabric, "B").read(0, 255, 0x6C), "unanswered"),
+        ))
+        try:
+            sys.exit(f"a long offset: {host.own_read(1 << 24)}")
+        except NotAsked as fault:
+            equal("status", fault.status, Status.ARGUMENT)
+
+
+def not_done(cases):
+    for what, said in cases:
+        try:
+            sys.exit(f"{said}: {what()}")
+        except NotDone as done:
+            equal("not done", done.said, said)
 
 
 def texts():
@@ -127,5 +162,5 @@ def texts():
     equal("numbers", chars_of("k1c dff inv"), [0x11C, 0xFF, 0x200])
 
 
-for case in (packets, runs, clocks, statuses, lines, hosts, texts):
+for case in (packets, runs, clocks, statuses, lines, hosts, own, texts):
     case()

@@ -3,12 +3,13 @@ ghost use Rattle.std.specs.Prelude.{◌≡◌, ◌∷◌, [], List, MatchOption,
 ghost use Rattle.library_calls.specs.FabricsSeen.{FabricSeen, FabricHolds, FabricTextTaken};
 ghost use Rattle.library_calls.specs.FabricLines.{FabricLineDid};
 ghost use Rattle.library_calls.specs.FabricAsks.{FabricAskDid};
+ghost use Rattle.library_calls.specs.FabricOwn.{FabricOwnDid};
 ghost use Rattle.kigvarp_c.specs.Handles.{IsFabricHandle, OpensFabric};
 ghost use Rattle.kigvarp_c.specs.Calls.{Calls, Always, OpensBy, ClosesBy};
 
 use crate::fabric_handle::FabricHandle;
 use crate::parts::Parts;
-use library_calls::{CallStatus, OpenFabric, RegisterAsk, RegisterReply, call_number};
+use library_calls::{CallStatus, OpenFabric, OwnAccess, RegisterAsk, RegisterReply, call_number};
 use std::alloc::Global;
 use std::mem;
 
@@ -115,6 +116,29 @@ pub extern "C" fn kigvarp_fabric_ask(
         return call_number(CallStatus::Closed);
     };
     let status = opened.ask(alloc, host, ask, told);
+    put_fabric(fabric, opened);
+    call_number(status)
+}
+
+/// Has the node of this name read or write one of its own registers without a packet, and tells
+/// what came of it.
+#[unsafe(no_mangle)]
+pub extern "C" fn kigvarp_fabric_own(
+    alloc: Global,
+    fabric: &mut KigvarpFabric,
+    name: &[u8],
+    access: &OwnAccess,
+    told: &mut RegisterReply,
+) -> u32
+    requires { IsFabricHandle fabric.old }
+    ensures handle { IsFabricHandle fabric.new }
+    ensures does { Calls (told.new ≡ told.old) (FabricOwnDid name.now access.now told.new)
+        fabric.old.handle.fabrics result fabric.new.handle.fabrics }
+{
+    let Some(mut opened) = take_fabric(alloc, fabric) else {
+        return call_number(CallStatus::Closed);
+    };
+    let status = opened.own(alloc, name, access, told);
     put_fabric(fabric, opened);
     call_number(status)
 }

@@ -6,4 +6,5 @@ pub mod RunLaws
 pub mod TextLaws
 pub mod FabricLaws
 pub mod FabricAskLaws
+pub mod FabricOwnLaws
 pub mod ClockCounts

@@ -14,3 +14,4 @@ pub mod States
 pub mod FabricsSeen
 pub mod FabricLines
 pub mod FabricAsks
+pub mod FabricOwn

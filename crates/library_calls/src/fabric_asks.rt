@@ -13,7 +13,7 @@ use rio_chars::{Outbox, Sink, TextBuffer};
 use std::alloc::Global;
 
 /// Nothing came of it.
-const NO_REPLY: RegisterReply = RegisterReply { kind: 0, value: 0 };
+pub(crate) const NO_REPLY: RegisterReply = RegisterReply { kind: 0, value: 0 };
 
 impl OpenFabric {
     /// Does what a line `ask` of this host does, and tells what came of it. If the host has no name
@@ -206,7 +206,7 @@ fn wide_line(ask: &RegisterAsk) -> Line
 }
 
 /// What came of an ask, in numbers.
-fn outcome_numbers(outcome: AskOutcome) -> RegisterReply
+pub(crate) fn outcome_numbers(outcome: AskOutcome) -> RegisterReply
     ensures { result ≡ outcome_numbers outcome }
 {
     match outcome {

@@ -7,15 +7,16 @@
 //! Left out: handles, and what C owes.
 //!
 //! - [`OpenPort`]: lines, characters, turns, clocks, packets and the state of a port
-//! - [`OpenFabric`]: lines of a fabric, and asks of its registers
+//! - [`OpenFabric`]: lines of a fabric, asks of its registers, and what its nodes do with their own
 //! - [`CallStatus`]: what a call answers; [`call_number`]: its number
 //! - [`CharDid`], [`RunDid`], [`ClocksTold`], [`PacketHeader`], [`StateTold`], [`RegisterAsk`],
-//!   [`RegisterReply`]: what is passed and told
+//!   [`OwnAccess`], [`RegisterReply`]: what is passed and told
 #![tactic(auto)]
 
 mod checks;
 mod clocks;
 mod fabric_asks;
+mod fabric_own;
 mod laws;
 mod open_fabric;
 mod open_port;
@@ -37,8 +38,8 @@ pub use open_port::OpenPort;
 pub use readings::decode;
 pub use status::{CallStatus, call_number};
 pub use told::{
-    CharDid, ClocksTold, EventTold, HitTold, PacketHeader, PacketTold, ReadingTold, RegisterAsk,
-    RegisterReply, RunDid, StateTold, SymbolTold,
+    CharDid, ClocksTold, EventTold, HitTold, OwnAccess, PacketHeader, PacketTold, ReadingTold,
+    RegisterAsk, RegisterReply, RunDid, StateTold, SymbolTold,
 };
 pub use wires::{char_wire, wire_char};
 pub use words::{read_packet, read_symbol, write_packet, write_symbol};

@@ -23,7 +23,8 @@ pub enum CallStatus {
     /// A port acted on an event that was not sent, which the answer tells. The fabric is spent.
     Undetected,
     /// Memory was refused while a line was answered: a front of the answer waits. A port went on as
-    /// the answer says; a fabric or a checker is spent.
+    /// the answer says; a fabric or a checker is spent. A fabric is also if memory was refused to a
+    /// node's access to its own registers.
     Cut,
     /// The fabric or the checker answers no further line. Nothing was done.
     Spent,

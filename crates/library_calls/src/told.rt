@@ -164,6 +164,18 @@ pub struct RegisterAsk {
     pub value: u32,
 }
 
+/// An access of a node to one of its own registers.
+#[repr(C)]
+#[derive(Clone, Copy)]
+pub struct OwnAccess {
+    /// Whether the register is written, or read if it is 0.
+    pub write: u8,
+    /// The offset of the register, of 24 bits.
+    pub offset: u32,
+    /// The value that is written.
+    pub value: u32,
+}
+
 /// What came of a request of a register.
 #[repr(C)]
 #[derive(Clone, Copy)]

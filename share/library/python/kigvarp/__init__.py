@@ -11,8 +11,8 @@ The library is looked for at KIGVARP_LIBRARY, beside this package, and where the
 says what each call does and what is proved of it.
 """
 from .checker import Checker
-from .fabric import Fabric
-from .host import Host, NotDone
+from .fabric import Fabric, NotDone
+from .host import Host
 from .library import Broken, Closed, KigvarpError, NotAsked, OutOfMemory, Refused, Spent, Status, Unlawful
 from .port import CharDid, ClocksDid, Port, RunDid, State
 from .text import char_text, chars_of, text_of

@@ -1,17 +1,11 @@
 """A host, which reads and writes the registers of a fabric."""
 from .fabric import Fabric
-
-
-class NotDone(Exception):
-    """A register was not read or written: `said` is what the fabric says, `unanswered`, `error 7` or why it refuses."""
-
-    def __init__(self, said: str) -> None:
-        super().__init__(said)
-        self.said = said
+from .library import AskC, within
 
 
 class Host:
-    """An endpoint of a fabric that reads and writes registers, each by one line `ask` (docs/live.md).
+    """An endpoint of a fabric that reads and writes registers, each by one request, which does what a line `ask` does
+    (docs/live.md). A register that is not read or written is the exception `NotDone`.
 
     Endpoints answer if they are served: `fabric.ask("serve all")`. With `large` the IDs have 16 bits.
     """
@@ -25,19 +19,24 @@ class Host:
 
     def read(self, dest: int, hop: int, offset: int) -> int:
         """The register at an offset of the device to which the ID leads, so many hops away at most."""
-        said = self._ask("read", dest, hop, f"{offset:06x}")
-        if not said.startswith("value "):
-            raise NotDone(said)
-        return int(said.split()[1], 16)
+        return self._ask(0, dest, hop, offset, 0)
 
     def write(self, dest: int, hop: int, offset: int, value: int) -> None:
         """Writes that register."""
-        said = self._ask("write", dest, hop, f"{offset:06x} {value:08x}")
-        if said != "written":
-            raise NotDone(said)
+        self._ask(1, dest, hop, offset, value)
 
-    def _ask(self, kind: str, dest: int, hop: int, words: str) -> str:
-        """What is said of the response."""
+    def own_read(self, offset: int) -> int:
+        """The register at an offset of the host itself, without a packet."""
+        return self.fabric.own_read(self.node, offset)
+
+    def own_write(self, offset: int, value: int) -> None:
+        """Writes that register."""
+        self.fabric.own_write(self.node, offset, value)
+
+    def _ask(self, write: int, dest: int, hop: int, offset: int, value: int) -> int:
+        """What comes of a request."""
+        within(8, self.prio, hop)
+        within(16, dest)
+        within(32, offset, value)
         self._number = (self._number + 1) % 256
-        kind += "16" if self.large else ""
-        return self.fabric.ask(f"ask {kind} {self.node} {self.prio} {dest} {hop} {self._number} {words}")[-1]
+        return self.fabric.request(self.node, AskC(self.prio, hop, self._number, int(self.large), write, dest, offset, value))

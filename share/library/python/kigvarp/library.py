@@ -157,6 +157,25 @@ class HitC(ctypes.Structure):
     _fields_ = [("line", ctypes.c_uint32), ("reason", ctypes.c_uint32)]
 
 
+class AskC(ctypes.Structure):
+    """struct kigvarp_ask"""
+
+    _fields_ = [(name, ctypes.c_uint8) for name in ("prio", "hop", "tid", "large", "write")]
+    _fields_ += [("dest", ctypes.c_uint16), ("offset", ctypes.c_uint32), ("value", ctypes.c_uint32)]
+
+
+class OwnC(ctypes.Structure):
+    """struct kigvarp_own"""
+
+    _fields_ = [("write", ctypes.c_uint8), ("offset", ctypes.c_uint32), ("value", ctypes.c_uint32)]
+
+
+class ReplyC(ctypes.Structure):
+    """struct kigvarp_reply"""
+
+    _fields_ = [("kind", ctypes.c_uint32), ("value", ctypes.c_uint32)]
+
+
 BYTES = ctypes.c_char_p
 ROOM = ctypes.c_void_p
 SIZE = ctypes.c_size_t
@@ -179,6 +198,8 @@ CALLS = {
     "fabric_open": (),
     "fabric_close": (),
     "fabric_line": (BYTES, SIZE),
+    "fabric_ask": (BYTES, SIZE, ctypes.POINTER(AskC), ctypes.POINTER(ReplyC)),
+    "fabric_own": (BYTES, SIZE, ctypes.POINTER(OwnC), ctypes.POINTER(ReplyC)),
     "fabric_text": (ROOM, SIZE, ctypes.POINTER(SIZE)),
     "checker_open": (BYTES, SIZE, ctypes.POINTER(HitC)),
     "checker_close": (),
@@ -222,6 +243,12 @@ def well(status: int) -> None:
     """Raises what a status says that is not well."""
     if status:
         raise ERRORS.get(Status(status), KigvarpError)(Status(status))
+
+
+def within(bits: int, *fields: int) -> None:
+    """Raises, unless each field is a number of so many bits."""
+    if not all(0 <= field < 1 << bits for field in fields):
+        raise NotAsked(Status.ARGUMENT)
 
 
 class Handled:
