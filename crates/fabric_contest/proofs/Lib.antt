@@ -1,6 +1,7 @@
 mod Distinct
 mod Goings
 mod Playing
+mod StillWaiting
 mod Stopping
 mod Begun
 mod Telling

@@ -1,6 +1,6 @@
--- Once both walkers have stopped, turns change nothing.
-use Rattle.std.proofs.Common.{◌≡◌, ℕ, suc, ◌+◌, ◌-◌, ◌<◌, true, ◌&&◌, List, [], ◌∷◌, None, arith, refl, sym, ap, ◌∙◌}
-use Rattle.std.proofs.lemmas.Bool.{and_parts}
+-- Once each walker waits or has stopped, turns change nothing.
+use Rattle.std.proofs.Common.{◌≡◌, ℕ, suc, ◌+◌, ◌-◌, ◌<◌, true, ◌&&◌, ◌||◌, List, [], ◌∷◌, None, ◌⊎◌, inl, inr, arith, refl, sym, ap, ◌∙◌}
+use Rattle.std.proofs.lemmas.Bool.{and_parts, or_cases}
 use Rattle.fabric_map.specs.Routes.{AllRegisters}
 use Rattle.link_watch.specs.declared.side.Side.{Side}
 use Rattle.link_watch.specs.declared.side.Side.TheVariants.{A, B}
@@ -14,7 +14,9 @@ use Rattle.host_contest.specs.Machines.{is_clear, is_last_stage}
 use Rattle.host_contest.proofs.Stepping.{idle, turned_later}
 use Rattle.fabric_contest.specs.Contests.{both_of, has_stopped}
 use Rattle.fabric_contest.specs.declared.contest.Contest.{Contest}
+use Rattle.fabric_contest.specs.declared.contest.WhoWaits.{WhoWaits}
 use Rattle.fabric_contest.specs.Orders.{side_by, sides_behind}
+use Rattle.fabric_contest.specs.Waits.{WaitsChangeNothing}
 use Rattle.fabric_contest.proofs.Playing.{first_at, second_at}
 
 -- ---- of any turns
@@ -79,31 +81,54 @@ stopped_turns w registers begun over =
     let parts = and_parts (is_last_stage w.stage) (is_clear w.todo) over in
     sym (idle w registers (no_wants w parts.0 parts.1) ∙ turned_later w registers begun)
 
-module _ (contest : Contest)
-    (stopped : (has_stopped contest.first && has_stopped contest.second) ≡ true) where
-  stopped_of : (side : Side) → turn_of (both_of contest) side ≡ both_of contest
-  stopped_of A =
+module _ (contest : Contest) (waits : WhoWaits) (so : WaitsChangeNothing (both_of contest) waits)
+    (still : ((waits.first || has_stopped contest.first)
+    && (waits.second || has_stopped contest.second)) ≡ true) where
+  first_stopped : has_stopped contest.first ≡ true → turn_of (both_of contest) A ≡ both_of contest
+  first_stopped first =
       let both = both_of contest in
-      let first = (and_parts (has_stopped contest.first) (has_stopped contest.second) stopped).0 in
-      let parts = and_parts both.first.begun (is_last_stage both.first.stage
-      && is_clear both.first.todo)
-      first in
+      let parts = and_parts both.first.begun
+      (is_last_stage both.first.stage && is_clear both.first.todo) first in
       ap (λ (s : State). first_at s both.second)
       (stopped_turns both.first both.registers parts.0 parts.1)
-  stopped_of B =
+
+  second_stopped : has_stopped contest.second ≡ true
+      → turn_of (both_of contest) B ≡ both_of contest
+  second_stopped second =
       let both = both_of contest in
-      let second = (and_parts (has_stopped contest.first) (has_stopped contest.second) stopped).1 in
       let parts = and_parts both.second.begun
       (is_last_stage both.second.stage && is_clear both.second.todo) second in
       ap (λ (s : State). second_at s both.first)
       (stopped_turns both.second both.registers parts.0 parts.1)
 
+  still_of : (side : Side) → turn_of (both_of contest) side ≡ both_of contest
+  still_of side = go side
+    where
+      each : ((waits.first || has_stopped contest.first) ≡ true)
+          × ((waits.second || has_stopped contest.second) ≡ true)
+      each = and_parts (waits.first || has_stopped contest.first)
+          (waits.second || has_stopped contest.second) still
+
+      first : (waits.first ≡ true) ⊎ (has_stopped contest.first ≡ true)
+          → turn_of (both_of contest) A ≡ both_of contest
+      first (inl waiting) = so.first waiting
+      first (inr stopped) = first_stopped stopped
+
+      second : (waits.second ≡ true) ⊎ (has_stopped contest.second ≡ true)
+          → turn_of (both_of contest) B ≡ both_of contest
+      second (inl waiting) = so.second waiting
+      second (inr stopped) = second_stopped stopped
+
+      go : (side : Side) → turn_of (both_of contest) side ≡ both_of contest
+      go A = first (or_cases waits.first (has_stopped contest.first) each.0)
+      go B = second (or_cases waits.second (has_stopped contest.second) each.1)
+
   -- whatever turns are left
-  pub stopped_end : (sides : List Side) (end : Both) → after_turns (both_of contest) sides ≡ end
+  pub still_end : (sides : List Side) (end : Both) → after_turns (both_of contest) sides ≡ end
       → both_of contest ≡ end
-  stopped_end sides end was =
+  still_end sides end was =
       sym (stays turn_of after_turns (λ s. refl) (λ s side sides. refl) (both_of contest)
-      stopped_of sides)
+      still_of sides)
       ∙ was
 
 module _ (s t end : Both) (count made number next : ℕ) where

@@ -1,12 +1,13 @@
 //! `Contest`: two hosts, and the fabric that they contest.
-ghost use Rattle.std.specs.Prelude.{◌≡◌, ◌≢◌, ◌&&◌, ◌<◌, OnOk, IfOk};
+ghost use Rattle.std.specs.Prelude.{◌≡◌, ◌≢◌, ◌&&◌, ◌||◌, ◌<◌, ◌↔◌, IsTrue, OnOk, IfOk};
 ghost use Rattle.fabric_script.specs.Scripts.{ScriptPasses};
 ghost use Rattle.host_enumerate.specs.Devised.{IsHost, devices_of, links_of};
-ghost use Rattle.contest_machine.specs.declared.stages.Turn.TheVariants.{Going};
+ghost use Rattle.contest_machine.specs.declared.stages.Turn.TheVariants.{Going, Waiting};
 ghost use Rattle.contest_machine.specs.Turns.{turn_of, after_turns};
 ghost use Rattle.fabric_contest.specs.Contests.{new_both, both_of, has_stopped, CanTurn};
 ghost use Rattle.fabric_contest.specs.LastTurns.{lasts_of, lasts_after, lasts_after_turns, goings_of, goings_after, goings_after_turns};
 ghost use Rattle.fabric_contest.specs.Orders.{sides_behind, seeded_turns};
+ghost use Rattle.fabric_contest.specs.Waits.{HaveBegun, WaitsChangeNothing};
 
 use crate::orders::{first_number, next_number, side_by};
 use crate::over::{id_of, turn_over};
@@ -20,6 +21,19 @@ use std::alloc::Global;
 
 /// How many turns are made at most behind the first two.
 const LATER_TURNS: u32 = 99_998;
+
+/// Which of two hosts wait, so that a turn of one leaves all as it is.
+#[derive(Clone, Copy)]
+struct WhoWaits {
+    first: bool,
+    second: bool,
+}
+
+/// Neither.
+const NOBODY: WhoWaits = WhoWaits {
+    first: false,
+    second: false,
+};
 
 /// Two walkers of one fabric, the nodes of their hosts, and its script. Side A is the first. After
 /// `NoMemory` it is of no use.
@@ -135,8 +149,8 @@ impl<'a> Contest<'a> {
         (self.first.last(), self.second.last())
     }
 
-    /// The turns that a number stands for, 100,000 of them. None is made once both hosts have
-    /// ended, since it would change nothing.
+    /// The turns that a number stands for, 100,000 of them. None is made once each host waits or
+    /// has ended, since it would change nothing.
     pub fn turns_by(&mut self, alloc: Global, seed: u32) -> Result<(), NoMemory>
         requires can { CanTurn self.old }
         ensures both { OnOk result (both_of self.new ≡ after_turns (both_of self.old)
@@ -152,19 +166,57 @@ impl<'a> Contest<'a> {
     fn later_turns(&mut self, alloc: Global, first: u32, count: u32) -> Result<(), NoMemory>
         requires small { first < 2147483648 }
         requires can { CanTurn self.old }
+        requires begun { HaveBegun (both_of self.old) }
         ensures both { OnOk result (both_of self.new ≡ after_turns (both_of self.old)
             (sides_behind count first)) }
         ensures can { OnOk result (CanTurn self.new) }
     {
         let mut number = first;
+        let mut waits = NOBODY;
         for _ in 0..count {
-            if self.has_stopped() {
+            if self.is_still(waits) {
                 return Ok(());
             }
             number = next_number(number);
-            self.turn(alloc, side_by(number))?;
+            waits = self.turn_and_see(alloc, side_by(number), waits)?;
         }
         Ok(())
+    }
+
+    /// Whether no turn changes anything any more: each host waits or has ended.
+    fn is_still(&self, waits: WhoWaits) -> bool
+        ensures { result ≡ ((waits.first || has_stopped self.now.first)
+            && (waits.second || has_stopped self.now.second)) }
+    {
+        (waits.first || has_stopped(&self.first)) && (waits.second || has_stopped(&self.second))
+    }
+
+    /// One turn of one of the hosts. A host that waits in it leaves the other waiting; any other
+    /// turn may end what a host waits for.
+    fn turn_and_see(
+        &mut self,
+        alloc: Global,
+        side: Side,
+        waits: WhoWaits,
+    ) -> Result<WhoWaits, NoMemory>
+        requires can { CanTurn self.old }
+        requires waits { WaitsChangeNothing (both_of self.old) waits }
+        ensures both { OnOk result (both_of self.new ≡ turn_of (both_of self.old) side) }
+        ensures can { OnOk result (CanTurn self.new) }
+        ensures waits { IfOk result (λ waits. WaitsChangeNothing (both_of self.new) waits) }
+    {
+        self.turn(alloc, side)?;
+        match side {
+            Side::A if has_waited(&self.first) => Ok(WhoWaits {
+                first: true,
+                ..waits
+            }),
+            Side::B if has_waited(&self.second) => Ok(WhoWaits {
+                second: true,
+                ..waits
+            }),
+            _ => Ok(NOBODY),
+        }
     }
 
     /// The first host.
@@ -180,13 +232,6 @@ impl<'a> Contest<'a> {
     {
         &self.second
     }
-
-    /// Whether both hosts have begun and make no access any more.
-    pub fn has_stopped(&self) -> bool
-        ensures { result ≡ (has_stopped self.now.first && has_stopped self.now.second) }
-    {
-        has_stopped(&self.first) && has_stopped(&self.second)
-    }
 }
 
 /// Whether a host has begun and makes no access any more.
@@ -194,4 +239,11 @@ fn has_stopped(walker: &Walker) -> bool
     ensures { result ≡ has_stopped walker.now }
 {
     walker.has_begun() && walker.has_ended()
+}
+
+/// Whether a host waited in its last turn.
+fn has_waited(walker: &Walker) -> bool
+    ensures { IsTrue result ↔ (walker.now.last ≡ Waiting) }
+{
+    walker.last() == Turn::Waiting
 }
