@@ -42,6 +42,38 @@ static void keep(const char *text, size_t length) {
     answer[answer_length] = 0;
 }
 
+/* The characters of a line of clocks, each as its word behind a space. */
+static void put_chars(const unsigned short *chars, int count) {
+    static const char digits[] = "0123456789abcdef";
+    fputs("clock", to_port);
+    for (int at = 0; at < count; at++) {
+        unsigned c = chars[at];
+        char word[4] = {' ', c >> 8 ? 'k' : 'd', digits[c >> 4 & 15], digits[c & 15]};
+        fwrite(c > 0x1ff ? " inv" : word, 1, 4, to_port);
+    }
+    fputc('\n', to_port);
+    fflush(to_port);
+}
+
+static unsigned digit(char c) { return c <= '9' ? (unsigned)(c - '0') : (unsigned)(c - 'a' + 10); }
+
+int port_clocks(const unsigned short *chars, int count, unsigned short *given) {
+    ssize_t length;
+    answer_length = place = 0;
+    keep("", 0);
+    put_chars(chars, count);
+    while ((length = getline(&line, &line_room, from_port)) > 0) {
+        if (strcmp(line, "ok\n") == 0) return 0;
+        line[length - 1] = 0;
+        if (strncmp(line, "given ", 6) != 0 || length != 6 + 4 * count)
+            keep(line, (size_t)length);
+        else
+            for (const char *word = line + 6; count > 0; word += 4, count--, given++)
+                *given = (unsigned short)(*word == 'i' ? 0x200 : (*word == 'k') << 8 | digit(word[1]) << 4 | digit(word[2]));
+    }
+    return -1;
+}
+
 int port_ask(const char *text) {
     ssize_t length;
     answer_length = place = 0;

@@ -13,6 +13,10 @@ int port_open(const char *program);
 /* Writes a line, without a line feed, and reads its answer whole. The answer is 0, or -1 if the program is gone. */
 int port_ask(const char *line);
 
+/* Has a clock for each of these characters, of 9 bits, or more for one that is none: given are as many. The answer is as that of
+ * port_ask, and its lines are those before `given`. */
+int port_clocks(const unsigned short *chars, int count, unsigned short *given);
+
 /* The next line of the answer, without a line feed and without the last one, `ok`; or "" if there is none. */
 const char *port_next(void);
 
