@@ -13,7 +13,8 @@ PAGES = {"rio_capture": ("captures.md",), "rio": ("running.md", "decode.md", "sc
 LIBRARY = {"kigvarp": ("library.md",)}
 # What begins a line that a program reads is no word of its command: no completion has it.
 READ = {"rio_port": {"got", "turn", "timeout", "send", "take", "state", "clock", "reset"},
-        "rio_conform": {"accepted", "packet", "part", "data"}, "rio_live": {"quiet", "loud", "serve", "ask"},
+        "rio_conform": {"accepted", "packet", "part", "data"},
+        "rio_live": {"quiet", "loud", "serve", "ask", "standard"},
         "rio_follow": {"lawful", "unlawful", "refused", "answered", "wrong"}}
 HEADS = ("words", "word", "character", "status", "reason", "line", "REASON", "column", "call of a port", "call of a fabric",
          "call of a checker", "call without a handle")
