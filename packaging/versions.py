@@ -10,7 +10,7 @@ TOLD = re.compile(r'(?<=b" )(\d+\.\d+\.\d+)(?=, proved with )')
 # How the number is written elsewhere: before the words of the kit, in the names of packages, and of the module of Python.
 # A version with a date behind it, and the names of other releases in CHANGELOG.md, are no such place.
 OTHERS = re.compile(
-    r"(\d+\.\d+\.\d+)(?=, proved with rattle-kit)"
+    r"(\d+\.\d+\.\d+)(?=, proved with rattle logic)"
     r"|(?<=kigvarp[-_])(\d+\.\d+\.\d+)(?![\d+]|\.\d)"
     r"|(?<=^version = \")(\d+\.\d+\.\d+)(?=\"$)",
     re.M,

@@ -14,7 +14,7 @@ LIBRARY = {"kigvarp": ("library.md",)}
 # What begins a line that a program reads is no word of its command: no completion has it.
 READ = {"rio_port": {"got", "turn", "timeout", "send", "take", "state", "clock", "reset"},
         "rio_conform": {"accepted", "packet", "part", "data"},
-        "rio_live": {"quiet", "loud", "serve", "ask", "standard"},
+        "rio_live": {"quiet", "loud", "serve", "ask", "standard", "external", "sent"},
         "rio_follow": {"lawful", "unlawful", "refused", "answered", "wrong"}}
 HEADS = ("words", "word", "character", "status", "reason", "line", "REASON", "column", "call of a port", "call of a fabric",
          "call of a checker", "call without a handle")
@@ -84,7 +84,7 @@ def trials_of_version(root, name):
     number = run(str(TOP / "packaging/version")).stdout.decode().strip()
     done = run(str(root / f"usr/bin/{name}"), "--version")
     told = (done.stdout + done.stderr).decode()
-    yield f"version of {name}", f"{name} {number}, proved with rattle-kit" not in told and told
+    yield f"version of {name}", f"{name} {number}, proved with rattle logic" not in told and told
 
 
 def trials_of_library(root):

@@ -19,9 +19,9 @@ AsksQuestion question words = words ≡ question_word question ∷ []
 abbrev pub AsksNoQuestion : List (List ℕ) → Type 0
 AsksNoQuestion words = (question : Question) → ¬ AsksQuestion question words
 
--- the program's name, the version, and the kit that proved it
+-- the program's name, the version, and the logic that proved it
 abbrev pub version_text : List ℕ → List ℕ
-version_text name = name ++ codes " 1.0.0, proved with rattle-kit-13f logic dac8208d650f15bf\n"
+version_text name = name ++ codes " 1.0.0, proved with rattle logic dac8208d650f15bf\n"
 
 abbrev pub question_text : List ℕ → List ℕ → Question → List ℕ
 question_text name help Help = help

@@ -6,16 +6,16 @@ ghost use Rattle.program_start.specs.Questions.{AsksQuestion, AsksNoQuestion, qu
 
 use rio_chars::{Sink, write_unless};
 
-/// The newest release, and the kit that proved it in the words of `rt version`, as they stand after
-/// a program's name. `tests/names` compares both with the pages.
-const VERSION: &[u8] = b" 1.0.0, proved with rattle-kit-13f logic dac8208d650f15bf\n";
+/// The newest release, and the prover's logic that proved it, with which `rt version` ends, as they
+/// stand after a program's name. `tests/names` compares both with the pages.
+const VERSION: &[u8] = b" 1.0.0, proved with rattle logic dac8208d650f15bf\n";
 
 /// What each program is asked by one word.
 #[derive(Clone, Copy, Debug, PartialEq, Eq)]
 pub enum Question {
     /// `--help`: how it is used.
     Help,
-    /// `--version`: which version it is, and which kit proved it.
+    /// `--version`: which version it is, and which logic proved it.
     Version,
 }
 
@@ -57,7 +57,7 @@ pub fn answer_question<K: Sink>(sink: &mut K, name: &[u8], help: &[u8], question
     }
 }
 
-/// Writes the program's name, the version and the kit.
+/// Writes the program's name, the version and the logic.
 fn write_version<K: Sink>(sink: &mut K, name: &[u8]) -> bool
     ensures { WritesUnless false (K.written sink.old) (K.faults sink.old)
         result (K.written sink.new) (K.faults sink.new) (version_text name.now) }

@@ -11,5 +11,5 @@ returns g c =
     WritesUnless-then false (written c.args.sink.now) (faults c.args.sink.now)
     c.write_unless-failed.result (written mid) (faults mid)
     c.write_unless.result (written last) (faults last) c.args.name.now
-    (codes " 1.0.0, proved with rattle-kit-13f logic dac8208d650f15bf\n")
+    (codes " 1.0.0, proved with rattle logic dac8208d650f15bf\n")
     c.write_unless-failed.ensures c.write_unless.ensures
