@@ -1,9 +1,9 @@
 -- What is true of every store stays true where a packet is put or popped.
-use Rattle.std.proofs.Common.{ℕ, ◌+◌, ◌-◌, ◌<◌, ◌≤◌, List, [], ◌∷◌, length, ◌∙◌, arith, length-set, length-append, length-drop}
+use Rattle.std.proofs.Common.{ℕ, ◌+◌, ◌-◌, ◌<◌, ◌≤◌, List, [], ◌∷◌, ◌++◌, length, ◌∙◌, arith, length-set, length-append, length-drop}
 use Rattle.rio_packets.specs.Fields.{prio_of}
 use Rattle.rio_packets.specs.LinkForm.{Passes}
 use Rattle.link_buffers.specs.Queues.{list_at, appended, popped, packet_count, IsCounted, IsInStore, IsOutStore}
-use Rattle.link_buffers.proofs.QueueLemmas.{each-set, packet_count-appended, packet_count-popped, Sorted-appended, Sorted-popped, ArePackets-appended, ArePackets-popped}
+use Rattle.link_buffers.proofs.QueueLemmas.{each-set, packet_count_four, packet_count-appended, packet_count-popped, Sorted-appended, Sorted-popped, ArePackets-appended, ArePackets-popped}
 
 pub IsInStore-appended :
     (lists : List (List (List ℕ))) (buffers : ℕ) (packet : List ℕ) → IsInStore (record {
@@ -89,6 +89,26 @@ IsOutStore-appended lists packet is few passes room =
           each-set (λ _ packets. length packets ≤ 16) lists (prio_of packet) _ within (omega arith)
           is.within;
     }
+
+-- if one list has room, there are fewer packets than all lists together may have
+pub IsOutStore-room :
+    (lists : List (List (List ℕ))) (packet : List ℕ) → IsOutStore lists
+    → prio_of packet < 4 → length (list_at lists (prio_of packet)) < 16 → packet_count lists < 64
+IsOutStore-room lists packet is few room =
+    let within : prio_of packet < length lists = omega arith in
+    let longer = length-append (list_at lists (prio_of packet)) (packet ∷ []) in
+    let most =
+    each-set (λ _ packets. length packets ≤ 16) lists (prio_of packet)
+    (list_at lists (prio_of packet) ++ packet ∷ []) within (omega arith) is.within in
+    let more = packet_count-appended lists (prio_of packet) packet within in
+    let all =
+    packet_count_four (appended lists (prio_of packet) packet)
+    (length-set lists (prio_of packet) _ ∙ is.four) in
+    let first = most 0 (omega arith) in
+    let second = most 1 (omega arith) in
+    let third = most 2 (omega arith) in
+    let fourth = most 3 (omega arith) in
+    omega arith
 
 pub IsOutStore-popped : (lists : List (List (List ℕ))) (prio : ℕ) → IsOutStore lists → prio < 4
     → IsOutStore (popped lists prio)

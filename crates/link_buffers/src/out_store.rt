@@ -38,7 +38,7 @@ impl Model for OutStore {
 
     ghost view = { λ s. s.lists.lists };
 
-    ghost invariant = { λ s. (s.lists.room ≡ 16) × IsOutStore s.lists.lists };
+    ghost invariant = { λ s. (s.lists.room ≡ 64) × IsOutStore s.lists.lists };
 }
 
 impl OutStore {
@@ -46,7 +46,7 @@ impl OutStore {
     pub fn new(alloc: Global) -> Result<OutStore, NoMemory>
         ensures empty { IfOk result (λ store. store ≡ no_packets) }
     {
-        let Ok(lists) = PriorityLists::new(alloc, ROOM) else {
+        let Ok(lists) = PriorityLists::new(alloc, 4 * ROOM) else {
             return Err(NoMemory);
         };
         Ok(OutStore { lists })

@@ -1,5 +1,14 @@
-use Rattle.link_buffers.proofs.StoreLemmas.{IsOutStore-appended}
+use Rattle.std.proofs.Common.{arith}
+use Rattle.link_buffers.proofs.StoreLemmas.{IsOutStore-appended, IsOutStore-room}
 use Rattle.link_buffers.proofs.out_store.OutStore.put.Goals as goal
+
+pub put-requires : goal.put-requires
+put-requires c few =
+    let room = rw (← c.self.view_is) at c.requires.room in
+    let fits = c.self.invariant.0 in
+    let some =
+    IsOutStore-room c.self.inside.lists.lists c.args.packet c.self.invariant.1 few room in
+    omega arith
 
 pub invariant_of-self : goal.invariant_of-self
 invariant_of-self c =
