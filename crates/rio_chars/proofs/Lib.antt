@@ -6,7 +6,7 @@ pub mod WrittenLaws
 pub mod FaultLaws
 pub mod HexLaws
 pub mod HexTable
-mod HexPairs
+mod DataTexts
 pub mod HexWords
 mod DecimalText
 mod Given

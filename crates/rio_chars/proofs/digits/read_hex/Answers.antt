@@ -1,25 +1,25 @@
-use Rattle.std.proofs.Common.{◌<◌, rules}
-use Rattle.std.proofs.lemmas.List.Elements.{All-push}
-use Rattle.rio_chars.proofs.HexWords.{hex-stop, hex-odd, hex-turn}
+use Rattle.std.proofs.Common.{◌≡◌, ℕ, List, ◌++◌, length, refl, take, drop, rules, arith}
+use Rattle.std.proofs.lemmas.Grind.{common_steps}
+use Rattle.rio_chars.proofs.HexWords.{pairs-odd}
+use Rattle.rio_chars.proofs.digits.read_hex.Goals.{else-digits-eq0-via-then-digits-eq0+else-read_pairs, else-digits-eq0-via-else-digits-eq0}
 use Rattle.rio_chars.proofs.digits.read_hex.Goals as goal
 
-pub returns-in_default-read_hex_byte : goal.returns-in_default-read_hex_byte
-returns-in_default-read_hex_byte c =
-    hex-stop c.args.digits.now c.loop-left.left.now c.loop-left.bytes.items
-    c.loop-left.invariant.read c.in-len2-up.len_at_least c.in_default-read_hex_byte.ensures.none
+-- a list in the place of all of another
+all_written : (room items : List ℕ) (n : ℕ) → length room ≡ n
+    → take n (room ++ drop (length room) items) ≡ room
+all_written room items n size = grind (arith, common_steps)
 
-pub loop-left-preserved : goal.loop-left-preserved
-loop-left-preserved c = record {
-  read =
-      rw c.in_ok-push.ensures.items (hex-turn c.args.digits.now c.loop-left.left.now
-      c.loop-left.bytes.items c.in-Some.byte c.loop-left.invariant.read c.in-len2-up.len_at_least
-      c.in-Some.ensures.text);
-  bytes =
-      rw c.in_ok-push.ensures.items (All-push (λ byte. byte < 256) c.loop-left.bytes.items
-      c.in-Some.byte c.loop-left.invariant.bytes c.in-Some.ensures.below);
-}
+pub returns-then-read_pairs : goal.returns-then-read_pairs
+returns-then-read_pairs c =
+    let bytes = c.in_ok-bytes.bytes in
+    let size : length c.read_pairs.new.room ≡ bytes.len = omega arith in
+    rw (all_written c.read_pairs.new.room bytes.items bytes.len size)
+    (c.read_pairs.ensures.below, c.if-read_pairs.ensures.spelled refl)
 
-pub returns-then-not-is_empty : goal.returns-then-not-is_empty
-returns-then-not-is_empty c =
-    λ other are. hex-odd c.args.digits.now c.loop-left.left.now c.loop-left.bytes.items
-    c.loop-left.invariant.read c.in_default.len_below (search rules) other
+pub returns-else-digits-eq0 : goal.returns-else-digits-eq0
+returns-else-digits-eq0 c =
+    elim c.else-digits-eq0.branch [
+      | else-digits-eq0-via-then-digits-eq0+else-read_pairs w ↦ w.if-read_pairs.ensures.none refl
+      | else-digits-eq0-via-else-digits-eq0 w ↦
+          λ bytes are. pairs-odd c.args.digits.now bytes (search rules)
+    ]

@@ -1,5 +1,5 @@
 use Rattle.std.proofs.Common.{◌<◌, arith, ◌∙◌}
-use Rattle.rio_chars.proofs.HexPairs.{text_bytes}
+use Rattle.rio_chars.proofs.DataTexts.{text_bytes}
 use Rattle.rio_chars.proofs.runs.data_word.Goals as goal
 
 pub returns : goal.returns

@@ -1,10 +1,9 @@
--- The tables of the two digits of each byte, and of the text of each data character.
+-- The table of the text of each data character.
 use Rattle.std.proofs.Common.{◌≡◌, ℕ, ◌+◌, ◌*◌, ◌<◌, ◌/◌, ◌%◌, [], ◌∷◌, get_or, map, refl, ap, ap₂, ◌∙◌, arith}
 use Rattle.std.specs.List.{range_with_len}
 use Rattle.std.proofs.lemmas.Bool.Decides.{nat_tests}
 use Rattle.std.proofs.lemmas.List.FromFn.{get_or-map-range_with_len}
 use Rattle.rio_chars.specs.HexText.{hex_digit}
-use Rattle.rio_chars.specs.declared.digits.TheConstants.{HEX_PAIRS}
 use Rattle.rio_chars.specs.declared.runs.TheConstants.{DATA_TEXTS}
 
 -- the two digits of a byte, the first in the low byte
@@ -15,16 +14,8 @@ pair_of byte = hex_digit (byte / 16) + 256 * hex_digit (byte % 16)
 abbrev text_of : ℕ → ℕ
 text_of byte = 25632 + 65536 * pair_of byte
 
-pairs_are : HEX_PAIRS ≡ map pair_of (range_with_len 0 256)
-pairs_are = refl
-
 texts_are : DATA_TEXTS ≡ map text_of (range_with_len 0 256)
 texts_are = refl
-
-pair_at : (byte d : ℕ) → byte < 256 → get_or HEX_PAIRS byte d ≡ pair_of byte
-pair_at byte d below =
-    ap (λ table. get_or table byte d) pairs_are
-    ∙ get_or-map-range_with_len pair_of 0 256 byte byte d below (omega arith)
 
 text_at : (byte d : ℕ) → byte < 256 → get_or DATA_TEXTS byte d ≡ text_of byte
 text_at byte d below =
@@ -34,19 +25,7 @@ text_at byte d below =
 digit_small : (n : ℕ) → n < 16 → hex_digit n < 256
 digit_small n few = grind (arith, nat_tests)
 
--- what the tables have is the digits of the byte
-pub first_digit : (byte d : ℕ) → byte < 256 → get_or HEX_PAIRS byte d % 256 ≡ hex_digit (byte / 16)
-first_digit byte d below =
-    let small = digit_small (byte / 16) (omega arith) in
-    ap (λ n. n % 256) (pair_at byte d below) ∙ omega (arith, small)
-
-pub second_digit : (byte d : ℕ) → byte < 256
-    → get_or HEX_PAIRS byte d / 256 % 256 ≡ hex_digit (byte % 16)
-second_digit byte d below =
-    let high = digit_small (byte / 16) (omega arith) in
-    let low = digit_small (byte % 16) (omega arith) in
-    ap (λ n. n / 256 % 256) (pair_at byte d below) ∙ omega (arith, high, low)
-
+-- what the table has is the text
 pub text_bytes : (byte d : ℕ) → byte < 256
     → get_or DATA_TEXTS byte d % 256 ∷ get_or DATA_TEXTS byte d / 256 % 256
     ∷ get_or DATA_TEXTS byte d / 65536 % 256 ∷ get_or DATA_TEXTS byte d / 16777216 % 256 ∷ []
