@@ -190,6 +190,26 @@ words-next (x ∷ y ∷ z ∷ s ∷ rest) c four behind is =
     rw all (words_before x y z s rest (no_space c x y z is) (no_end c x y z is) behind
     ∙ ap (λ w. w ∷ words_of_input rest) is)
 
+-- a space or a line feed before words is none of them
+space_before : (lines : List (List ℕ))
+    → flat_map words_in_line (onto_first 32 lines) ≡ flat_map words_in_line lines
+space_before [] = refl
+space_before (line ∷ lines) = refl
+
+blank_before : (s : ℕ) (rest : List ℕ) → (s ≡ 32) ⊎ (s ≡ 10)
+    → words_of_input (s ∷ rest) ≡ words_of_input rest
+blank_before s rest (inl space) =
+    ap (λ b. words_of_input (b ∷ rest)) space ∙ space_before (text_lines rest)
+blank_before s rest (inr end) = ap (λ b. words_of_input (b ∷ rest)) end
+
+pub words-blank : (left : List ℕ) → 1 ≤ length left
+    → (get_or left 0 0 ≡ 32) ⊎ (get_or left 0 0 ≡ 10)
+    → words_of_input left ≡ words_of_input (take (length left - 1) (drop 1 left))
+words-blank [] one blank = absurd (omega arith)
+words-blank (s ∷ rest) one blank =
+    let all : take (length (s ∷ rest) - 1) rest ≡ rest = grind (arith, common_steps) in
+    rw all (blank_before s rest blank)
+
 pub no_words : (left : List ℕ) → length left ≡ 0 → words_of_input left ≡ []
 no_words [] none = refl
 no_words (x ∷ left) none = absurd (omega arith)

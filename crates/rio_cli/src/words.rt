@@ -40,14 +40,22 @@ pub(crate) fn read_chars(alloc: Global, bytes: &[u8]) -> Result<Vec<Char>, Chars
     read_lines(bytes, chars)
 }
 
-/// Appends the characters of words of three bytes that a space or a line feed follows, and answers
-/// whether the bytes are no more than these. Most input is; no line of it is looked for.
+/// Appends the characters of words of three bytes that a space or a line feed follows, with any more
+/// of these between them, and answers whether the bytes are no more than these. Most input is; no
+/// line of it is looked for.
 fn read_blocks(bytes: &[u8], chars: &mut Vec<Char>) -> Result<bool, AllocError>
     requires { chars.old.items ≡ [] }
     ensures { IfOk result (λ whole. IsTrue whole → SpellsChars bytes.now chars.new.items) }
 {
     let mut left = bytes;
-    while let [a, b, c, behind, rest @ ..] = left {
+    while let [first, after @ ..] = left {
+        if parts_words(*first) {
+            left = after;
+            continue;
+        }
+        let [a, b, c, behind, rest @ ..] = left else {
+            return Ok(false);
+        };
         if !parts_words(*behind) {
             return Ok(false);
         }
@@ -57,7 +65,7 @@ fn read_blocks(bytes: &[u8], chars: &mut Vec<Char>) -> Result<bool, AllocError>
         chars.push(read)?;
         left = rest;
     }
-    Ok(left.is_empty())
+    Ok(true)
 }
 
 /// Whether a byte is a space or a line feed.
