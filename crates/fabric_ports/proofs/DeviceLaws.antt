@@ -16,7 +16,7 @@ AreSameDevices old new = AllAlike HasForm old new
 same_form : (device : Registers) → HasForm device device
 same_form device = record { kind = refl; ports = refl }
 
-same_devices : (devices : List Registers) → AreSameDevices devices devices
+pub same_devices : (devices : List Registers) → AreSameDevices devices devices
 same_devices [] = tt
 same_devices (device ∷ devices) = (same_form device, same_devices devices)
 

@@ -46,3 +46,7 @@ pub mod StandLaws
 pub mod StepLaws
 pub mod StepEnds
 pub mod StirLaws
+pub mod OutsideLanes
+pub mod OutsideLaws
+pub mod OutsidePorts
+pub mod StillLaws

@@ -15,3 +15,4 @@ pub mod Asking
 pub mod OwnRegisters
 pub mod Fetching
 pub mod Responses
+pub mod Outside

@@ -35,6 +35,14 @@ impl Idle {
         clear(&mut self.switches, usize::from(b));
     }
 
+    /// The packets of a port without a link have changed: the switch that has it may have work. Of
+    /// an endpoint there is no mark.
+    pub(crate) fn wake_switch(&mut self, node: u8)
+        ensures { Wakes (λ _. ⊥) (λ n. n ≡ node) self.old self.new }
+    {
+        clear(&mut self.switches, usize::from(node));
+    }
+
     /// The packets of ports that stand in a row have changed: the links of these ports may have
     /// work. The numbers of links stand by the places of ports.
     pub(crate) fn wake_ports(&mut self, numbers: &[usize], first: usize, count: usize)

@@ -3,10 +3,11 @@
 //! Promised: a fabric is what its set-up lines make, and each event that is carried out writes its
 //! block of the trace. For whatever lines a fabric stands, it stands for those and the block
 //! afterwards. A host that asks a device gets the response which the registers and the tables give,
-//! or is told exactly why it gets none.
+//! or is told exactly why it gets none. A port without a link takes what a device outside the
+//! fabric sends, and answers it, by its step tables.
 //!
-//! Left out: the order of events, and the last line of a trace. All memory of the ports is taken
-//! when the fabric is made.
+//! Left out: the order of events, and the last line of a trace; and what a device outside does. All
+//! memory of the ports is taken when the fabric is made.
 //!
 //! - [`Fabric`]: its devices, ports and links
 //! - [`Happened`] and [`FabricEnd`]: what an event answers
@@ -28,6 +29,7 @@ mod idle;
 mod laws;
 mod nodes;
 mod noise;
+mod outside;
 mod own_registers;
 mod plans;
 mod rounds;

@@ -254,7 +254,7 @@ impl Plan {
 }
 
 /// Tells a device that one of its ports has a link.
-fn tell_link(device: &mut Registers, port: u8)
+pub(crate) fn tell_link(device: &mut Registers, port: u8)
     requires { port < device.old.ports }
     ensures { device.new ≡ record device.old { linked = with_link device.old.linked port } }
 {

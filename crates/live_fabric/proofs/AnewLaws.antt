@@ -20,7 +20,8 @@ use Rattle.fabric_ports.specs.declared.fabric.Fabric.{Fabric}
 use Rattle.live_fabric.specs.declared.live.Live.{Live}
 use Rattle.live_fabric.specs.Lines.{Taken, seen_so_far, taken_anew}
 use Rattle.live_fabric.specs.Holding.{StandsBy, LiveHolds}
-use Rattle.live_fabric.proofs.AnsweringLaws.{put_text, put_set_up}
+use Rattle.live_fabric.proofs.AnsweringLaws.{put_text, put_set_up, put_facing}
+use Rattle.live_fabric.proofs.CountLaws.{KeepsCounts, seen_counts}
 
 -- ---- the network is the same but for registers
 
@@ -82,10 +83,10 @@ device_of s node endpoint = by_device (slice_get s.network.registers node) endpo
 -- the fabric was taken out, and put back after a change, with which it stands from what is known
 pub anew_holds : (live mid now : Live) (taken : Taken) (s : Seen) (fabric : Fabric)
     → LiveHolds live taken → mid.text ≡ live.text → mid.set_up ≡ live.set_up
-    → now ≡ record mid { fabric = Some fabric }
-    → IsSameBoard (seen_so_far taken).network s.network → Stands s [] fabric
-    → LiveHolds now (taken_anew taken s)
-anew_holds live mid now taken s fabric holds text set_up put board stands =
+    → mid.facing ≡ live.facing → now ≡ record mid { fabric = Some fabric }
+    → IsSameBoard (seen_so_far taken).network s.network → KeepsCounts (seen_so_far taken) s
+    → Stands s [] fabric → LiveHolds now (taken_anew taken s)
+anew_holds live mid now taken s fabric holds text set_up facing put board counts stands =
     let same = put_set_up live mid now fabric put set_up in
     let net = set_up_all bare taken.set_up in
     let so_far = (seen_so_far taken).network in
@@ -109,4 +110,7 @@ anew_holds live mid now taken s fabric holds text set_up put board stands =
       stands =
           subst (λ f. StandsBy f (taken_anew taken s)) (sym (ap (λ (l : Live). l.fabric) put))
           (refl, stands);
+      counts = counts ∙ (seen_counts taken.trace taken.from ∙ holds.counts);
+      facing = put_facing live mid now fabric put facing ∙ holds.facing;
+      faced = holds.faced;
     }

@@ -70,7 +70,7 @@ with_first : (names : List (List ℕ)) (line : TraceLine) (lines : List TraceLin
 with_first names line lines true = refl
 with_first names line lines false = refl
 
-quiet_trace : (names : List (List ℕ)) → AreFeedless names → (lines : List TraceLine)
+pub quiet_trace : (names : List (List ℕ)) → AreFeedless names → (lines : List TraceLine)
     → quiet_text (trace_text names lines) ≡ trace_text names (without_chars lines)
 quiet_trace names named [] = refl
 quiet_trace names named (line ∷ lines) =
@@ -145,8 +145,24 @@ told_more done piece is =
 
 -- ---- a block that was kept
 
-same_text : (items text : List ℕ) → Appends (Some []) (Some items) text → items ≡ text
+pub same_text : (items text : List ℕ) → Appends (Some []) (Some items) text → items ≡ text
 same_text items text appends = appends
+
+-- a text was written to an outbox that had nothing to write, and then what waited
+pub whole_told : (text : List ℕ) (out mid last : Outgoing) → out.waiting ≡ []
+    → Writes out mid text → Writes mid last [] → last.failed ≡ false → last.waiting ≡ []
+    → Appends out.written last.written text
+whole_told text out mid last empty told flush fine none =
+    let all : TextTold out.written last.written last.waiting last.failed text =
+    subst (TextTold out.written last.written last.waiting last.failed) (append-nil text)
+    ((Writes-then text [] told flush).told out.written [] (record {
+      front = [];
+      rest = [];
+      whole = refl;
+      told = Appends-nil out.written;
+      waits = λ fine. sym empty;
+    })) in
+    Told-end out.written last.written last.waiting last.failed text all fine none
 
 module _ (taken : Taken) (number : ℕ) (event : Line) (now : Live) (told : Told) where
   -- all of it was written
@@ -155,20 +171,11 @@ module _ (taken : Taken) (number : ℕ) (event : Line) (now : Live) (told : Told
       → last.failed ≡ false → last.waiting ≡ []
       → HappensWhole taken number event out.written last.written now told
   happens_whole out mid last empty happens flush fine none =
-      let text = block_told false taken number event happens.block in
-      let all : TextTold out.written last.written last.waiting last.failed text =
-      subst (TextTold out.written last.written last.waiting last.failed) (append-nil text)
-      ((Writes-then text [] happens.text flush).told out.written [] (record {
-        front = [];
-        rest = [];
-        whole = refl;
-        told = Appends-nil out.written;
-        waits = λ fine. sym empty;
-      })) in
       record {
         block = happens.block;
         is = happens.is;
-        text = Told-end out.written last.written last.waiting last.failed text all fine none;
+        text = whole_told (block_told false taken number event happens.block) out mid last empty
+            happens.text flush fine none;
         goes = happens.goes;
         did = happens.did;
       }

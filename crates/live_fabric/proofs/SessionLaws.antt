@@ -202,20 +202,20 @@ module _ (held : SessionHeld) (number : ℕ) (line : List ℕ) where
 
   -- it is no event
   pub told_plain : (out next : Outgoing) (session now : Session) → SessionHolds session held
-      → IsScriptLine line → now.quiet ≡ session.quiet → now.served ≡ session.served
+      → IsScriptLine held line → now.quiet ≡ session.quiet → now.served ≡ session.served
       → ReadPlainly held.taken line out next now.live
       → SessionTold held number line out next now Goings.On
   told_plain out next session now holds other quiet served p = record {
     text = plain_told p.outcome;
     next = record held { taken = taken_after held.taken number line p.outcome };
-    answers = inr (inr (inr (inr (inl (record {
+    answers = inr (inr (inr (inr (inr (inl (record {
       other = other;
       outcome = p.outcome;
       plain = p.plain;
       reads = p.reads;
       answer = refl;
       then = refl;
-    })))));
+    }))))));
     told = p.told;
     goes =
         kept_behind held session now (taken_after held.taken number line p.outcome) holds quiet
@@ -235,7 +235,7 @@ module _ (held : SessionHeld) (number : ℕ) (line : List ℕ) (session : Sessio
 
   -- it was carried out while these nodes are served
   pub told_events : (next : Outgoing) (now : Session) (going : AfterLine)
-      → IsScriptLine line → now.quiet ≡ session.quiet → now.served ≡ session.served
+      → IsScriptLine held line → now.quiet ≡ session.quiet → now.served ≡ session.served
       → ((taken : Taken) → LiveHolds live taken → MayBeCarried taken event
       → MayCollect taken nodes
       → EventsDone session.quiet taken number (events_carried nodes event) mid next now.live going)
@@ -245,7 +245,7 @@ module _ (held : SessionHeld) (number : ℕ) (line : List ℕ) (session : Sessio
       record {
         text = d.text;
         next = record held { taken = d.end };
-        answers = inr (inr (inr (inr (inr (record {
+        answers = inr (inr (inr (inr (inr (inr (record {
           other = other;
           event = event;
           is = read.1;
@@ -258,7 +258,7 @@ module _ (held : SessionHeld) (number : ℕ) (line : List ℕ) (session : Sessio
               d.text d.end) served.0 d.is);
           answer = refl;
           then = refl;
-        })))));
+        }))))));
         told = subst (λ o. Writes o next d.text) read.2 d.told;
         goes = by_going going d.end d.goes;
       }
@@ -268,7 +268,7 @@ module _ (held : SessionHeld) (number : ℕ) (line : List ℕ) (session : Sessio
       by_going Goings.On end goes = kept_behind held session now end holds quiet same goes
       by_going Goings.Undetected end goes = goes
 
-  pub breaks_events : (next : Outgoing) → IsScriptLine line
+  pub breaks_events : (next : Outgoing) → IsScriptLine held line
       → ((taken : Taken) → LiveHolds live taken → MayBeCarried taken event
       → MayCollect taken nodes
       → EventsBreak session.quiet taken number (events_carried nodes event) mid next)

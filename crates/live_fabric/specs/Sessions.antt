@@ -5,7 +5,10 @@ use Rattle.fabric_script.specs.declared.lines.Line.{Line}
 use Rattle.fabric_script.specs.Reading.{Spells}
 use Rattle.fabric_script.specs.SetUps.{for_event, IsRefused}
 use Rattle.fabric_trace.specs.Known.{Seen}
+use Rattle.outside_lines.specs.declared.reading.OutsideLine.{OutsideLine}
+use Rattle.outside_lines.specs.Reading.{SpellsOutside, NoOutside, IsNoOutsideLine}
 use Rattle.refusal_words.specs.Citing.{refusal_line}
+use Rattle.refusal_words.specs.Reasons.{script_reason}
 use Rattle.live_fabric.specs.declared.asking.AskOutcome.{AskOutcome}
 use Rattle.live_fabric.specs.declared.asking.AskOutcome.TheVariants.{Refused, Said}
 use Rattle.live_fabric.specs.declared.asks.RegisterSaid.{RegisterSaid}
@@ -21,6 +24,7 @@ use Rattle.live_fabric.specs.Telling.{IsNoEvent, plain_told, TellsEvents, IsEven
 use Rattle.live_fabric.specs.Asking.{SpellsAsk, IsNoAsk, others_than, TellsAsk, IsAskFront, reply_told, ask_outcome, after_ask}
 use Rattle.live_fabric.specs.OwnRegisters.{collect_text, standard_text, IsNoStandardLine, ShowsStandard, NamesNoDevice, NamesOwn, NamesNoOwn, OwnRead, OwnWrites}
 use Rattle.live_fabric.specs.Holding.{LiveHolds, IsTrace, MayCollect}
+use Rattle.live_fabric.specs.Outside.{taken_outside, outside_answer}
 
 -- The lines that were taken, whether those with characters are left out of the answers, and which
 -- endpoints are served: all, or those of some nodes.
@@ -167,18 +171,40 @@ pub record StandardAnswers (held : SessionHeld) (line text : List ℕ) (next : S
   pub is : line ≡ standard_text words
   pub answers : StandardTaken held words text next ⊎ StandardRefused held words text next
 
+-- A line of a device outside, or of the port beside it, is carried out. What is told of it is its
+-- answer.
+pub record OutsideTaken (held : SessionHeld) (line text : List ℕ) (next : SessionHeld) : Type 0
+  where
+    pub outside : OutsideLine
+    pub spells : SpellsOutside (for_event held.taken.known) held.taken.facing line outside
+    pub answer : text ≡ outside_answer held.quiet held.taken outside ++ codes "ok\n"
+    pub then : next ≡ record held { taken = taken_outside held.taken outside }
+
+-- or it is refused, and nothing changes
+pub record OutsideRefused (held : SessionHeld) (line text : List ℕ) (next : SessionHeld) : Type 0
+  where
+    pub reason : ℕ
+    pub refused : NoOutside (for_event held.taken.known) held.taken.facing line reason
+    pub answer : text ≡ refusal_line reason (script_reason reason) ++ codes "ok\n"
+    pub then : next ≡ held
+
+abbrev pub OutsideAnswers : SessionHeld → List ℕ → List ℕ → SessionHeld → Type 0
+OutsideAnswers held line text next =
+    OutsideTaken held line text next ⊎ OutsideRefused held line text next
+
 -- the line is none of those
-pub record IsScriptLine (line : List ℕ) : Type 0 where
+pub record IsScriptLine (held : SessionHeld) (line : List ℕ) : Type 0 where
   pub no_own : IsNoOwnLine line
   pub no_serve : IsNoServeLine line
   pub no_ask : IsNoAskLine line
   pub no_standard : IsNoStandardLine line
+  pub no_outside : IsNoOutsideLine (for_event held.taken.known) held.taken.facing line
 
 -- Any other line of this number is read as one of a script. If it is no event, what is told of it
 -- is its answer, with `ok` as its last line.
 pub record PlainAnswers (held : SessionHeld) (number : ℕ) (line text : List ℕ)
     (next : SessionHeld) : Type 0 where
-  pub other : IsScriptLine line
+  pub other : IsScriptLine held line
   pub outcome : Outcome
   pub plain : IsNoEvent outcome
   pub reads : ReadsAs held.taken line outcome
@@ -188,7 +214,7 @@ pub record PlainAnswers (held : SessionHeld) (number : ℕ) (line text : List �
 -- If it is an event, what is told of the events as which it is carried out is its answer.
 pub record EventAnswers (held : SessionHeld) (number : ℕ) (line text : List ℕ)
     (next : SessionHeld) : Type 0 where
-  pub other : IsScriptLine line
+  pub other : IsScriptLine held line
   pub event : Line
   pub is : IsEventLine held.taken line event
   pub told : List ℕ
@@ -203,7 +229,8 @@ abbrev pub LineAnswers : SessionHeld → ℕ → List ℕ → List ℕ → Sessi
 LineAnswers held number line text next =
     OwnAnswers held line text next ⊎ (ServeAnswers held line text next
     ⊎ (AskAnswers held number line text next ⊎ (StandardAnswers held line text next
-    ⊎ (PlainAnswers held number line text next ⊎ EventAnswers held number line text next))))
+    ⊎ (OutsideAnswers held line text next
+    ⊎ (PlainAnswers held number line text next ⊎ EventAnswers held number line text next)))))
 
 -- Lines, of which the first has this number, are answered by a text, and so much is held then. No
 -- line is answered behind an event that was acted on and not sent.
@@ -216,7 +243,7 @@ AnswersSession held number (line ∷ lines) text end =
 
 -- the text is a front of the answer of this line, which is an event
 pub record IsEventAnswerFront (held : SessionHeld) (number : ℕ) (line text : List ℕ) : Type 0 where
-  pub other : IsScriptLine line
+  pub other : IsScriptLine held line
   pub event : Line
   pub is : IsEventLine held.taken line event
   pub front : IsEventsFront held.quiet held.taken number (events_carried (nodes_served held) event)
@@ -293,6 +320,12 @@ pub record StandardTold (held : SessionHeld) (words : List ℕ) (old new : Outgo
       ⊎ StandardRefused held words (text ++ codes "ok\n") next
   pub told : Writes old new text
   pub holds : SessionHolds session next
+
+-- a line of a device outside was carried out, and what is told of it was written
+pub record OutsideTold (held : SessionHeld) (outside : OutsideLine) (old new : Outgoing)
+    (session : Session) : Type 0 where
+  pub told : Writes old new (outside_answer held.quiet held.taken outside)
+  pub holds : SessionHolds session (record held { taken = taken_outside held.taken outside })
 
 -- a node read one of its own registers, or these bytes name none
 pub record OwnReadCame (held : SessionHeld) (name : List ℕ) (offset : ℕ) (session : Session)

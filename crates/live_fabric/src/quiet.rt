@@ -105,7 +105,7 @@ fn happen_whole<K: Sink>(
 }
 
 /// The lines of a text but for those with characters.
-fn quiet_lines(alloc: Global, text: &[u8]) -> Result<Vec<u8>, NoMemory>
+pub(crate) fn quiet_lines(alloc: Global, text: &[u8]) -> Result<Vec<u8>, NoMemory>
     ensures { IfOk result (λ told. told.items ≡ quiet_text text.now) }
 {
     let mut told = Vec::new(alloc);

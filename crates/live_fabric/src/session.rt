@@ -2,7 +2,8 @@
 ghost use Rattle.std.specs.Prelude.{◌≡◌, Some, IfOk, OnOk, OnErr};
 ghost use Rattle.live_fabric.specs.Asking.{ask_of};
 ghost use Rattle.live_fabric.specs.Holding.{MayBeCarried};
-ghost use Rattle.live_fabric.specs.Sessions.{SessionHeld, nothing_held, SessionHolds, SessionAnswered, SessionBreaks, SessionTold, ServeTold, StandardTold, OwnReadCame, OwnWriteCame, AreServed, AskTold, AskAnswered, AskFalls, RequestCarried, RequestBroke, held_after, IsScriptLine};
+ghost use Rattle.live_fabric.specs.Outside.{MayCarryOutside};
+ghost use Rattle.live_fabric.specs.Sessions.{SessionHeld, nothing_held, SessionHolds, SessionAnswered, SessionBreaks, SessionTold, ServeTold, StandardTold, OutsideTold, OwnReadCame, OwnWriteCame, AreServed, AskTold, AskAnswered, AskFalls, RequestCarried, RequestBroke, held_after, IsScriptLine};
 
 use crate::answers::{AfterLine, BrokenOff, read_line, refuse};
 use crate::asking::{AskOutcome, after_ask, carry_ask, tell_reply};
@@ -10,9 +11,13 @@ use crate::asks::{Ask, others_than, read_ask};
 use crate::carrying::{Telling, carry_line};
 use crate::device_names::{collect_line, read_device, read_endpoint};
 use crate::live::Live;
+use crate::outside::outside_text;
 use crate::own_lines::{OwnLine, are_all, ask_words, own_line, serve_words, standard_words};
+use crate::quiet::quiet_lines;
 use crate::served::Served;
 use fabric_script::{EventEnd, Line};
+use outside_lines::{OutsideLine, read_outside};
+use refusal_words::{script_reason, write_refusal};
 use rio_chars::{NoMemory, Outbox, Sink};
 use std::alloc::Global;
 
@@ -151,7 +156,18 @@ impl Session {
             self.standard(alloc, words, outbox)?;
             return Ok(AfterLine::On);
         }
-        self.tell_script(alloc, number, line, outbox)
+        match read_outside(alloc, self.live.set_up(), self.live.facing(), line) {
+            Ok(None) => self.tell_script(alloc, number, line, outbox),
+            Ok(Some(outside)) => {
+                self.tell_outside(alloc, &outside, outbox)?;
+                Ok(AfterLine::On)
+            }
+            Err(EventEnd::Refused(reason)) => {
+                write_refusal(outbox, reason, script_reason(reason));
+                Ok(AfterLine::On)
+            }
+            Err(EventEnd::NoMemory) => Err(BrokenOff),
+        }
     }
 
     /// Does what a line of its own says.
@@ -273,6 +289,30 @@ impl Session {
         }
     }
 
+    /// Does what a line of a device outside says, and tells it.
+    fn tell_outside<K: Sink>(
+        &mut self,
+        alloc: Global,
+        line: &OutsideLine,
+        outbox: &mut Outbox<K>,
+    ) -> Result<(), BrokenOff>
+        requires { (held : SessionHeld) × SessionHolds self.old held
+            × MayCarryOutside held.taken line.now }
+        ensures told { OnOk result ((held : SessionHeld) → SessionHolds self.old held
+            → MayCarryOutside held.taken line.now
+            → OutsideTold held line.now outbox.old outbox.new self.new) }
+        ensures same { OnErr result (outbox.new ≡ outbox.old) }
+    {
+        let text = outside_text(alloc, &mut self.live, line)?;
+        if self.quiet {
+            let quiet = quiet_lines(alloc, text.as_slice())?;
+            outbox.write(quiet.as_slice());
+        } else {
+            outbox.write(text.as_slice());
+        }
+        Ok(())
+    }
+
     /// Tells a line that is none of its own.
     fn tell_script<K: Sink>(
         &mut self,
@@ -282,7 +322,8 @@ impl Session {
         outbox: &mut Outbox<K>,
     ) -> Result<AfterLine, BrokenOff>
         requires holds { (held : SessionHeld) × SessionHolds self.old held }
-        requires other { IsScriptLine line.now }
+        requires other { (held : SessionHeld) → SessionHolds self.old held
+            → IsScriptLine held line.now }
         ensures told { IfOk result (λ going. (held : SessionHeld) → SessionHolds self.old held
             → SessionTold held number line.now outbox.old outbox.new self.new going) }
         ensures breaks { OnErr result ((held : SessionHeld) → SessionHolds self.old held

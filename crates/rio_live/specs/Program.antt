@@ -70,7 +70,9 @@ live_help = codes "usage: rio_live < LINES\n\n"
     ++ codes "quiet and loud                    leave characters out of answers, or not\n"
     ++ codes "serve NODE and serve all          let endpoints answer in each round of a run\n"
     ++ codes "ask LINE                          carries out a request until its response leaves\n"
-    ++ codes "standard NODE and standard all    let devices show what standard hosts look for\n\n"
+    ++ codes "standard NODE and standard all    let devices show what standard hosts look for\n"
+    ++ codes "external NODE.P PORT              has PORT stand beside a device outside\n"
+    ++ codes "sent NODE.P CHARS                 is what that device sends\n\n"
     ++ codes "docs/live.md says what is answered, and man rio has the lines.\n"
 
 -- nothing was read

@@ -23,6 +23,8 @@ quiet and loud                    leave characters out of answers, or not
 serve NODE and serve all          let endpoints answer in each round of a run
 ask LINE                          carries out a request until its response leaves
 standard NODE and standard all    let devices show what standard hosts look for
+external NODE.P PORT              has PORT stand beside a device outside
+sent NODE.P CHARS                 is what that device sends
 
 docs/live.md says what is answered, and man rio has the lines.
 ";

@@ -20,6 +20,7 @@ returns c = λ taken holds endpoint.
       },
       anew_holds c.args.self.now c.take_fabric.new.self c.put_fabric.new.self taken s
           c.in_ok-fabric.fabric holds c.take_fabric.ensures.text c.take_fabric.ensures.set_up
-          c.put_fabric.ensures (same_board s.network s.network refl)
+          c.take_fabric.ensures.facing c.put_fabric.ensures (same_board s.network s.network refl)
+          refl
           (stands_here taken.from taken.trace c.in_ok-fabric.fabric stands),
     )

@@ -3,6 +3,7 @@ use Rattle.maint_registers.specs.Access.{written_at}
 use Rattle.fabric_ports.specs.OwnRegisters.{seen_with}
 use Rattle.live_fabric.specs.Lines.{seen_so_far, taken_anew}
 use Rattle.live_fabric.proofs.AnewLaws.{device_of, own_board, anew_holds}
+use Rattle.live_fabric.proofs.CountLaws.{own_counts}
 use Rattle.live_fabric.proofs.live.Live.own_write.Goals as goal
 
 pub returns : goal.returns
@@ -24,6 +25,7 @@ returns c = λ taken holds endpoint.
       },
       anew_holds c.args.self.now c.take_fabric.new.self c.put_fabric.new.self taken next
           c.register_write-written.new.self holds c.take_fabric.ensures.text
-          c.take_fabric.ensures.set_up c.put_fabric.ensures
-          (own_board s node device.0 offset value device.1) written.stands,
+          c.take_fabric.ensures.set_up c.take_fabric.ensures.facing c.put_fabric.ensures
+          (own_board s node device.0 offset value device.1)
+          (own_counts s node device.0 offset value device.1) written.stands,
     )

@@ -13,7 +13,8 @@ use Rattle.live_fabric.proofs.session.Session.tell_script.Goals as goal
 pub returns-in_default-clause-told : goal.returns-in_default-clause-told
 returns-in_default-clause-told g c = λ held holds.
     told_plain held c.args.number c.args.line.now c.args.outbox.now c.read_line.new.outbox
-    c.args.self.now (record c.args.self.now { live = c.read_line.new.live }) holds c.requires.other
+    c.args.self.now (record c.args.self.now { live = c.read_line.new.live }) holds
+    (c.requires.other held holds)
     refl refl (rw c.in_default.is at (c.in_ok-event.ensures.read held.taken holds.live))
 
 pub returns-in_err-nodes-clause-breaks : goal.returns-in_err-nodes-clause-breaks
@@ -65,7 +66,7 @@ returns-clause-told g c =
     let kept = kept_as held session (record session { live = live }) holds refl refl read.0 in
     told_events held number line session live nodes event out mid holds read
     (subst (AreServed held) (sym c.as_slice.ensures.value) (c.in_ok-nodes.ensures held kept)) next
-    now going c.requires.other refl refl done)
+    now going (c.requires.other held holds) refl refl done)
     c.carry_line.ensures.done
 
 pub returns-clause-breaks : goal.returns-clause-breaks
@@ -91,5 +92,5 @@ returns-clause-breaks g c =
     let kept = kept_as held session (record session { live = live }) holds refl refl read.0 in
     breaks_events held number line session live nodes event out mid holds read
     (subst (AreServed held) (sym c.as_slice.ensures.value) (c.in_ok-nodes.ensures held kept)) next
-    c.requires.other breaks)
+    (c.requires.other held holds) breaks)
     c.carry_line.ensures.breaks
