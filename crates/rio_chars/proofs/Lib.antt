@@ -7,6 +7,7 @@ pub mod FaultLaws
 pub mod HexLaws
 pub mod HexTable
 mod DataTexts
+pub mod RunLaws
 pub mod HexWords
 mod DecimalText
 mod Given

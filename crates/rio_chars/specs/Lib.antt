@@ -7,3 +7,4 @@ pub mod HexText
 pub mod Takings
 pub mod Memory
 pub mod CharText
+pub mod DataChars

@@ -1,5 +1,6 @@
 //! Characters of a wire.
 ghost use Rattle.std.specs.Prelude.{◌≡◌};
+ghost use Rattle.rio_chars.specs.DataChars.{is_data_char, byte_of_char};
 
 use std::marker::Model;
 
@@ -13,6 +14,27 @@ pub enum Char {
     /// A code group that is no character.
     #[default]
     Invalid,
+}
+
+impl Char {
+    /// Whether it is a data character.
+    #[inline(always)]
+    pub fn is_data(self) -> bool
+        ensures { result ≡ is_data_char self }
+    {
+        matches!(self, Char::Data(_))
+    }
+
+    /// The byte of a data or special character, and 0 of one that is invalid.
+    #[inline(always)]
+    pub fn byte(self) -> u8
+        ensures { result ≡ byte_of_char self }
+    {
+        match self {
+            Char::Data(byte) | Char::Special(byte) => byte,
+            Char::Invalid => 0,
+        }
+    }
 }
 
 /// A list of characters.

@@ -23,6 +23,7 @@
 mod chars;
 mod digits;
 mod failures;
+mod last_run;
 mod memory;
 mod memory_sink;
 mod memory_source;

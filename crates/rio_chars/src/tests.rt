@@ -119,6 +119,33 @@ fn characters_are_told_behind_spaces(rt: HostRuntime) -> Result<(), Fail> {
 }
 
 #[test]
+fn a_run_is_told_again_only_if_it_is_the_same(rt: HostRuntime) -> Result<(), Fail> {
+    let alloc = rt.alloc();
+    let run = [Char::Data(0x5a); 20];
+    let mut other = run;
+    other[19] = Char::Data(0x5b);
+    let Ok(mut sink) = MemSink::new(alloc, 512, 512, Vec::new(alloc)) else {
+        panic!(rt; "no memory");
+    };
+    let Ok(mut buffer) = TextBuffer::new(alloc) else {
+        panic!(rt; "no memory");
+    };
+    let mut outbox = Outbox::new(&mut buffer, &mut sink);
+    outbox.write_chars(&run);
+    outbox.write_chars(&run);
+    outbox.write_chars(&other);
+    outbox.write_chars(&run[..19]);
+    outbox.flush();
+    assert!(rt; !outbox.failed());
+    let mut text = Vec::new(alloc);
+    for i in 0..79 {
+        text.extend_from_slice(if i == 59 { b" d5b" } else { b" d5a" })?;
+    }
+    assert_eq!(rt; sink.written(), text.as_slice());
+    Ok(())
+}
+
+#[test]
 fn digits_are_read_two_a_byte(rt: HostRuntime) -> Result<(), Fail> {
     let alloc = rt.alloc();
     let Some(bytes) = read_hex(alloc, b"00cafe0f")? else {

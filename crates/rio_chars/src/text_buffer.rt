@@ -4,8 +4,9 @@ ghost use Rattle.rio_chars.specs.CharText.{spaced_chars};
 ghost use Rattle.rio_chars.specs.HexText.{hex_of};
 
 use crate::digits::write_hex;
+use crate::last_run::LastRun;
 use crate::memory::zeros;
-use crate::runs::{RUN, write_words};
+use crate::runs::write_words;
 use crate::{Char, NoMemory};
 use std::alloc::Global;
 use std::marker::Model;
@@ -14,12 +15,14 @@ use std::marker::Model;
 /// for a near cache.
 pub(crate) const ROOM: usize = 65536;
 
+/// The fewest data characters that are a run: of fewer the texts are made each time.
+const FEWEST: usize = 8;
+
 /// The memory of an outbox: text that waits to be written, of at most 65,536 bytes.
 #[derive(Drop)]
 pub struct TextBuffer {
     bytes: Vec<u8>,
-    /// Where texts of data characters are made, one in each word.
-    words: [[u8; 4]; RUN],
+    run: LastRun,
     len: usize,
 }
 
@@ -40,7 +43,7 @@ impl TextBuffer {
     {
         Ok(TextBuffer {
             bytes: zeros(alloc, ROOM)?,
-            words: [[0; 4]; RUN],
+            run: LastRun::new(),
             len: 0,
         })
     }
@@ -94,11 +97,26 @@ impl TextBuffer {
         ensures within { result ≤ length chars.now }
         ensures text { self.new ≡ self.old ++ spaced_chars (take result chars.now) }
     {
-        let count = write_words(self.words.as_mut_slice(), chars);
+        if !starts_with_run(chars) {
+            return self.append_few(chars);
+        }
+        self.run.hold(chars);
+        let count = self.run.len();
         let end = self.len + 4 * count;
-        let texts = self.words[..count].as_flattened();
-        self.bytes[self.len..end].copy_from_slice(texts);
+        self.bytes[self.len..end].copy_from_slice(self.run.texts());
         self.len = end;
+        count
+    }
+
+    /// The same of no more than eight characters.
+    fn append_few(&mut self, chars: &[Char]) -> usize
+        requires room { length self.old + 2048 ≤ 65536 }
+        ensures within { result ≤ length chars.now }
+        ensures text { self.new ≡ self.old ++ spaced_chars (take result chars.now) }
+    {
+        let mut words = [[0; 4]; FEWEST];
+        let count = write_words(words.as_mut_slice(), chars);
+        self.append(words[..count].as_flattened());
         count
     }
 
@@ -111,4 +129,22 @@ impl TextBuffer {
         write_hex(&mut self.bytes[self.len..end], bytes);
         self.len = end;
     }
+}
+
+/// Whether as many data characters come first as are a run.
+fn starts_with_run(chars: &[Char]) -> bool {
+    matches!(
+        chars,
+        [
+            Char::Data(_),
+            Char::Data(_),
+            Char::Data(_),
+            Char::Data(_),
+            Char::Data(_),
+            Char::Data(_),
+            Char::Data(_),
+            Char::Data(_),
+            ..
+        ]
+    )
 }

@@ -1,5 +1,9 @@
 -- Data characters in front of others, whose bytes are copied.
-use Rattle.std.proofs.Common.{◌≡◌, ℕ, zero, suc, ◌<◌, List, [], ◌∷◌, ◌++◌, length, take, drop, get_or, sym, ap, ◌∙◌, arith, take-append-drop}
+use Rattle.std.proofs.Common.{◌≡◌, ℕ, zero, suc, ◌<◌, List, [], ◌∷◌, ◌++◌, length, ◌≤◌, ◌+◌, ◌-◌, take, drop, get_or, sym, ap, ◌∙◌, arith, take-append-drop}
+use Rattle.std.proofs.lemmas.List.{map-append}
+use Rattle.std.proofs.Math.Seq.{take-add}
+use Rattle.std.proofs.lemmas.Slice.{take-put_mid}
+use borrow.Rule.Slice.PartMut.{put_mid}
 use Rattle.link_model.specs.Prelude.{Char, Data, data_chars}
 use Rattle.rio_framer.specs.Parts.{StartsWithData}
 
@@ -26,3 +30,16 @@ pub some-copied : (i : ℕ) (chars : List Char) (d : Char) → StartsWithData 8 
 some-copied zero chars d starts stops =
     let first = data-first 8 chars d (omega arith) starts in absurd (stops first.0 first.1)
 some-copied (suc i) chars d starts stops = omega arith
+
+-- a block more is copied
+pub copied-block : (bytes block : List ℕ) (chars : List Char) (i j : ℕ) → i ≤ j → i ≤ length bytes
+    → length block ≡ j - i → data_chars (take i bytes) ≡ take i chars
+    → data_chars block ≡ take (j - i) (drop i chars)
+    → data_chars (take j (put_mid i (j - i) bytes block)) ≡ take j chars
+copied-block bytes block chars i j order within size so_far is =
+    let whole : i + (j - i) ≡ j = omega arith in
+    ap data_chars (take-put_mid i (j - i) bytes block j (omega (arith, size)) within)
+    ∙ map-append (λ (byte : ℕ). Data byte) (take i bytes) block
+    ∙ ap (λ (cs : List Char). cs ++ data_chars block) so_far
+    ∙ ap (λ (cs : List Char). take i chars ++ cs) is
+    ∙ sym (take-add i (j - i) chars) ∙ ap (λ (n : ℕ). take n chars) whole

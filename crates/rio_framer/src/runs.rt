@@ -13,6 +13,9 @@ use rio_symbols::Delimiter;
 /// The fewest data characters that are taken at once: for fewer, an array of bytes does not pay.
 const FEWEST: usize = 8;
 
+/// How many characters are copied at once.
+const BLOCK: usize = 16;
+
 impl Framer {
     ghost use Rattle.rio_symbols.specs.Spelling.{spelled};
     ghost use Rattle.link_model.specs.Places.{opened, place as place_of, finished};
@@ -181,13 +184,48 @@ fn copy_data(bytes: &mut [u8], chars: &[Char], room: usize) -> usize
     ensures some { 0 < room → StartsWithData 8 chars.now → 0 < result }
 {
     let most = chars.len().min(room);
-    for (i, c) in chars[..most].iter().enumerate() {
-        let Char::Data(byte) = *c else {
+    for i in copy_blocks(bytes, chars, most)..most {
+        let Char::Data(byte) = chars[i] else {
             return i;
         };
         bytes[i] = byte;
     }
     most
+}
+
+/// Copies the bytes of the data characters that come first, a block at a time, up to a number of
+/// them. Answers how many they are.
+fn copy_blocks(bytes: &mut [u8], chars: &[Char], most: usize) -> usize
+    requires chars { most ≤ length chars.now }
+    requires bytes { most ≤ length bytes.old }
+    ensures most { result ≤ most }
+    ensures len { length bytes.new ≡ length bytes.old }
+    ensures is { data_chars (take result bytes.new) ≡ take result chars.now }
+{
+    let mut i = 0;
+    while most - i >= BLOCK {
+        let end = i + BLOCK;
+        if !copy_block(&mut bytes[i..end], &chars[i..end]) {
+            return i;
+        }
+        i = end;
+    }
+    i
+}
+
+/// Copies the bytes of characters, and answers whether all of them are data. Only the end of the
+/// loop asks for that, so that the compiler can copy many at once.
+fn copy_block(bytes: &mut [u8], chars: &[Char]) -> bool
+    requires { length bytes.old ≡ length chars.now }
+    ensures len { length bytes.new ≡ length bytes.old }
+    ensures is { IsTrue result → data_chars bytes.new ≡ chars.now }
+{
+    let mut are_data = true;
+    for i in 0..chars.len() {
+        bytes[i] = chars[i].byte();
+        are_data = are_data & chars[i].is_data();
+    }
+    are_data
 }
 
 /// The delimiter and the bytes of a symbol, if one comes first and is not broken off.
