@@ -14,6 +14,7 @@
 //! - [`Delivery`] and [`Move`]: what came of characters that a port took
 //! - [`UndetectedEvent`]: an event that a port acted on and that was not sent
 //! - [`Edit`] and [`Edited`]: a change of the characters, and what came of it
+//! - [`Queue`]: characters, or other items, first in first out
 //! - [`acted_events_are_sent_ones`], [`deliveries_go_by_pieces`] and
 //!   [`a_delivery_acts_on_what_was_sent`]: laws; the calls do nothing
 //!
@@ -40,5 +41,6 @@ pub use laws::{
     a_delivery_acts_on_what_was_sent, acted_events_are_sent_ones, deliveries_go_by_pieces,
 };
 pub use moves::Move;
+pub use queue::Queue;
 pub use undetected_event::UndetectedEvent;
 pub use wire::Wire;

@@ -1,14 +1,17 @@
 //! `Queue`: what stands on a wire, first in first out.
-ghost use Rattle.std.specs.Prelude.{◌≡◌, ◌≤◌, ◌<◌, ◌+◌, ◌++◌, ◌∷◌, [], length, take, drop, slice_set, OnOk, OnErr};
+ghost use Rattle.std.specs.Prelude.{◌≡◌, ◌≤◌, ◌<◌, ◌+◌, ◌-◌, ◌++◌, ◌∷◌, ◌↔◌, [], length, take, drop, slice_set, IsTrue, OnOk, OnErr};
 
 use rio_chars::{Char, NoMemory};
 use std::alloc::Global;
 use std::marker::Model;
 
+/// How many characters move at a time where they move up.
+const BLOCK: usize = 256;
+
 /// Items, first in first out. Those before `head` were taken, or are room; they go once they are
 /// more than the half, so that taking costs what is taken, and putting costs what is put.
 #[derive(Drop)]
-pub(crate) struct Queue<T> {
+pub struct Queue<T> {
     items: Vec<T>,
     head: usize,
 }
@@ -25,7 +28,7 @@ impl<T> Model for Queue<T> {
 
 impl<T: Copy> Queue<T> {
     /// No items. It takes no memory yet.
-    pub(crate) fn new(alloc: Global) -> Queue<T>
+    pub fn new(alloc: Global) -> Queue<T>
         ensures { result ≡ [] }
     {
         Queue {
@@ -35,14 +38,21 @@ impl<T: Copy> Queue<T> {
     }
 
     /// The number of items.
-    pub(crate) fn len(&self) -> usize
+    pub fn len(&self) -> usize
         ensures { result ≡ length self.now }
     {
         self.items.len() - self.head
     }
 
+    /// Whether there are no items.
+    pub fn is_empty(&self) -> bool
+        ensures { IsTrue result ↔ (self.now ≡ []) }
+    {
+        self.len() == 0
+    }
+
     /// The items, in order.
-    pub(crate) fn as_slice(&self) -> &[T]
+    pub fn as_slice(&self) -> &[T]
         ensures { result.now ≡ self.now }
     {
         &self.items.as_slice()[self.head..]
@@ -57,7 +67,7 @@ impl<T: Copy> Queue<T> {
     }
 
     /// Puts items at the end. If memory is not given, nothing changes.
-    pub(crate) fn put(&mut self, more: &[T]) -> Result<(), NoMemory>
+    pub fn put(&mut self, more: &[T]) -> Result<(), NoMemory>
         ensures put { OnOk result (self.new ≡ self.old ++ more.now) }
         ensures unchanged { OnErr result (self.new ≡ self.old) }
     {
@@ -68,7 +78,7 @@ impl<T: Copy> Queue<T> {
     }
 
     /// Takes items away from the front.
-    pub(crate) fn skip(&mut self, count: usize)
+    pub fn skip(&mut self, count: usize)
         requires { count ≤ length self.old }
         ensures { self.new ≡ drop count self.old }
     {
@@ -95,7 +105,7 @@ impl Queue<Char> {
         ensures { self.new ≡ take place self.old ++ drop end self.old }
     {
         if place < self.len() - end {
-            bring_forwards(&mut self.items, self.head, place, end);
+            close_up(&mut self.items, self.head, place, end);
             self.skip(end - place);
         } else {
             self.items.drain(self.head + place..self.head + end);
@@ -114,10 +124,7 @@ impl Queue<Char> {
             insert_near_front(&mut self.items, &mut self.head, place, ch);
             return Ok(());
         }
-        match self.items.insert(self.head + place, ch) {
-            Ok(()) => Ok(()),
-            Err(_) => Err(NoMemory),
-        }
+        insert_near_end(&mut self.items, self.head + place, ch)
     }
 }
 
@@ -135,15 +142,15 @@ fn compact<T: Copy>(items: &mut Vec<T>, head: &mut usize)
     *head = 0;
 }
 
-/// Characters from a place on, up to another place, come before those that stand before them.
-fn bring_forwards(chars: &mut Vec<Char>, head: usize, place: usize, end: usize)
+/// Characters before a place move up, over those from it on, up to another place.
+fn close_up(chars: &mut Vec<Char>, head: usize, place: usize, end: usize)
     requires order { place ≤ end }
     requires end { head + end ≤ length chars.old.items }
-    ensures moved { drop head chars.new.items ≡ drop place (take end (drop head chars.old.items))
-        ++ (take place (drop head chars.old.items) ++ drop end (drop head chars.old.items)) }
+    ensures moved { drop (head + (end - place)) chars.new.items
+        ≡ take place (drop head chars.old.items) ++ drop end (drop head chars.old.items) }
     ensures length { length chars.new.items ≡ length chars.old.items }
 {
-    chars.slice_mut(head..head + end).rotate_left(place);
+    move_up(chars.slice_mut(head..head + end), end - place);
 }
 
 /// A character comes in before the one at a place, and those before it move down.
@@ -157,6 +164,51 @@ fn insert_near_front(chars: &mut Vec<Char>, head: &mut usize, place: usize, ch: 
     *head -= 1;
     chars[*head] = ch;
     chars.slice_mut(*head..*head + place + 1).rotate_left(1);
+}
+
+/// A character comes in before the one at a place, and those from it on move up. If memory is not
+/// given, nothing changes.
+fn insert_near_end(chars: &mut Vec<Char>, place: usize, ch: Char) -> Result<(), NoMemory>
+    requires { place ≤ length chars.old.items }
+    ensures put { OnOk result (chars.new.items
+        ≡ take place chars.old.items ++ ch ∷ drop place chars.old.items) }
+    ensures unchanged { OnErr result (chars.new.items ≡ chars.old.items) }
+{
+    let Ok(()) = chars.push(ch) else {
+        return Err(NoMemory);
+    };
+    move_up(chars.slice_mut(place..), 1);
+    chars[place] = ch;
+    Ok(())
+}
+
+/// Characters move up by so many places, and the last ones go. A block moves at a time, from the
+/// last on: the moves of std take one character after another where they move up.
+fn move_up(chars: &mut [Char], by: usize)
+    requires { by ≤ length chars.old }
+    ensures moved { drop by chars.new ≡ take (length chars.old - by) chars.old }
+    ensures length { length chars.new ≡ length chars.old }
+{
+    let mut left = chars.len() - by;
+    while left > 0 {
+        let end = left;
+        left = left.saturating_sub(BLOCK);
+        move_block(chars, left, end, by);
+    }
+}
+
+/// The characters of a block, from a place on up to another place, come so many places higher.
+fn move_block(chars: &mut [Char], start: usize, end: usize, by: usize)
+    requires order { start ≤ end }
+    requires block { end ≤ start + BLOCK }
+    requires within { end + by ≤ length chars.old }
+    ensures { chars.new ≡ take (start + by) chars.old
+        ++ (drop start (take end chars.old) ++ drop (end + by) chars.old) }
+{
+    let mut block = [Char::Invalid; BLOCK];
+    let moved = &mut block[..end - start];
+    moved.copy_from_slice(&chars[start..end]);
+    chars[start + by..end + by].copy_from_slice(moved);
 }
 
 /// Makes room at the front if there is none: for half as many characters as there are, so that it

@@ -1,8 +1,8 @@
 use Rattle.std.proofs.Common.{◌≡◌, ◌∙◌, ◌+◌, ◌++◌, ◌∷◌, ap, take, drop, sym}
 use Rattle.std.proofs.lemmas.List.{drop-drop}
+use Rattle.std.proofs.lemmas.Result.{on_ok_weaker}
 use Rattle.link_wires.proofs.QueueLaws.{behind_head}
 use Rattle.link_wires.proofs.queue.Queue+Char.insert.Goals as goal
-use Rattle.link_wires.proofs.queue.Queue+Char.insert.Goals.{in-Ok, in-Err}
 
 pub returns-clause-put : goal.returns-clause-put
 returns-clause-put c =
@@ -16,8 +16,5 @@ returns-clause-put c =
     ∙ ap (λ rest. take c.args.place (drop head chars) ++ c.args.ch ∷ rest)
     (sym (drop-drop c.args.place head chars))
     ∙ ap (λ l. take c.args.place l ++ c.args.ch ∷ drop c.args.place l) c.self.view_is in
-    elim c.match-insert.branch [
-      | in-Ok w ↦ rw w.result-is
-          (ap (drop head) (rw w.in-Ok.is at c.insert.ensures.items) ∙ put)
-      | in-Err w ↦ rw w.result-is tt
-    ]
+    on_ok_weaker c.insert_near_end.result (λ is. ap (drop head) is ∙ put)
+    c.insert_near_end.ensures.put

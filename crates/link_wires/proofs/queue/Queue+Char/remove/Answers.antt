@@ -1,6 +1,6 @@
-use Rattle.std.proofs.Common.{◌+◌, ◌++◌, ◌∙◌, ap, take, drop, sym}
+use Rattle.std.proofs.Common.{◌+◌, ◌-◌, ◌++◌, ◌∙◌, ap, take, drop, sym}
 use Rattle.std.proofs.lemmas.List.{drop-drop}
-use Rattle.link_wires.proofs.QueueLaws.{behind_head, brought_away}
+use Rattle.link_wires.proofs.QueueLaws.{behind_head}
 use Rattle.link_wires.proofs.queue.Queue+Char.remove.Goals as goal
 
 pub returns-then-place-len : goal.returns-then-place-len
@@ -8,10 +8,9 @@ returns-then-place-len c =
     let place = c.args.place in
     let end = c.args.end in
     c.skip.ensures
-    ∙ brought_away (drop c.self.inside.head c.bring_forwards.new.chars.items) c.args.self.now
-    (take place c.args.self.now ++ drop end c.args.self.now) place end c.requires.end
-    (c.bring_forwards.ensures.moved
-    ∙ ap (λ l. drop place (take end l) ++ (take place l ++ drop end l)) c.self.view_is)
+    ∙ drop-drop (end - place) c.self.inside.head c.close_up.new.chars.items
+    ∙ c.close_up.ensures.moved
+    ∙ ap (λ l. take place l ++ drop end l) c.self.view_is
 
 pub returns-else-place-len : goal.returns-else-place-len
 returns-else-place-len c =
