@@ -12,6 +12,7 @@ pub mod KnownLaws
 pub mod Marks
 pub mod ScriptLaws
 pub mod PieceLaws
+pub mod LaterLines
 pub mod Joins
 pub mod SpacedWords
 pub mod PrintLaws

@@ -14,7 +14,7 @@ use Rattle.fabric_script.specs.declared.known.Mode.{Mode}
 use Rattle.fabric_script.specs.Known.{Known, known_after, nothing_in}
 use Rattle.fabric_script.specs.Reasons.{reason_number}
 use Rattle.fabric_script.specs.Reading.{new_name_in, Spells, LeastHit}
-use Rattle.fabric_script.specs.Scripts.{pieces_of, is_skipped, SpellsFrom, RefusedIn}
+use Rattle.fabric_script.specs.Scripts.{pieces_of, is_skipped, SpellsFrom, KeepsLine, RefusedIn}
 use Rattle.fabric_script.proofs.ScriptLaws.{Kept, map_skipped}
 
 pub SpellsFrom-skip : (number : ℕ) (known end : Known) (before : List (List ℕ)) (text : List ℕ)
@@ -65,6 +65,18 @@ SpellsFrom-keep number known end (t ∷ ts) text lines n line kept at spells spe
           line kept at' spells h.4,
     ))
     (is_skipped t) spelled
+
+pub SpellsFrom-kept : (number : ℕ) (known end after : Known) (before : List (List ℕ))
+    (text : List ℕ) (lines more : List Numbered) (n : ℕ) → is_skipped text ≡ false → n ≡ number
+    + length before → KeepsLine end lines n text after more
+    → SpellsFrom number known before lines end
+    → SpellsFrom number known (before ++ text ∷ []) more after
+SpellsFrom-kept number known end after before text lines more n kept at keeps spelled =
+    subst (λ ls. SpellsFrom number known (before ++ text ∷ []) ls after) (sym keeps.kept)
+    (subst (λ k. SpellsFrom number known (before ++ text ∷ [])
+    (lines ++ record { number = n; line = keeps.line } ∷ []) k) (sym keeps.then)
+    (SpellsFrom-keep number known end before text lines n keeps.line kept at keeps.spells
+    spelled))
 
 -- the n-th of the pieces is hit, and those before it spell lines
 pub RefusedAt-from_turn : (mode : Mode) → (bytes : List ℕ) (n : ℕ) (before : List (List ℕ))

@@ -22,6 +22,11 @@ use Rattle.fabric_script.proofs.ScriptLaws.{least_once}
 abbrev pub with_mode : Known → Mode → Known
 with_mode known mode = record known { mode = mode }
 
+-- which lines may stand is no matter of the names
+pub orderly_in : {known : Known} {mode : Mode} → IsOrderly known
+    → IsOrderly (with_mode known mode)
+orderly_in orderly = record { named = orderly.named; apart = orderly.apart }
+
 -- what a line may say does not depend on which lines may stand
 pub may_in : (known : Known) (mode : Mode) (new : List ℕ) (line : Line) → MayBe known new line
     → MayBe (with_mode known mode) new line

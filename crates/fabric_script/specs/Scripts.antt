@@ -14,6 +14,11 @@ use Rattle.fabric_script.specs.Reading.{new_name_in, MayBe, IsFree, Spells, Leas
 abbrev pub pieces_of : List ℕ → List (List ℕ)
 pieces_of bytes = slice_split (λ byte. byte == 10) bytes
 
+-- The text is of these whole lines: each ends with its line feed, so that what comes behind the
+-- text begins a line of its own.
+abbrev pub AreWholeLines : List ℕ → List (List ℕ) → Type 0
+AreWholeLines text lines = (more : List ℕ) → pieces_of (text ++ more) ≡ lines ++ pieces_of more
+
 -- an empty line and a comment are counted and not kept
 abbrev pub is_skipped : List ℕ → Bool
 is_skipped [] = true
@@ -32,6 +37,15 @@ SpellsFrom number known [] lines end = (lines ≡ []) × (end ≡ known)
 SpellsFrom number known (text ∷ texts) lines end = MatchBool (is_skipped text)
     (SpellsFrom (suc number) known texts lines end)
     (KeptThen (λ next rest. SpellsFrom (suc number) next texts rest end) number known text lines)
+
+-- A line more is kept, with this number: the text spells it after what is known, and then this is
+-- known.
+pub record KeepsLine (known : Known) (lines : List Numbered) (number : ℕ) (text : List ℕ)
+    (after : Known) (more : List Numbered) : Type 0 where
+  pub line : Line
+  pub spells : Spells known text line
+  pub kept : more ≡ lines ++ record { number = number; line = line } ∷ []
+  pub then : after ≡ known_after known (new_name_in text line) line
 
 -- the bytes spell these names and lines, if such lines may stand
 abbrev pub IsScriptIn : Mode → List ℕ → List (List ℕ) → List Numbered → Type 0

@@ -1,8 +1,8 @@
 //! What is known of the earlier lines.
 
 ghost use Rattle.fabric_script.specs.declared.known.Mode.TheVariants.{Event};
-ghost use Rattle.std.specs.Prelude.{◌≡◌, ◌≢◌, ◌+◌, ◌*◌, ◌^◌, ◌<◌, ◌≤◌, true, false, ◌∷◌, [], ◌++◌, Contains, length, MatchOption, MatchResult, IfOk};
-ghost use Rattle.fabric_script.specs.SetUps.{for_event};
+ghost use Rattle.std.specs.Prelude.{◌≡◌, ◌≢◌, ◌+◌, ◌*◌, ◌^◌, ◌<◌, ◌≤◌, true, false, ◌∷◌, [], ◌++◌, Contains, length, MatchOption, MatchResult, IfOk, OnErr};
+ghost use Rattle.fabric_script.specs.SetUps.{for_event, for_set_up};
 ghost use Rattle.fabric_script.specs.Names.{is_name};
 ghost use Rattle.fabric_script.specs.Lines.{words_of};
 ghost use Rattle.fabric_script.specs.Reading.{Spells, new_name_in, second_word};
@@ -91,13 +91,16 @@ impl Known {
         }
     }
 
-    /// Adds a line, which a text spells after the earlier ones.
+    /// Adds a line, which a text spells after the earlier ones. If memory runs out, no name and no
+    /// link is added.
     pub(crate) fn add(&mut self, line: &Line, text: &[u8]) -> Result<(), AllocError>
         requires spelled { Spells self.old text.now line.now }
         requires lines { self.old.mode ≢ Event }
         requires few { length self.old.links ≤ 33554432 }
-        ensures { IfOk result (λ _. self.new
+        ensures added { IfOk result (λ _. self.new
             ≡ known_after self.old (new_name_in text.now line.now) line.now) }
+        ensures names { OnErr result (self.new.names ≡ self.old.names) }
+        ensures links { OnErr result (self.new.links ≡ self.old.links) }
     {
         self.cost += self.cost_of(line) as u32;
         self.begun = self.begun || line.is_event();
@@ -114,25 +117,29 @@ impl Known {
     fn add_node(&mut self, text: &[u8], node: Node) -> Result<(), AllocError>
         requires named { is_name (second_word (words_of text.now)) ≡ true }
         requires room { length self.old.names < 64 }
-        ensures { IfOk result (λ _. self.new ≡ record self.old {
+        ensures added { IfOk result (λ _. self.new ≡ record self.old {
           names = self.old.names ++ second_word (words_of text.now) ∷ [];
           nodes = self.old.nodes ++ node ∷ [];
         }) }
+        ensures names { OnErr result (self.new.names ≡ self.old.names) }
+        ensures links { OnErr result (self.new.links ≡ self.old.links) }
     {
         let mut words = Words::new(text);
         words.word();
         let name = Name::of_word(words.word());
         self.hints[place_of(name.key())] = self.names.len() as u8;
-        self.names.push(name)?;
         self.nodes.push(node)?;
+        self.names.push(name)?;
         Ok(())
     }
 
     /// Notes the 16-bit device ID of a node, in the place of an earlier one.
     fn set_large_id(&mut self, node: u8, id: u16) -> Result<(), AllocError>
-        ensures { IfOk result (λ _. self.new ≡ record self.old {
+        ensures noted { IfOk result (λ _. self.new ≡ record self.old {
           large_ids = large_ids_after self.old.large_ids (ALarge node id);
         }) }
+        ensures names { OnErr result (self.new.names ≡ self.old.names) }
+        ensures links { OnErr result (self.new.links ≡ self.old.links) }
     {
         self.large_ids.retain(|pair| pair.0 != node);
         self.large_ids.push((node, id))?;
@@ -273,6 +280,13 @@ impl Known {
         ensures { self.new ≡ for_event self.old }
     {
         self.mode = Mode::Event;
+    }
+
+    /// Set-up lines alone may stand from now on.
+    pub(crate) fn expect_set_up(&mut self)
+        ensures { self.new ≡ for_set_up self.old }
+    {
+        self.mode = Mode::SetUp;
     }
 
     /// Which lines may stand.

@@ -10,12 +10,13 @@
 //! - `Refusals`: the reasons that look at a whole line, after what `Known` says of earlier ones;
 //! - `LargeIds`: which 16-bit device IDs the lines give nodes;
 //! - `Reading`, `Scripts`: which lines and which bytes are spelled, and which are refused;
-//! - `SetUps`: what is known of one event behind set-up lines;
+//! - `SetUps`: what is known behind set-up lines, of one event or of a line of set-up more;
 //! - `GivenPackets`, `Operations`: the line that gives an endpoint a packet, and the line that asks
 //!   for any other operation of a fabric.
 //!
 //! `parse_set_up` reads set-up lines alone. `read_set_up` does so too, and keeps in `SetUp` what is
-//! known behind them, so that `SetUp::read_event` reads one event after another.
+//! known behind them, so that `SetUp::read_event` reads one event after another, and
+//! `SetUp::take_line` takes a line of set-up more.
 //!
 //! The types are `Script`, its `Numbered` lines, `Line` and their parts `Name`, `Hex` and
 //! `PortRef`; `Operation` is what a line asks of a fabric, and its `GivenPacket` what it says of a

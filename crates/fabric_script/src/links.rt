@@ -1,6 +1,6 @@
 //! The links of the earlier lines.
 
-ghost use Rattle.std.specs.Prelude.{◌≡◌, ◌+◌, ◌*◌, ◌<◌, [], ◌∷◌, ◌++◌, length, IfOk};
+ghost use Rattle.std.specs.Prelude.{◌≡◌, ◌+◌, ◌*◌, ◌<◌, [], ◌∷◌, ◌++◌, length, IfOk, OnErr};
 ghost use Rattle.fabric_script.specs.Known.{is_linked};
 
 use crate::ports::PortRef;
@@ -51,7 +51,8 @@ impl Links {
     pub(crate) fn push(&mut self, a: PortRef, b: PortRef) -> Result<(), AllocError>
         requires first { (a.node < 64) × (a.port < 16) }
         requires second { (b.node < 64) × (b.port < 16) }
-        ensures { IfOk result (λ _. self.new ≡ self.old ++ (a, b) ∷ []) }
+        ensures added { IfOk result (λ _. self.new ≡ self.old ++ (a, b) ∷ []) }
+        ensures failed { OnErr result (self.new ≡ self.old) }
     {
         self.links.push((a, b))?;
         self.linked[place_of(a)] = true;

@@ -1,11 +1,11 @@
 //! A script from its bytes.
 
-ghost use Rattle.std.specs.Prelude.{◌≡◌, ◌≢◌, ℕ, ◌≤◌, ◌⊎◌, List, length, IfOk, IsOk, IsErrOf};
+ghost use Rattle.std.specs.Prelude.{◌≡◌, ◌≢◌, ℕ, ◌+◌, ◌≤◌, ◌⊎◌, List, length, IfOk, IfErr, OnOk, IsOk, IsErrOf};
 ghost use Rattle.fabric_script.specs.declared.lines.Numbered.{Numbered as NumberedLine};
 ghost use Rattle.fabric_script.specs.Known.{IsOrderly, nothing_in};
 ghost use Rattle.fabric_script.specs.declared.known.Mode.TheVariants.{Script as OfScript, SetUp as OfSetUp, Event as OfEvent};
-ghost use Rattle.fabric_script.specs.Reading.{ReadsText};
-ghost use Rattle.fabric_script.specs.Scripts.{IsScript, IsScriptIn, ScriptPasses, RefusedAt, RefusedIn, SpellsFrom, pieces_of, is_skipped};
+ghost use Rattle.fabric_script.specs.Reading.{LeastHit, ReadsText};
+ghost use Rattle.fabric_script.specs.Scripts.{IsScript, IsScriptIn, ScriptPasses, RefusedAt, RefusedIn, SpellsFrom, KeepsLine, pieces_of, is_skipped};
 ghost use Rattle.fabric_script.specs.SetUps.{NoEvents};
 ghost use Rattle.fabric_script.specs.declared.scripts.ScriptEnd.TheVariants.{NoMemory};
 
@@ -126,21 +126,44 @@ pub(crate) fn read_lines(
         if is_skipped(text) {
             continue;
         }
-        match read_line(alloc, known, text)? {
-            Ok(line) => {
-                known.add(&line, text)?;
-                lines.push(Numbered { number, line })?;
-            }
-            Err(reason) => {
-                let reason = reason.number();
-                return Err(ScriptEnd::Refused(Refusal {
-                    line: number,
-                    reason,
-                }));
-            }
+        if let Err(reason) = keep_line(alloc, known, &mut lines, number, text)? {
+            let reason = reason.number();
+            return Err(ScriptEnd::Refused(Refusal {
+                line: number,
+                reason,
+            }));
         }
     }
     Ok(lines)
+}
+
+/// Keeps the line that a text is, with its number, and adds it to what is known; or tells the least
+/// reason that hits it.
+pub(crate) fn keep_line(
+    alloc: Global,
+    known: &mut Known,
+    lines: &mut Vec<Numbered>,
+    number: u32,
+    text: &[u8],
+) -> Result<Result<(), Reason>, AllocError>
+    requires orderly { IsOrderly known.old }
+    requires few { length known.old.links ≤ 33554432 }
+    requires mode { known.old.mode ≢ OfEvent }
+    ensures kept { IfOk result (λ read. OnOk read
+        (KeepsLine known.old lines.old.items number text.now known.new lines.new.items)) }
+    ensures refused { IfOk result (λ read. IfErr read (λ reason. LeastHit known.old text.now reason
+        × (known.new ≡ known.old) × (lines.new.items ≡ lines.old.items))) }
+    ensures orderly { IsOrderly known.new }
+    ensures links { length known.new.links ≤ length known.old.links + 1 }
+{
+    match read_line(alloc, known, text)? {
+        Ok(line) => {
+            known.add(&line, text)?;
+            lines.push(Numbered { number, line })?;
+            Ok(Ok(()))
+        }
+        Err(reason) => Ok(Err(reason)),
+    }
 }
 
 /// Whether a line of text is counted and not kept: it is empty or a comment.

@@ -1,6 +1,6 @@
-//! Set-up lines alone, and the events that may stand behind them.
+//! Set-up lines alone, and the lines that may stand behind them.
 
-ghost use Rattle.std.specs.Prelude.{◌≡◌, ◌≢◌, ℕ, ◌≤◌, ◌⊎◌, length, MatchOption, IfOk, IsOk, IsErrOf};
+ghost use Rattle.std.specs.Prelude.{◌≡◌, ◌≢◌, ℕ, ◌+◌, ◌<◌, ◌≤◌, ◌⊎◌, length, MatchOption, IfOk, OnOk, IsOk, IsErrOf};
 ghost use Rattle.fabric_script.specs.declared.lines.Line.{Line as ALine};
 ghost use Rattle.fabric_script.specs.declared.ports.PortRef.{PortRef as APortRef};
 ghost use Rattle.fabric_script.specs.Forms.{Node as ANode, Port as APort};
@@ -9,19 +9,19 @@ ghost use Rattle.fabric_script.specs.Texts.{NodeValue, PortValue, value_text};
 ghost use Rattle.fabric_script.specs.Known.{is_linked, nothing_in, Known as AKnown};
 ghost use Rattle.fabric_script.specs.declared.known.Mode.TheVariants.{SetUp as OfSetUp};
 ghost use Rattle.fabric_script.specs.Reading.{Spells};
-ghost use Rattle.fabric_script.specs.Scripts.{ScriptPasses, RefusedIn, SpellsFrom, pieces_of};
-ghost use Rattle.fabric_script.specs.SetUps.{for_event, KnownIsReady, IsRefused, NoEvents};
+ghost use Rattle.fabric_script.specs.Scripts.{ScriptPasses, RefusedIn, SpellsFrom, KeepsLine, pieces_of};
+ghost use Rattle.fabric_script.specs.SetUps.{for_event, for_set_up, KnownIsReady, IsRefused, NoEvents};
 ghost use Rattle.fabric_script.specs.declared.set_ups.EventEnd.TheVariants.{NoMemory};
 
 use crate::known::{Known, Mode};
 use crate::lines::{Line, Numbered};
 use crate::names::Name;
 use crate::ports::PortRef;
-use crate::scripts::{ScriptEnd, read_line, read_lines};
+use crate::scripts::{ScriptEnd, keep_line, read_line, read_lines};
 use std::alloc::{AllocError, Global};
 use std::marker::Model;
 
-/// Why there is no event.
+/// Why there is no event, or no line of set-up more.
 #[derive(Clone, Copy, Debug, PartialEq, Eq)]
 pub enum EventEnd {
     /// The line is refused: the number of the least reason that hits it.
@@ -80,6 +80,35 @@ impl SetUp {
         ensures { result.now ≡ self.now.lines }
     {
         self.lines.as_slice()
+    }
+
+    /// Takes a line of set-up more, with this number, behind those that are there. Any event is out
+    /// of place, and an empty line and a comment are of no form. A line that is refused changes
+    /// nothing. If memory runs out, what is held is of no use.
+    pub fn take_line(&mut self, alloc: Global, number: u32, line: &[u8]) -> Result<(), EventEnd>
+        requires room { length self.old.known.links < 33554432 }
+        // What is taken is spelled so, and what is refused is refused so.
+        ensures taken { OnOk result ((end : AKnown)
+            × KeepsLine (for_set_up self.old.known) self.old.lines number line.now end
+            self.new.lines
+            × (self.new.known ≡ for_event end)) }
+        ensures refused { (reason : ℕ) → IsErrOf result (EventEnd.Refused reason)
+            → IsRefused (for_set_up self.old.known) line.now reason × (self.new ≡ self.old) }
+        // What is spelled is taken and what is refused so is refused, unless memory runs out.
+        ensures only { (event : ALine) → Spells (for_set_up self.old.known) line.now event
+            → IsErrOf result NoMemory ⊎ IsOk result }
+        ensures refusal_only { (reason : ℕ)
+            → IsRefused (for_set_up self.old.known) line.now reason
+            → IsErrOf result (EventEnd.Refused reason) ⊎ IsErrOf result NoMemory }
+        ensures links { length self.new.known.links ≤ length self.old.known.links + 1 }
+    {
+        self.known.expect_set_up();
+        let kept = keep_line(alloc, &mut self.known, &mut self.lines, number, line);
+        self.known.expect_event();
+        if let Err(reason) = kept? {
+            return Err(EventEnd::Refused(reason.number()));
+        }
+        Ok(())
     }
 
     /// The names of the nodes, in the order of their lines.

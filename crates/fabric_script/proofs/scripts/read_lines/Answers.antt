@@ -2,11 +2,10 @@ use Rattle.std.proofs.Common.{◌≡◌, ◌+◌, ◌∷◌, [], length, length-
 use Rattle.std.proofs.lemmas.List.{map-append, length-map}
 use Rattle.std.proofs.lemmas.Iterator.Consumers.{YieldsList-turn, YieldsList-so_far, YieldsList-end}
 use Rattle.fabric_script.specs.Known.{Known, nothing_in}
-use Rattle.fabric_script.specs.Scripts.{RefusedIn}
+use Rattle.fabric_script.specs.Reading.{LeastHit}
+use Rattle.fabric_script.specs.Scripts.{RefusedIn, KeepsLine}
 use Rattle.fabric_script.specs.declared.scripts.Refusal.{Refusal}
-use Rattle.fabric_script.proofs.KnownLaws.{links-after}
-use Rattle.fabric_script.proofs.ScriptLaws.{orderly-spelled}
-use Rattle.fabric_script.proofs.PieceLaws.{SpellsFrom-skip, SpellsFrom-keep, RefusedAt-from_turn, pieces-road}
+use Rattle.fabric_script.proofs.PieceLaws.{SpellsFrom-skip, SpellsFrom-kept, RefusedAt-from_turn, pieces-road}
 use Rattle.fabric_script.proofs.scripts.read_lines.Goals as goal
 
 pub loop-text-preserved-then-is_skipped : goal.loop-text-preserved-then-is_skipped
@@ -27,26 +26,20 @@ loop-text-preserved c =
     let texts = map (λ t. t.now) c.loop-text.yielded in
     let number : c.loop-text.number + 1 ≡ 1 + length texts =
     omega (arith, length-map c.loop-text.yielded (λ t. t.now)) in
-    let spells = rw c.in-Ok.is at c.in_ok-line.ensures in
-    let added = c.in_ok-add-in-Ok.ensures in
-    let more = SpellsFrom-keep 1 (nothing_in c.args.mode) c.loop-text.known texts c.in-Some.text.now
-    c.loop-text.lines.items (c.loop-text.number + 1) c.in-Ok.line
-    (sym c.if-is_skipped.ensures) number spells c.loop-text.invariant.spelled in
+    let keeps : KeepsLine c.loop-text.known c.loop-text.lines.items (c.loop-text.number + 1)
+    c.in-Some.text.now c.keep_line.new.known c.keep_line.new.lines.items = search rules in
+    let more = SpellsFrom-kept 1 (nothing_in c.args.mode) c.loop-text.known
+    c.keep_line.new.known texts c.in-Some.text.now c.loop-text.lines.items
+    c.keep_line.new.lines.items (c.loop-text.number + 1) (sym c.if-is_skipped.ensures) number
+    keeps c.loop-text.invariant.spelled in
     let few = c.loop-text.invariant.links in
-    let after = links-after c.loop-text.known.links c.in-Ok.line in
+    let after = c.keep_line.ensures.links in
     record {
       counted = simp length-append (omega arith);
-      spelled =
-          rw (
-            map-append (λ t. t.now) c.loop-text.yielded (c.in-Some.text ∷ []),
-            c.in_ok-push-in-Ok.ensures.items,
-            added,
-          ) more;
-      mode = ap {A = Known} (λ k. k.mode) added ∙ c.loop-text.invariant.mode;
-      orderly =
-          rw added (orderly-spelled c.loop-text.known c.in-Some.text.now c.in-Ok.line
-          c.loop-text.invariant.orderly spells);
-      links = omega (arith, few, after, ap {A = Known} (λ k. length k.links) added);
+      spelled = rw (map-append (λ t. t.now) c.loop-text.yielded (c.in-Some.text ∷ [])) more;
+      mode = ap {A = Known} (λ k. k.mode) keeps.then ∙ c.loop-text.invariant.mode;
+      orderly = c.keep_line.ensures.orderly;
+      links = omega (arith, few, after);
     }
 
 pub returns-in-Err-clause-refused : goal.returns-in-Err-clause-refused
@@ -56,7 +49,7 @@ returns-in-Err-clause-refused c = λ refusal is.
     let turn = YieldsList-turn all c.loop-text.yielded _ c.loop-text.yielded_by _ _ c.in-Some.text
     c.in-Some.is c.next.ensures.steps in
     let so_far = YieldsList-so_far all c.loop-text.yielded _ c.loop-text.yielded_by in
-    let reads = rw c.in-Err.is at c.in_ok-line.ensures in
+    let reads : LeastHit c.loop-text.known c.in-Some.text.now c.in-Err.reason = search rules in
     let texts = map (λ t. t.now) c.loop-text.yielded in
     let here = RefusedAt-from_turn c.args.mode c.args.bytes.now (length c.loop-text.yielded) texts
     c.in-Some.text.now c.loop-text.lines.items c.loop-text.known c.in-Err.reason so_far
@@ -78,5 +71,5 @@ returns-clause-lines c =
     c.next.ensures.steps in
     rw (← end.0) c.loop-text.invariant.spelled
 
-pub add-requires-clause-lines : goal.add-requires-clause-lines
-add-requires-clause-lines c = λ is. c.requires.lines (sym c.loop-text.invariant.mode ∙ is)
+pub keep_line-requires-clause-mode : goal.keep_line-requires-clause-mode
+keep_line-requires-clause-mode c = λ is. c.requires.lines (sym c.loop-text.invariant.mode ∙ is)
