@@ -18,8 +18,9 @@ use Rattle.fabric_ports.specs.OwnRegisters.{device_with, seen_with, with_standar
 use Rattle.fabric_ports.specs.Standing.{Stands}
 use Rattle.fabric_ports.specs.declared.fabric.Fabric.{Fabric}
 use Rattle.live_fabric.specs.declared.live.Live.{Live}
+use Rattle.live_fabric.specs.declared.set_up_text.SetUpText.{SetUpText}
 use Rattle.live_fabric.specs.Lines.{Taken, seen_so_far, taken_anew}
-use Rattle.live_fabric.specs.Holding.{StandsBy, LiveHolds}
+use Rattle.live_fabric.specs.Holding.{HasWholeLines, StandsBy, LiveHolds}
 use Rattle.live_fabric.proofs.AnsweringLaws.{put_text, put_set_up, put_facing}
 use Rattle.live_fabric.proofs.CountLaws.{KeepsCounts, seen_counts}
 
@@ -88,10 +89,13 @@ pub anew_holds : (live mid now : Live) (taken : Taken) (s : Seen) (fabric : Fabr
     → Stands s [] fabric → LiveHolds now (taken_anew taken s)
 anew_holds live mid now taken s fabric holds text set_up facing put board counts stands =
     let same = put_set_up live mid now fabric put set_up in
+    let same_text = put_text live mid now fabric put text in
     let net = set_up_all bare taken.set_up in
     let so_far = (seen_so_far taken).network in
     record {
-      text = put_text live mid now fabric put text ∙ holds.text;
+      text = ap (λ (t : SetUpText). t.bytes.items) same_text ∙ holds.text;
+      counted = subst (λ n. HasWholeLines n taken.text)
+          (sym (ap (λ (t : SetUpText). t.count) same_text)) holds.counted;
       few = holds.few;
       spelled = holds.spelled;
       lines = ap (λ (l : SetUpLines). l.lines) same ∙ holds.lines;

@@ -43,6 +43,7 @@ pub face_holds : (put now : Live) (taken : Taken) (at : Facing) (fabric_now : Fa
     → LiveHolds now (record taken { facing = taken.facing ++ at ∷ [] })
 face_holds put now taken at fabric_now holds some text set_up fabric facing faced = record {
   text = rw text holds.text;
+  counted = rw text holds.counted;
   few = holds.few;
   spelled = holds.spelled;
   lines = rw set_up holds.lines;

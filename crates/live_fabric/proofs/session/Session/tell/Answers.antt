@@ -1,4 +1,4 @@
-use Rattle.std.proofs.Common.{rules, sym, ap, ◌∙◌, subst}
+use Rattle.std.proofs.Common.{rules, refl, sym, ap, ◌∙◌, subst}
 use Rattle.rio_chars.specs.Written.{Writes}
 use Rattle.refusal_words.specs.Citing.{refusal_line}
 use Rattle.refusal_words.specs.Reasons.{script_reason}
@@ -92,3 +92,8 @@ returns-in-Err-Refused-clause-told g c = λ held holds.
     (subst (λ r. Writes c.args.outbox.now c.write_refusal.new.outbox
     (refusal_line r c.script_reason.result.now)) c.in-Err-Refused.reason-is
     c.write_refusal.ensures)
+
+pub returns-in-Err-NoMemory-clause-breaks : goal.returns-in-Err-NoMemory-clause-breaks
+returns-in-Err-NoMemory-clause-breaks g c = λ held holds.
+    session_breaks_at_once held c.args.number c.args.line.now c.args.outbox.now c.args.outbox.now
+    refl

@@ -17,6 +17,12 @@ returns-in_default-clause-told g c = λ held holds.
     (c.requires.other held holds)
     refl refl (rw c.in_default.is at (c.in_ok-event.ensures.read held.taken holds.live))
 
+pub returns-in_err-event-clause-breaks : goal.returns-in_err-event-clause-breaks
+returns-in_err-event-clause-breaks g c =
+    on_err c.from_residual.result
+    (λ held holds. session_breaks_at_once held c.args.number c.args.line.now c.args.outbox.now
+    c.read_line.new.outbox c.in_err-event.ensures.same)
+
 pub returns-in_err-nodes-clause-breaks : goal.returns-in_err-nodes-clause-breaks
 returns-in_err-nodes-clause-breaks g c =
     on_err c.from_residual-in_err-nodes.result
