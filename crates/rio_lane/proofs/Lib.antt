@@ -1,3 +1,4 @@
+pub mod AnswerLaws
 pub mod LineLaws
 pub mod ReadBackLaws
 pub mod TextLaws

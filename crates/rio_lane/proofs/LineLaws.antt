@@ -2,6 +2,7 @@
 use Rattle.std.proofs.Common.{◌≡◌, ℕ, ◌+◌, Option, List, [], ◌∷◌, ◌++◌, refl, sym, ap, ◌∙◌, subst, append-nil, append_assoc}
 use Rattle.std.specs.Io.KnownBytes.{Consumes}
 use Rattle.rio_chars.specs.Written.{Outgoing, Writes}
+use Rattle.rio_chars.proofs.WrittenLaws.{Writes-then}
 use Rattle.live_lines.specs.Lines.{IsLine, with_feed}
 use Rattle.live_lines.proofs.ServingLaws.{Going, Going-begin, Going-line, Going-told, Going-read}
 use Rattle.rio_lane.specs.declared.ends.LaneEnds.{LaneEnds}
@@ -56,19 +57,20 @@ module _ (task : LaneTask) (commas : ℕ) (begun : Outgoing) (ends : LaneEnds)
     going = Going-begin begun left read_faults pending none;
   }
 
-  -- a line more was read and answered
-  pub LanesServed-line : {out next : Outgoing} {now after : LaneEnds}
+  -- a line more was read and answered, and all of the answer was written
+  pub LanesServed-line : {out told next : Outgoing} {now after : LaneEnds}
       {left_now left_next : Option (List ℕ)} (pending pending_next line taken : List ℕ)
       {count : ℕ} (read_faults_now read_faults_next : ℕ) (answer : LaneAnswer)
       → LanesServed task commas begun out ends now left left_now pending count
       read_faults read_faults_now
       → Consumes left_now left_next taken → pending ++ taken ≡ with_feed line ++ pending_next
       → IsLine line → AnswersLane task commas now line answer → after ≡ answer.ends
-      → Writes out next answer.text → read_faults_next ≡ read_faults_now
+      → Writes out told answer.text → Writes told next [] → read_faults_next ≡ read_faults_now
       → LanesServed task commas begun next ends after left left_next pending_next (count + 1)
       read_faults read_faults_next
-  LanesServed-line {out} {next} {now} {after} {left_now} {left_next} pending pending_next line taken
-      {count} read_faults_now read_faults_next answer h more is good answers stands told same =
+  LanesServed-line {out} {told} {next} {now} {after} {left_now} {left_next} pending pending_next
+      line taken {count} read_faults_now read_faults_next answer h more is good answers stands
+      tells writes same =
       record {
         lines = h.lines ++ line ∷ [];
         answer = after_said h.answer.text answer;
@@ -81,7 +83,8 @@ module _ (task : LaneTask) (commas : ℕ) (begun : Outgoing) (ends : LaneEnds)
             (h.lines ++ line ∷ []) h.answer.text answer.text
             (Going-line begun left read_faults pending pending_next line taken
             read_faults_now read_faults_next h.lines h.answer.text h.going more is good same)
-            told;
+            (subst (Writes out next) (append-nil answer.text)
+            (Writes-then answer.text [] tells writes));
       }
 
   -- bytes were read that are no line, and the ends stay

@@ -1,20 +1,18 @@
 -- What the program writes it reads back.
-use Rattle.std.proofs.Common.{◌≡◌, ℕ, ◌⊎◌, List, [], ◌∷◌, ◌++◌, Option, Some, None, MatchOption, map, codes, refl, sym, ap, ◌∙◌, subst, inl, inr}
-use Rattle.rio_chars.specs.CharText.{char_text_of}
+use Rattle.std.proofs.Common.{◌≡◌, ℕ, ◌⊎◌, List, [], ◌∷◌, ◌++◌, Option, Some, None, MatchOption, codes, refl, sym, ap, ◌∙◌, subst, inl, inr}
 use Rattle.rio_chars.specs.declared.chars.Char.{Char}
 use Rattle.rio_chars.specs.declared.chars.Char.TheVariants.{Special}
 use Rattle.code_groups.specs.declared.disparity.Disparity.{Disparity}
 use Rattle.code_groups.specs.declared.disparity.Disparity.TheVariants.{Negative}
 use Rattle.code_groups.specs.Streams.{HaveGroups, groups_from, after_chars}
-use Rattle.group_text.specs.GroupTexts.{group_text_of}
 use Rattle.lane_sync.specs.declared.lane.LaneState.{LaneState}
 use Rattle.lane_sync.specs.Syncing.{lane_out, lane_in, LaneHearsAll}
 use Rattle.lane_sync.proofs.SyncLaws.{all_in, all_from_comma}
 use Rattle.live_lines.specs.Lines.{with_feed}
 use Rattle.rio_lane.specs.declared.ends.LaneEnds.{LaneEnds}
 use Rattle.rio_lane.specs.declared.ends.LaneTask.TheVariants.{Groups, Chars}
-use Rattle.rio_lane.specs.LaneAnswers.{LaneAnswer, lane_says, text_words, SpellSent, SpellGroups, SendsText, sent_answer, HearsText, HeardAnswer, joined_groups, joined_chars, burst_chars}
-use Rattle.rio_lane.specs.LaneLines.{AnswersLane, AnswersLanes, after_said}
+use Rattle.rio_lane.specs.LaneAnswers.{LaneAnswer, text_words, SpellSent, SpellGroups, SendsText, sent_answer, HearsText, HeardAnswer, joined_groups, joined_chars, burst_chars}
+use Rattle.rio_lane.specs.LaneLines.{AnswersLane, AnswersLanes}
 use Rattle.rio_lane.specs.ReadingBack.{AllHaveGroups, HaveNoFeeds, fed_lines, burst_lines, idle_lines}
 use Rattle.rio_lane.specs.Tasks.{new_ends}
 use Rattle.rio_lane.proofs.TextLaws.{words_of_chars, words_of_groups, groups_no_feed, same_chars, same_groups}

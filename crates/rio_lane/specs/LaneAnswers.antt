@@ -48,6 +48,13 @@ joined_chars (c ∷ chars) = char_text_of c ++ spaced_chars chars
 abbrev pub burst_chars : List Char → List Char
 burst_chars chars = Special 0xbc ∷ chars ++ Special 0xbc ∷ []
 
+-- A text is answered by what it spells, or as one that spells nothing.
+pub record AnsweredAs {X : Type 0} (Spells : X → Type 0) (Answers : Option X → Type 0) :
+    Type 0 where
+  pub read : Option X
+  pub reads : MatchOption read ((x : X) → ¬ Spells x) Spells
+  pub is : Answers read
+
 -- A burst after this head, and the sender's disparity after it; or the line is refused.
 abbrev pub sent_answer : List ℕ → LaneEnds → Option (List Char) → LaneAnswer
 sent_answer head ends None = lane_says ends (codes "refused character\n")
@@ -55,12 +62,9 @@ sent_answer head ends (Some chars) =
     lane_says (record ends { sender = after_chars ends.sender (burst_chars chars) })
     (head ++ joined_groups (groups_from ends.sender (burst_chars chars)) ++ codes "\n")
 
-pub record SendsText (head : List ℕ) (ends : LaneEnds) (text : List ℕ) (answer : LaneAnswer) :
-    Type 0 where
-  pub read : Option (List Char)
-  pub reads : MatchOption read ((chars : List Char) → ¬ SpellSent (text_words text) chars)
-      (λ chars. SpellSent (text_words text) chars)
-  pub is : answer ≡ sent_answer head ends read
+abbrev pub SendsText : List ℕ → LaneEnds → List ℕ → LaneAnswer → Type 0
+SendsText head ends text answer =
+    AnsweredAs (SpellSent (text_words text)) (λ read. answer ≡ sent_answer head ends read)
 
 -- What is heard of the groups after this head, and the lane after it; or the line is refused.
 abbrev pub HeardAnswer : ℕ → List ℕ → LaneEnds → Option (List ℕ) → LaneAnswer → Type 0
@@ -70,12 +74,9 @@ HeardAnswer commas head ends (Some groups) answer = (heard : List Char) × (to :
     × (answer ≡ lane_says (record ends { receiver = to })
     (head ++ joined_chars heard ++ codes "\n"))
 
-pub record HearsText (commas : ℕ) (head : List ℕ) (ends : LaneEnds) (text : List ℕ)
-    (answer : LaneAnswer) : Type 0 where
-  pub read : Option (List ℕ)
-  pub reads : MatchOption read ((groups : List ℕ) → ¬ SpellGroups (text_words text) groups)
-      (λ groups. SpellGroups (text_words text) groups)
-  pub is : HeardAnswer commas head ends read answer
+abbrev pub HearsText : ℕ → List ℕ → LaneEnds → List ℕ → LaneAnswer → Type 0
+HearsText commas head ends text answer =
+    AnsweredAs (SpellGroups (text_words text)) (λ read. HeardAnswer commas head ends read answer)
 
 -- What is heard of the bits of a line, and what is known of the lane after them; or the line is
 -- refused.
@@ -87,9 +88,6 @@ BitsAnswer commas ends (Some bits) answer = (heard : List Char) × (to : LaneSta
     (record ends { receiver = to; aligner = after_bits ends.aligner bits })
     (joined_chars heard ++ codes "\n"))
 
-pub record HearsBits (commas : ℕ) (ends : LaneEnds) (text : List ℕ) (answer : LaneAnswer) :
-    Type 0 where
-  pub read : Option (List ℕ)
-  pub reads : MatchOption read ((bits : List ℕ) → ¬ SpellBits text bits)
-      (λ bits. SpellBits text bits)
-  pub is : BitsAnswer commas ends read answer
+abbrev pub HearsBits : ℕ → LaneEnds → List ℕ → LaneAnswer → Type 0
+HearsBits commas ends text answer =
+    AnsweredAs (SpellBits text) (λ read. BitsAnswer commas ends read answer)

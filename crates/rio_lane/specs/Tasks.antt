@@ -1,5 +1,5 @@
 -- The tasks of the program, by their words.
-use Rattle.std.specs.Prelude.{ℕ, List, [], ◌∷◌, ◌++◌, codes}
+use Rattle.std.specs.Prelude.{ℕ, List, [], codes}
 use Rattle.code_groups.specs.declared.disparity.Disparity.TheVariants.{Negative}
 use Rattle.lane_bits.specs.Aligning.{new_aligner}
 use Rattle.lane_rows.specs.RowHearing.{new_receivers}

@@ -96,9 +96,11 @@ fn serve_lines<S: Source, K: Sink, M: Sink>(
             line: count + 1,
             commas,
         };
-        let Ok(()) = answer_line(alloc, task, place, ends, line.as_slice(), outbox, messages) else {
+        let Ok(()) = tell_line(alloc, task, place, ends, line.as_slice(), outbox, messages) else {
             return LiveStatus::NoMemory;
         };
+        outbox.flush();
+        messages.flush();
         if outbox.failed() {
             return LiveStatus::WriteFault;
         }
@@ -107,31 +109,7 @@ fn serve_lines<S: Source, K: Sink, M: Sink>(
     LiveStatus::Done
 }
 
-/// Answers a line, and writes all of the answer unless a write fails. If memory is not given,
-/// nothing is answered.
-fn answer_line<K: Sink, M: Sink>(
-    alloc: Global,
-    task: LaneTask,
-    place: LinePlace,
-    ends: &mut LaneEnds,
-    line: &[u8],
-    outbox: &mut Outbox<K>,
-    messages: &mut Outbox<M>,
-) -> Result<(), AllocError>
-    ensures answer { OnOk result ((answer : LaneAnswer)
-        × AnswersLane task place.commas ends.old line.now answer × (ends.new ≡ answer.ends)
-        × Writes outbox.old outbox.new answer.text) }
-    ensures written { OnOk result (outbox.new.waiting ≡ []) }
-    ensures ends { OnErr result (ends.new ≡ ends.old) }
-    ensures outbox { OnErr result (outbox.new ≡ outbox.old) }
-{
-    tell_line(alloc, task, place, ends, line, outbox, messages)?;
-    outbox.flush();
-    messages.flush();
-    Ok(())
-}
-
-/// Tells the answer of a line.
+/// Tells the answer of a line. If memory is not given, nothing is told.
 fn tell_line<K: Sink, M: Sink>(
     alloc: Global,
     task: LaneTask,

@@ -1,24 +1,17 @@
-use Rattle.std.proofs.Common.{ℕ, List, ◌++◌, Some, None, codes, refl, sym, ap, ◌∙◌, subst}
+use Rattle.std.proofs.Common.{◌≡◌, ℕ, List, ◌++◌, Some, codes, refl, sym, ap, ◌∙◌, subst}
 use Rattle.rio_chars.specs.Written.{Writes}
 use Rattle.code_groups.specs.declared.disparity.Disparity.{Disparity}
 use Rattle.code_groups.specs.Streams.{HaveGroups, HaveTenBits, groups_from, after_chars}
-use Rattle.rio_lane.specs.LaneAnswers.{lane_says, sent_answer, SpellSent, joined_groups, burst_chars}
+use Rattle.rio_lane.specs.LaneAnswers.{sent_answer, SpellSent, joined_groups, burst_chars}
+use Rattle.rio_lane.proofs.AnswerLaws.{spelled_text, refused_text}
 use Rattle.rio_lane.proofs.WordLaws.{have_burst, groups_tens}
 use Rattle.rio_lane.proofs.coding.send_text.Goals as goal
 
 pub returns-in_default-clause-answer : goal.returns-in_default-clause-answer
 returns-in_default-clause-answer g c =
-    let none = rw c.in_default.is at c.in_ok-chars.ensures in (
-      lane_says c.args.ends.now (codes "refused character\n"),
-      record {
-        read = None;
-        reads =
-            λ chars h. none chars (subst (λ ws. SpellSent ws chars) (sym c.words_in.ensures) h);
-        is = refl;
-      },
-      refl,
-      c.write.ensures,
-    )
+    refused_text SpellSent (codes "refused character\n")
+    (λ read answer. answer ≡ sent_answer c.args.head.now c.args.ends.now read) refl
+    c.words_in.ensures (rw c.in_default.is at c.in_ok-chars.ensures) c.write.ensures
 
 pub encode_all-requires : goal.encode_all-requires
 encode_all-requires g c =
@@ -56,11 +49,7 @@ returns-clause-answer g c =
     let groups =
     c.as_slice-3.ensures.value ∙ c.in_ok-groups.ensures ∙ ap (groups_from ends.sender) burst in (
       sent_answer head ends (Some chars),
-      record {
-        read = Some chars;
-        reads = subst (λ ws. SpellSent ws chars) c.words_in.ensures spelled;
-        is = refl;
-      },
+      spelled_text SpellSent chars c.words_in.ensures spelled refl,
       ap (λ (d : Disparity). record ends { sender = d })
           (c.after_all-ends.ensures ∙ ap (after_chars ends.sender) last),
       subst (λ (gs : List ℕ). Writes c.args.outbox.now c.write_groups_line.new.outbox

@@ -1,4 +1,4 @@
-use Rattle.std.proofs.Common.{ℕ, List, ◌++◌, Some, None, codes, refl, sym, ap, ◌∙◌, subst}
+use Rattle.std.proofs.Common.{◌≡◌, ℕ, List, ◌++◌, Some, codes, refl, sym, ap, ◌∙◌, subst}
 use Rattle.rio_chars.specs.Written.{Writes}
 use Rattle.code_groups.specs.Streams.{HaveGroups, HaveTenBits}
 use Rattle.lane_rows.specs.Rows.{burst_rows}
@@ -6,22 +6,15 @@ use Rattle.lane_rows.specs.RowSending.{rows_from, after_rows}
 use Rattle.lane_rows.specs.declared.sending.FourSenders.{FourSenders}
 use Rattle.lane_rows.proofs.RowLaws.{have_rows, tens_rows}
 use Rattle.rio_lane.specs.FourAnswers.{four_answer}
-use Rattle.rio_lane.specs.LaneAnswers.{lane_says, SpellSent, joined_groups}
+use Rattle.rio_lane.specs.LaneAnswers.{SpellSent, joined_groups}
+use Rattle.rio_lane.proofs.AnswerLaws.{spelled_text, refused_text}
 use Rattle.rio_lane.proofs.four.send_lanes.Goals as goal
 
 pub returns-in_default-clause-answer : goal.returns-in_default-clause-answer
 returns-in_default-clause-answer g c =
-    let none = rw c.in_default.is at c.in_ok-chars.ensures in (
-      lane_says c.args.ends.now (codes "refused character\n"),
-      record {
-        read = None;
-        reads =
-            λ chars h. none chars (subst (λ ws. SpellSent ws chars) (sym c.words_in.ensures) h);
-        is = refl;
-      },
-      refl,
-      c.write.ensures,
-    )
+    refused_text SpellSent (codes "refused character\n")
+    (λ read answer. answer ≡ four_answer c.args.ends.now read) refl
+    c.words_in.ensures (rw c.in_default.is at c.in_ok-chars.ensures) c.write.ensures
 
 pub send_rows-requires : goal.send_rows-requires
 send_rows-requires g c =
@@ -49,11 +42,7 @@ returns-clause-answer g c =
     let groups =
     c.as_slice-3.ensures.value ∙ c.in_ok-senders.ensures.1 ∙ ap (rows_from ends.senders) burst in (
       four_answer ends (Some chars),
-      record {
-        read = Some chars;
-        reads = subst (λ ws. SpellSent ws chars) c.words_in.ensures spelled;
-        is = refl;
-      },
+      spelled_text SpellSent chars c.words_in.ensures spelled refl,
       ap (λ (s : FourSenders). record ends { senders = s })
           (c.in_ok-senders.ensures.0 ∙ ap (after_rows ends.senders) burst),
       subst (λ (gs : List ℕ). Writes c.args.outbox.now c.write_groups_line.new.outbox

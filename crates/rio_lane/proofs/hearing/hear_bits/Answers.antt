@@ -1,4 +1,4 @@
-use Rattle.std.proofs.Common.{ℕ, List, ◌++◌, Some, None, codes, refl, sym, ap, ◌∙◌, subst}
+use Rattle.std.proofs.Common.{List, ◌++◌, Some, None, codes, refl, sym, ap, ◌∙◌, subst}
 use Rattle.rio_chars.specs.declared.chars.Char.{Char}
 use Rattle.rio_chars.specs.Written.{Writes}
 use Rattle.lane_bits.specs.declared.align.Aligner.{Aligner}

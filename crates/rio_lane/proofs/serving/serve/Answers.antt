@@ -1,4 +1,4 @@
-use Rattle.std.proofs.Common.{false, [], ◌-◌, ◌^◌, refl}
+use Rattle.std.proofs.Common.{[], ◌-◌, ◌^◌, refl}
 use Rattle.live_lines.proofs.ServingLaws.{served_none}
 use Rattle.rio_lane.specs.LaneAnswers.{lane_says}
 use Rattle.rio_lane.specs.Tasks.{new_ends}

@@ -32,8 +32,8 @@ returns-in-Err-clause-serves g c =
           h.served.answer.text h.served.going c.requires.empty h.fine h.empty stop.1 stop.2;
     }
 
-pub returns-in_default-answer_line-clause-serves : goal.returns-in_default-answer_line-clause-serves
-returns-in_default-answer_line-clause-serves g c =
+pub returns-in_default-tell_line-clause-serves : goal.returns-in_default-tell_line-clause-serves
+returns-in_default-tell_line-clause-serves g c =
     let h = c.loop-count.invariant in
     let read = c.in_default.ensures.read in
     let now =
@@ -42,7 +42,7 @@ returns-in_default-answer_line-clause-serves g c =
     read.0 (with_feed c.read_line.new.line.items ++ c.read_line.new.self)
     (g.S.Source.faults c.loop-count.source) (g.S.Source.faults c.read_line.new.source)
     h.served read.1 read.2 c.in_default.ensures.counts in
-    rw c.in_default-answer_line.ensures.outbox record {
+    rw c.in_default-tell_line.ensures.outbox record {
       lines = now.lines;
       answer = now.answer;
       answers = now.answers;
@@ -68,7 +68,7 @@ returns-then-failed-clause-serves g c =
     h.served read.1 read.2 c.in_default.ensures.line
     (subst (λ text. AnswersLane c.args.task c.args.commas c.loop-count.ends text given.0)
     c.as_slice.ensures.value given.1)
-    given.2 given.3 c.in_default.ensures.counts in
+    given.2 given.3 c.flush.ensures.written c.in_default.ensures.counts in
     record {
       lines = now.lines;
       answer = now.answer;
@@ -96,10 +96,10 @@ loop-count-preserved g c =
           h.served read.1 read.2 c.in_default.ensures.line
           (subst (λ text. AnswersLane c.args.task c.args.commas c.loop-count.ends text given.0)
           c.as_slice.ensures.value given.1)
-          given.2 given.3 c.in_default.ensures.counts;
-      same = given.3.same ∙ h.same;
+          given.2 given.3 c.flush.ensures.written c.in_default.ensures.counts;
+      same = c.flush.ensures.written.same ∙ given.3.same ∙ h.same;
       fine = sym c.failed.ensures ∙ c.if-failed.false;
-      empty = c.in-Ok.ensures.written;
+      empty = c.flush.ensures.empty;
     }
 
 pub returns-clause-serves : goal.returns-clause-serves
