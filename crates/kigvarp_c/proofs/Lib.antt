@@ -1,4 +1,9 @@
-pub mod AsPortBox
-pub mod AsFabricBox
-pub mod AsCheckerBox
+pub mod BoxForm
+pub mod HandleForm
+pub mod HandleCode
+pub mod HandleContracts
+pub mod HandleWalks
+pub mod PortForm
+pub mod FabricForm
+pub mod CheckerForm
 pub mod CallLaws

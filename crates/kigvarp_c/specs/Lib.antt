@@ -1,6 +1,4 @@
-pub mod PortHandles
-pub mod FabricHandles
-pub mod CheckerHandles
+pub mod HandlesOwn
 pub mod Calls
 pub mod Handles
 pub mod Checkers

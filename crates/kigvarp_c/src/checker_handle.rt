@@ -1,7 +1,9 @@
 //! What C holds of a checker.
 ghost use Rattle.std.specs.Prelude.{◌≡◌, ◌<◌, ◌∷◌, [], List, length};
 ghost use Rattle.library_calls.specs.declared.checks.OpenChecker.{OpenChecker as CheckerSeen};
-ghost use Rattle.kigvarp_c.specs.CheckerHandles.{checkers_code, checker_owns};
+ghost use Rattle.library_calls.specs.contracts.checks.OpenChecker.{the_row};
+ghost use Rattle.std.specs.Coded.{coded_list};
+ghost use Rattle.kigvarp_c.specs.HandlesOwn.{handle_owns};
 
 use crate::parts::Parts;
 use library_calls::OpenChecker;
@@ -15,11 +17,11 @@ use std::ptr;
 pub struct CheckerHandle {
     at: *mut u8,
     alloc: Global,
-    pub ghost checkers: { List CheckerSeen } by { checkers_code },
+    pub ghost checkers: { List CheckerSeen } by { coded_list the_row.coded },
 }
 
 impl Model for CheckerHandle {
-    ghost also_owns = { λ h. checker_owns h.alloc h.at h.checkers };
+    ghost also_owns = { λ h. handle_owns the_row h.alloc h.at h.checkers };
 }
 
 impl CheckerHandle {

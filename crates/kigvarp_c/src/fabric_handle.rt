@@ -1,7 +1,9 @@
 //! What C holds of a fabric.
 ghost use Rattle.std.specs.Prelude.{◌≡◌, ◌<◌, ◌∷◌, [], List, length};
 ghost use Rattle.library_calls.specs.FabricsSeen.{FabricSeen};
-ghost use Rattle.kigvarp_c.specs.FabricHandles.{fabrics_code, fabric_owns};
+ghost use Rattle.library_calls.specs.contracts.open_fabric.OpenFabric.{the_row};
+ghost use Rattle.std.specs.Coded.{coded_list};
+ghost use Rattle.kigvarp_c.specs.HandlesOwn.{handle_owns};
 
 use crate::parts::Parts;
 use library_calls::OpenFabric;
@@ -15,11 +17,11 @@ use std::ptr;
 pub struct FabricHandle {
     at: *mut u8,
     alloc: Global,
-    pub ghost fabrics: { List FabricSeen } by { fabrics_code },
+    pub ghost fabrics: { List FabricSeen } by { coded_list the_row.coded },
 }
 
 impl Model for FabricHandle {
-    ghost also_owns = { λ h. fabric_owns h.alloc h.at h.fabrics };
+    ghost also_owns = { λ h. handle_owns the_row h.alloc h.at h.fabrics };
 }
 
 impl FabricHandle {

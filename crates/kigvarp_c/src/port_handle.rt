@@ -1,7 +1,9 @@
 //! What C holds of a port.
 ghost use Rattle.std.specs.Prelude.{◌≡◌, ◌<◌, ◌∷◌, [], List, length};
 ghost use Rattle.library_calls.specs.PortsSeen.{PortSeen};
-ghost use Rattle.kigvarp_c.specs.PortHandles.{ports_code, port_owns};
+ghost use Rattle.library_calls.specs.contracts.open_port.OpenPort.{the_row};
+ghost use Rattle.std.specs.Coded.{coded_list};
+ghost use Rattle.kigvarp_c.specs.HandlesOwn.{handle_owns};
 
 use crate::parts::Parts;
 use library_calls::OpenPort;
@@ -15,11 +17,11 @@ use std::ptr;
 pub struct PortHandle {
     at: *mut u8,
     alloc: Global,
-    pub ghost ports: { List PortSeen } by { ports_code },
+    pub ghost ports: { List PortSeen } by { coded_list the_row.coded },
 }
 
 impl Model for PortHandle {
-    ghost also_owns = { λ h. port_owns h.alloc h.at h.ports };
+    ghost also_owns = { λ h. handle_owns the_row h.alloc h.at h.ports };
 }
 
 impl PortHandle {

@@ -35,6 +35,7 @@ use Rattle.std.proofs.alloc.Calls.{token, Goes-blank}
 use Rattle.std_alloc.specs.Box.Ownership.{box_owns}
 use Rattle.std.proofs.BoxSteps.Form.{Bx, D, R, P, B, args, box_ty, word, box_typed}
 use Rattle.std.proofs.BoxSteps.Steps.{box_out, box_in}
+use Rattle.kigvarp_c.proofs.BoxForm.{box_form}
 use Rattle.kigvarp_c.specs.contracts.parts.Parts as parts
 use Rattle.std_alloc.specs.contracts.boxed.Box.from_raw as Fr
 use Rattle.std_alloc.proofs.boxed.Box.from_raw.Symbol as raw_sym
@@ -137,18 +138,7 @@ module _ (E : Bx) where
 pub into_box_spec : {M : Type 1} → stated.statement M
 unfolding tables_of
 into_box_spec 𝓤 𝓛 𝓜 𝓡 wired X Z LX LZ g d dd allocator md =
-    let E : Bx = record {
-      row = X;
-      laws = LX;
-      al = record {
-        row = Z;
-        laws = LZ;
-        g = g;
-        d = d;
-        drops
-            = dd;
-      };
-    } in
+    let E : Bx = box_form X Z LX LZ g d dd in
     let 𝓣 : Tables 𝓤 𝓛.H = tables_of 𝓤 𝓛.H 𝓜 (tables 𝓤 𝓛.H 𝓜 𝓡 𝓡.env) in
     let fn = fn' E in
     entered 𝓤 𝓛.H (triple_of 𝓛 (ended E).signature (F.spec X Z g d dd 𝓛 𝓜.mem 𝓡.returns)) 𝓣.C 𝓣.Λ

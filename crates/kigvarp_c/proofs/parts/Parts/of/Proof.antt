@@ -37,6 +37,7 @@ use Rattle.std.proofs.alloc.Calls.{token, handle_tells, Goes-blank}
 use Rattle.std_alloc.specs.Box.Ownership.{box_owns}
 use Rattle.std.proofs.BoxSteps.Form.{Bx, D, τ, R, P, B, word, box_typed}
 use Rattle.std.proofs.BoxSteps.Steps.{box_out, box_in}
+use Rattle.kigvarp_c.proofs.BoxForm.{box_form}
 use Rattle.kigvarp_c.specs.contracts.parts.Parts as parts
 use Rattle.std_alloc.specs.contracts.boxed.Box.into_raw_with_allocator as Ra
 use Rattle.std_alloc.proofs.boxed.Box.into_raw_with_allocator.Symbol as raw_sym
@@ -129,18 +130,7 @@ module _ (E : Bx) (dx : Dict) where
 pub of_spec : {M : Type 1} → stated.statement M
 unfolding tables_of
 of_spec 𝓤 𝓛 𝓜 𝓡 wired X Z LX LZ g d dd dx allocator md glue =
-    let E : Bx = record {
-      row = X;
-      laws = LX;
-      al = record {
-        row = Z;
-        laws = LZ;
-        g = g;
-        d = d;
-        drops
-            = dd;
-      };
-    } in
+    let E : Bx = box_form X Z LX LZ g d dd in
     let 𝓣 : Tables 𝓤 𝓛.H = tables_of 𝓤 𝓛.H 𝓜 (tables 𝓤 𝓛.H 𝓜 𝓡 𝓡.env) in
     let fn = fn' E dx in
     entered 𝓤 𝓛.H (triple_of 𝓛 (ended E dx).signature (F.spec X Z g d dd dx 𝓛 𝓜.mem 𝓡.returns)) 𝓣.C
