@@ -12,6 +12,15 @@ use Rattle.library_calls.specs.FabricsSeen.{FabricSeen, FabricHolds, is_fabric_s
 use Rattle.library_calls.specs.FabricLines.{FabricAnswered, IsFabricFront, FabricLineTold, FabricLineCut, TellsFabricLine}
 use Rattle.library_calls.proofs.TextLaws.{front_told, all_told}
 
+-- a fabric by what is seen of it
+abbrev pub fabric_seen : Session → ℕ → Bool → List ℕ → FabricSeen
+fabric_seen session number spent text = record {
+  session = session;
+  number = number;
+  spent = spent;
+  text = text;
+}
+
 module _ (held : SessionHeld) (number : ℕ) (line : List ℕ) (out mid last : Outgoing)
     (before session : Session) (holds : SessionHolds before held) (empty : out.waiting ≡ [])
     (flush : Writes mid last []) where

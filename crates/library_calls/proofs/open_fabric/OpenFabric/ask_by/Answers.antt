@@ -3,7 +3,7 @@ use Rattle.live_fabric.specs.Sessions.{ask_text}
 use Rattle.library_calls.specs.FabricsSeen.{FabricSeen}
 use Rattle.library_calls.specs.FabricLines.{FabricLineCut}
 use Rattle.library_calls.specs.FabricAsks.{FabricAskTold, TellsFabricAsk}
-use Rattle.library_calls.proofs.FabricLaws.{not_spent}
+use Rattle.library_calls.proofs.FabricLaws.{fabric_seen, not_spent}
 use Rattle.library_calls.proofs.FabricAskLaws.{ask_told, ask_cut, ask_holds}
 use Rattle.library_calls.proofs.open_fabric.OpenFabric.ask_by.Goals as goal
 
@@ -13,18 +13,10 @@ returns-in-Err-clause-did c =
     let words = c.args.words.now in
     let tells = c.tell_ask-asked in
     let items = tells.new.sink.text.items in
-    let old : FabricSeen = record {
-      session = inside.session;
-      number = inside.number;
-      spent = inside.spent;
-      text = drop inside.taken inside.sink.text.items;
-    } in
-    let new : FabricSeen = record {
-      session = tells.new.session;
-      number = inside.number + 1;
-      spent = true;
-      text = items;
-    } in
+    let old =
+    fabric_seen inside.session inside.number inside.spent
+    (drop inside.taken inside.sink.text.items) in
+    let new = fabric_seen tells.new.session (inside.number + 1) true items in
     subst (λ (seen : FabricSeen). FabricLineCut seen (ask_text words) new) c.self.view_is
     (ask_cut old new words tells.result (not_spent old c.if-self.false c.if-self-2.false) refl
     (λ held holds. subst (λ (written : List ℕ). TellsFabricAsk held (inside.number + 1) words
@@ -37,18 +29,11 @@ returns-in-Ok-clause-did c =
     let words = c.args.words.now in
     let tells = c.tell_ask-asked in
     let items = tells.new.sink.text.items in
-    let old : FabricSeen = record {
-      session = inside.session;
-      number = inside.number;
-      spent = inside.spent;
-      text = drop inside.taken inside.sink.text.items;
-    } in
-    let new : FabricSeen = record {
-      session = tells.new.session;
-      number = inside.number + 1;
-      spent = c.spends_fabric-self-inside.result;
-      text = items;
-    } in
+    let old =
+    fabric_seen inside.session inside.number inside.spent
+    (drop inside.taken inside.sink.text.items) in
+    let new =
+    fabric_seen tells.new.session (inside.number + 1) c.spends_fabric-self-inside.result items in
     subst (λ (seen : FabricSeen). FabricAskTold seen words c.in-Ok.outcome new) c.self.view_is
     (ask_told old new words tells.result (not_spent old c.if-self.false c.if-self-2.false) refl
     (λ held holds. subst (λ (written : List ℕ). TellsFabricAsk held (inside.number + 1) words

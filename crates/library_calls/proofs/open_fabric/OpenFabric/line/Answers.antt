@@ -1,7 +1,7 @@
 use Rattle.std.proofs.Common.{ℕ, ◌+◌, List, Some, true, drop, refl, sym, subst}
 use Rattle.library_calls.specs.FabricsSeen.{FabricSeen, FabricHolds}
 use Rattle.library_calls.specs.FabricLines.{FabricLineCut, TellsFabricLine}
-use Rattle.library_calls.proofs.FabricLaws.{line_cut, told_stands, not_spent}
+use Rattle.library_calls.proofs.FabricLaws.{fabric_seen, line_cut, told_stands, not_spent}
 use Rattle.library_calls.proofs.open_fabric.OpenFabric.line.Goals as goal
 
 pub returns-in-Err-clause-did : goal.returns-in-Err-clause-did
@@ -10,18 +10,10 @@ returns-in-Err-clause-did c =
     let line = c.args.line.now in
     let tells = c.tell-told in
     let items = tells.new.sink.text.items in
-    let old : FabricSeen = record {
-      session = inside.session;
-      number = inside.number;
-      spent = inside.spent;
-      text = drop inside.taken inside.sink.text.items;
-    } in
-    let new : FabricSeen = record {
-      session = tells.new.session;
-      number = inside.number + 1;
-      spent = true;
-      text = items;
-    } in
+    let old =
+    fabric_seen inside.session inside.number inside.spent
+    (drop inside.taken inside.sink.text.items) in
+    let new = fabric_seen tells.new.session (inside.number + 1) true items in
     subst (λ (seen : FabricSeen). FabricLineCut seen line new) c.self.view_is
     (line_cut old new line tells.result c.in-Err.field-0
     (not_spent old c.if-self.false c.if-self-2.false) c.in-Err.is refl refl
@@ -33,12 +25,9 @@ pub returns-in-Ok-On-clause-holds : goal.returns-in-Ok-On-clause-holds
 returns-in-Ok-On-clause-holds c = λ _.
     let inside = c.self.inside in
     let tells = c.tell-told in
-    let old : FabricSeen = record {
-      session = inside.session;
-      number = inside.number;
-      spent = inside.spent;
-      text = drop inside.taken inside.sink.text.items;
-    } in
+    let old =
+    fabric_seen inside.session inside.number inside.spent
+    (drop inside.taken inside.sink.text.items) in
     let holds : FabricHolds old = subst FabricHolds (sym c.self.view_is) c.requires in
     let held = holds c.if-self.false in
     told_stands held.0 (inside.number + 1) c.args.line.now tells.result c.in-Ok-On.field-0
