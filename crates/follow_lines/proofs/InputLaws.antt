@@ -18,7 +18,7 @@ use Rattle.follow_lines.specs.declared.ends.FollowEnd.TheVariants as F
 use Rattle.follow_lines.specs.declared.setting.SetUpRead.{SetUpRead}
 use Rattle.follow_lines.specs.FollowEnds.{end_of_check}
 use Rattle.follow_lines.specs.Telling.{ok_text}
-use Rattle.follow_lines.specs.Following.{AreRefused, FollowsInput, FollowsTrace, IsRefusedSetUp, IsWritten, ReadingStops, ReadsLines, ReadsSetUp, SetUpSays, StandBefore, TraceSays}
+use Rattle.follow_lines.specs.Following.{AreRefused, FollowsInput, FollowsTrace, IsRefusedSetUp, IsWritten, PartsTrace, ReadingStops, ReadsLines, ReadsSetUp, SetUpSays, StandBefore, TraceSays}
 use Rattle.follow_lines.proofs.ReadingLaws.{Reads-none, Reads-join}
 
 -- an error that is handed on
@@ -62,14 +62,19 @@ module _ {left left_mid : Option (List ℕ)} {faults faults_mid : ℕ} {script p
         }
 
     -- behind the line between stand these lines of the trace
-    pub parted_split : (read : SetUpRead) (texts : List (List ℕ))
+    pub parts_trace : (read : SetUpRead) (set_up : SetUpLines) (texts : List (List ℕ))
         → (h : ReadsSetUp (Ok read) script [] pending_mid left left_mid faults faults_mid)
-        → read.parted ≡ true → h.lines ++ texts ≡ h.says.0.before ++ codes "---" ∷ texts
-    parted_split read texts h parted =
+        → IsSetUpOf script set_up → read.parted ≡ true
+        → PartsTrace (h.lines ++ texts) h.says.0.before set_up texts
+    parts_trace read set_up texts h is parted =
         let set = h.says.0 in
         let all : h.lines ≡ set.before ++ codes "---" ∷ [] =
         subst (λ b. StandBefore b h.lines set.before left_mid h.behind) parted set.stand in
-        ap (λ l. l ++ texts) all ∙ append_assoc set.before (codes "---" ∷ []) texts
+        record {
+          split = ap (λ l. l ++ texts) all ∙ append_assoc set.before (codes "---" ∷ []) texts;
+          none_parts = set.none_parts;
+          is_set_up = subst (λ s. IsSetUpOf s set_up) set.script_is is;
+        }
 
     -- all of them were read
     pub parted_reads : (read : SetUpRead) (texts : List (List ℕ)) (left_after : Option (List ℕ))
@@ -191,11 +196,9 @@ module _ (tell : Bool) (expected : Option Expected) (left left_mid : Option (Lis
             k.stops;
         says = inr record {
           before = set.before;
-          texts = k.texts;
-          split = parted_split read k.texts h parted;
-          none_parts = set.none_parts;
           set_up = set_up;
-          is_set_up = subst (λ s. IsSetUpOf s set_up) set.script_is is;
+          texts = k.texts;
+          parts = parts_trace read set_up k.texts h is parted;
           more = k.told;
           told_is = refl;
           says = subst (λ n. TraceSays set_up n tell verdict expected k.texts k.told left_after

@@ -21,7 +21,7 @@ use Rattle.follow_lines.specs.declared.setting.SetUpRead.{SetUpRead}
 use Rattle.follow_lines.specs.FollowEnds.{end_of_judge, end_of_lines}
 use Rattle.follow_lines.specs.Following.{AreRefused, HasWritten, IsWritten, ReadingStops, ReadsLines, ReadsSetUp, SetUpSays}
 use Rattle.follow_lines.specs.Reacting.{DoReact, EndReacts, JudgesAll, JudgesInput, JudgesTrace, TellsAnswered, TraceReacts}
-use Rattle.follow_lines.proofs.InputLaws.{parted_reads, parted_split, refused_says}
+use Rattle.follow_lines.proofs.InputLaws.{parted_reads, parts_trace, refused_says}
 use Rattle.follow_lines.proofs.ReadingLaws.{Reads-none, Reads-line, Reads-join, Reads-more}
 use Rattle.follow_lines.proofs.TellingLaws.{ends_so, written_to_end}
 
@@ -155,6 +155,25 @@ module _ (set_up : SetUpLines) (before : ℕ) (pending : List ℕ) (left : Optio
         says = subst (λ s. TraceReacts s before verdict h.texts) h.same says.0;
       }
 
+  -- a line that was read and not taken is the last
+  hit_last : {judge : Judge} {count : ℕ} {now : List ℕ} (now_next line : List ℕ)
+      {left_now left_next : Option (List ℕ)} {faults_now faults_next : ℕ} (taken : List ℕ)
+      {verdict : Result ℕ FollowEnd}
+      → (h : Reacting set_up judge count pending now left left_now faults faults_now)
+      → Consumes left_now left_next taken → now ++ taken ≡ with_feed line ++ now_next
+      → IsLine line → ReadingStops verdict left_next faults faults_next now_next
+      → TraceReacts set_up before verdict (h.texts ++ line ∷ [])
+      → JudgesTrace set_up before verdict pending left left_next faults faults_next
+  hit_last {now = now} now_next line {left_now} {left_next} taken h read is good stops says =
+      record {
+        texts = h.texts ++ line ∷ [];
+        behind = now_next;
+        reads = Reads-line pending now now_next line taken left left_now left_next h.texts h.reads
+            read is good;
+        stops = stops;
+        says = says;
+      }
+
   -- a line was read and not taken
   pub Reacting-hit : {judge : Judge} {count : ℕ} {now : List ℕ} (now_next line : List ℕ)
       {left_now left_next : Option (List ℕ)} {faults_now faults_next : ℕ} (taken : List ℕ)
@@ -175,49 +194,34 @@ module _ (set_up : SetUpLines) (before : ℕ) (pending : List ℕ) (left : Optio
         stops = same ∙ h.counts;
         says = do_react h;
       }
-  Reacting-hit {now = now} now_next line {left_now} {left_next} taken number J.NoForm h read is
-      good same numbered no_line wrongs =
+  Reacting-hit now_next line taken number J.NoForm h read is good same numbered no_line wrongs =
       let counted = length-append h.texts (line ∷ []) in
       let count_is = h.count_is in
-      record {
-        texts = h.texts ++ line ∷ [];
-        behind = now_next;
-        reads = Reads-line pending now now_next line taken left left_now left_next h.texts h.reads
-            read is good;
-        stops = same ∙ h.counts;
-        says = (
-          omega (arith, counted, count_is, numbered),
-          refl,
-          record {
-            front = h.texts;
-            last = line;
-            split = refl;
-            react = do_react h;
-            no_line = subst (λ s. IsNoLine s line) h.same (no_line refl);
-          },
-        );
-      }
-  Reacting-hit {now = now} now_next line {left_now} {left_next} taken number (J.Wrong wrong) h read
-      is good same numbered no_line wrongs =
+      hit_last now_next line taken h read is good (same ∙ h.counts) (
+        omega (arith, counted, count_is, numbered),
+        refl,
+        record {
+          front = h.texts;
+          last = line;
+          split = refl;
+          react = do_react h;
+          no_line = subst (λ s. IsNoLine s line) h.same (no_line refl);
+        },
+      )
+  Reacting-hit now_next line taken number (J.Wrong wrong) h read is good same numbered no_line
+      wrongs =
       let counted = length-append h.texts (line ∷ []) in
       let count_is = h.count_is in
-      record {
-        texts = h.texts ++ line ∷ [];
-        behind = now_next;
-        reads = Reads-line pending now now_next line taken left left_now left_next h.texts h.reads
-            read is good;
-        stops = same ∙ h.counts;
-        says = (
-          omega (arith, counted, count_is, numbered),
-          record {
-            front = h.texts;
-            last = line;
-            split = refl;
-            is_wrong = subst (λ s. IsWrongText s h.texts line wrong) h.same
-                (wrongs wrong refl h.texts h.has);
-          },
-        );
-      }
+      hit_last now_next line taken h read is good (same ∙ h.counts) (
+        omega (arith, counted, count_is, numbered),
+        record {
+          front = h.texts;
+          last = line;
+          split = refl;
+          is_wrong = subst (λ s. IsWrongText s h.texts line wrong) h.same
+              (wrongs wrong refl h.texts h.has);
+        },
+      )
 
   -- more lines were taken than are counted
   pub Reacting-many : {judge : Judge} {count : ℕ} {now : List ℕ} {left_now : Option (List ℕ)}
@@ -306,11 +310,9 @@ module _ (left left_mid : Option (List ℕ)) (faults faults_mid : ℕ) (script p
               k.stops;
           says = inr record {
             before = set.before;
-            texts = k.texts;
-            split = parted_split read k.texts h parted;
-            none_parts = set.none_parts;
             set_up = set_up;
-            is_set_up = subst (λ s. IsSetUpOf s set_up) set.script_is is;
+            texts = k.texts;
+            parts = parts_trace read set_up k.texts h is parted;
             says = subst (λ n. TraceReacts set_up n verdict k.texts)
                 (counted ∙ ap (λ n. n + 1) set.count) k.says;
           };

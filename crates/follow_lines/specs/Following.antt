@@ -192,17 +192,22 @@ SetUpSays (Err F.NoMemory) lines left behind = Unit {0}
 SetUpSays (Err F.LineTooLong) lines left behind = NoneParts lines
 SetUpSays verdict lines left behind = ⊥
 
--- The lines are set-up lines that no reason hits, a line `---`, and lines of a trace, of which this
--- is so. `ok` is told of the line between, and this text behind it.
+-- The lines are set-up lines that no reason hits, a line `---`, and lines of a trace.
+pub record PartsTrace (lines before : List (List ℕ)) (set_up : SetUpLines)
+    (texts : List (List ℕ)) : Type 0 where
+  pub split : lines ≡ before ++ codes "---" ∷ texts
+  pub none_parts : NoneParts before
+  pub is_set_up : IsSetUpOf (lines_bytes before) set_up
+
+-- This is so of the lines of a trace behind set-up lines. `ok` is told of the line between, and
+-- this text behind it.
 pub record TraceFollowed (tell : Bool) (verdict : Result ℕ FollowEnd)
     (expected : Option Expected) (lines : List (List ℕ)) (told : List ℕ)
     (left : Option (List ℕ)) (behind : List ℕ) : Type 0 where
   pub before : List (List ℕ)
-  pub texts : List (List ℕ)
-  pub split : lines ≡ before ++ codes "---" ∷ texts
-  pub none_parts : NoneParts before
   pub set_up : SetUpLines
-  pub is_set_up : IsSetUpOf (lines_bytes before) set_up
+  pub texts : List (List ℕ)
+  pub parts : PartsTrace lines before set_up texts
   pub more : List ℕ
   pub told_is : told ≡ ok_text tell ++ more
   pub says : TraceSays set_up (length before + 1) tell verdict expected texts more left behind

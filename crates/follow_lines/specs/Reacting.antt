@@ -4,7 +4,6 @@ use Rattle.std.specs.Fmt.{decimal}
 use Rattle.fabric_script.specs.SetUps.{SetUpLines}
 use Rattle.live_lines.specs.declared.input.LineEnd.{LineEnd}
 use Rattle.live_lines.specs.Lines.{LinesStop}
-use Rattle.trace_check.specs.Taken.{IsSetUpOf}
 use Rattle.trace_reactions.specs.declared.all_ports.WrongReaction.{WrongReaction}
 use Rattle.trace_reactions.specs.declared.judge.Judge.{Judge}
 use Rattle.trace_reactions.specs.Judged.{AreAnswered, AreAllAnswered, HasJudged, IsNoLine, IsWrongText}
@@ -12,7 +11,7 @@ use Rattle.trace_reactions.specs.Judging.{ReactionsKept}
 use Rattle.follow_lines.specs.declared.ends.FollowEnd.{FollowEnd}
 use Rattle.follow_lines.specs.declared.ends.FollowEnd.TheVariants as F
 use Rattle.follow_lines.specs.FollowEnds.{end_of_verdict}
-use Rattle.follow_lines.specs.Following.{lines_bytes, NoneParts, ReadingStops, ReadsLines, SetUpSays, WritesToEnd}
+use Rattle.follow_lines.specs.Following.{PartsTrace, ReadingStops, ReadsLines, SetUpSays, WritesToEnd}
 use Rattle.follow_lines.specs.Telling.{end_line_text}
 
 -- ---- what is so of the lines of a trace
@@ -71,15 +70,12 @@ pub record EndReacts (judge : Judge) (end : LineEnd) (verdict : Result ℕ Follo
 
 -- ---- what is so of all lines
 
--- The lines are set-up lines that no reason hits, a line `---`, and lines of a trace, of which this
--- is so.
+-- This is so of the lines of a trace behind set-up lines.
 pub record TraceJudged (verdict : Result ℕ FollowEnd) (lines : List (List ℕ)) : Type 0 where
   pub before : List (List ℕ)
-  pub texts : List (List ℕ)
-  pub split : lines ≡ before ++ codes "---" ∷ texts
-  pub none_parts : NoneParts before
   pub set_up : SetUpLines
-  pub is_set_up : IsSetUpOf (lines_bytes before) set_up
+  pub texts : List (List ℕ)
+  pub parts : PartsTrace lines before set_up texts
   pub says : TraceReacts set_up (length before + 1) verdict texts
 
 -- All lines of the input were read, up to the verdict, and this is so of them.
