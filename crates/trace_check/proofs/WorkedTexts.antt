@@ -1,5 +1,5 @@
 -- The texts of a trace of one packet without event lines are lawful.
-use Rattle.std.proofs.Common.{◌≡◌, ◌<◌, ℕ, codes, take, List, [], ◌∷◌, ◌++◌, refl, sym, ap, ◌∙◌, subst, arith, inl, append-nil, append_assoc}
+use Rattle.std.proofs.Common.{◌≡◌, ◌<◌, ℕ, codes, take, drop, List, [], ◌∷◌, ◌++◌, refl, sym, ap, ◌∙◌, subst, arith, inl, append-nil, append_assoc}
 use Rattle.std.specs.List.{AllByRecursion}
 use Rattle.std.specs.Fmt.{digits}
 use Rattle.std.proofs.lemmas.List.Elements.{All-from_recursion}
@@ -77,11 +77,13 @@ passes = record {
   middle = λ far. omega (arith, far);
 }
 
-lines_pass : PassFrom packet_network [] packet_lines
+-- the first five lines pass, whatever passes behind them
+five_then : (rest : List TraceLine) → PassFrom packet_network (take 5 packet_lines) rest
+    → PassFrom packet_network [] (take 5 packet_lines ++ rest)
 unfolding run place_after kind spelled is_spelling crc5_value crc5_of crc5_message field_bits bits
     number division_steps complemented packet_event carried fed shifted shifted_times
     PassFrom
-lines_pass = (
+five_then rest pass = (
   record { wires = tt; step = (refl, passes, refl); came = tt; allowed = tt; sends = tt },
   (
     record {
@@ -109,33 +111,40 @@ lines_pass = (
         },
         (
           record { wires = tt; step = tt; came = tt; allowed = tt; sends = (tt, tt) },
-          (
-            record {
-              wires = record { peer = far; behind = []; peer_is = refl; stands = refl };
-              step = tt;
-              came = tt;
-              allowed = tt;
-              sends = tt;
-            },
-            (
-              record { wires = tt; step = refl; came = tt; allowed = omega arith; sends = tt },
-              (
-                record {
-                  wires = tt;
-                  step = (refl, refl, refl);
-                  came = tt;
-                  allowed = tt;
-                  sends = tt;
-                },
-                (record { wires = tt; step = tt; came = tt; allowed = tt; sends = tt }, tt),
-              ),
-            ),
-          ),
+          pass,
         ),
       ),
     ),
   ),
 )
+
+-- three more pass
+eight_then : (rest : List TraceLine) → PassFrom packet_network (take 8 packet_lines) rest
+    → PassFrom packet_network [] (take 8 packet_lines ++ rest)
+unfolding run place_after kind spelled is_spelling crc5_value crc5_of crc5_message field_bits bits
+    number division_steps complemented packet_event carried fed shifted shifted_times
+    PassFrom
+eight_then rest pass = five_then (drop 5 (take 8 packet_lines) ++ rest) (
+  record {
+    wires = record { peer = far; behind = []; peer_is = refl; stands = refl };
+    step = tt;
+    came = tt;
+    allowed = tt;
+    sends = tt;
+  },
+  (
+    record { wires = tt; step = refl; came = tt; allowed = omega arith; sends = tt },
+    (
+      record { wires = tt; step = (refl, refl, refl); came = tt; allowed = tt; sends = tt },
+      pass,
+    ),
+  ),
+)
+
+lines_pass : PassFrom packet_network [] packet_lines
+unfolding PassFrom
+lines_pass = eight_then (drop 8 packet_lines)
+    (record { wires = tt; step = tt; came = tt; allowed = tt; sends = tt }, tt)
 
 packet_bytes : AllByRecursion HasByte packet_chars
 packet_bytes =
@@ -240,103 +249,12 @@ front_pass lines texts none pass before line behind is =
     (pass_all packet_network [] lines pass before line behind is)
 
 eight_pass : PassFrom packet_network [] (take 8 packet_lines)
-unfolding run place_after kind spelled is_spelling crc5_value crc5_of crc5_message field_bits bits
-    number division_steps complemented packet_event carried fed shifted shifted_times
-    PassFrom
-eight_pass = (
-  record { wires = tt; step = (refl, passes, refl); came = tt; allowed = tt; sends = tt },
-  (
-    record {
-      wires = tt;
-      step = tt;
-      came = tt;
-      allowed = tt;
-      sends = (tt, (inl (0, omega arith, refl), (tt, tt)));
-    },
-    (
-      record {
-        wires = record { peer = near; behind = []; peer_is = refl; stands = refl };
-        step = tt;
-        came = tt;
-        allowed = tt;
-        sends = tt;
-      },
-      (
-        record {
-          wires = tt;
-          step = (near, refl, refl, refl);
-          came = refl;
-          allowed = tt;
-          sends = tt;
-        },
-        (
-          record { wires = tt; step = tt; came = tt; allowed = tt; sends = (tt, tt) },
-          (
-            record {
-              wires = record { peer = far; behind = []; peer_is = refl; stands = refl };
-              step = tt;
-              came = tt;
-              allowed = tt;
-              sends = tt;
-            },
-            (
-              record { wires = tt; step = refl; came = tt; allowed = omega arith; sends = tt },
-              (
-                record {
-                  wires = tt;
-                  step = (refl, refl, refl);
-                  came = tt;
-                  allowed = tt;
-                  sends = tt;
-                },
-                tt,
-              ),
-            ),
-          ),
-        ),
-      ),
-    ),
-  ),
-)
+unfolding PassFrom
+eight_pass = eight_then [] tt
 
 five_pass : PassFrom packet_network [] (take 5 packet_lines)
-unfolding run place_after kind spelled is_spelling crc5_value crc5_of crc5_message field_bits bits
-    number division_steps complemented packet_event carried fed shifted shifted_times
-    PassFrom
-five_pass = (
-  record { wires = tt; step = (refl, passes, refl); came = tt; allowed = tt; sends = tt },
-  (
-    record {
-      wires = tt;
-      step = tt;
-      came = tt;
-      allowed = tt;
-      sends = (tt, (inl (0, omega arith, refl), (tt, tt)));
-    },
-    (
-      record {
-        wires = record { peer = near; behind = []; peer_is = refl; stands = refl };
-        step = tt;
-        came = tt;
-        allowed = tt;
-        sends = tt;
-      },
-      (
-        record {
-          wires = tt;
-          step = (near, refl, refl, refl);
-          came = refl;
-          allowed = tt;
-          sends = tt;
-        },
-        (
-          record { wires = tt; step = tt; came = tt; allowed = tt; sends = (tt, tt) },
-          tt,
-        ),
-      ),
-    ),
-  ),
-)
+unfolding PassFrom
+five_pass = five_then [] tt
 
 pub no_end_unlawful : IsUnlawful packet_known packet_network (take 8 packet_texts) 8 21
 no_end_unlawful = record {

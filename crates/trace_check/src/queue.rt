@@ -1,21 +1,20 @@
 //! The characters of a wire, first in first out.
 
-ghost use Rattle.std.specs.Prelude.{◌≡◌, ◌+◌, ◌<◌, ◌^◌, ◌++◌, ◌∷◌, [], List, false, length, take, drop, slice_set, nat_le, nat_lt, IfOk, IsTrue, if◌then◌else◌};
+ghost use Rattle.std.specs.Prelude.{◌≡◌, ◌++◌, [], List, false, length, take, IfOk, IsTrue};
 ghost use Rattle.link_wires.specs.Wires.{fits};
 ghost use Rattle.fabric_trace.specs.Fold.{changed};
 ghost use Rattle.rio_chars.specs.declared.chars.Char.{Char as AChar};
 
 use arrayvec::ArrayVec;
-use link_wires::Edit;
+use link_wires::{Edit, Edited, Queue};
 use rio_chars::Char;
 use std::alloc::{AllocError, Global};
-use std::collections::VecDeque;
 use std::marker::Model;
 
 /// Characters, first in first out.
 #[derive(Drop)]
 pub(crate) struct CharQueue {
-    chars: VecDeque<Char>,
+    chars: Queue<Char>,
 }
 
 impl Model for CharQueue {
@@ -24,7 +23,7 @@ impl Model for CharQueue {
 
     ghost Value = { List Char };
 
-    ghost view = { λ queue. queue.chars.items };
+    ghost view = { λ queue. queue.chars };
 }
 
 impl CharQueue {
@@ -33,7 +32,7 @@ impl CharQueue {
         ensures { result ≡ [] }
     {
         CharQueue {
-            chars: VecDeque::new(alloc),
+            chars: Queue::new(alloc),
         }
     }
 
@@ -56,19 +55,22 @@ impl CharQueue {
     pub(crate) fn front(&self) -> ArrayVec<Char, 8>
         ensures { result.items ≡ take 8 self.now }
     {
+        let chars = self.chars.as_slice();
         let mut front = ArrayVec::new();
-        for i in 0..self.chars.len().min(8) {
-            front.push(self.chars[i]);
+        for i in 0..chars.len().min(8) {
+            front.push(chars[i]);
         }
         front
     }
 
     /// Puts characters at the end.
-    pub(crate) fn put(&mut self, more: Vec<Char>) -> Result<(), AllocError>
-        ensures { IfOk result (λ _. self.new ≡ self.old ++ more.items) }
+    pub(crate) fn put(&mut self, more: &[Char]) -> Result<(), AllocError>
+        ensures { IfOk result (λ _. self.new ≡ self.old ++ more.now) }
     {
-        let mut more = VecDeque::from_vec(more);
-        self.chars.append(&mut more)
+        match self.chars.put(more) {
+            Ok(()) => Ok(()),
+            Err(_) => Err(AllocError),
+        }
     }
 
     /// Takes characters away that stand at the front, and tells whether they do.
@@ -77,27 +79,10 @@ impl CharQueue {
         ensures other { result ≡ false
             → (behind : List AChar) → self.old ≡ front.now ++ behind → ⊥ }
     {
-        if !self.starts_with(front) {
+        if !starts_with(self.chars.as_slice(), front) {
             return false;
         }
-        self.chars.drain(..front.len());
-        true
-    }
-
-    /// Whether characters stand at the front.
-    fn starts_with(&self, front: &[Char]) -> bool
-        ensures stands { IsTrue result → (behind : List AChar) × (self.now ≡ front.now ++ behind) }
-        ensures other { result ≡ false
-            → (behind : List AChar) → self.now ≡ front.now ++ behind → ⊥ }
-    {
-        if front.len() > self.chars.len() {
-            return false;
-        }
-        for (i, c) in front.iter().enumerate() {
-            if self.chars[i] != *c {
-                return false;
-            }
-        }
+        self.chars.skip(front.len());
         true
     }
 
@@ -107,50 +92,27 @@ impl CharQueue {
         ensures fits { IfOk result (λ made. made ≡ fits edit.now self.old) }
         ensures changed { IfOk result (λ _. self.new ≡ changed edit.now self.old) }
     {
-        match edit {
-            Edit::Alter { place, ch } => Ok(self.alter(*place as usize, *ch)),
-            Edit::Erase { place, count } => Ok(self.erase(*place as usize, *count as usize)),
-            Edit::Insert { place, ch } => self.insert(*place as usize, *ch),
+        match self.chars.edit(edit) {
+            Ok(Edited::Done) => Ok(true),
+            Ok(Edited::Short) => Ok(false),
+            Err(_) => Err(AllocError),
         }
     }
+}
 
-    /// The character at a place becomes another.
-    fn alter(&mut self, place: usize, ch: Char) -> bool
-        ensures fits { result ≡ nat_lt place (length self.old) }
-        ensures altered { self.new ≡ (if result then slice_set self.old place ch else self.old) }
-    {
-        let fits = place < self.chars.len();
-        if fits {
-            self.chars[place] = ch;
-        }
-        fits
+/// Whether characters stand at the front of others.
+fn starts_with(chars: &[Char], front: &[Char]) -> bool
+    ensures stands { IsTrue result → (behind : List AChar) × (chars.now ≡ front.now ++ behind) }
+    ensures other { result ≡ false
+        → (behind : List AChar) → chars.now ≡ front.now ++ behind → ⊥ }
+{
+    if front.len() > chars.len() {
+        return false;
     }
-
-    /// Characters from a place on are lost.
-    fn erase(&mut self, place: usize, count: usize) -> bool
-        requires place { place < 2 ^ 32 }
-        requires count { count < 2 ^ 32 }
-        ensures fits { result ≡ nat_le (place + count) (length self.old) }
-        ensures erased { self.new ≡ (if result
-            then take place self.old ++ drop (place + count) self.old else self.old) }
-    {
-        let fits = place + count <= self.chars.len();
-        if fits {
-            self.chars.drain(place..place + count);
+    for (i, c) in front.iter().enumerate() {
+        if chars[i] != *c {
+            return false;
         }
-        fits
     }
-
-    /// A character comes in before the one at a place, or at the end.
-    fn insert(&mut self, place: usize, ch: Char) -> Result<bool, AllocError>
-        ensures fits { IfOk result (λ fits. fits ≡ nat_le place (length self.old)) }
-        ensures inserted { IfOk result (λ fits. self.new ≡ (if fits
-            then take place self.old ++ ch ∷ drop place self.old else self.old)) }
-    {
-        let fits = place <= self.chars.len();
-        if fits {
-            self.chars.insert(place, ch)?;
-        }
-        Ok(fits)
-    }
+    true
 }

@@ -106,10 +106,11 @@ impl State {
             → Checks r (Signed (ASent port chars.items)) short self.new fault) }
     {
         let place = place_of(port);
-        if place >= self.wires.len() || !self.network.may_send(port, chars.as_slice()) {
+        let more = chars.as_slice();
+        if place >= self.wires.len() || !self.network.may_send(port, more) {
             return Ok(Some(Fault::NotThere));
         }
-        self.wires[place].put(chars)?;
+        self.wires[place].put(more)?;
         Ok(None)
     }
 

@@ -14,13 +14,15 @@ returns c = λ r short is is_in.
     let here = c.place_of-place.ensures in
     let chars = c.args.chars.items in
     let before = table_read is.wires is_in here c.index_mut.ensures.value in
+    let same : c.as_slice-more.result.now ≡ chars = c.as_slice-more.ensures.value in
     let yes : c.may_send.result ≡ true = search (rules, tests) in
     let may = subst (λ (l : List Char). SendMayBe r.net (Signed (Sent c.args.port l)))
-    c.as_slice.ensures.value ((c.may_send.ensures r.nodes r.net is.network is_in).0 yes) in
+    same ((c.may_send.ensures r.nodes r.net is.network is_in).0 yes) in
     sent_stands may (record {
       links = is.links;
       network = is.network;
       wires = wires_set is.wires is_in here
-          (c.in_ok-put.ensures ∙ ap (λ (l : List Char). l ++ chars) before);
+          (c.in_ok-put.ensures ∙ ap (λ (l : List Char). l ++ c.as_slice-more.result.now) before
+          ∙ ap (λ (l : List Char). r.wires c.args.port ++ l) same);
       runs = is.runs;
     })
