@@ -70,10 +70,39 @@ pub fn replay<K: Sink>(alloc: Global, script: &Script, sink: &mut K) -> Result<(
         → K.faults sink.new ≡ K.faults sink.old }
     ensures never_falls { K.faults sink.old ≤ K.faults sink.new }
 {
-    let mut buffer = TextBuffer::new(alloc)?;
     let mut fabric = Fabric::new(alloc, script)?;
+    replay_on(alloc, script, &mut fabric, sink)
+}
+
+/// The same on the fabric of the script.
+fn replay_on<K: Sink>(
+    alloc: Global,
+    script: &Script,
+    fabric: &mut Fabric,
+    sink: &mut K,
+) -> Result<(), ReplayEnd>
+    requires passes { ScriptPasses script.now.names.items script.now.lines.items }
+    requires stands { Stands (start script.now.lines.items) [] fabric.old }
+    ensures done { OnOk result (ReplayedWhole script.now.names.items script.now.lines.items
+        (K.written sink.old) (K.written sink.new)) }
+    ensures undetected { (line : ℕ) (port : Port) (event : LinkEvent)
+        → IsErrOf result (ReplayEnd.Undetected line port event)
+        → ReplayedUndetected script.now.names.items script.now.lines.items line port event
+        (K.written sink.old) (K.written sink.new) }
+    ensures write_fault { IsErrOf result ReplayEnd.WriteFault
+        → Rose (K.faults sink.old) (K.faults sink.new)
+        × ReplayedFront script.now.names.items script.now.lines.items
+        (K.written sink.old) (K.written sink.new) }
+    ensures no_memory { IsErrOf result ReplayEnd.NoMemory
+        → ReplayedFront script.now.names.items script.now.lines.items
+        (K.written sink.old) (K.written sink.new) }
+    ensures counts { ¬ IsErrOf result ReplayEnd.WriteFault
+        → K.faults sink.new ≡ K.faults sink.old }
+    ensures never_falls { K.faults sink.old ≤ K.faults sink.new }
+{
+    let mut buffer = TextBuffer::new(alloc)?;
     let mut outbox = Outbox::new(&mut buffer, sink);
-    let end = write_trace(alloc, script, &mut fabric, &mut outbox);
+    let end = write_trace(alloc, script, fabric, &mut outbox);
     outbox.into_sink();
     end
 }

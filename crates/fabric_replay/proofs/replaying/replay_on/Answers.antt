@@ -1,0 +1,7 @@
+use Rattle.std.proofs.KnownBytes.{Appends-nil}
+use Rattle.fabric_replay.proofs.Writing.{nothing_front}
+use Rattle.fabric_replay.proofs.replaying.replay_on.Goals as goal
+
+pub returns-in_err-buffer-clause-no_memory : goal.returns-in_err-buffer-clause-no_memory
+returns-in_err-buffer-clause-no_memory g c = λ is. nothing_front c.args.script.now.names.items
+    c.args.script.now.lines.items _ _ c.requires.passes (Appends-nil _)
