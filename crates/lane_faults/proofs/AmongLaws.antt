@@ -1,9 +1,5 @@
 -- Lists of events of which the good ones stand in others.
-use Rattle.std.proofs.Common.{◌≡◌, ℕ, List, [], ◌∷◌, ◌++◌}
-use Rattle.link_model.specs.declared.event.Event.{Event}
-use Rattle.link_model.specs.declared.event.Event.TheVariants.{Ctl, Pkt, Bad}
-use Rattle.link_model.specs.Reading.{placed}
-use Rattle.lane_faults.specs.Among.{GoodStandIn, none_stands, bad_is_passed, same_stands, other_is_passed, IsGoodEvent, AreGood}
+use Rattle.lane_faults.proofs.Prelude.{ℕ, List, [], ◌∷◌, ◌++◌, Event, Ctl, Pkt, Bad, placed, GoodStandIn, none_stands, bad_is_passed, same_stands, other_is_passed, IsGoodEvent, AreGood}
 
 pub all_stand : (events : List (ℕ × Event)) → GoodStandIn events events
 all_stand [] = none_stands
@@ -37,9 +33,8 @@ AreBad (Bad cause ∷ events) = AreBad events
 pub bad_stand : (at : ℕ) (events : List Event) (others : List (ℕ × Event)) → AreBad events
     → GoodStandIn (placed at events) others
 bad_stand at [] others h = none_stands
-bad_stand at (Ctl symbol ∷ events) others h = absurd h
-bad_stand at (Pkt ack packet ∷ events) others h = absurd h
 bad_stand at (Bad cause ∷ events) others h = bad_is_passed at cause (bad_stand at events others h)
+bad_stand at (_ ∷ events) others h = absurd h
 
 -- none of them is bad
 abbrev pub NoneBad : List Event → Type 0

@@ -1,15 +1,6 @@
 -- What a port acts on of what it hears was sent.
-use Rattle.std.proofs.Common.{◌≡◌, ◌↔◌, ℕ, Bool, true, false, List, [], ◌∷◌, ◌++◌, map, Option, Some, None, if◌then◌else◌, refl}
-use Rattle.rio_chars.specs.declared.chars.Char.{Char}
-use Rattle.link_model.specs.declared.event.Event.{Event}
-use Rattle.link_model.specs.declared.event.Event.TheVariants.{Bad}
-use Rattle.link_model.specs.Places.{run}
-use Rattle.link_model.specs.Said.{said}
-use Rattle.link_port.specs.Prelude.{PortState, acts, is_acted}
+use Rattle.lane_faults.proofs.Prelude.{ℕ, Bool, true, false, List, [], ◌∷◌, ◌++◌, map, if◌then◌else◌, Event, Bad, PortState, acts, is_acted, IsSubsequence, EndsWithin, TakesWithin, SkipsWithin, GoodStandIn, none_stands, bad_is_passed, same_stands, other_is_passed}
 use Rattle.link_wires.specs.Acting.{acted_all}
-use Rattle.link_wires.specs.Deliveries.{delivered, undetected}
-use Rattle.link_wires.specs.Kept.{IsSubsequence, EndsWithin, TakesWithin, SkipsWithin}
-use Rattle.lane_faults.specs.Among.{GoodStandIn, none_stands, bad_is_passed, same_stands, other_is_passed}
 
 -- events without their places
 abbrev pub without_places : List (ℕ × Event) → List Event

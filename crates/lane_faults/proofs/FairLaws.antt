@@ -1,24 +1,9 @@
 -- One way of a link whose lane has wrong bits: what is read of what was sent is kept as sent.
-use Rattle.std.proofs.Common.{◌≡◌, ℕ, zero, suc, ◌+◌, Bool, true, false, if◌then◌else◌, List, [], ◌∷◌, ◌++◌, map, length, take, drop, Option, Some, None, slice_get, refl, sym, ap, ◌∙◌, subst}
+use Rattle.lane_faults.proofs.Prelude.{◌≡◌, ℕ, zero, suc, ◌+◌, Bool, true, false, if◌then◌else◌, List, [], ◌∷◌, ◌++◌, map, length, take, drop, Option, Some, None, slice_get, refl, sym, ap, ◌∙◌, subst, Char, Event, Bad, Fields, Place, at_rest, run, place_after, said, PortState, is_acted, tell_sends, symbol_burst, Burst, IsRead, no_burst, packet_burst, burst_of, port_turn, turn_sends, turns_to, standing, waiting_in, Sends, status, Flow, Delivered, Through, begun, done, met, comes, goes_on, come, ended, delivered, behind, IsSubsequence, WireState, with_sent, bursts, answers, silenced, sub_none, sub_drop, sub-append, sub_behind, IsDelimited, read_at_rest, GoodStandIn, none_stands, bad_is_passed, same_stands, other_is_passed, IsGoodEvent, AreGood, HeardUpTo, HeardWithMistakes}
 use Rattle.std.proofs.lemmas.List.{take-append-drop}
-use Rattle.rio_chars.specs.declared.chars.Char.{Char}
-use Rattle.link_model.specs.declared.event.Event.{Event}
-use Rattle.link_model.specs.declared.event.Event.TheVariants.{Ctl, Pkt, Bad}
-use Rattle.link_model.specs.Prelude.{Fields, Place, at_rest, run, place_after, said}
 use Rattle.link_model.proofs.PlacesLaws.{place_after-append}
-use Rattle.link_port.specs.Prelude.{PortState, is_acted, tell_sends, symbol_burst}
-use Rattle.link_port.specs.Turns.{Burst, IsRead, no_burst, packet_burst, burst_of, port_turn, turn_sends, turns_to, standing, waiting_in}
-use Rattle.link_model.specs.Prelude.{Sends, status}
 use Rattle.link_buffers.specs.Queues.{list_at}
-use Rattle.link_wires.specs.Deliveries.{Flow, Delivered, Through, begun, done, met, comes, goes_on, come, ended, delivered}
-use Rattle.link_wires.specs.Kept.{behind, IsSubsequence}
-use Rattle.link_wires.specs.Wires.{WireState, with_sent, both_bursts, bursts, answers, silenced}
-use Rattle.link_wires.proofs.Subsequences.{sub_none, sub_drop, sub-append, sub_behind}
-use Rattle.link_machine.proofs.Settling.Bursting.{IsDelimited, read_at_rest}
 use Rattle.link_machine.proofs.Settling.SaidLaws.{said-append}
-use Rattle.lane_faults.specs.Among.{GoodStandIn, none_stands, bad_is_passed, same_stands, other_is_passed, IsGoodEvent, AreGood}
-use Rattle.lane_faults.specs.LaneRuns.{HeardUpTo}
-use Rattle.lane_faults.specs.Mistakes.{HeardWithMistakes}
 use Rattle.lane_faults.proofs.LeadLaws.{StandAt, lead, heard_so}
 use Rattle.lane_faults.proofs.MistakeLaws.{mistakes_make_none}
 
@@ -165,9 +150,7 @@ fair_sent astray receiver wire burst read delimited goods fair =
       found =
           subst (λ l. IsSubsequence l (wire.kept ++ burst.sent)) (sym says)
           (sub-append burst.sent fair.found);
-      good =
-          subst AllGood (sym says)
-          (good_both (said from wire.chars) burst.sent fair.good goods);
+      good = subst AllGood (sym says) (good_both (said from wire.chars) burst.sent fair.good goods);
     }
 
 -- the same for another port whose framer stands there

@@ -1,21 +1,7 @@
 -- Where two readers stand after a piece of what was sent, of which one heard some characters wrong.
-use Rattle.std.proofs.Common.{◌≡◌, ℕ, suc, ◌⊎◌, Bool, true, false, List, [], ◌∷◌, ◌++◌, refl, sym, ap, ◌∙◌, subst, inl, inr}
-use Rattle.rio_chars.specs.CharText.{IsData}
-use Rattle.rio_chars.specs.declared.chars.Char.{Char}
-use Rattle.rio_chars.specs.declared.chars.Char.TheVariants.{Data, Special, Invalid}
-use Rattle.link_model.specs.declared.event.Event.{Event}
-use Rattle.link_model.specs.declared.reading_kinds.Kind.{Kind}
-use Rattle.link_model.specs.declared.reading_kinds.Kind.TheVariants.{Byte, Stray}
-use Rattle.link_model.specs.declared.reading_kinds.Pending.{Pending}
-use Rattle.link_model.specs.declared.reading_kinds.Pending.TheVariants.{Nothing}
-use Rattle.link_model.specs.Places.{Place, place, step_by, run, place_after}
-use Rattle.link_model.specs.Reading.{Text, Skipped, placed}
-use Rattle.link_model.specs.ReadingKinds.{kind}
-use Rattle.lane_faults.specs.Among.{AreGood}
-use Rattle.lane_faults.specs.LaneRuns.{HeardUpTo}
-use Rattle.lane_faults.specs.Mistakes.{IsMistakenFor, HeardWithMistakes}
-use Rattle.lane_faults.proofs.AmongLaws.{good_parts, AreBad, NoneBad}
-use Rattle.lane_faults.proofs.ReaderLaws.{IsOtherByte, GoesAstray, IsAstray, IsBehind, skips, stray_ends, astray_data, mistaken_step, begins_none, data_of_byte, same_step, begun_alike}
+use Rattle.lane_faults.proofs.Prelude.{◌≡◌, ℕ, suc, Bool, true, false, List, [], ◌∷◌, ◌++◌, refl, sym, ap, ◌∙◌, subst, inl, inr, IsData, Char, Data, Invalid, CharKind, Byte, Pending, Nothing, Place, place, step_by, run, place_after, Text, Skipped, kind, AreGood, HeardUpTo, IsMistakenFor, HeardWithMistakes}
+use Rattle.lane_faults.proofs.AmongLaws.{good_parts, NoneBad}
+use Rattle.lane_faults.proofs.ReaderLaws.{IsOtherByte, IsAstray, IsBehind, skips, stray_ends, astray_data, mistaken_step, begins_none, data_of_byte, same_step, begun_alike}
 
 -- how the two readers stand, by whether the first is astray
 abbrev pub StandAt : Bool → Place → Place → Type 0
@@ -43,18 +29,17 @@ byte_mistaken c h m x y e f =
 data_byte : (c : Char) → IsData c → (byte : ℕ) × (kind c ≡ Byte byte)
 unfolding kind
 data_byte (Data byte) h = (byte, refl)
-data_byte (Special byte) h = absurd h
-data_byte Invalid h = absurd h
+data_byte _ h = absurd h
 
 astray_on : (t u : Text) {a b : Pending} (c : Char) → IsData c → IsAstray a b
     → NoneBad (step_by u b (kind c)).gives
     → IsAstray (step_by t a (kind c)).place.pending (step_by u b (kind c)).place.pending
 astray_on t u {a} {b} c data_is astray good =
     let byte = data_byte c data_is in
-    subst (λ (k : Kind). IsAstray (step_by t a k).place.pending (step_by u b k).place.pending)
+    subst (λ (k : CharKind). IsAstray (step_by t a k).place.pending (step_by u b k).place.pending)
     (sym byte.1)
     (astray_data t u byte.0 astray
-    (subst (λ (k : Kind). NoneBad (step_by u b k).gives) byte.1 good)).1
+    (subst (λ (k : CharKind). NoneBad (step_by u b k).gives) byte.1 good)).1
 
 -- after these characters
 abbrev StandThen : Bool → Place → Place → List Char → List Char → Type 0

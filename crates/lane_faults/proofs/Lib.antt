@@ -1,3 +1,4 @@
+mod Prelude
 pub mod AmongLaws
 pub mod DeliveryLaws
 pub mod FairLaws

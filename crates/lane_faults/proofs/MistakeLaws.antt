@@ -1,20 +1,7 @@
 -- Mistakes make no event that was not sent.
-use Rattle.std.proofs.Common.{◌≡◌, ℕ, suc, ◌⊎◌, Bool, true, false, List, [], ◌∷◌, ◌++◌, refl, sym, ap, ◌∙◌, subst, inl, inr}
-use Rattle.rio_chars.specs.CharText.{IsData}
-use Rattle.rio_chars.specs.declared.chars.Char.{Char}
-use Rattle.rio_chars.specs.declared.chars.Char.TheVariants.{Data, Special, Invalid}
-use Rattle.link_model.specs.declared.event.Event.{Event}
-use Rattle.link_model.specs.declared.reading_kinds.Kind.{Kind}
-use Rattle.link_model.specs.declared.reading_kinds.Kind.TheVariants.{Byte, Stray}
-use Rattle.link_model.specs.declared.reading_kinds.Pending.{Pending}
-use Rattle.link_model.specs.declared.reading_kinds.Pending.TheVariants.{Nothing}
-use Rattle.link_model.specs.Places.{Place, place, step_by, run}
-use Rattle.link_model.specs.Reading.{Text, Skipped, placed}
-use Rattle.link_model.specs.ReadingKinds.{kind}
-use Rattle.lane_faults.specs.Among.{GoodStandIn, none_stands, AreGood}
-use Rattle.lane_faults.specs.Mistakes.{IsMistakenFor, HeardWithMistakes}
+use Rattle.lane_faults.proofs.Prelude.{◌≡◌, ℕ, suc, Bool, true, false, List, [], ◌∷◌, refl, sym, ap, ◌∙◌, subst, inl, inr, IsData, Char, Data, Invalid, Event, CharKind, Byte, Stray, Pending, Nothing, Place, place, step_by, run, Text, Skipped, placed, kind, GoodStandIn, none_stands, AreGood, IsMistakenFor, HeardWithMistakes}
 use Rattle.lane_faults.proofs.AmongLaws.{then_stand, bad_stand, good_parts, AreBad, NoneBad}
-use Rattle.lane_faults.proofs.ReaderLaws.{IsOtherByte, BeginsNone, GoesAstray, IsAstray, IsBehind, level_with, skips, stray_ends, astray_data, mistaken_step, begins_none, data_of_byte, same_step, begun_alike}
+use Rattle.lane_faults.proofs.ReaderLaws.{IsOtherByte, GoesAstray, IsAstray, IsBehind, level_with, skips, stray_ends, astray_data, mistaken_step, begins_none, data_of_byte, same_step, begun_alike}
 
 -- how the two readers stand, by whether the first is astray
 abbrev StandSo : Bool → Text → Pending → Text → Pending → Type 0
@@ -34,17 +21,16 @@ other_bytes c h m x y e f =
 data_kind : (c : Char) → IsData c → (byte : ℕ) × (kind c ≡ Byte byte)
 unfolding kind
 data_kind (Data byte) h = (byte, refl)
-data_kind (Special byte) h = absurd h
-data_kind Invalid h = absurd h
+data_kind _ h = absurd h
 
 astray_same : (t u : Text) {a b : Pending} (c : Char) → IsData c → IsAstray a b
     → NoneBad (step_by u b (kind c)).gives
     → GoesAstray (step_by t a (kind c)) (step_by u b (kind c))
 astray_same t u {a} {b} c data_is astray good =
     let byte = data_kind c data_is in
-    subst (λ (k : Kind). GoesAstray (step_by t a k) (step_by u b k)) (sym byte.1)
+    subst (λ (k : CharKind). GoesAstray (step_by t a k) (step_by u b k)) (sym byte.1)
     (astray_data t u byte.0 astray
-    (subst (λ (k : Kind). NoneBad (step_by u b k).gives) byte.1 good))
+    (subst (λ (k : CharKind). NoneBad (step_by u b k).gives) byte.1 good))
 
 -- after a character that is invalid the first reader skips
 invalid_then : (t u : Text) (a b : Pending) (at : ℕ) (c : Char) (sent heard : List Char)
@@ -108,8 +94,7 @@ pub mistakes_make_none : (astray : Bool) (t u : Text) (a b : Pending) (at : ℕ)
     (sent heard : List Char) → StandSo astray t a u b → HeardWithMistakes astray sent heard
     → AreGood (run (place u b) at sent)
     → GoodStandIn (run (place t a) at heard) (run (place u b) at sent)
-mistakes_make_none astray t u a b at [] heard stand h good =
-    nothing_heard t u a b at heard [] h
+mistakes_make_none astray t u a b at [] heard stand h good = nothing_heard t u a b at heard [] h
 mistakes_make_none astray t u a b at (c ∷ sent) [] stand h good = absurd h
 mistakes_make_none false t u a b at (c ∷ sent) (x ∷ heard) stand h good =
     let parts = good_next u b at c sent good in

@@ -1,27 +1,10 @@
 -- Steps of two readers, of which one hears characters wrong.
-use Rattle.std.proofs.Common.{◌≡◌, ◌≢◌, ℕ, ◌/◌, ◌%◌, ◌==◌, ◌⊎◌, nat_lt, nat_le, Bool, true, false, ◌||◌, Option, Some, None, List, [], ◌∷◌, ◌++◌, length, if◌then◌else◌, refl, sym, ap, ◌∙◌, subst, inl, inr, true≢false}
-use Rattle.std.proofs.lemmas.Bool.{cases_Bool}
-use Rattle.rio_chars.specs.declared.chars.Char.{Char}
-use Rattle.rio_chars.specs.declared.chars.Char.TheVariants.{Data, Special, Invalid}
+use Rattle.lane_faults.proofs.Prelude.{◌≡◌, ◌≢◌, ℕ, ◌==◌, nat_lt, nat_le, Bool, true, false, ◌||◌, Option, Some, None, List, [], ◌∷◌, ◌++◌, length, if◌then◌else◌, refl, sym, ap, ◌∙◌, subst, inl, inr, true≢false, cases_Bool, Char, Data, Special, Invalid, Fields, is_spelling, spelled, fields_at, Ctl, CharKind, Byte, Opens, Idle, Stray, Pending, Nothing, Opened, One, Two, ReaderStep, place, byte_added, outside, broken, symbol_taken, finished, step_by, Text, Plain, Skipped, Within, packet_ended, ends_packet, placed, kind, special_kind, is_delimiter, DifferInOneBlock, GoodStandIn, none_stands, bad_is_passed, same_stands, other_is_passed}
 use Rattle.rio_symbols.specs.declared.characters.Delimiter.{Delimiter}
 use Rattle.rio_symbols.specs.declared.characters.Delimiter.TheVariants.{Sc, Pd}
 use Rattle.rio_symbols.specs.declared.stype1.TheConstants.{START_OF_PACKET, LINK_REQUEST}
 use Rattle.rio_symbols.specs.Delimiters.{allowed}
-use Rattle.rio_symbols.specs.Fields.{Fields}
-use Rattle.rio_symbols.specs.Spelling.{is_spelling, spelled, fields_at}
 use Rattle.rio_symbols.proofs.ChangeLaws.{first_changed, second_changed, third_changed}
-use Rattle.link_model.specs.declared.event.Event.{Event}
-use Rattle.link_model.specs.declared.event.Event.TheVariants.{Ctl}
-use Rattle.link_model.specs.declared.reading_kinds.Kind.{Kind}
-use Rattle.link_model.specs.declared.reading_kinds.Kind.TheVariants.{Byte, Opens, Idle, Stray}
-use Rattle.link_model.specs.declared.reading_kinds.Pending.{Pending}
-use Rattle.link_model.specs.declared.reading_kinds.Pending.TheVariants.{Nothing, Opened, One, Two}
-use Rattle.link_model.specs.Places.{Place, ReaderStep, place, byte_added, outside, broken, symbol_taken, finished, step_by}
-use Rattle.link_model.specs.Reading.{Text, Plain, Skipped, Within, packet_ended, ends_packet, told, placed}
-use Rattle.link_model.specs.ReadingKinds.{kind, special_kind}
-use Rattle.code_groups.specs.Changes.{is_delimiter, DifferInOneBlock}
-use Rattle.lane_faults.specs.Among.{GoodStandIn, none_stands, bad_is_passed, same_stands, other_is_passed}
-use Rattle.lane_faults.specs.Mistakes.{IsMistakenFor}
 use Rattle.lane_faults.proofs.AmongLaws.{all_stand, AreBad, NoneBad}
 
 -- a step tells nothing good and leaves no symbol in progress
@@ -29,7 +12,7 @@ abbrev pub IsQuiet : ReaderStep → Type 0
 IsQuiet s = AreBad s.gives × (s.place.pending ≡ Nothing)
 
 -- it begins no symbol
-abbrev pub BeginsNone : Kind → Type 0
+abbrev pub BeginsNone : CharKind → Type 0
 BeginsNone (Byte byte) = Unit {0}
 BeginsNone (Opens d) = ⊥
 BeginsNone Idle = Unit {0}
@@ -39,8 +22,7 @@ BeginsNone Stray = Unit {0}
 pub stray_ends : (t : Text) (a : Pending)
     → AreBad (step_by t a Stray).gives × ((step_by t a Stray).place ≡ place Skipped Nothing)
 stray_ends Plain Nothing = (tt, refl)
-stray_ends Skipped Nothing = (tt, refl)
-stray_ends (Within bytes) Nothing = (tt, refl)
+stray_ends _ Nothing = (tt, refl)
 stray_ends t (Opened d) = (tt, refl)
 stray_ends t (One d x) = (tt, refl)
 stray_ends t (Two d x y) = (tt, refl)
@@ -49,7 +31,7 @@ added_quiet : (bytes : List ℕ) (byte : ℕ) (room : Bool) → IsQuiet (byte_ad
 added_quiet bytes byte true = (tt, refl)
 added_quiet bytes byte false = (tt, refl)
 
-outside_quiet : (t : Text) (k : Kind) → BeginsNone k → IsQuiet (outside t k)
+outside_quiet : (t : Text) (k : CharKind) → BeginsNone k → IsQuiet (outside t k)
 outside_quiet t (Opens d) h = absurd h
 outside_quiet Plain (Byte byte) h = (tt, refl)
 outside_quiet Skipped (Byte byte) h = (tt, refl)
@@ -139,7 +121,7 @@ pub data AreAlike : Pending → Pending → Type 0 where
 
 -- a mistake
 
-pub mistaken_step : (t u : Text) {a b : Pending} (k sent : Kind) → BeginsNone k
+pub mistaken_step : (t u : Text) {a b : Pending} (k sent : CharKind) → BeginsNone k
     → ((x y : ℕ) → k ≡ Byte x → sent ≡ Byte y → IsOtherByte x y) → AreAlike a b
     → NoneBad (step_by u b sent).gives → GoesAstray (step_by t a k) (step_by u b sent)
 mistaken_step t u k sent none differ (nothing_begun b) good =
@@ -151,9 +133,6 @@ mistaken_step t u Idle sent none differ (same_begun (Opened d)) good = (tt, no_s
 mistaken_step t u Stray sent none differ (same_begun (Opened d)) good = (tt, no_symbol _)
 mistaken_step t u (Byte x) (Byte y) none differ (same_begun (Opened d)) good =
     (tt, other_first d d x y (differ x y refl refl))
-mistaken_step t u (Byte x) (Opens f) none differ (same_begun (Opened d)) good = absurd good.0
-mistaken_step t u (Byte x) Idle none differ (same_begun (Opened d)) good = absurd good.0
-mistaken_step t u (Byte x) Stray none differ (same_begun (Opened d)) good = absurd good.0
 mistaken_step t u (Opens f) sent none differ (same_begun (One d v)) good = absurd none
 mistaken_step t u Idle sent none differ (same_begun (One d v)) good = (tt, no_symbol _)
 mistaken_step t u Stray sent none differ (same_begun (One d v)) good = (tt, no_symbol _)
@@ -171,6 +150,7 @@ mistaken_step t u (Byte x) (Byte y) none differ (same_begun (Two d v w)) good =
 mistaken_step t u (Byte x) (Opens f) none differ (same_begun (Two d v w)) good = absurd good.0
 mistaken_step t u (Byte x) Idle none differ (same_begun (Two d v w)) good = absurd good.0
 mistaken_step t u (Byte x) Stray none differ (same_begun (Two d v w)) good = absurd good.0
+mistaken_step t u (Byte x) _ none differ (same_begun (Opened d)) good = absurd good.0
 
 -- kinds of characters that are mistaken
 tests_begin_none : (a b c : Bool) → (a || b) ≡ false
@@ -182,23 +162,18 @@ tests_begin_none false false false h = tt
 
 pub begins_none : (c : Char) → is_delimiter c ≡ false → BeginsNone (kind c)
 unfolding kind
-begins_none (Data byte) h = tt
 begins_none (Special byte) h =
     tests_begin_none (byte == 0x1c) (byte == 0x7c)
     ((byte == 0xbc) || ((byte == 0xfd) || (byte == 0xfb))) h
-begins_none Invalid h = tt
+begins_none _ h = tt
 
-abbrev is_byte : Kind → Bool
+abbrev is_byte : CharKind → Bool
 is_byte (Byte byte) = true
-is_byte (Opens d) = false
-is_byte Idle = false
-is_byte Stray = false
+is_byte _ = false
 
-abbrev byte_in : Kind → ℕ
+abbrev byte_in : CharKind → ℕ
 byte_in (Byte byte) = byte
-byte_in (Opens d) = 0
-byte_in Idle = 0
-byte_in Stray = 0
+byte_in _ = 0
 
 tests_no_byte : (a b c : Bool)
     → is_byte (if a then Opens Sc else (if b then Opens Pd else (if c then Idle else Stray)))
@@ -259,7 +234,7 @@ finished_alike : (at : ℕ) (bytes : List ℕ) (d : Delimiter) (o : Option Field
 finished_alike at bytes d (Some s) = taken_alike at bytes s (allowed d s)
 finished_alike at bytes d None = same_steps at (finished Plain d None)
 
-skips_alike : (at : ℕ) (u : Text) (b : Pending) (k : Kind)
+skips_alike : (at : ℕ) (u : Text) (b : Pending) (k : CharKind)
     → StepsAlike at (outside Skipped k) (step_by u b k)
 skips_alike at u b (Byte x) = (none_stands, skips _ _)
 skips_alike at u b Stray = (none_stands, skips _ _)
@@ -276,7 +251,7 @@ skips_alike at u (Opened d) (Opens e) = (none_stands, level_with _ _)
 skips_alike at u (One d x) (Opens e) = (none_stands, level_with _ _)
 skips_alike at u (Two d x y) (Opens e) = (none_stands, level_with _ _)
 
-without_alike : (at : ℕ) (bytes : List ℕ) (a : Pending) (k : Kind)
+without_alike : (at : ℕ) (bytes : List ℕ) (a : Pending) (k : CharKind)
     → StepsAlike at (step_by Plain a k) (step_by (Within bytes) a k)
 without_alike at bytes Nothing (Opens e) = (none_stands, without bytes (Opened e))
 without_alike at bytes Nothing Idle = (none_stands, level_with _ _)
@@ -296,7 +271,7 @@ without_alike at bytes (Two d v w) Idle = same_steps at (broken Idle)
 without_alike at bytes (Two d v w) Stray = same_steps at (broken Stray)
 
 -- the same character for both
-pub same_step : {t u : Text} {a b : Pending} (at : ℕ) (k : Kind) → IsBehind t a u b
+pub same_step : {t u : Text} {a b : Pending} (at : ℕ) (k : CharKind) → IsBehind t a u b
     → StepsAlike at (step_by t a k) (step_by u b k)
 same_step at k (level_with t a) = same_steps at (step_by t a k)
 same_step at k (skips u b) = skips_alike at u b k

@@ -1,29 +1,18 @@
 -- Runs of a link whose lanes have wrong bits: none ends with an event that was not sent.
-use Rattle.std.proofs.Common.{◌≡◌, ℕ, Bool, true, false, if◌then◌else◌, List, [], ◌∷◌, ◌++◌, length, take, nat_le, ◌&&◌, Option, Some, None, refl, sym, ap, ◌∙◌, subst, arith}
-use Rattle.std.proofs.lemmas.Bool.{and_parts, le-leb}
-use Rattle.rio_chars.specs.declared.chars.Char.{Char}
-use Rattle.link_model.specs.Prelude.{Place, at_rest, run, place_after}
-use Rattle.link_port.specs.Prelude.{Event, PortState, IsPort, tell_sends}
+use Rattle.lane_faults.proofs.Prelude.{◌≡◌, ℕ, Bool, true, false, if◌then◌else◌, List, [], ◌∷◌, length, take, ◌&&◌, Option, Some, None, refl, sym, ap, subst, arith, and_parts, le-leb, Char, Place, at_rest, run, place_after, Event, PortState, IsPort, tell_sends, timed_out, Flow, Delivered, Through, WentUndetected, told_of, delivered, undetected, port_turned, bursts, answers, AreAnswers, turned_is, turns_read, turns_delimited, tell_read, tell_delimited, answers_are_read, answers_delimited, HeardUpTo, LaneLink, lanes_of, lanes_round, lanes_from, on_link, hearing, first_hears, lanes_hear, HearsSo, EndsUndetected, LanesTurn, LanesTell, LanesTimeOut, LanesServe, LanesHear, LanesFind, sub_none}
 use Rattle.link_port.specs.Ports.{new_port}
-use Rattle.link_port.specs.Turns.{timed_out}
 use Rattle.link_sound.specs.Histories.{AreBuffers}
-use Rattle.link_wires.specs.Deliveries.{Flow, Delivered, Through, WentUndetected, delivered, undetected}
-use Rattle.link_wires.specs.Wires.{port_turned, bursts, answers}
 use Rattle.link_wires.proofs.Throughs.{through_place}
 use Rattle.link_machine.specs.Calls.{first_turns, pumped, first_tells, told_from, after_delivery, first_takes, has_none, is_silent, first_fires, timed_out_at}
 use Rattle.link_machine.specs.Layer.{IsServed, with_port}
-use Rattle.link_machine.specs.Led.{AreAnswers, port_answers}
 use Rattle.link_machine.specs.Prelude.{Side, A, B, IsSoundLink, LinkState, turned_round, at_end, from_end}
 use Rattle.link_machine.specs.States.{link, empty_wires}
 use Rattle.link_machine.proofs.Machine.{new_sound, round_keeps, pump_keeps, told_keeps, delivery_keeps, fired_keeps, layer_keeps}
-use Rattle.link_machine.proofs.Settling.AnswerLaws.{port_narrow, replies_answer}
-use Rattle.link_machine.proofs.Settling.Bursting.{turned_is, turns_read, turns_delimited, tell_read, tell_delimited, answers_are_read, answers_delimited}
-use Rattle.link_machine.proofs.Settling.Lines.{OnFlow, IsFed, by_tables}
-use Rattle.lane_faults.specs.LaneRuns.{HeardUpTo, LaneLink, lanes_of, lanes_round, lanes_from, on_link, hearing, first_hears, lanes_hear, HearsSo, EndsUndetected, LanesTurn, LanesTell, LanesTimeOut, LanesServe, LanesHear, LanesFind}
-use Rattle.lane_faults.proofs.FairLaws.{AllGood, good_turns, good_tell, good_answers, IsFairWay, fair_sent, fair_at, fair_silent, HearsFairly, fair_heard}
+use Rattle.link_machine.proofs.Settling.AnswerLaws.{port_narrow}
+use Rattle.lane_faults.proofs.FairLaws.{good_turns, good_tell, good_answers, IsFairWay, fair_sent, fair_at, fair_silent, fair_heard}
 use Rattle.lane_faults.proofs.LeadLaws.{StandAt}
 use Rattle.lane_faults.proofs.ReaderLaws.{level_with}
-use Rattle.link_wires.proofs.Subsequences.{sub_none}
+use Rattle.link_machine.proofs.Settling.Replies.{delivered_answers}
 
 -- both ways of a sound link
 pub record IsFair (s : LaneLink) : Type 0 where
@@ -187,10 +176,9 @@ hearing_sound n heard s l =
 
 replies_are_answers : (port : PortState) (kept : List Event) (chars : List Char) (flow : Flow)
     → IsPort port → delivered port kept chars ≡ Through flow → AreAnswers flow.told.replies
-unfolding port_answers
 replies_are_answers port kept chars flow is through =
-    let fed = subst (OnFlow (IsFed port chars)) through (by_tables port kept chars) in
-    subst AreAnswers (sym fed.1) (replies_answer port _ (port_narrow port is))
+    subst (λ (d : Delivered). AreAnswers (told_of d).replies) through
+    (delivered_answers port kept chars (port_narrow port is))
 
 -- the first port hears, and nothing goes undetected
 record HearsOn (count : ℕ) (heard : List Char) (after : Bool) (s : LaneLink) : Type 0 where

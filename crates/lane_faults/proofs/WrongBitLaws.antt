@@ -1,19 +1,13 @@
 -- Wrong bits, of which a special character stands between any two, are heard as mistakes.
-use Rattle.std.proofs.Common.{◌≡◌, ℕ, zero, suc, ◌<◌, ◌⊎◌, nat_lt, Bool, true, false, List, [], ◌∷◌, ◌++◌, Option, Some, None, refl, sym, ap, ◌∙◌, subst, inl, inr, true≢false}
-use Rattle.std.proofs.lemmas.Bool.{ltb-true}
-use Rattle.rio_chars.specs.CharText.{IsData}
-use Rattle.rio_chars.specs.declared.chars.Char.{Char}
-use Rattle.rio_chars.specs.declared.chars.Char.TheVariants.{Data, Special, Invalid}
+use Rattle.lane_faults.proofs.Prelude.{◌≡◌, ℕ, zero, suc, ◌<◌, Bool, true, false, List, [], ◌∷◌, Option, Some, None, refl, sym, ap, subst, inl, inr, true≢false, ltb-true, IsData, Char, Data, Special, Invalid, with_wrong_bit, with_wrong_bit_at, is_used, IsMistakenFor, HeardWithMistakes}
 use Rattle.code_groups.specs.declared.disparity.Disparity.{Disparity}
-use Rattle.code_groups.specs.Changes.{with_wrong_bit, with_wrong_bit_at, is_used}
-use Rattle.code_groups.specs.Disparities.{other_disparity, after_group}
-use Rattle.code_groups.specs.Groups.{has_group, group_of, disparity_after, IsHeardAs}
+use Rattle.code_groups.specs.Disparities.{other_disparity}
+use Rattle.code_groups.specs.Groups.{group_of, disparity_after, IsHeardAs}
 use Rattle.code_groups.specs.Streams.{groups_from, AreHeardAs}
 use Rattle.code_groups.proofs.BlockLaws.{none_made, one_block, used_has}
 use Rattle.code_groups.proofs.Plain.{heard_group, heard_one}
 use Rattle.code_groups.proofs.StreamLaws.{astray_parts, wrong_parts}
-use Rattle.lane_faults.specs.Mistakes.{IsMistakenFor, HeardWithMistakes}
-use Rattle.lane_faults.specs.WrongBits.{AreUsed, wrong_at, with_wrong_bits, frees_the_next, AreApart}
+use Rattle.lane_faults.specs.WrongBits.{AreUsed, with_wrong_bits, frees_the_next, AreApart}
 
 -- the disparity that a receiver has
 abbrev received : Bool → Disparity → Disparity
@@ -65,8 +59,6 @@ bits_heard false free before (c ∷ chars) (x ∷ heard) (None ∷ wrong) shut u
       bits_heard false (frees_the_next free c) (disparity_after before c) chars heard wrong
           (λ e. absurd (true≢false (sym e))) used.1 apart h.1,
     )
-bits_heard false false before (c ∷ chars) (x ∷ heard) (Some bit ∷ wrong) shut used apart h =
-    absurd apart
 bits_heard false true before (c ∷ chars) (x ∷ heard) (Some bit ∷ wrong) shut used apart h =
     let next : Disparity = disparity_after before c in
     let groups : List ℕ = with_wrong_bits wrong (groups_from next chars) in
@@ -119,7 +111,7 @@ bits_heard true free before (c ∷ chars) (x ∷ heard) (None ∷ wrong) shut us
     ]
 bits_heard true true before (c ∷ chars) (x ∷ heard) (Some bit ∷ wrong) shut used apart h =
     absurd (true≢false (shut refl))
-bits_heard true false before (c ∷ chars) (x ∷ heard) (Some bit ∷ wrong) shut used apart h =
+bits_heard _ false before (c ∷ chars) (x ∷ heard) (Some bit ∷ wrong) shut used apart h =
     absurd apart
 
 pub bits_are_mistakes : (before : Disparity) (chars heard : List Char) (wrong : List (Option ℕ))

@@ -1,13 +1,7 @@
 -- The event of a packet's bytes is what they carry, or why they carry nothing.
-use Rattle.std.proofs.Common.{◌≡◌, ℕ, ◌<◌, ◌≤◌, Bool, nat_lt, Option, Some, None, List, length, if◌then◌else◌, inl, inr, refl, sym, ap, ◌∙◌}
-use Rattle.std.proofs.lemmas.Bool.Decides.{Decides-ltb}
+use Rattle.link_model.proofs.Prelude.{◌≡◌, ℕ, ◌<◌, ◌≤◌, Bool, nat_lt, Option, Some, None, List, length, if◌then◌else◌, inl, inr, refl, sym, ap, ◌∙◌, Decides-ltb, Carries, carried, found_or_bad, checked, BadPacket, General, Pkt, Bad, packet_or_cause, packet_event, checked_event, carried-from_Carries, carried-none, carried-out_of_range}
 use Rattle.std.proofs.lemmas.Bool.{cases_lt}
-use Rattle.rio_packets.specs.Carries.{Carries, carried, found_or_bad, checked}
-use Rattle.rio_packets.specs.declared.cause.Cause.TheVariants.{BadPacket, General}
-use Rattle.link_model.specs.declared.event.Event.TheVariants.{Pkt, Bad}
-use Rattle.link_model.specs.Events.{packet_or_cause, packet_event, checked_event}
 use Rattle.rio_packets.proofs.BuildingLaws.{checked-few, checked-in_range}
-use Rattle.rio_packets.proofs.CarriesLaws.{carried-from_Carries, carried-none, carried-out_of_range}
 use Rattle.link_model.proofs.ReadingSteps.{not_below}
 
 pub event-carried : (bytes : List ℕ) (ack : ℕ) (packet : List ℕ) → Carries bytes ack packet

@@ -1,10 +1,5 @@
 -- What the front of characters that tells says of them all.
-use Rattle.std.proofs.Common.{◌≡◌, ℕ, suc, ◌+◌, ◌<◌, ◌≤◌, List, [], ◌∷◌, ◌++◌, length, take, drop, refl, sym, ap, ◌∙◌, arith}
-use Rattle.rio_chars.specs.declared.chars.Char.{Char}
-use Rattle.link_model.specs.declared.event.Event.{Event}
-use Rattle.link_model.specs.Reading.{placed}
-use Rattle.link_model.specs.Places.{Place, step, run, place_after, AreGiven}
-use Rattle.link_model.specs.Fronts.{Front, front_by, telling_front}
+use Rattle.link_model.proofs.Prelude.{◌≡◌, ℕ, suc, ◌+◌, ◌<◌, ◌≤◌, List, [], ◌∷◌, ◌++◌, length, take, drop, refl, sym, ap, ◌∙◌, arith, Char, Event, placed, Place, step, run, place_after, AreGiven, Front, front_by, telling_front}
 use Rattle.link_model.proofs.PlacesLaws.{given}
 
 pub front-count : (from : Place) (cs : List Char) → (telling_front from cs).count ≤ length cs

@@ -1,3 +1,4 @@
+mod Prelude
 pub mod WindowFacts
 pub mod EventLaws
 pub mod ReadingSteps

@@ -1,18 +1,5 @@
 -- A packet in progress never has more than 276 bytes.
-use Rattle.std.proofs.Common.{◌≡◌, ℕ, ◌<◌, ◌≤◌, ◌==◌, nat_lt, nat_le, Bool, true, false, Option, Some, None, List, [], ◌∷◌, ◌++◌, length, if◌then◌else◌, refl, arith, length-append}
-use Rattle.std.proofs.lemmas.Bool.Decides.{Decides-ltb}
-use Rattle.rio_chars.specs.declared.chars.Char.{Char}
-use Rattle.rio_symbols.specs.declared.characters.Delimiter.{Delimiter}
-use Rattle.rio_symbols.specs.Delimiters.{allowed}
-use Rattle.rio_symbols.specs.Fields.{Fields}
-use Rattle.rio_symbols.specs.Spelling.{spelled}
-use Rattle.link_model.specs.declared.reading_kinds.Kind.{Kind}
-use Rattle.link_model.specs.declared.reading_kinds.Kind.TheVariants.{Byte, Opens, Idle, Stray}
-use Rattle.link_model.specs.declared.reading_kinds.Pending.{Pending}
-use Rattle.link_model.specs.declared.reading_kinds.Pending.TheVariants.{Nothing, Opened, One, Two}
-use Rattle.link_model.specs.Places.{Place, place_start, opened, byte_added, symbol_taken, finished, step_by, step, place_after, IsBounded}
-use Rattle.link_model.specs.Reading.{Text, Plain, Skipped, Within, text_after}
-use Rattle.link_model.specs.ReadingKinds.{kind}
+use Rattle.link_model.proofs.Prelude.{◌≡◌, ℕ, ◌<◌, ◌≤◌, ◌==◌, nat_lt, nat_le, Bool, true, false, Option, Some, None, List, [], ◌∷◌, ◌++◌, length, if◌then◌else◌, refl, arith, length-append, Decides-ltb, Char, Delimiter, allowed, Fields, spelled, CharKind, Byte, Opens, Idle, Stray, Pending, Nothing, Opened, One, Two, Place, place_start, opened, byte_added, symbol_taken, finished, step_by, step, place_after, IsBounded, Text, Plain, Skipped, Within, text_after, kind}
 
 one_longer : (bytes : List ℕ) (i : ℕ) → length bytes < 276 → length (bytes ++ i ∷ []) ≤ 276
 one_longer bytes i h = grind (arith, length-append)
@@ -45,7 +32,7 @@ finished_bounded : (t : Text) (d : Delimiter) (o : Option Fields) → IsBounded 
 finished_bounded t d None h = tt
 finished_bounded t d (Some s) h = taken_bounded t s (allowed d s) h
 
-by_bounded : (t : Text) (p : Pending) (k : Kind) → IsBounded t
+by_bounded : (t : Text) (p : Pending) (k : CharKind) → IsBounded t
     → IsBounded (step_by t p k).place.text
 by_bounded t Nothing (Opens d) h = opened_bounded t h
 by_bounded Plain Nothing Idle h = tt

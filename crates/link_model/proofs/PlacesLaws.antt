@@ -1,22 +1,7 @@
 -- The steps of characters in pieces, and what one character may tell.
-use Rattle.std.proofs.Common.{◌≡◌, ℕ, suc, ◌+◌, ◌≤◌, ◌==◌, ◌⊎◌, nat_lt, Bool, true, false, Option, Some, None, List, [], ◌∷◌, ◌++◌, length, filter, map, if◌then◌else◌, ◌↔◌, refl, sym, ap, ◌∙◌, subst, arith, append_assoc, append-nil}
+use Rattle.link_model.proofs.Prelude.{◌≡◌, ℕ, suc, ◌+◌, ◌≤◌, ◌==◌, ◌⊎◌, nat_lt, Bool, true, false, Option, Some, None, List, [], ◌∷◌, ◌++◌, length, filter, map, if◌then◌else◌, ◌↔◌, refl, sym, ap, ◌∙◌, subst, arith, append_assoc, append-nil, Decides-eqb, Decides-or, Char, Delimiter, allowed, Fields, spelled, Event, Ctl, CharKind, Byte, Opens, Idle, Stray, Pending, Nothing, Opened, One, Two, Place, place_start, byte_added, symbol_taken, finished, step_by, step, run, place_after, at_rest, AreGiven, Text, Plain, Skipped, Within, packet_ended, ends_packet, told, placed, Reads, IsReading, IsCut, kind}
 use Rattle.std.proofs.lemmas.List.{map-append}
-use Rattle.std.proofs.lemmas.Bool.Decides.{Decides-eqb, Decides-or}
 use Rattle.std.proofs.lemmas.List.Elements.{filter-append}
-use Rattle.rio_chars.specs.declared.chars.Char.{Char}
-use Rattle.rio_symbols.specs.declared.characters.Delimiter.{Delimiter}
-use Rattle.rio_symbols.specs.Delimiters.{allowed}
-use Rattle.rio_symbols.specs.Fields.{Fields}
-use Rattle.rio_symbols.specs.Spelling.{spelled}
-use Rattle.link_model.specs.declared.event.Event.{Event}
-use Rattle.link_model.specs.declared.event.Event.TheVariants.{Ctl}
-use Rattle.link_model.specs.declared.reading_kinds.Kind.{Kind}
-use Rattle.link_model.specs.declared.reading_kinds.Kind.TheVariants.{Byte, Opens, Idle, Stray}
-use Rattle.link_model.specs.declared.reading_kinds.Pending.{Pending}
-use Rattle.link_model.specs.declared.reading_kinds.Pending.TheVariants.{Nothing, Opened, One, Two}
-use Rattle.link_model.specs.Places.{Place, place_start, byte_added, symbol_taken, finished, step_by, step, run, place_after, at_rest, AreGiven}
-use Rattle.link_model.specs.Reading.{Text, Plain, Skipped, Within, packet_ended, ends_packet, told, placed, Reads, IsReading, IsCut}
-use Rattle.link_model.specs.ReadingKinds.{kind}
 use Rattle.link_model.proofs.ReadingOne.{one}
 use Rattle.link_model.proofs.ReadingSteps.{below, not_below}
 use Rattle.link_model.proofs.ReadingFound.{found, none_yet}
@@ -177,7 +162,7 @@ added_given : (bytes : List ℕ) (i : ℕ) (b : Bool) → AreGiven (byte_added b
 added_given bytes i true = tt
 added_given bytes i false = tt
 
-step_given : (t : Text) (p : Pending) (k : Kind) → AreGiven (step_by t p k).gives
+step_given : (t : Text) (p : Pending) (k : CharKind) → AreGiven (step_by t p k).gives
 step_given t Nothing (Opens d) = tt
 step_given Plain Nothing Idle = tt
 step_given Plain Nothing (Byte i) = tt

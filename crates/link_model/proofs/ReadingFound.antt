@@ -1,19 +1,5 @@
 -- Every list of characters has a reading: that of the steps.
-use Rattle.std.proofs.Common.{◌≡◌, ℕ, suc, ◌+◌, ◌<◌, ◌≤◌, nat_lt, Bool, true, false, Option, Some, None, List, [], ◌∷◌, ◌++◌, length, refl, sym, ap, ◌∙◌, subst, arith}
-use Rattle.std.proofs.lemmas.Bool.Decides.{Decides-ltb, not_from_Decides}
-use Rattle.rio_chars.specs.declared.chars.Char.{Char}
-use Rattle.rio_symbols.specs.declared.characters.Delimiter.{Delimiter}
-use Rattle.rio_symbols.specs.Delimiters.{allowed}
-use Rattle.rio_symbols.specs.Fields.{Fields}
-use Rattle.rio_symbols.specs.Spelling.{spelled}
-use Rattle.rio_symbols.proofs.SpellingLaws.{spelled_some, spelled_none}
-use Rattle.link_model.specs.declared.event.Event.{Event}
-use Rattle.link_model.specs.declared.reading_kinds.Kind.TheVariants.{Byte, Opens, Idle, Stray}
-use Rattle.link_model.specs.declared.reading_kinds.Pending.{Pending}
-use Rattle.link_model.specs.declared.reading_kinds.Pending.TheVariants.{Nothing, Opened, One, Two}
-use Rattle.link_model.specs.Places.{place, byte_added, symbol_taken, finished, run, place_after}
-use Rattle.link_model.specs.Reading.{Text, Plain, Skipped, Within, IsOpen, text_after, IsWhole, no_byte, one_byte, two_bytes, Reads, plain_ends, idle_passes, data_outside, stray_outside, skipped_ends, data_skipped, stray_skipped, idle_ends_skipping, delimiter_ends_skipping, packet_is_cut, data_is_added, data_is_too_long, idle_in_packet, stray_in_packet, symbol_is_read, spells_none, not_allowed, cut_by_delimiter, cut_by_idle, cut_by_stray, cut_by_the_end}
-use Rattle.link_model.specs.ReadingKinds.{kind}
+use Rattle.link_model.proofs.Prelude.{◌≡◌, ℕ, suc, ◌+◌, ◌<◌, ◌≤◌, nat_lt, Bool, true, false, Option, Some, None, List, [], ◌∷◌, ◌++◌, length, refl, sym, ap, ◌∙◌, subst, arith, Decides-ltb, not_from_Decides, Char, Delimiter, allowed, Fields, spelled, spelled_some, spelled_none, Event, Byte, Opens, Idle, Stray, Pending, Nothing, Opened, One, Two, place, byte_added, symbol_taken, finished, run, place_after, Text, Plain, Skipped, Within, IsOpen, text_after, IsWhole, no_byte, one_byte, two_bytes, Reads, plain_ends, idle_passes, data_outside, stray_outside, skipped_ends, data_skipped, stray_skipped, idle_ends_skipping, delimiter_ends_skipping, packet_is_cut, data_is_added, data_is_too_long, idle_in_packet, stray_in_packet, symbol_is_read, spells_none, not_allowed, cut_by_delimiter, cut_by_idle, cut_by_stray, cut_by_the_end, kind}
 use Rattle.link_model.proofs.ReadingSteps.{reading, follow, stepped}
 
 -- what has come of a symbol, and its characters
@@ -71,15 +57,14 @@ unfolding run place_after
 found Plain none_yet a at [] = plain_ends
 found Skipped none_yet a at [] = skipped_ends
 found (Within bytes) none_yet a at [] = packet_is_cut
-found Plain (opened_by h) a at [] = cut_by_the_end tt (no_byte h)
 found Skipped (opened_by h) a at [] = absurd a
-found (Within bytes) (opened_by h) a at [] = cut_by_the_end tt (no_byte h)
 found Plain (with_one h i) a at [] = cut_by_the_end tt (one_byte h i)
 found Skipped (with_one h i) a at [] = absurd a
 found (Within bytes) (with_one h i) a at [] = cut_by_the_end tt (one_byte h i)
 found Plain (with_two h i j) a at [] = cut_by_the_end tt (two_bytes h i j)
 found Skipped (with_two h i j) a at [] = absurd a
 found (Within bytes) (with_two h i j) a at [] = cut_by_the_end tt (two_bytes h i j)
+found _ (opened_by h) a at [] = cut_by_the_end tt (no_byte h)
 found Plain none_yet a at (c ∷ cs) =
     let all = reading (place Plain Nothing) at (c ∷ cs) in
     (elim (kind c) as (λ k. kind c ≡ k → Reads Plain at (c ∷ cs) all.0 all.1) [

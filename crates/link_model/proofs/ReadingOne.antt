@@ -1,34 +1,16 @@
 -- A list of characters has one reading: that of the steps.
-use Rattle.std.proofs.Common.{◌≡◌, ℕ, suc, ◌+◌, Bool, false, Option, Some, None, List, [], ◌∷◌, ◌++◌, length, refl, sym, ap, ◌∙◌, arith}
-use Rattle.rio_chars.specs.declared.chars.Char.{Char}
-use Rattle.rio_symbols.specs.Fields.{Fields}
-use Rattle.rio_symbols.specs.Spelling.{SpellsSymbol, spelled}
-use Rattle.rio_symbols.proofs.SpellingLaws.{spelled_some, spelled_back}
-use Rattle.rio_packets.specs.declared.cause.Cause.TheVariants.{BadSymbol, BadChar, General}
-use Rattle.link_model.specs.declared.event.Event.{Event}
-use Rattle.link_model.specs.declared.event.Event.TheVariants.{Bad}
-use Rattle.link_model.specs.declared.reading_kinds.Kind.{Kind}
-use Rattle.link_model.specs.declared.reading_kinds.Kind.TheVariants.{Byte, Opens, Idle, Stray}
-use Rattle.link_model.specs.declared.reading_kinds.Pending.{Pending}
-use Rattle.link_model.specs.declared.reading_kinds.Pending.TheVariants.{Nothing, Opened, One, Two}
-use Rattle.link_model.specs.Places.{Place, ReaderStep, place, byte_added, symbol_taken, finished, broken, step_by, run, place_after}
-use Rattle.link_model.specs.Reading.{Text, Plain, Skipped, Within, IsOpen, told, placed, IsUnfinished, no_byte, one_byte, two_bytes, Reads, plain_ends, idle_passes, data_outside, stray_outside, skipped_ends, data_skipped, stray_skipped, idle_ends_skipping, delimiter_ends_skipping, packet_is_cut, data_is_added, data_is_too_long, idle_in_packet, stray_in_packet, symbol_is_read, spells_none, not_allowed, cut_by_delimiter, cut_by_idle, cut_by_stray, cut_by_the_end}
-use Rattle.link_model.specs.ReadingKinds.{kind}
+use Rattle.link_model.proofs.Prelude.{◌≡◌, ℕ, suc, ◌+◌, Bool, false, Option, Some, None, List, [], ◌∷◌, ◌++◌, length, refl, sym, ap, ◌∙◌, arith, Char, Fields, SpellsSymbol, spelled, spelled_some, spelled_back, BadSymbol, BadChar, General, Event, Bad, CharKind, Byte, Opens, Idle, Stray, Pending, Nothing, Opened, One, Two, Place, ReaderStep, place, byte_added, symbol_taken, finished, broken, step_by, run, place_after, Text, Plain, Skipped, Within, IsOpen, told, placed, IsUnfinished, no_byte, one_byte, two_bytes, Reads, plain_ends, idle_passes, data_outside, stray_outside, skipped_ends, data_skipped, stray_skipped, idle_ends_skipping, delimiter_ends_skipping, packet_is_cut, data_is_added, data_is_too_long, idle_in_packet, stray_in_packet, symbol_is_read, spells_none, not_allowed, cut_by_delimiter, cut_by_idle, cut_by_stray, cut_by_the_end, kind}
 use Rattle.link_model.proofs.ReadingSteps.{reading, prepend, follow, stepped, begins, whole, below, not_below}
 
 -- it is in progress
 abbrev IsBegun : Pending → Type 0
 IsBegun Nothing = ⊥
-IsBegun (Opened d) = Unit {0}
-IsBegun (One d i) = Unit {0}
-IsBegun (Two d i j) = Unit {0}
+IsBegun _ = Unit {0}
 
 -- it is no data character
-abbrev IsNoByte : Kind → Type 0
+abbrev IsNoByte : CharKind → Type 0
 IsNoByte (Byte i) = ⊥
-IsNoByte (Opens d) = Unit {0}
-IsNoByte Idle = Unit {0}
-IsNoByte Stray = Unit {0}
+IsNoByte _ = Unit {0}
 
 -- Where the reader stands after the characters of an unfinished symbol.
 record Begun (front : List Char) : Type 0 where
@@ -46,15 +28,9 @@ nothing_more : (t : Text) → IsOpen t → (p : Pending) → IsBegun p → (at :
     → reading (place t p) at [] ≡ ([], false)
 unfolding run place_after
 nothing_more t may Nothing b at = absurd b
-nothing_more Plain may (Opened d) b at = refl
-nothing_more Plain may (One d i) b at = refl
-nothing_more Plain may (Two d i j) b at = refl
-nothing_more Skipped may (Opened d) b at = refl
-nothing_more Skipped may (One d i) b at = refl
-nothing_more Skipped may (Two d i j) b at = refl
-nothing_more (Within bytes) may (Opened d) b at = refl
-nothing_more (Within bytes) may (One d i) b at = refl
-nothing_more (Within bytes) may (Two d i j) b at = refl
+nothing_more Plain may _ b at = refl
+nothing_more Skipped may _ b at = refl
+nothing_more (Within bytes) may _ b at = refl
 
 begun : {front : List Char} → IsUnfinished front → Begun front
 unfolding run place_after
@@ -93,7 +69,7 @@ begun (two_bytes {c} {x} {y} {d} {i} {j} h f g) = record {
       ∙ nothing_more t may (Two d i j) tt (suc (suc (suc at)));
 }
 
-breaks : (t : Text) (p : Pending) → IsBegun p → (k : Kind) → IsNoByte k → step_by t p k ≡ broken k
+breaks : (t : Text) (p : Pending) → IsBegun p → (k : CharKind) → IsNoByte k → step_by t p k ≡ broken k
 breaks t Nothing b k n = absurd b
 breaks t (Opened d) b (Byte i) n = absurd n
 breaks t (Opened d) b (Opens e) n = refl
@@ -109,7 +85,7 @@ breaks t (Two d i j) b Idle n = refl
 breaks t (Two d i j) b Stray n = refl
 
 -- a character that breaks a symbol off
-broke : (t : Text) {front : List Char} (at n : ℕ) (c : Char) (cs : List Char) (k : Kind) → IsOpen t
+broke : (t : Text) {front : List Char} (at n : ℕ) (c : Char) (cs : List Char) (k : CharKind) → IsOpen t
     → IsUnfinished front
     → n ≡ at + length front → kind c ≡ k → IsNoByte k
     → reading (place t Nothing) at (front ++ c ∷ cs) ≡ follow (broken k) n cs

@@ -1,29 +1,10 @@
 -- What is sent for a symbol or a packet is read as it.
-use Rattle.std.proofs.Common.{◌≡◌, ℕ, suc, ◌+◌, ◌*◌, ◌<◌, ◌≤◌, Bool, true, Option, if◌then◌else◌, nat_lt, List, [], ◌∷◌, ◌++◌, length, get_or, refl, sym, ap, ◌∙◌, arith, append_assoc, append-nil, length-append}
+use Rattle.link_model.proofs.Prelude.{◌≡◌, ℕ, suc, ◌+◌, ◌*◌, ◌<◌, ◌≤◌, Bool, true, Option, if◌then◌else◌, nat_lt, List, [], ◌∷◌, ◌++◌, length, get_or, refl, sym, ap, ◌∙◌, arith, append_assoc, append-nil, length-append, Char, Delimiter, allowed, delimiter_of, Fields, InRange, symbol_bytes, spelled_own, Carries, BadPacket, General, Carries-with_ack, carried-from_Carries, Event, Ctl, Pkt, Byte, Opens, Pending, Nothing, Opened, One, Two, packet_event, packet_or_cause, Place, ReaderStep, place, opened, broken_off, begins_in, byte_added, symbol_taken, finished, place_start, step_by, step, run, place_after, Text, Plain, Skipped, Within, IsOpen, IsWhole, text_after, ends_packet, packet_ended, told, placed, kind, delimiter_char, data_chars, symbol_chars_of, bytes_with_ack, packet_chars_of}
 use Rattle.std.proofs.Math.ListN.{length-set}
-use Rattle.rio_chars.specs.declared.chars.Char.{Char}
 use Rattle.rio_chars.specs.declared.chars.Char.TheVariants.{Data}
-use Rattle.rio_symbols.specs.declared.characters.Delimiter.{Delimiter}
 use Rattle.rio_symbols.specs.declared.characters.Delimiter.TheVariants.{Sc, Pd}
-use Rattle.rio_symbols.specs.Delimiters.{allowed, delimiter_of}
-use Rattle.rio_symbols.specs.Fields.{Fields, InRange}
 use Rattle.rio_symbols.specs.Crc5.{crc5_value}
-use Rattle.rio_symbols.specs.Spelling.{symbol_bytes}
-use Rattle.rio_symbols.proofs.SpellingLaws.{spelled_own}
-use Rattle.rio_packets.specs.Carries.{Carries}
-use Rattle.rio_packets.specs.declared.cause.Cause.TheVariants.{BadPacket, General}
 use Rattle.rio_packets.specs.LinkForm.{Passes}
-use Rattle.rio_packets.proofs.CarriesLaws.{Carries-with_ack, carried-from_Carries}
-use Rattle.link_model.specs.declared.event.Event.{Event}
-use Rattle.link_model.specs.declared.event.Event.TheVariants.{Ctl, Pkt}
-use Rattle.link_model.specs.declared.reading_kinds.Kind.TheVariants.{Byte, Opens}
-use Rattle.link_model.specs.declared.reading_kinds.Pending.{Pending}
-use Rattle.link_model.specs.declared.reading_kinds.Pending.TheVariants.{Nothing, Opened, One, Two}
-use Rattle.link_model.specs.Events.{packet_event, packet_or_cause}
-use Rattle.link_model.specs.Places.{Place, ReaderStep, place, opened, broken_off, begins_in, byte_added, symbol_taken, finished, place_start, step_by, step, run, place_after}
-use Rattle.link_model.specs.Reading.{Text, Plain, Skipped, Within, IsOpen, IsWhole, text_after, ends_packet, packet_ended, told, placed}
-use Rattle.link_model.specs.ReadingKinds.{kind}
-use Rattle.link_model.specs.ReadingSpelt.{delimiter_char, data_chars, symbol_chars_of, bytes_with_ack, packet_chars_of}
 use Rattle.link_model.proofs.ReadingSteps.{course, follow_to, course_step, course_whole, below}
 
 pub kind-data : (byte : ℕ) → kind (Data byte) ≡ Byte byte
@@ -209,14 +190,11 @@ opened_twice (Within bytes) = refl
 
 pub begins_opened : (t : Text) (p : Pending) → opened (begins_in t p) ≡ begins_in t p
 begins_opened t Nothing = opened_twice t
-begins_opened t (Opened d) = refl
-begins_opened t (One d x) = refl
-begins_opened t (Two d x y) = refl
+begins_opened t _ = refl
 
 pub begins_open : (t : Text) (p : Pending) → IsOpen (begins_in t p)
 begins_open Plain Nothing = tt
-begins_open Skipped Nothing = tt
-begins_open (Within bytes) Nothing = tt
+begins_open _ Nothing = tt
 begins_open t (Opened d) = tt
 begins_open t (One d x) = tt
 begins_open t (Two d x y) = tt

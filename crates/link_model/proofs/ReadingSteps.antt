@@ -1,16 +1,5 @@
 -- The steps of one character, and those of a symbol.
-use Rattle.std.proofs.Common.{◌≡◌, ℕ, suc, ◌<◌, ◌≤◌, nat_lt, Bool, true, false, List, ◌∷◌, ◌++◌, refl, ap, ◌∙◌, arith}
-use Rattle.std.proofs.lemmas.Bool.Decides.{Decides-ltb}
-use Rattle.rio_chars.specs.declared.chars.Char.{Char}
-use Rattle.rio_symbols.specs.declared.characters.Delimiter.{Delimiter}
-use Rattle.rio_symbols.specs.Spelling.{spelled}
-use Rattle.link_model.specs.declared.event.Event.{Event}
-use Rattle.link_model.specs.declared.reading_kinds.Kind.{Kind}
-use Rattle.link_model.specs.declared.reading_kinds.Kind.TheVariants.{Byte, Opens}
-use Rattle.link_model.specs.declared.reading_kinds.Pending.TheVariants.{Nothing, Opened, One, Two}
-use Rattle.link_model.specs.Places.{Place, ReaderStep, place, opened, finished, step_by, run, place_after, at_rest}
-use Rattle.link_model.specs.Reading.{Text, Plain, Skipped, Within, IsOpen, IsWhole, placed}
-use Rattle.link_model.specs.ReadingKinds.{kind}
+use Rattle.link_model.proofs.Prelude.{◌≡◌, ℕ, suc, ◌<◌, ◌≤◌, nat_lt, Bool, true, false, List, ◌∷◌, ◌++◌, refl, ap, ◌∙◌, arith, Decides-ltb, Char, Delimiter, spelled, Event, CharKind, Byte, Opens, Nothing, Opened, One, Two, Place, ReaderStep, place, opened, finished, step_by, run, place_after, at_rest, Text, Plain, Skipped, Within, IsOpen, IsWhole, placed, kind}
 
 -- the events of characters, and where the reader stands after them
 abbrev pub course : Place → ℕ → List Char → List (ℕ × Event) × Place
@@ -21,11 +10,11 @@ abbrev pub follow_to : ReaderStep → ℕ → List Char → List (ℕ × Event) 
 follow_to s at cs = (placed at s.gives ++ run s.place (suc at) cs, place_after s.place cs)
 
 -- the step of a character whose kind is known
-pub course_step : (from : Place) (at : ℕ) (c : Char) (cs : List Char) (k : Kind) → kind c ≡ k
+pub course_step : (from : Place) (at : ℕ) (c : Char) (cs : List Char) (k : CharKind) → kind c ≡ k
     → course from at (c ∷ cs) ≡ follow_to (step_by from.text from.pending k) at cs
 unfolding run place_after
 course_step from at c cs k e =
-    ap (λ (j : Kind). follow_to (step_by from.text from.pending j) at cs) e
+    ap (λ (j : CharKind). follow_to (step_by from.text from.pending j) at cs) e
 
 opened_is : (t : Text) → IsOpen t → opened t ≡ t
 opened_is Plain may = refl
@@ -66,7 +55,7 @@ prepend es after = (es ++ after.0, after.1)
 abbrev pub follow : ReaderStep → ℕ → List Char → List (ℕ × Event) × Bool
 follow s at cs = prepend (placed at s.gives) (reading s.place (suc at) cs)
 
-pub stepped : (from : Place) (at : ℕ) (c : Char) (cs : List Char) (k : Kind) → kind c ≡ k
+pub stepped : (from : Place) (at : ℕ) (c : Char) (cs : List Char) (k : CharKind) → kind c ≡ k
     → reading from at (c ∷ cs) ≡ follow (step_by from.text from.pending k) at cs
 stepped from at c cs k e = ap resting (course_step from at c cs k e)
 

@@ -10,8 +10,8 @@ use Rattle.rio_packets.specs.declared.cause.Cause.{Cause}
 use Rattle.rio_packets.specs.declared.cause.Cause.TheVariants.{BadSymbol, BadChar, General}
 use Rattle.link_model.specs.declared.event.Event.{Event}
 use Rattle.link_model.specs.declared.event.Event.TheVariants.{Ctl, Pkt, Bad}
-use Rattle.link_model.specs.declared.reading_kinds.Kind.{Kind}
-use Rattle.link_model.specs.declared.reading_kinds.Kind.TheVariants.{Byte, Opens, Idle, Stray}
+use Rattle.link_model.specs.declared.reading_kinds.CharKind.{CharKind}
+use Rattle.link_model.specs.declared.reading_kinds.CharKind.TheVariants.{Byte, Opens, Idle, Stray}
 use Rattle.link_model.specs.declared.reading_kinds.Pending.{Pending}
 use Rattle.link_model.specs.declared.reading_kinds.Pending.TheVariants.{Nothing, Opened, One, Two}
 use Rattle.link_model.specs.Events.{packet_event}
@@ -69,7 +69,7 @@ begins_in text (One d x) = Plain
 begins_in text (Two d x y) = Plain
 
 -- a character while no symbol is in progress
-abbrev pub outside : Text → Kind → ReaderStep
+abbrev pub outside : Text → CharKind → ReaderStep
 outside text (Opens d) = place_goes (opened text) (Opened d)
 outside Plain Idle = place_goes Plain Nothing
 outside Skipped Idle = place_goes Plain Nothing
@@ -82,7 +82,7 @@ outside Skipped Stray = place_goes Skipped Nothing
 outside (Within bytes) Stray = fails Skipped Nothing BadChar
 
 -- a character, no data, while a symbol is in progress
-abbrev pub broken : Kind → ReaderStep
+abbrev pub broken : CharKind → ReaderStep
 broken (Opens d) = fails Plain (Opened d) BadChar
 broken Idle = fails Plain Nothing BadChar
 broken Stray = fails Skipped Nothing BadChar
@@ -100,7 +100,7 @@ finished text d (Some symbol) = symbol_taken text symbol (allowed d symbol)
 finished text d None = fails Skipped Nothing BadSymbol
 
 -- a character of this kind
-abbrev pub step_by : Text → Pending → Kind → ReaderStep
+abbrev pub step_by : Text → Pending → CharKind → ReaderStep
 step_by text Nothing k = outside text k
 step_by text (Opened d) (Byte x) = place_goes text (One d x)
 step_by text (Opened d) k = broken k

@@ -11,7 +11,7 @@ use Rattle.rio_symbols.specs.Spelling.{SpellsSymbol}
 use Rattle.rio_packets.specs.declared.cause.Cause.TheVariants.{BadSymbol, BadChar, General}
 use Rattle.link_model.specs.declared.event.Event.{Event}
 use Rattle.link_model.specs.declared.event.Event.TheVariants.{Ctl, Bad}
-use Rattle.link_model.specs.declared.reading_kinds.Kind.TheVariants.{Byte, Opens, Idle, Stray}
+use Rattle.link_model.specs.declared.reading_kinds.CharKind.TheVariants.{Byte, Opens, Idle, Stray}
 use Rattle.link_model.specs.Events.{packet_event}
 use Rattle.link_model.specs.ReadingKinds.{kind}
 

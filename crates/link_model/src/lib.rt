@@ -6,7 +6,7 @@
 //! Left out: the framer, the states as types, and stores of packets.
 //!
 //! - [`Event`] is what a list of characters says: control symbols, packets, and what is neither.
-//! - [`Kind`], [`char_kind`] and [`Pending`] are the words of the reading of characters.
+//! - [`CharKind`], [`char_kind`] and [`Pending`] are the words of the reading of characters.
 //! - [`one_reading`], [`reading_in_pieces`], [`one_character_tells_at_most_two`],
 //!   [`packet_in_progress_is_bounded`], [`events_go_by_fronts`], [`spelling_is_read`] and
 //!   [`event_laws`] state what holds of every reading; the calls do nothing.
@@ -27,7 +27,7 @@ mod tests;
 mod window;
 
 pub use event::Event;
-pub use reading_kinds::{Kind, Pending, char_kind};
+pub use reading_kinds::{CharKind, Pending, char_kind};
 pub use reading_laws::{
     event_laws, events_go_by_fronts, one_character_tells_at_most_two, one_reading,
     packet_in_progress_is_bounded, reading_in_pieces, spelling_is_read,

@@ -8,7 +8,7 @@ use rio_symbols::Delimiter;
 /// What a character is to a receiver, by the special characters of RapidIO Interconnect
 /// Specification 1.3, Part 6.
 #[derive(Clone, Copy, Debug, PartialEq, Eq)]
-pub enum Kind {
+pub enum CharKind {
     /// A data character and its byte.
     Byte(u8),
     /// A delimiter, which begins a control symbol.
@@ -34,14 +34,14 @@ pub enum Pending {
 
 /// What a character is to a receiver.
 #[tactic(auto, unfolding(crate::specs::ReadingKinds::kind))]
-pub fn char_kind(c: Char) -> Kind
+pub fn char_kind(c: Char) -> CharKind
     ensures { result ≡ kind c }
 {
     match c {
-        Char::Data(byte) => Kind::Byte(byte),
-        Char::Special(0x1c) => Kind::Opens(Delimiter::Sc),
-        Char::Special(0x7c) => Kind::Opens(Delimiter::Pd),
-        Char::Special(0xbc | 0xfd | 0xfb) => Kind::Idle,
-        Char::Special(_) | Char::Invalid => Kind::Stray,
+        Char::Data(byte) => CharKind::Byte(byte),
+        Char::Special(0x1c) => CharKind::Opens(Delimiter::Sc),
+        Char::Special(0x7c) => CharKind::Opens(Delimiter::Pd),
+        Char::Special(0xbc | 0xfd | 0xfb) => CharKind::Idle,
+        Char::Special(_) | Char::Invalid => CharKind::Stray,
     }
 }

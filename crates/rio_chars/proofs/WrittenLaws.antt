@@ -1,5 +1,5 @@
 -- What an outbox is told, call by call.
-use Rattle.std.proofs.Common.{◌≡◌, ◌≢◌, ◌≤◌, ℕ, Option, List, [], ◌++◌, Bool, true, false, refl, sym, ap, ◌∙◌, subst, append-nil, append_assoc, inl, inr, arith}
+use Rattle.std.proofs.Common.{◌≡◌, ◌≢◌, ◌≤◌, ℕ, Option, None, Some, List, [], ◌++◌, Bool, true, false, refl, sym, ap, ◌∙◌, subst, append-nil, append_assoc, inl, inr, arith}
 use Rattle.std.specs.Io.KnownBytes.{Appends, Keeps}
 use Rattle.std.proofs.KnownBytes.{Appends-nil, Appends-trans, Appends-kept, Keeps-refl, Keeps-trans}
 use Rattle.rio_chars.specs.Faults.{Rose, FailedBy}
@@ -49,6 +49,18 @@ Tells-kept out bytes start text told = record {
   told = told.told;
   waits = λ fine. ap (λ l. l ++ bytes) (told.waits fine);
 }
+
+-- of a sink that tells nothing, whatever bytes may have been told
+Tells-unseen : (start : Option (List ℕ)) (failed : Bool) (text bytes : List ℕ)
+    → TextTold start None [] failed text → TextTold start None [] failed (text ++ bytes)
+Tells-unseen None failed text bytes told = record {
+  front = text ++ bytes;
+  rest = [];
+  whole = sym (append-nil (text ++ bytes));
+  told = tt;
+  waits = λ fine. refl;
+}
+Tells-unseen (Some x) failed text bytes told = absurd told.told
 
 -- what waited was written, and more bytes behind it, and nothing waits any more
 Tells-wrote : (a : Option (List ℕ)) (i : ℕ) (waiting : List ℕ) (failed : Bool) (b : Option (List ℕ))
@@ -134,6 +146,23 @@ Writes-nil out = record {
   told =
       λ start text told. subst (TextTold start out.written out.waiting out.failed)
       (sym (append-nil text)) told;
+  cause = λ failed. inl failed;
+  counts = λ fine. refl;
+  never_falls = omega arith;
+  stays = λ failed. (failed, Keeps-refl out.written, refl);
+}
+
+-- where nothing waits and the sink tells nothing, whatever bytes may have been told
+pub Writes-unseen : (out : Outgoing) → out.written ≡ None → out.waiting ≡ [] → (bytes : List ℕ)
+    → Writes out out bytes
+Writes-unseen out none empty bytes = record {
+  same = refl;
+  told = λ start text told.
+      subst (λ w. TextTold start w out.waiting out.failed (text ++ bytes)) (sym none)
+      (subst (λ l. TextTold start None l out.failed (text ++ bytes)) (sym empty)
+      (Tells-unseen start out.failed text bytes
+      (subst (λ l. TextTold start None l out.failed text) empty
+      (subst (λ w. TextTold start w out.waiting out.failed text) none told))));
   cause = λ failed. inl failed;
   counts = λ fine. refl;
   never_falls = omega arith;

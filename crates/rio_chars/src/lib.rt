@@ -8,6 +8,7 @@
 //!
 //! - `Char` and `Chars`: a character after 8b/10b decoding, and a list of them; `char_text`,
 //!   `read_char`.
+//! - `Edit`: a change of characters.
 //! - `read_hex` and `read_hex_byte`: bytes from hexadecimal digits; `write_decimal`: a number's
 //!   digits.
 //! - `Source` and `Sink`: what reads and writes may do; `Failed` and `NoMemory`, why a call gives
@@ -16,12 +17,13 @@
 //!   no write has failed.
 //! - `Outbox`, over a `TextBuffer`: text on its way to a sink in pieces of kilobytes, with no
 //!   branch at each word.
-//! - `MemSource` and `MemSink`: in memory, failing in listed calls; `PlainSource` and `PlainSink`:
-//!   never failing; `StdSource` and `StdSink`: over readers and writers of the standard library.
+//! - `TextSink`: in memory, growing; `MemSource` and `MemSink`: in memory, failing in listed calls;
+//!   `PlainSource` and `PlainSink`: never failing; `StdSource` and `StdSink`: over readers and writers of the standard library.
 #![tactic(auto)]
 
 mod chars;
 mod digits;
+mod edit;
 mod failures;
 mod last_run;
 mod memory;
@@ -40,11 +42,13 @@ mod standard_tests;
 #[cfg(test)]
 mod tests;
 mod text_buffer;
+mod text_sink;
 mod texts;
 mod writing;
 
 pub use chars::{Char, Chars};
 pub use digits::{read_hex, read_hex_byte, write_decimal};
+pub use edit::Edit;
 pub use failures::{Failed, NoMemory};
 pub use memory_sink::MemSink;
 pub use memory_source::MemSource;
@@ -55,5 +59,6 @@ pub use sink::Sink;
 pub use source::Source;
 pub use standard::{StdSink, StdSource};
 pub use text_buffer::TextBuffer;
+pub use text_sink::TextSink;
 pub use texts::{char_text, read_char};
 pub use writing::write_all;

@@ -131,4 +131,8 @@ impl Sink for MemSink {
         self.keep(&piece[..count]);
         Ok(count)
     }
+
+    fn keeps_nothing(&self) -> bool {
+        false
+    }
 }

@@ -1,5 +1,5 @@
 //! Output that waits in a buffer until it is written.
-ghost use Rattle.std.specs.Prelude.{◌≡◌, ◌≤◌, ◌+◌, false, [], length, take};
+ghost use Rattle.std.specs.Prelude.{◌≡◌, ◌≤◌, ◌+◌, ℕ, List, IsTrue, false, [], length, take};
 ghost use Rattle.std.specs.Fmt.{decimal};
 ghost use Rattle.rio_chars.specs.CharText.{spaced_chars};
 ghost use Rattle.rio_chars.specs.HexText.{hex_of};
@@ -74,6 +74,14 @@ impl<'a, K: Sink> Outbox<'a, K> {
         ensures { result ≡ self.now.failed }
     {
         self.failed
+    }
+
+    /// Whether nobody can see what is told: nothing waits, and the sink keeps nothing. Then text
+    /// need not be made.
+    pub fn is_unseen(&self) -> bool
+        ensures { IsTrue result → (bytes : List ℕ) → Writes self.now self.now bytes }
+    {
+        self.sink.keeps_nothing() && self.buffer.as_slice().is_empty()
     }
 
     /// Tells these bytes.

@@ -1,5 +1,5 @@
 //! A source and a sink in memory that never fail.
-ghost use Rattle.std.specs.Prelude.{◌≡◌, ◌≤◌, ◌<◌, ℕ, List, Some, None, Ok, length, min, IfOk, OnOk, OnErr};
+ghost use Rattle.std.specs.Prelude.{◌≡◌, ◌≤◌, ◌<◌, ℕ, List, Option, Some, None, Ok, IsTrue, length, min, IfOk, OnOk, OnErr};
 ghost use Rattle.std.specs.Io.KnownBytes.{ReadConsumes, WriteAppends};
 ghost use Rattle.rio_chars.specs.Faults.{Rose};
 
@@ -81,5 +81,12 @@ impl Sink for PlainSink {
         ensures whole { result ≡ Ok (length piece.now) }
     {
         Ok(piece.len())
+    }
+
+    fn keeps_nothing(&self) -> bool
+        ensures keeps_nothing { IsTrue result → ◌≡◌ {A = Option (List ℕ)} None None }
+        ensures always { IsTrue result }
+    {
+        true
     }
 }

@@ -1,5 +1,5 @@
 //! Where bytes are written to.
-ghost use Rattle.std.specs.Prelude.{◌≡◌, List, ℕ, Option, length, ◌≤◌, ◌<◌, IfOk, OnOk, OnErr};
+ghost use Rattle.std.specs.Prelude.{◌≡◌, List, ℕ, Option, None, length, IsTrue, ◌≤◌, ◌<◌, IfOk, OnOk, OnErr};
 ghost use Rattle.std.specs.Io.KnownBytes.{WriteAppends};
 ghost use Rattle.rio_chars.specs.Faults.{Rose};
 
@@ -23,4 +23,9 @@ pub trait Sink {
         ensures cause { OnErr result (Rose (faults self.old) (faults self.new)) }
         ensures counts { OnOk result (faults self.new ≡ faults self.old) }
         ensures never_falls { faults self.old ≤ faults self.new };
+
+    /// Whether this sink keeps nothing of what is written and tells nothing of it, so that text
+    /// need not be made for it.
+    fn keeps_nothing(&self) -> bool
+        ensures keeps_nothing { IsTrue result → written self.now ≡ None };
 }

@@ -119,6 +119,10 @@ impl<W: Write> Sink for StdSink<W> {
             }
         }
     }
+
+    fn keeps_nothing(&self) -> bool {
+        false
+    }
 }
 
 /// One write, tried again if a signal interrupts it, at most 1,000 times. Any other error is a

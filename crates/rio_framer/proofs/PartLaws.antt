@@ -4,7 +4,7 @@ use Rattle.std.proofs.lemmas.List.{length-map}
 use Rattle.link_model.specs.Prelude.{Char, Data, Delimiter, allowed, Fields, spelled, telling_front, Place, place, step, Text, Plain, Skipped, Within, data_chars}
 use Rattle.link_model.specs.declared.event.Event.{Event}
 use Rattle.link_model.specs.declared.event.Event.TheVariants.{Ctl}
-use Rattle.link_model.specs.declared.reading_kinds.Kind.TheVariants.{Opens}
+use Rattle.link_model.specs.declared.reading_kinds.CharKind.TheVariants.{Opens}
 use Rattle.link_model.specs.declared.reading_kinds.Pending.{Pending}
 use Rattle.link_model.specs.declared.reading_kinds.Pending.TheVariants.{Nothing, Opened, One, Two}
 use Rattle.link_model.specs.Fronts.{Front, front_by}

@@ -5,8 +5,8 @@ use Rattle.link_model.specs.declared.reading_kinds.Pending.{Pending}
 use Rattle.link_model.specs.Events.{packet_event}
 use Rattle.link_model.specs.Places.{Place, ReaderStep, place}
 use Rattle.link_model.specs.Reading.{Text, Plain, Skipped, Within}
-use Rattle.rio_framer.specs.declared.framer.Mode.{Mode}
-use Rattle.rio_framer.specs.declared.framer.Mode.TheVariants.{Outside, Skipping, InPacket}
+use Rattle.rio_framer.specs.declared.framer.FramerMode.{FramerMode}
+use Rattle.rio_framer.specs.declared.framer.FramerMode.TheVariants.{Outside, Skipping, InPacket}
 
 -- where the reader of a link stands, and the event of the packet that the last character ended, if
 -- it ended one
@@ -29,7 +29,7 @@ abbrev pub framing_after : ReaderStep → Framing
 framing_after step = record { place = step.place; ended = ended_of step.gives }
 
 -- the text that is read, where the bytes are those of the packet in progress
-abbrev pub text_of : Mode → List ℕ → Text
+abbrev pub text_of : FramerMode → List ℕ → Text
 text_of Outside bytes = Plain
 text_of Skipping bytes = Skipped
 text_of InPacket bytes = Within bytes
@@ -41,7 +41,7 @@ IsInPacket Skipped = ⊥
 IsInPacket (Within bytes) = Unit {0}
 
 -- by whether the bytes are those of a packet that ended
-abbrev pub framing_of : Mode → List ℕ → Pending → Bool → Framing
+abbrev pub framing_of : FramerMode → List ℕ → Pending → Bool → Framing
 framing_of mode bytes pending true =
     record { place = place (text_of mode []) pending; ended = Some (packet_event bytes) }
 framing_of mode bytes pending false =

@@ -4,7 +4,7 @@ use Rattle.link_model.specs.Prelude.{Char, telling_front, Place, Text, Plain, Sk
 use Rattle.link_model.specs.Fronts.{Front}
 use Rattle.link_model.specs.declared.reading_kinds.Pending.{Pending}
 use Rattle.link_model.specs.declared.reading_kinds.Pending.TheVariants.{Nothing, Opened, One, Two}
-use Rattle.link_model.specs.declared.reading_kinds.Kind.TheVariants.{Opens}
+use Rattle.link_model.specs.declared.reading_kinds.CharKind.TheVariants.{Opens}
 use Rattle.link_model.specs.ReadingKinds.{kind}
 use Rattle.rio_framer.specs.Framing.{Framing, framing_at, framing_after}
 use Rattle.rio_framer.specs.Giving.{told_of_events}

@@ -9,7 +9,7 @@ use std::marker::Model;
 
 /// What is read, apart from a symbol in progress.
 #[derive(Clone, Copy, Debug, PartialEq, Eq)]
-pub(crate) enum Mode {
+pub(crate) enum FramerMode {
     /// Neither a packet nor skipped data.
     Outside,
     /// Data that is skipped, up to an idle or a delimiter.
@@ -46,7 +46,7 @@ pub(crate) enum Mode {
 /// ```
 #[derive(Debug, Drop)]
 pub struct Framer {
-    pub(crate) mode: Mode,
+    pub(crate) mode: FramerMode,
     /// The bytes of the packet in progress, or of the one that the last character ended.
     pub(crate) building: Building,
     /// Whether the last character ended the packet.
@@ -73,7 +73,7 @@ impl Framer {
         ensures { result ≡ framing_at place_start }
     {
         Framer {
-            mode: Mode::Outside,
+            mode: FramerMode::Outside,
             building: Building::new(),
             ended: false,
             pending: Pending::Nothing,
@@ -85,7 +85,7 @@ impl Framer {
         ensures { result ≡ rests self.now.place }
     {
         match (self.mode, self.pending) {
-            (Mode::Outside | Mode::Skipping, Pending::Nothing) => true,
+            (FramerMode::Outside | FramerMode::Skipping, Pending::Nothing) => true,
             _ => false,
         }
     }

@@ -4,8 +4,8 @@ ghost use Rattle.link_model.specs.ReadingSpelt.{data_chars};
 ghost use Rattle.rio_framer.specs.Parts.{StartsWithSymbol, StartsWithData};
 
 use crate::events::{Events, Told};
-use crate::framer::{Framer, Mode};
-use link_model::{Kind, Pending, char_kind};
+use crate::framer::{Framer, FramerMode};
+use link_model::{CharKind, Pending, char_kind};
 use rio_chars::Char;
 use rio_packets::MAX_BYTES;
 use rio_symbols::Delimiter;
@@ -97,7 +97,7 @@ impl Framer {
         ensures takes { 0 < result → TakesBytes self.now.place.text self.now.place.pending result }
     {
         match (self.mode, self.pending) {
-            (Mode::InPacket, Pending::Nothing) if !self.ended => {
+            (FramerMode::InPacket, Pending::Nothing) if !self.ended => {
                 MAX_BYTES - usize::from(self.building.len())
             }
             _ => 0,
@@ -234,7 +234,7 @@ fn whole_symbol(chars: &[Char]) -> Option<(Delimiter, u8, u8, u8)>
 {
     match chars {
         [first, Char::Data(x), Char::Data(y), Char::Data(z), ..] => match char_kind(*first) {
-            Kind::Opens(delimiter) => Some((delimiter, *x, *y, *z)),
+            CharKind::Opens(delimiter) => Some((delimiter, *x, *y, *z)),
             _ => None,
         },
         _ => None,

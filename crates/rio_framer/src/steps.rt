@@ -2,8 +2,8 @@
 ghost use Rattle.std.specs.Prelude.{◌≡◌, ℕ, None, true};
 
 use crate::events::Told;
-use crate::framer::{Framer, Mode};
-use link_model::{Kind, Pending};
+use crate::framer::{Framer, FramerMode};
+use link_model::{CharKind, Pending};
 use rio_packets::Cause;
 use rio_symbols::{Delimiter, Symbol, from_bytes, stype1};
 
@@ -15,7 +15,7 @@ impl Framer {
     ghost use Rattle.rio_framer.specs.Giving.{told_of_events};
 
     /// Takes a character of this kind.
-    pub(crate) fn take(&mut self, kind: Kind) -> Told
+    pub(crate) fn take(&mut self, kind: CharKind) -> Told
         requires { self.old.ended ≡ None }
         ensures state { self.new
             ≡ framing_after (step_by self.old.place.text self.old.place.pending kind) }
@@ -25,32 +25,32 @@ impl Framer {
         match self.pending {
             Pending::Nothing => self.outside(kind),
             Pending::Opened(delimiter) => match kind {
-                Kind::Byte(x) => self.wait(Pending::One(delimiter, x)),
+                CharKind::Byte(x) => self.wait(Pending::One(delimiter, x)),
                 _ => self.broken(kind),
             },
             Pending::One(delimiter, x) => match kind {
-                Kind::Byte(y) => self.wait(Pending::Two(delimiter, x, y)),
+                CharKind::Byte(y) => self.wait(Pending::Two(delimiter, x, y)),
                 _ => self.broken(kind),
             },
             Pending::Two(delimiter, x, y) => match kind {
-                Kind::Byte(z) => self.finish(delimiter, [x, y, z]),
+                CharKind::Byte(z) => self.finish(delimiter, [x, y, z]),
                 _ => self.broken(kind),
             },
         }
     }
 
     /// A character while no symbol is in progress.
-    fn outside(&mut self, kind: Kind) -> Told
+    fn outside(&mut self, kind: CharKind) -> Told
         requires nothing { self.old.place.pending ≡ Pending.Nothing }
         requires ended { self.old.ended ≡ None }
         ensures state { self.new ≡ framing_after (outside_step self.old.place.text kind) }
         ensures told { result ≡ told_of_events (outside_step self.old.place.text kind).gives }
     {
         match kind {
-            Kind::Opens(delimiter) => self.open(delimiter),
-            Kind::Byte(byte) => self.data(byte),
-            Kind::Idle => self.idle(),
-            Kind::Stray => self.stray(),
+            CharKind::Opens(delimiter) => self.open(delimiter),
+            CharKind::Byte(byte) => self.data(byte),
+            CharKind::Idle => self.idle(),
+            CharKind::Stray => self.stray(),
         }
     }
 
@@ -58,11 +58,11 @@ impl Framer {
     pub(crate) fn open(&mut self, delimiter: Delimiter) -> Told
         requires { self.old.ended ≡ None }
         ensures state { self.new
-            ≡ framing_after (outside_step self.old.place.text (Kind.Opens delimiter)) }
+            ≡ framing_after (outside_step self.old.place.text (CharKind.Opens delimiter)) }
         ensures told { result ≡ Told.Nothing }
     {
-        if let Mode::Skipping = self.mode {
-            self.mode = Mode::Outside;
+        if let FramerMode::Skipping = self.mode {
+            self.mode = FramerMode::Outside;
         }
         self.pending = Pending::Opened(delimiter);
         Told::Nothing
@@ -73,14 +73,14 @@ impl Framer {
         requires nothing { self.old.place.pending ≡ Pending.Nothing }
         requires ended { self.old.ended ≡ None }
         ensures state { self.new
-            ≡ framing_after (outside_step self.old.place.text (Kind.Byte byte)) }
+            ≡ framing_after (outside_step self.old.place.text (CharKind.Byte byte)) }
         ensures told { result
-            ≡ told_of_events (outside_step self.old.place.text (Kind.Byte byte)).gives }
+            ≡ told_of_events (outside_step self.old.place.text (CharKind.Byte byte)).gives }
     {
         match self.mode {
-            Mode::Outside => self.skip(Cause::BadChar),
-            Mode::Skipping => Told::Nothing,
-            Mode::InPacket => self.add(byte),
+            FramerMode::Outside => self.skip(Cause::BadChar),
+            FramerMode::Skipping => Told::Nothing,
+            FramerMode::InPacket => self.add(byte),
         }
     }
 
@@ -90,9 +90,9 @@ impl Framer {
         requires ended { self.old.ended ≡ None }
         requires within { IsInPacket self.old.place.text }
         ensures state { self.new
-            ≡ framing_after (outside_step self.old.place.text (Kind.Byte byte)) }
+            ≡ framing_after (outside_step self.old.place.text (CharKind.Byte byte)) }
         ensures told { result
-            ≡ told_of_events (outside_step self.old.place.text (Kind.Byte byte)).gives }
+            ≡ told_of_events (outside_step self.old.place.text (CharKind.Byte byte)).gives }
     {
         if self.building.is_full() {
             return self.skip(Cause::General);
@@ -105,13 +105,14 @@ impl Framer {
     fn idle(&mut self) -> Told
         requires nothing { self.old.place.pending ≡ Pending.Nothing }
         requires ended { self.old.ended ≡ None }
-        ensures state { self.new ≡ framing_after (outside_step self.old.place.text Kind.Idle) }
-        ensures told { result ≡ told_of_events (outside_step self.old.place.text Kind.Idle).gives }
+        ensures state { self.new ≡ framing_after (outside_step self.old.place.text CharKind.Idle) }
+        ensures told { result
+            ≡ told_of_events (outside_step self.old.place.text CharKind.Idle).gives }
     {
         match self.mode {
-            Mode::InPacket => self.restart(Pending::Nothing),
-            Mode::Skipping | Mode::Outside => {
-                self.mode = Mode::Outside;
+            FramerMode::InPacket => self.restart(Pending::Nothing),
+            FramerMode::Skipping | FramerMode::Outside => {
+                self.mode = FramerMode::Outside;
                 Told::Nothing
             }
         }
@@ -121,10 +122,11 @@ impl Framer {
     fn stray(&mut self) -> Told
         requires nothing { self.old.place.pending ≡ Pending.Nothing }
         requires ended { self.old.ended ≡ None }
-        ensures state { self.new ≡ framing_after (outside_step self.old.place.text Kind.Stray) }
-        ensures told { result ≡ told_of_events (outside_step self.old.place.text Kind.Stray).gives }
+        ensures state { self.new ≡ framing_after (outside_step self.old.place.text CharKind.Stray) }
+        ensures told { result
+            ≡ told_of_events (outside_step self.old.place.text CharKind.Stray).gives }
     {
-        if let Mode::Skipping = self.mode {
+        if let FramerMode::Skipping = self.mode {
             return Told::Nothing;
         }
         self.skip(Cause::BadChar)
@@ -141,15 +143,15 @@ impl Framer {
     }
 
     /// A character, no data, while a symbol is in progress.
-    fn broken(&mut self, kind: Kind) -> Told
+    fn broken(&mut self, kind: CharKind) -> Told
         requires { self.old.ended ≡ None }
         ensures state { self.new ≡ framing_after (broken_step kind) }
         ensures told { result ≡ told_of_events (broken_step kind).gives }
     {
         match kind {
-            Kind::Opens(delimiter) => self.restart(Pending::Opened(delimiter)),
-            Kind::Idle => self.restart(Pending::Nothing),
-            Kind::Byte(_) | Kind::Stray => self.skip(Cause::BadChar),
+            CharKind::Opens(delimiter) => self.restart(Pending::Opened(delimiter)),
+            CharKind::Idle => self.restart(Pending::Nothing),
+            CharKind::Byte(_) | CharKind::Stray => self.skip(Cause::BadChar),
         }
     }
 
@@ -159,7 +161,7 @@ impl Framer {
         ensures state { self.new ≡ framing_at (place_of Plain pending) }
         ensures told { result ≡ Told.Bad Cause.BadChar }
     {
-        self.mode = Mode::Outside;
+        self.mode = FramerMode::Outside;
         self.pending = pending;
         Told::Bad(Cause::BadChar)
     }
@@ -170,7 +172,7 @@ impl Framer {
         ensures state { self.new ≡ framing_at (place_of Skipped Pending.Nothing) }
         ensures told { result ≡ Told.Bad cause }
     {
-        self.mode = Mode::Skipping;
+        self.mode = FramerMode::Skipping;
         self.pending = Pending::Nothing;
         Told::Bad(cause)
     }
@@ -198,22 +200,22 @@ impl Framer {
     {
         self.pending = Pending::Nothing;
         match (self.mode, symbol.s1) {
-            (Mode::InPacket, stype1::START_OF_PACKET) => {
+            (FramerMode::InPacket, stype1::START_OF_PACKET) => {
                 self.ended = true;
                 Told::Ends(symbol)
             }
-            (Mode::InPacket, stype1::END_OF_PACKET) => {
+            (FramerMode::InPacket, stype1::END_OF_PACKET) => {
                 self.ended = true;
-                self.mode = Mode::Outside;
+                self.mode = FramerMode::Outside;
                 Told::Ends(symbol)
             }
             (_, stype1::START_OF_PACKET) => {
                 self.building.clear();
-                self.mode = Mode::InPacket;
+                self.mode = FramerMode::InPacket;
                 Told::Ctl(symbol)
             }
             (_, stype1::STOMP..=stype1::LINK_REQUEST) => {
-                self.mode = Mode::Outside;
+                self.mode = FramerMode::Outside;
                 Told::Ctl(symbol)
             }
             _ => Told::Ctl(symbol),

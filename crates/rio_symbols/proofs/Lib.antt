@@ -2,3 +2,4 @@ pub mod BitLaws
 pub mod CrcLaws
 pub mod SpellingLaws
 pub mod ChangeLaws
+pub mod StepLaws

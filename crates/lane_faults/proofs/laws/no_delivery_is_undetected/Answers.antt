@@ -1,5 +1,4 @@
-use Rattle.std.proofs.Common.{[], refl}
-use Rattle.link_model.specs.Said.{said}
+use Rattle.lane_faults.proofs.Prelude.{[], refl, said}
 use Rattle.link_wires.proofs.Exact.{delivered_exact}
 use Rattle.lane_faults.proofs.DeliveryLaws.{acted_within}
 use Rattle.lane_faults.proofs.MistakeLaws.{no_event_made}

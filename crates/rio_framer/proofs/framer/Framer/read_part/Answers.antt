@@ -1,5 +1,5 @@
 use Rattle.std.proofs.Common.{ap, ◌∙◌, drop-cons}
-use Rattle.link_model.specs.declared.reading_kinds.Kind.{Kind}
+use Rattle.link_model.specs.declared.reading_kinds.CharKind.{CharKind}
 use Rattle.link_model.specs.Places.{step_by}
 use Rattle.rio_framer.specs.Framing.{framing_after}
 use Rattle.rio_framer.specs.Giving.{told_of_events}
@@ -18,7 +18,7 @@ returns c =
     let from = c.args.self.now.place in
     part-one from _ _ c.args.chars.now _ _ (drop-cons c.args.chars.now 0 _ c.requires.some)
     (c.take-told.ensures.told
-    ∙ ap (λ (k : Kind). told_of_events (step_by from.text from.pending k).gives)
+    ∙ ap (λ (k : CharKind). told_of_events (step_by from.text from.pending k).gives)
     c.char_kind.ensures)
     (c.take-told.ensures.state
-    ∙ ap (λ (k : Kind). framing_after (step_by from.text from.pending k)) c.char_kind.ensures)
+    ∙ ap (λ (k : CharKind). framing_after (step_by from.text from.pending k)) c.char_kind.ensures)
