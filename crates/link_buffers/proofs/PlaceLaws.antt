@@ -1,5 +1,5 @@
--- Packets that are stowed in places: what it leaves of the other places, and how often each place is
--- counted.
+-- Packets that are stowed in places: what it leaves of the other places, and how often each place
+-- is counted.
 use Rattle.std.proofs.Common.{◌≡◌, ◌≢◌, ℕ, ◌+◌, ◌-◌, ◌<◌, ◌≤◌, All, cond, ◌==◌, List, [], ◌∷◌, ◌++◌, length, map, drop, set, slice_get, Some, zero, suc, None, subst, sym, ◌∙◌, ap, inl, inr, refl, arith, length-append, length-set, get_or-set_same, get_or-set_other}
 use Rattle.std.proofs.Math.ListN.{get_or-append, get_or-eq_default}
 use Rattle.std.proofs.Math.Seq.{get_or-append_seam}

@@ -6,8 +6,8 @@ use Rattle.link_model.specs.ReadingKinds.{kind}
 use Rattle.link_model.specs.Places.{outside, finished, step_by}
 use Rattle.rio_symbols.specs.declared.characters.Delimiter.{Delimiter}
 use Rattle.rio_symbols.specs.Spelling.{spelled}
-use Rattle.link_model.specs.declared.reading_kinds.Kind.{Kind}
-use Rattle.link_model.specs.declared.reading_kinds.Kind.TheVariants.{Byte}
+use Rattle.link_model.specs.declared.reading_kinds.CharKind.{CharKind}
+use Rattle.link_model.specs.declared.reading_kinds.CharKind.TheVariants.{Byte}
 use Rattle.link_model.specs.declared.reading_kinds.Pending.{Pending}
 use Rattle.link_model.specs.declared.reading_kinds.Pending.TheVariants as Pend
 use Rattle.link_entries.specs.declared.reading.TextKind.TheVariants as text
@@ -21,11 +21,11 @@ within_bytes Text.Skipped is = absurd cc
 within_bytes (Text.Within bytes) is = (bytes, refl)
 
 -- a character while no symbol is in progress
-pub step-outside : (from : Place) (c : Char) (k : Kind) → Pend.Nothing ≡ from.pending
+pub step-outside : (from : Place) (c : Char) (k : CharKind) → Pend.Nothing ≡ from.pending
     → k ≡ kind c → step from c ≡ outside from.text k
 step-outside from c k none is =
     ap (λ (p : Pending). step_by from.text p (kind c)) (sym none)
-    ∙ ap (λ (one : Kind). outside from.text one) (sym is)
+    ∙ ap (λ (one : CharKind). outside from.text one) (sym is)
 
 -- the third byte of a symbol
 pub step-finished : (from : Place) (c : Char) (d : Delimiter) (x y z : ℕ)
@@ -33,4 +33,4 @@ pub step-finished : (from : Place) (c : Char) (d : Delimiter) (x y z : ℕ)
     → step from c ≡ finished from.text d (spelled x y z)
 step-finished from c d x y z two is =
     ap (λ (p : Pending). step_by from.text p (kind c)) (sym two)
-    ∙ ap (λ (one : Kind). step_by from.text (Pend.Two d x y) one) (sym is)
+    ∙ ap (λ (one : CharKind). step_by from.text (Pend.Two d x y) one) (sym is)

@@ -10,8 +10,8 @@ use Rattle.link_model.specs.Reading.{Text}
 use Rattle.link_model.specs.ReadingKinds.{kind}
 use Rattle.link_model.specs.declared.event.Event.{Event}
 use Rattle.link_model.specs.declared.event.Event.TheVariants.{Ctl, Bad}
-use Rattle.link_model.specs.declared.reading_kinds.Kind.{Kind}
-use Rattle.link_model.specs.declared.reading_kinds.Kind.TheVariants.{Byte, Opens, Idle, Stray}
+use Rattle.link_model.specs.declared.reading_kinds.CharKind.{CharKind}
+use Rattle.link_model.specs.declared.reading_kinds.CharKind.TheVariants.{Byte, Opens, Idle, Stray}
 use Rattle.link_model.specs.declared.reading_kinds.Pending.{Pending}
 use Rattle.link_model.specs.declared.reading_kinds.Pending.TheVariants as Pend
 use Rattle.link_entries.specs.declared.entry.ReadEntry.{ReadEntry}
@@ -23,7 +23,7 @@ byte_entry [] = None
 byte_entry (e ∷ es) = Some entry.TooLong
 
 -- a character while no symbol is in progress
-abbrev pub outside_entry : Text → Kind → List Event → Option ReadEntry
+abbrev pub outside_entry : Text → CharKind → List Event → Option ReadEntry
 outside_entry Text.Plain (Opens d) gives = None
 outside_entry Text.Skipped (Opens d) gives = Some entry.SkippingEnds
 outside_entry (Text.Within bytes) (Opens d) gives = None
@@ -38,7 +38,7 @@ outside_entry Text.Skipped Stray gives = Some entry.Skipped
 outside_entry (Text.Within bytes) Stray gives = Some entry.StrayInPacket
 
 -- a character, no data, while a symbol is in progress
-abbrev pub broken_entry : Kind → Option ReadEntry
+abbrev pub broken_entry : CharKind → Option ReadEntry
 broken_entry (Opens d) = Some entry.DelimiterInSymbol
 broken_entry Idle = Some entry.IdleInSymbol
 broken_entry Stray = Some entry.StrayInSymbol
@@ -77,7 +77,7 @@ finished_entry text (Bad cause ∷ e ∷ es) = no_packet_entry cause
 finished_entry text _ = None
 
 -- a character of this kind
-abbrev pub entry_by : Text → Pending → Kind → List Event → Option ReadEntry
+abbrev pub entry_by : Text → Pending → CharKind → List Event → Option ReadEntry
 entry_by text Pend.Nothing k gives = outside_entry text k gives
 entry_by text (Pend.Opened d) k gives = broken_entry k
 entry_by text (Pend.One d x) k gives = broken_entry k

@@ -3,7 +3,7 @@ ghost use Rattle.std.specs.Prelude.{◌≡◌, ℕ, List, Option};
 ghost use Rattle.rio_symbols.specs.declared.characters.Delimiter.{Delimiter};
 ghost use Rattle.link_model.specs.Prelude.{Fields, Text, Place, place_start, step};
 ghost use Rattle.link_model.specs.Places.{outside, broken, finished};
-ghost use Rattle.link_model.specs.declared.reading_kinds.Kind.TheVariants.{Byte};
+ghost use Rattle.link_model.specs.declared.reading_kinds.CharKind.TheVariants.{Byte};
 ghost use Rattle.link_model.specs.declared.reading_kinds.Pending.TheVariants.{Nothing};
 ghost use Rattle.link_model.specs.Reading.{text_after};
 ghost use Rattle.link_port.specs.Runs.{completed_events};
@@ -11,7 +11,7 @@ ghost use Rattle.link_entries.specs.ReadingEntries.{read_entry, ended_point_of, 
 ghost use Rattle.link_entries.specs.Readers.{text_kind, IsAt};
 
 use crate::entry::ReadEntry;
-use link_model::{Kind, Pending, char_kind};
+use link_model::{CharKind, Pending, char_kind};
 use link_port::Completed;
 use rio_chars::Char;
 use rio_packets::Cause;
@@ -55,7 +55,7 @@ impl Reader {
     {
         match (self.pending, char_kind(c)) {
             (Pending::Nothing, kind) => outside_entry(self.text, kind, completed),
-            (Pending::Two(..), Kind::Byte(_)) => finished_entry(self.text, completed),
+            (Pending::Two(..), CharKind::Byte(_)) => finished_entry(self.text, completed),
             (_, kind) => broken_entry(kind),
         }
     }
@@ -69,9 +69,9 @@ impl Reader {
         let text = self.text;
         match (self.pending, char_kind(c)) {
             (Pending::Nothing, kind) => after_outside(text, kind, completed),
-            (Pending::Opened(d), Kind::Byte(x)) => within_symbol(text, Pending::One(d, x)),
-            (Pending::One(d, x), Kind::Byte(y)) => within_symbol(text, Pending::Two(d, x, y)),
-            (Pending::Two(..), Kind::Byte(_)) => after_finished(text, completed),
+            (Pending::Opened(d), CharKind::Byte(x)) => within_symbol(text, Pending::One(d, x)),
+            (Pending::One(d, x), CharKind::Byte(y)) => within_symbol(text, Pending::Two(d, x, y)),
+            (Pending::Two(..), CharKind::Byte(_)) => after_finished(text, completed),
             (_, kind) => after_broken(kind),
         }
     }
@@ -92,20 +92,20 @@ fn within_symbol(text: TextKind, pending: Pending) -> Reader
 }
 
 /// The entry of a character while no symbol is in progress.
-fn outside_entry(text: TextKind, kind: Kind, completed: &Completed) -> Option<ReadEntry>
+fn outside_entry(text: TextKind, kind: CharKind, completed: &Completed) -> Option<ReadEntry>
     ensures { (of : Text) (packet : List ℕ) → text ≡ text_kind of
         → result ≡ outside_entry of kind (completed_events completed.now packet) }
 {
     match (text, kind) {
-        (TextKind::Plain | TextKind::Within, Kind::Opens(_)) => None,
-        (TextKind::Plain, Kind::Idle) => Some(ReadEntry::IdleOutside),
-        (TextKind::Plain, Kind::Byte(_)) => Some(ReadEntry::DataOutside),
-        (TextKind::Plain, Kind::Stray) => Some(ReadEntry::StrayOutside),
-        (TextKind::Skipped, Kind::Opens(_) | Kind::Idle) => Some(ReadEntry::SkippingEnds),
-        (TextKind::Skipped, Kind::Byte(_) | Kind::Stray) => Some(ReadEntry::Skipped),
-        (TextKind::Within, Kind::Idle) => Some(ReadEntry::IdleInPacket),
-        (TextKind::Within, Kind::Byte(_)) => byte_entry(completed),
-        (TextKind::Within, Kind::Stray) => Some(ReadEntry::StrayInPacket),
+        (TextKind::Plain | TextKind::Within, CharKind::Opens(_)) => None,
+        (TextKind::Plain, CharKind::Idle) => Some(ReadEntry::IdleOutside),
+        (TextKind::Plain, CharKind::Byte(_)) => Some(ReadEntry::DataOutside),
+        (TextKind::Plain, CharKind::Stray) => Some(ReadEntry::StrayOutside),
+        (TextKind::Skipped, CharKind::Opens(_) | CharKind::Idle) => Some(ReadEntry::SkippingEnds),
+        (TextKind::Skipped, CharKind::Byte(_) | CharKind::Stray) => Some(ReadEntry::Skipped),
+        (TextKind::Within, CharKind::Idle) => Some(ReadEntry::IdleInPacket),
+        (TextKind::Within, CharKind::Byte(_)) => byte_entry(completed),
+        (TextKind::Within, CharKind::Stray) => Some(ReadEntry::StrayInPacket),
     }
 }
 
@@ -120,14 +120,14 @@ fn byte_entry(completed: &Completed) -> Option<ReadEntry>
 }
 
 /// The entry of a character, no data, while a symbol is in progress.
-fn broken_entry(kind: Kind) -> Option<ReadEntry>
+fn broken_entry(kind: CharKind) -> Option<ReadEntry>
     ensures { result ≡ broken_entry kind }
 {
     match kind {
-        Kind::Opens(_) => Some(ReadEntry::DelimiterInSymbol),
-        Kind::Idle => Some(ReadEntry::IdleInSymbol),
-        Kind::Stray => Some(ReadEntry::StrayInSymbol),
-        Kind::Byte(_) => None,
+        CharKind::Opens(_) => Some(ReadEntry::DelimiterInSymbol),
+        CharKind::Idle => Some(ReadEntry::IdleInSymbol),
+        CharKind::Stray => Some(ReadEntry::StrayInSymbol),
+        CharKind::Byte(_) => None,
     }
 }
 
@@ -180,19 +180,19 @@ fn no_packet_entry(cause: Cause) -> Option<ReadEntry>
 }
 
 /// Where a reader stands after a character, if no symbol was in progress.
-fn after_outside(text: TextKind, kind: Kind, completed: &Completed) -> Reader
+fn after_outside(text: TextKind, kind: CharKind, completed: &Completed) -> Reader
     ensures { (of : Text) (packet : List ℕ) → text ≡ text_kind of
         → completed_events completed.now packet ≡ (outside of kind).gives
         → IsAt result (outside of kind).place }
 {
     match (text, kind) {
-        (TextKind::Plain | TextKind::Skipped, Kind::Opens(d)) => {
+        (TextKind::Plain | TextKind::Skipped, CharKind::Opens(d)) => {
             within_symbol(TextKind::Plain, Pending::Opened(d))
         }
-        (TextKind::Within, Kind::Opens(d)) => within_symbol(text, Pending::Opened(d)),
-        (_, Kind::Idle) => at(TextKind::Plain),
-        (TextKind::Within, Kind::Byte(_)) => after_byte(completed),
-        (_, Kind::Byte(_) | Kind::Stray) => at(TextKind::Skipped),
+        (TextKind::Within, CharKind::Opens(d)) => within_symbol(text, Pending::Opened(d)),
+        (_, CharKind::Idle) => at(TextKind::Plain),
+        (TextKind::Within, CharKind::Byte(_)) => after_byte(completed),
+        (_, CharKind::Byte(_) | CharKind::Stray) => at(TextKind::Skipped),
     }
 }
 
@@ -209,13 +209,13 @@ fn after_byte(completed: &Completed) -> Reader
 }
 
 /// Where a reader stands after a character, no data, that breaks a symbol off.
-fn after_broken(kind: Kind) -> Reader
+fn after_broken(kind: CharKind) -> Reader
     ensures { IsAt result (broken kind).place }
 {
     match kind {
-        Kind::Opens(d) => within_symbol(TextKind::Plain, Pending::Opened(d)),
-        Kind::Idle => at(TextKind::Plain),
-        Kind::Stray | Kind::Byte(_) => at(TextKind::Skipped),
+        CharKind::Opens(d) => within_symbol(TextKind::Plain, Pending::Opened(d)),
+        CharKind::Idle => at(TextKind::Plain),
+        CharKind::Stray | CharKind::Byte(_) => at(TextKind::Skipped),
     }
 }
 

@@ -1,22 +1,8 @@
 -- A delivery as a part of the schedule.
-use Rattle.std.proofs.Common.{◌≡◌, ℕ, Bool, true, false, not, MatchBool, List, [], ◌∷◌, length, Ok, Err, refl, sym, ap, ◌∙◌, subst, if◌then◌else◌, append-nil, arith}
-use Rattle.std.proofs.lemmas.Bool.{le-leb}
-use Rattle.rio_chars.specs.declared.chars.Char.{Char}
-use Rattle.link_watch.specs.Stops.{IsWatch}
-use Rattle.link_port.specs.Prelude.{Event, PortState}
-use Rattle.link_machine.specs.Prelude.{other_side, Stopped, Note, Side, A, B, has_none, has_chars, delivery_from, delivered_from, delivery_notes, Wires, LinkState, link, from_end}
-use Rattle.link_wires.specs.Deliveries.{Delivered, Through, WentUndetected}
-use Rattle.link_wires.specs.declared.edits.Edited.{Edited}
+use Rattle.link_law.proofs.Prelude.{◌≡◌, ℕ, Bool, true, false, not, MatchBool, List, [], ◌∷◌, length, Ok, Err, refl, sym, ap, ◌∙◌, subst, if◌then◌else◌, append-nil, arith, le-leb, Char, IsWatch, Event, PortState, other_side, Stopped, Note, Side, A, B, has_none, has_chars, delivery_from, delivered_from, delivery_notes, Wires, LinkState, link, from_end, Delivered, Through, WentUndetected, Edited, delivery_taken, delivery_answer, UnlessGivenUp, OnGivenUp, LinkEnd, Undetected, Failed, NoMemory, Act, Deliver, Reached, At, FoundAt, reached_by, after_act, act_notes, acts_notes, Is, SchedulePart, Empties, first_has_chars, of_end, all_chars, Comes, Stops, Ends}
 use Rattle.link_wires.specs.declared.edits.Edited.TheVariants.{Short}
-use Rattle.link_law.specs.Answers.{delivery_taken, delivery_answer, UnlessGivenUp, OnGivenUp}
 use Rattle.link_machine.specs.States.{wire_at}
-use Rattle.link_law.specs.declared.answers.LinkEnd.{LinkEnd}
-use Rattle.link_law.specs.declared.answers.LinkEnd.TheVariants.{Undetected, Failed, NoMemory}
-use Rattle.link_machine.specs.Acts.{Act, Deliver, Reached, At, FoundAt, reached_by, after_act, act_notes, acts_notes}
-use Rattle.link_machine.specs.Schedules.{Is}
-use Rattle.link_machine.specs.Settling.{SchedulePart, Empties, first_has_chars, of_end, all_chars}
 use Rattle.link_machine.proofs.Settling.Lines.{goes_one}
-use Rattle.link_law.specs.Does.{Comes, Stops, Ends}
 use Rattle.link_law.proofs.DoesLaws.{comes_where, ends_where, comes_none, stops_at_once}
 
 one_note : (s : LinkState) (act : Act) → acts_notes (At s) (act ∷ []) ≡ act_notes act s
@@ -103,9 +89,7 @@ delivery_ends grew cut from count before old new (Undetected side e) all answer 
     else At before) has
     ∙ found_is (other_side from) side (delivered_from from count before) d e is)
     noted
-delivery_ends grew cut from count before old new Failed all answer noted stopped =
-    one_stops (Deliver from count) before old new stopped
-delivery_ends grew cut from count before old new NoMemory all answer noted stopped =
+delivery_ends grew cut from count before old new _ all answer noted stopped =
     one_stops (Deliver from count) before old new stopped
 
 -- ---- as a part of a round

@@ -1,11 +1,6 @@
 -- What the code of a delivery has done is what the delivery does.
-use Rattle.std.proofs.Common.{◌≡◌, ℕ, true, List, [], ◌∷◌, ◌++◌, map, take, Option, Some, None, OnOk, refl, sym, ap, ◌∙◌, if◌then◌else◌}
-use Rattle.rio_chars.specs.declared.chars.Char.{Char}
-use Rattle.link_model.specs.declared.event.Event.{Event}
-use Rattle.link_machine.specs.Prelude.{Move, Got, other_side, Side, first_takes, has_chars, delivery_from, delivered_from, delivery_notes, told_notes, move_note, sent_notes, LinkState, at_end, from_end}
-use Rattle.link_wires.specs.Deliveries.{told_of}
+use Rattle.link_law.proofs.Prelude.{◌≡◌, ℕ, true, List, [], ◌∷◌, ◌++◌, map, take, Option, Some, None, OnOk, refl, sym, ap, ◌∙◌, if◌then◌else◌, Char, Event, Move, Got, other_side, Side, first_takes, has_chars, delivery_from, delivered_from, delivery_notes, told_notes, move_note, sent_notes, LinkState, at_end, from_end, told_of, delivery_end}
 use Rattle.link_law.specs.Carried.{AreOfDelivery}
-use Rattle.link_law.specs.Answers.{delivery_end}
 
 pub link_is : (from : Side) (count : ℕ) (s : LinkState) → has_chars from count s ≡ true
     → at_end (other_side from) (first_takes count) s ≡ delivered_from from count s

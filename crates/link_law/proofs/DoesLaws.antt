@@ -1,16 +1,5 @@
 -- Parts of the schedule that calls do, one after another.
-use Rattle.std.proofs.Common.{◌≡◌, Bool, true, false, MatchBool, List, [], ◌∷◌, ◌++◌, refl, sym, ap, ◌∙◌, subst, append_assoc, append-nil, Result, Ok, Err}
-use Rattle.link_model.specs.declared.event.Event.{Event}
-use Rattle.link_watch.specs.Stops.{IsWatch}
-use Rattle.link_watch.proofs.StopLaws.{stopped_at_once, stopped_then, stopped_before}
-use Rattle.link_machine.specs.Prelude.{Note, Side, A, B, LinkState, Stopped}
-use Rattle.link_law.specs.declared.answers.LinkEnd.{LinkEnd}
-use Rattle.link_law.specs.declared.answers.LinkEnd.TheVariants.{Undetected, Failed, NoMemory}
-use Rattle.link_machine.specs.Schedules.{NextOf, WhereOf}
-use Rattle.link_machine.specs.Acts.{Act, Reached, At, FoundAt, after_act, act_notes, goes, acts_notes}
-use Rattle.link_machine.specs.Settling.{SchedulePart, Empties, of_end, first_has_chars, all_chars}
-use Rattle.link_machine.proofs.Settling.Drains.{goes-append, goes_none}
-use Rattle.link_law.specs.Does.{Comes, Stops, Ends, CallDid}
+use Rattle.link_law.proofs.Prelude.{◌≡◌, Bool, true, false, MatchBool, List, [], ◌∷◌, ◌++◌, refl, sym, ap, ◌∙◌, subst, append_assoc, append-nil, Result, Ok, Err, Event, IsWatch, stopped_at_once, stopped_then, stopped_before, Note, Side, A, B, LinkState, Stopped, LinkEnd, Undetected, NextOf, WhereOf, Act, Reached, At, FoundAt, after_act, act_notes, goes, acts_notes, SchedulePart, Empties, of_end, first_has_chars, all_chars, goes-append, goes_none, Comes, Stops, Ends, CallDid}
 
 notes_found : (side : Side) (e : Event) (ys : List Act) → acts_notes (FoundAt side e) ys ≡ []
 unfolding acts_notes
@@ -82,9 +71,7 @@ pub ends_next : {W : Type 0} (grew : W → List Note → W → Type 0) (cut : W 
     → Ends grew cut (NextOf goes P Q) before old end new
 ends_next grew cut watch P Q before mid old w new (Undetected side e) first does =
     comes_next watch P Q before mid old w new (FoundAt side e) first does
-ends_next grew cut watch P Q before mid old w new Failed first does =
-    stops_next watch P Q before mid old w new first does
-ends_next grew cut watch P Q before mid old w new NoMemory first does =
+ends_next grew cut watch P Q before mid old w new _ first does =
     stops_next watch P Q before mid old w new first does
 
 -- ---- the first part ended the call
@@ -142,9 +129,7 @@ pub ends_early : {W : Type 0} (grew : W → List Note → W → Type 0) (cut : W
     → Ends grew cut P before old end new → Ends grew cut (NextOf goes P Q) before old end new
 ends_early grew cut watch P Q before old new (Undetected side e) follows first =
     comes_early P Q before old new side e follows first
-ends_early grew cut watch P Q before old new Failed follows first =
-    stops_early watch P Q before old new follows first
-ends_early grew cut watch P Q before old new NoMemory follows first =
+ends_early grew cut watch P Q before old new _ follows first =
     stops_early watch P Q before old new follows first
 
 -- ---- a part where a test holds
@@ -176,8 +161,7 @@ pub ends_where : {W : Type 0} (grew : W → List Note → W → Type 0) (cut : W
     → Ends grew cut P before old end new → Ends grew cut (WhereOf test P) before old end new
 ends_where grew cut test P before old new (Undetected side e) is h =
     comes_where test P before old new (FoundAt side e) is h
-ends_where grew cut test P before old new Failed is h = stops_where test P before old new is h
-ends_where grew cut test P before old new NoMemory is h = stops_where test P before old new is h
+ends_where grew cut test P before old new _ is h = stops_where test P before old new is h
 
 -- where it does not, nothing is done
 pub comes_none : {W : Type 0} (grew : W → List Note → W → Type 0) (cut : W → Note → W → Type 0)
@@ -243,8 +227,7 @@ pub stops_at_once : {W : Type 0} (grew : W → List Note → W → Type 0) (cut 
 stops_at_once grew cut watch P before old acts part = record {
   acts = acts;
   part = part;
-  stopped =
-      stopped_at_once watch old (acts_notes (At before) acts);
+  stopped = stopped_at_once watch old (acts_notes (At before) acts);
 }
 
 -- ---- deliveries of what stands on a wire

@@ -1,19 +1,7 @@
 -- Loops of the schedule, and a drain.
-use Rattle.std.proofs.Common.{◌≡◌, ℕ, suc, ◌+◌, ◌-◌, ◌<◌, ◌≤◌, true, false, List, [], ◌++◌, refl, sym, ap, ◌∙◌, subst, append_assoc, arith}
-use Rattle.link_model.specs.declared.event.Event.{Event}
-use Rattle.link_machine.specs.Prelude.{Note, Side, A, B, NoteEnd, LinkState, pumped, pump_notes, told_from, tell_notes, timed_out_at, time_out_notes, IsSoundLink, Stopped}
-use Rattle.link_watch.specs.Stops.{IsWatch}
+use Rattle.link_law.proofs.Prelude.{◌≡◌, ℕ, suc, ◌+◌, ◌-◌, ◌<◌, ◌≤◌, true, false, List, [], ◌++◌, refl, sym, ap, ◌∙◌, subst, append_assoc, arith, Event, Note, Side, A, B, NoteEnd, LinkState, pumped, pump_notes, told_from, tell_notes, timed_out_at, time_out_notes, IsSoundLink, Stopped, IsWatch, LinkEnd, Undetected, Failed, NoMemory, NextOf, LoopRests, LoopGoesOn, Act, Pump, Tell, Fire, Reached, At, FoundAt, goes, acts_notes, OnState, SchedulePart, Empties, Drains, TakesTurn, TimesOut, Requests, may_fire, of_end, is_busy, goes-append, goes_none, rounds, round_goes, rested_is_idle, three_rounds, acts_keep, found_none, turn_can, requests_can, Comes, Stops, Ends, TellsOnce, Pumps, end_of}
 use Rattle.link_watch.specs.declared.watch.NoteEnd.TheVariants as Stop
-use Rattle.link_law.specs.declared.answers.LinkEnd.{LinkEnd}
-use Rattle.link_law.specs.declared.answers.LinkEnd.TheVariants.{Undetected, Failed, NoMemory}
-use Rattle.link_machine.specs.Schedules.{NextOf}
-use Rattle.link_machine.specs.Schedules.LoopOf.{LoopRests, LoopGoesOn}
-use Rattle.link_machine.specs.Acts.{Act, Pump, Tell, Fire, Reached, At, FoundAt, goes, acts_notes, OnState}
-use Rattle.link_machine.specs.Settling.{SchedulePart, Empties, Drains, TakesTurn, TimesOut, Requests, may_fire, of_end, is_busy}
-use Rattle.link_machine.proofs.Settling.Drains.{goes-append, goes_none, rounds, round_goes, rested_is_idle, three_rounds}
 use Rattle.link_machine.proofs.Settling.DrainCounts.{drain_exists}
-use Rattle.link_machine.proofs.Settling.Ends.{acts_keep, found_none, turn_can, requests_can}
-use Rattle.link_law.specs.Does.{Comes, Stops, Ends, TellsOnce, Pumps, end_of}
 use Rattle.link_law.proofs.DoesLaws.{Follows, comes_where, stops_where, notes-append, comes_next, ends_next, ends_early}
 use Rattle.link_law.proofs.DeliverLaws.{Only, one_comes, one_stops}
 
@@ -46,8 +34,7 @@ pub ends_map : {W : Type 0} (grew : W → List Note → W → Type 0) (cut : W �
     → Ends grew cut P before old end new → Ends grew cut Q before old end new
 ends_map grew cut P Q before old new (Undetected side e) so h =
     comes_map P Q before old new (FoundAt side e) so h
-ends_map grew cut P Q before old new Failed so h = stops_map P Q before old new so h
-ends_map grew cut P Q before old new NoMemory so h = stops_map P Q before old new so h
+ends_map grew cut P Q before old new _ so h = stops_map P Q before old new so h
 
 -- ---- a loop, of which some rounds are done
 

@@ -1,10 +1,7 @@
 -- A link of which a port has nothing to send is left by its turns as it is.
-use Rattle.std.proofs.Common.{◌≡◌, ℕ, [], ap}
-use Rattle.link_port.specs.Prelude.{PortState, turn_sends}
-use Rattle.link_wires.specs.Wires.{bursts}
+use Rattle.link_law.proofs.Prelude.{◌≡◌, ℕ, [], ap, PortState, turn_sends, bursts, Side, A, B, LinkState, from_end, turned_round, pumped}
 use Rattle.link_wires.proofs.PumpLaws.{sent_nothing}
 use Rattle.link_wires.proofs.QuietTurns.{quiet_turn, turned_quiet, bursts_quiet}
-use Rattle.link_machine.specs.Prelude.{Side, A, B, LinkState, from_end, turned_round, pumped}
 
 idle_first : (n : ℕ) (s : LinkState) → (turn_sends s.a).sent ≡ [] → pumped A n s ≡ s
 idle_first n s none =

@@ -1,3 +1,4 @@
+mod Prelude
 pub mod Noting
 pub mod Delivering
 pub mod DoesLaws

@@ -1,12 +1,7 @@
 -- What a call noted, by what a call in it answered.
-use Rattle.std.proofs.Common.{◌≡◌, ◌<◌, List, [], ◌∷◌, length, Result, Ok, Err, OnOk, OnErr, IsErrAnd, refl, sym, ap, subst, arith}
-use Rattle.rio_chars.specs.declared.chars.Char.{Char}
+use Rattle.link_law.proofs.Prelude.{◌≡◌, ◌<◌, List, [], ◌∷◌, length, Result, Ok, Err, OnOk, OnErr, IsErrAnd, refl, sym, ap, subst, arith, Char, UnlessGivenUp, OnGivenUp, end_of, LinkEnd, Failed, NoMemory}
 use Rattle.link_machine.specs.Prelude.{Sent, Side, NoteEnd, sent_notes}
 use Rattle.link_watch.specs.declared.watch.NoteEnd.TheVariants as Stop
-use Rattle.link_law.specs.Answers.{UnlessGivenUp, OnGivenUp}
-use Rattle.link_law.specs.Does.{end_of}
-use Rattle.link_law.specs.declared.answers.LinkEnd.{LinkEnd}
-use Rattle.link_law.specs.declared.answers.LinkEnd.TheVariants.{Undetected, Failed, NoMemory}
 
 pub sent_one : (side : Side) (chars : List Char) → 0 < length chars
     → sent_notes side chars ≡ Sent side chars ∷ []
@@ -32,10 +27,9 @@ err_then (Ok x) so p = tt
 err_then (Err e) so p = so p
 
 pub on_given_up : {T P : Type 0} (r : Result T LinkEnd) → P → OnGivenUp r P
-on_given_up (Ok x) p = tt
-on_given_up (Err (Undetected side e)) p = tt
 on_given_up (Err Failed) p = p
 on_given_up (Err NoMemory) p = p
+on_given_up _ p = tt
 
 -- ---- an end that is handed on
 

@@ -1,21 +1,9 @@
 -- A link that has nothing to do is left as it is: its ports send nothing, and it settles by
 -- nothing.
-use Rattle.std.proofs.Common.{◌≡◌, ◌&&◌, ◌||◌, ◌∙◌, ℕ, nat_lt, length, Bool, true, false, not, if◌then◌else◌, MatchBool, List, [], Option, Some, None, refl, sym, ap, subst}
-use Rattle.std.proofs.lemmas.Bool.{and_parts, not-true}
-use Rattle.link_buffers.specs.Priorities.{highest}
+use Rattle.link_law.proofs.Prelude.{◌≡◌, ◌&&◌, ◌||◌, ◌∙◌, ℕ, nat_lt, length, Bool, true, false, not, if◌then◌else◌, MatchBool, List, [], Option, Some, None, refl, sym, ap, subst, and_parts, not-true, highest, PortState, burst_of, standing, waiting_in, turn_sends, is_ready, port_turn, Side, A, B, LinkState, from_end, turned_round, pumped, pump_notes, sent_notes, has_none, is_silent, Act, At, goes, NextOf, LoopRests, SchedulePart, is_retry_stopped, has_failed, is_done, is_some, waits, rests_to, first_rests, is_busy, Drains, Restarts, Requests, Recovers, Tells, SendsAll, Settles, goes_none, FromSending, FromTelling, FromRecovering, rest_both, none_waits, none_tells, are_idle, has_no_work}
 use Rattle.link_model.specs.Output as out
 use Rattle.link_model.specs.Prelude.{window}
 use Rattle.link_model.specs.Outstanding.{Outstanding}
-use Rattle.link_port.specs.Prelude.{PortState, burst_of, standing, waiting_in, turn_sends, is_ready}
-use Rattle.link_port.specs.Turns.{port_turn}
-use Rattle.link_machine.specs.Prelude.{Side, A, B, LinkState, from_end, turned_round, pumped, pump_notes, sent_notes, has_none, is_silent}
-use Rattle.link_machine.specs.Acts.{Act, At, goes}
-use Rattle.link_machine.specs.Schedules.{NextOf}
-use Rattle.link_machine.specs.Schedules.LoopOf.{LoopRests}
-use Rattle.link_machine.specs.Settling.{SchedulePart, is_retry_stopped, has_failed, is_done, is_some, waits, rests_to, first_rests, is_busy, Drains, Restarts, Requests, Recovers, Tells, SendsAll, Settles}
-use Rattle.link_machine.proofs.Settling.Drains.{goes_none}
-use Rattle.link_machine.proofs.Settling.Settled.{FromSending, FromTelling, FromRecovering}
-use Rattle.link_law.specs.Resting.{rest_both, none_waits, none_tells, are_idle, has_no_work}
 use Rattle.link_law.proofs.IdleTurns.{idle_pumped, idle_chars}
 
 -- what the test says of a link

@@ -1,24 +1,8 @@
 -- The loop in which what waits is sent, and what follows recovery.
-use Rattle.std.proofs.Common.{◌≡◌, ◌↔◌, ℕ, ◌<◌, Bool, true, false, MatchBool, IsTrue, IsSome, List, [], ◌++◌, length, Option, Some, None, Result, Ok, Err, refl, sym, ap, ◌∙◌, subst, arith}
-use Rattle.link_watch.specs.Stops.{IsWatch}
+use Rattle.link_law.proofs.Prelude.{◌≡◌, ◌↔◌, ℕ, ◌<◌, Bool, true, false, MatchBool, IsTrue, IsSome, List, [], ◌++◌, length, Option, Some, None, Result, Ok, Err, refl, sym, ap, ◌∙◌, subst, arith, IsWatch, packet_count-highest, Event, is_ready, Note, Side, LinkState, from_end, IsSoundLink, LinkEnd, NextOf, LoopRests, LoopGoesOn, LoopLeaves, Act, Reached, At, FoundAt, goes, acts_notes, OnState, SchedulePart, is_some, is_retry_stopped, first_rests, of_end, TakesTurn, SendsAll, IsQuiet, goes_none, quiet_at, Sending, left_at, fewer_after, sound_of, turn_can, sending_can, Comes, Ends, CallDid}
 use Rattle.link_buffers.specs.Prelude.{packet_count, highest}
-use Rattle.link_buffers.proofs.PriorityLaws.{packet_count-highest}
-use Rattle.link_model.specs.declared.event.Event.{Event}
-use Rattle.link_port.specs.Prelude.{is_ready}
-use Rattle.link_machine.specs.Prelude.{Note, Side, LinkState, from_end, IsSoundLink}
-use Rattle.link_law.specs.declared.answers.LinkEnd.{LinkEnd}
-use Rattle.link_machine.specs.Schedules.{NextOf}
-use Rattle.link_machine.specs.Schedules.LoopOf.{LoopRests, LoopGoesOn, LoopLeaves}
-use Rattle.link_machine.specs.Acts.{Act, Reached, At, FoundAt, goes, acts_notes, OnState}
-use Rattle.link_machine.specs.Settling.{SchedulePart, is_some, is_retry_stopped, first_rests, of_end, TakesTurn, SendsAll}
-use Rattle.link_machine.specs.Rest.{IsQuiet}
-use Rattle.link_machine.proofs.Settling.Drains.{goes_none}
-use Rattle.link_machine.proofs.Settling.Rounds.{quiet_at}
 use Rattle.link_machine.proofs.Settling.Recovery.{rests_test}
 use Rattle.link_machine.proofs.Settling.SendingRounds.{Quiet, AfterRound, round_goes}
-use Rattle.link_machine.proofs.Settling.Sending.{Sending}
-use Rattle.link_machine.proofs.Settling.Ends.{left_at, fewer_after, sound_of, turn_can, sending_can}
-use Rattle.link_law.specs.Does.{Comes, Ends, CallDid}
 use Rattle.link_law.proofs.DoesLaws.{Follows, comes_where, did_where, comes_next, ends_next, ends_early}
 use Rattle.link_law.proofs.DrainLaws.{comes_map, ends_map, Open, open_none, open_comes, open_ends, open_on}
 

@@ -1,18 +1,6 @@
 -- The parts of settling, one after another.
-use Rattle.std.proofs.Common.{List, [], Result, Ok, Err, OnOk, IfErr, refl, sym, subst}
-use Rattle.link_model.specs.declared.event.Event.{Event}
-use Rattle.link_machine.specs.Prelude.{Note, Side, A, B, LinkState, IsSoundLink}
-use Rattle.link_machine.specs.Schedules.{NextOf}
-use Rattle.link_machine.specs.Acts.{Reached, At, FoundAt, goes, OnState}
-use Rattle.link_machine.specs.Settling.{SchedulePart, Drains, Recovers, Tells, SendsAll, Settles}
-use Rattle.link_machine.specs.Rest.{IsQuiet, IsSettled}
-use Rattle.link_machine.proofs.Settling.Drains.{goes_none}
-use Rattle.link_machine.proofs.Settling.Settled.{Drained, FirstRests, BothRest, FirstTold, BothTold, FirstDone, FromSending, FromTelling, FromRecovering, go_on, drains_lead, first_recovers, second_recovers, first_tells, second_tells, first_sends, settling_rests}
+use Rattle.link_law.proofs.Prelude.{List, [], Result, Ok, Err, OnOk, IfErr, refl, sym, subst, Event, Note, Side, A, B, LinkState, IsSoundLink, NextOf, Reached, At, FoundAt, goes, OnState, SchedulePart, Drains, Recovers, Tells, SendsAll, Settles, IsQuiet, IsSettled, goes_none, Drained, FirstRests, BothRest, FirstTold, BothTold, FirstDone, FromSending, FromTelling, FromRecovering, go_on, drains_lead, first_recovers, second_recovers, first_tells, second_tells, first_sends, settling_rests, quiet_at, Can, next_can, recovers_can, tells_can, sends_can, telling_can, sound_by, first_quiet, second_quiet, LinkEnd, Comes, Ends, CallDid}
 use Rattle.link_machine.proofs.Settling.SendingRounds.{Quiet}
-use Rattle.link_machine.proofs.Settling.Rounds.{quiet_at}
-use Rattle.link_machine.proofs.Settling.Ends.{Can, next_can, recovers_can, tells_can, sends_can, telling_can, sound_by, first_quiet, second_quiet}
-use Rattle.link_law.specs.declared.answers.LinkEnd.{LinkEnd}
-use Rattle.link_law.specs.Does.{Comes, Ends, CallDid}
 use Rattle.link_law.proofs.DoesLaws.{Follows}
 
 -- what is left of settling, from each part on; the others are those of `Settled`

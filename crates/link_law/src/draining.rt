@@ -11,13 +11,11 @@ use crate::answers::LinkEnd;
 use crate::link::Link;
 use link_port::Port;
 use link_watch::{Side, Watch};
-use std::alloc::Global;
 
 impl Link {
     /// Delivers all characters of a wire, if there are any.
     fn empty<W: Watch>(
         &mut self,
-        alloc: Global,
         from: Side,
         a: &mut Port,
         b: &mut Port,
@@ -34,24 +32,19 @@ impl Link {
         let Ok(count) = u32::try_from(length) else {
             return Err(LinkEnd::NoMemory);
         };
+        let alloc = self.alloc();
         self.deliver(alloc, from, count, a, b, watch)?;
         Ok(())
     }
 
     /// Delivers all that stands on each wire, side A's first.
-    fn round<W: Watch>(
-        &mut self,
-        alloc: Global,
-        a: &mut Port,
-        b: &mut Port,
-        watch: &mut W,
-    ) -> Result<(), LinkEnd>
+    fn round<W: Watch>(&mut self, a: &mut Port, b: &mut Port, watch: &mut W) -> Result<(), LinkEnd>
         ensures does { CallDid W.grew W.cut (NextOf goes (Empties A) (Empties B))
             (link self.old a.old b.old) watch.old result (link self.new a.new b.new) watch.new }
         ensures counts { FailuresCounted result (W.faults watch.old) (W.faults watch.new) }
     {
-        self.empty(alloc, Side::A, a, b, watch)?;
-        self.empty(alloc, Side::B, a, b, watch)
+        self.empty(Side::A, a, b, watch)?;
+        self.empty(Side::B, a, b, watch)
     }
 
     /// Whether nothing stands on either wire.
@@ -64,7 +57,6 @@ impl Link {
     /// Delivers all characters of both wires, side A's first, until none is left.
     pub(crate) fn drain<W: Watch>(
         &mut self,
-        alloc: Global,
         a: &mut Port,
         b: &mut Port,
         watch: &mut W,
@@ -78,7 +70,7 @@ impl Link {
             if self.is_idle() {
                 return Ok(());
             }
-            self.round(alloc, a, b, watch)?;
+            self.round(a, b, watch)?;
         }
         Ok(())
     }
@@ -86,7 +78,6 @@ impl Link {
     /// Has a port take one turn, and drains what comes of it.
     pub(crate) fn take_turn<W: Watch>(
         &mut self,
-        alloc: Global,
         side: Side,
         a: &mut Port,
         b: &mut Port,
@@ -97,7 +88,8 @@ impl Link {
             result (link self.new a.new b.new) watch.new }
         ensures counts { FailuresCounted result (W.faults watch.old) (W.faults watch.new) }
     {
+        let alloc = self.alloc();
         self.pump(alloc, side, 1, a, b, watch)?;
-        self.drain(alloc, a, b, watch)
+        self.drain(a, b, watch)
     }
 }

@@ -14,8 +14,8 @@ use crate::port_states::are_idle;
 use crate::wires::WirePair;
 use link_port::Port;
 use link_watch::{NoteEnd, Side, Watch};
-use link_wires::{Delivery, Edit, Edited};
-use rio_chars::{Char, NoMemory};
+use link_wires::{Delivery, Edited};
+use rio_chars::{Char, Edit, NoMemory};
 use std::alloc::Global;
 use std::marker::Model;
 
@@ -49,6 +49,11 @@ impl Link {
             came: Delivery::new(alloc),
             sent: Vec::new(alloc),
         }
+    }
+
+    /// Where its lists take memory from.
+    pub(crate) fn alloc(&self) -> Global {
+        *self.sent.allocator()
     }
 
     /// The number of characters on the wire of the port at this end.

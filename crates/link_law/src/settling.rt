@@ -24,7 +24,7 @@ impl Link {
     /// characters ends it with `NoMemory`.
     pub fn settle<W: Watch>(
         &mut self,
-        alloc: Global,
+        _alloc: Global,
         a: &mut Port,
         b: &mut Port,
         watch: &mut W,
@@ -42,16 +42,15 @@ impl Link {
             → W.faults watch.new ≡ W.faults watch.old }
         ensures never_falls { W.faults watch.old ≤ W.faults watch.new }
     {
-        self.drain(alloc, a, b, watch)?;
-        self.recover(alloc, Side::A, a, b, watch)?;
-        self.recover(alloc, Side::B, a, b, watch)?;
-        self.finish(alloc, a, b, watch)
+        self.drain(a, b, watch)?;
+        self.recover(Side::A, a, b, watch)?;
+        self.recover(Side::B, a, b, watch)?;
+        self.finish(a, b, watch)
     }
 
     /// Sends a restart-from-retry, if one is owed.
     fn restart<W: Watch>(
         &mut self,
-        alloc: Global,
         side: Side,
         a: &mut Port,
         b: &mut Port,
@@ -65,13 +64,12 @@ impl Link {
         if !stands_back(near(side, a, b)) {
             return Ok(());
         }
-        self.take_turn(alloc, side, a, b, watch)
+        self.take_turn(side, a, b, watch)
     }
 
     /// Fires a time-out, if it may fire.
     fn fire_if_due<W: Watch>(
         &mut self,
-        alloc: Global,
         side: Side,
         a: &mut Port,
         b: &mut Port,
@@ -84,6 +82,7 @@ impl Link {
         if !fires(near(side, a, b)) {
             return Ok(());
         }
+        let alloc = self.alloc();
         self.time_out(alloc, side, a, b, watch)?;
         Ok(())
     }
@@ -91,7 +90,6 @@ impl Link {
     /// Sends a link-request, if the direction is not at rest.
     fn request<W: Watch>(
         &mut self,
-        alloc: Global,
         side: Side,
         a: &mut Port,
         b: &mut Port,
@@ -105,14 +103,13 @@ impl Link {
         if is_quiet(near(side, a, b), far(side, a, b)) {
             return Ok(());
         }
-        self.fire_if_due(alloc, side, a, b, watch)?;
-        self.take_turn(alloc, side, a, b, watch)
+        self.fire_if_due(side, a, b, watch)?;
+        self.take_turn(side, a, b, watch)
     }
 
     /// Brings the direction of one side to rest.
     fn recover<W: Watch>(
         &mut self,
-        alloc: Global,
         side: Side,
         a: &mut Port,
         b: &mut Port,
@@ -126,36 +123,29 @@ impl Link {
         if failed(near(side, a, b)) {
             return Ok(());
         }
-        self.restart(alloc, side, a, b, watch)?;
-        self.request(alloc, side, a, b, watch)
+        self.restart(side, a, b, watch)?;
+        self.request(side, a, b, watch)
     }
 
     /// Of a link at rest, each side tells its free buffers, if it does, and then what waits is
     /// sent.
-    fn finish<W: Watch>(
-        &mut self,
-        alloc: Global,
-        a: &mut Port,
-        b: &mut Port,
-        watch: &mut W,
-    ) -> Result<(), LinkEnd>
+    fn finish<W: Watch>(&mut self, a: &mut Port, b: &mut Port, watch: &mut W) -> Result<(), LinkEnd>
         requires { IsSoundLink (link self.old a.old b.old) × IsQuiet (link self.old a.old b.old) }
         ensures does { CallDid W.grew W.cut (NextOf goes (Tells A) (NextOf goes (Tells B)
             (NextOf goes (SendsAll A) (SendsAll B)))) (link self.old a.old b.old) watch.old
             result (link self.new a.new b.new) watch.new }
         ensures counts { FailuresCounted result (W.faults watch.old) (W.faults watch.new) }
     {
-        self.tell_if_due(alloc, Side::A, a, b, watch)?;
-        self.tell_if_due(alloc, Side::B, a, b, watch)?;
-        self.send_all(alloc, Side::A, a, b, watch)?;
-        self.send_all(alloc, Side::B, a, b, watch)
+        self.tell_if_due(Side::A, a, b, watch)?;
+        self.tell_if_due(Side::B, a, b, watch)?;
+        self.send_all(Side::A, a, b, watch)?;
+        self.send_all(Side::B, a, b, watch)
     }
 
     /// Sends what waits at a side of a link at rest, packet by packet, as long as a turn starts
     /// one. If one has no room, the port restarts and sends no more.
     fn send_all<W: Watch>(
         &mut self,
-        alloc: Global,
         side: Side,
         a: &mut Port,
         b: &mut Port,
@@ -167,9 +157,9 @@ impl Link {
         ensures counts { FailuresCounted result (W.faults watch.old) (W.faults watch.new) }
     {
         while is_ready(near(side, a, b)) {
-            self.take_turn(alloc, side, a, b, watch)?;
+            self.take_turn(side, a, b, watch)?;
             if stands_back(near(side, a, b)) {
-                return self.take_turn(alloc, side, a, b, watch);
+                return self.take_turn(side, a, b, watch);
             }
         }
         Ok(())

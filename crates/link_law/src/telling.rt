@@ -8,13 +8,11 @@ use crate::link::{Link, note_sent};
 use crate::port_states::near;
 use link_port::Port;
 use link_watch::{Side, Watch};
-use std::alloc::Global;
 
 impl Link {
     /// Has a port tell its free buffers, if it does. It is noted as a turn is.
     fn tell<W: Watch>(
         &mut self,
-        alloc: Global,
         side: Side,
         a: &Port,
         b: &Port,
@@ -25,14 +23,13 @@ impl Link {
         ensures counts { FailuresCounted result (W.faults watch.old) (W.faults watch.new) }
     {
         self.wires.tell(side, a, b, &mut self.sent)?;
-        note_sent(watch, alloc, side, self.sent.as_slice())?;
+        note_sent(watch, self.alloc(), side, self.sent.as_slice())?;
         Ok(())
     }
 
     /// Has a port tell its free buffers, if it does, and drains what comes of it.
     pub(crate) fn tell_if_due<W: Watch>(
         &mut self,
-        alloc: Global,
         side: Side,
         a: &mut Port,
         b: &mut Port,
@@ -46,7 +43,7 @@ impl Link {
         if !near(side, a, b).tells() {
             return Ok(());
         }
-        self.tell(alloc, side, a, b, watch)?;
-        self.drain(alloc, a, b, watch)
+        self.tell(side, a, b, watch)?;
+        self.drain(a, b, watch)
     }
 }

@@ -1,25 +1,10 @@
 -- The symbols that are read have ackIDs of five bits.
-use Rattle.std.proofs.Common.{ℕ, suc, ◌<◌, Bool, true, false, Option, Some, None, List, All, [], ◌∷◌, if◌then◌else◌, arith, nat_lt, length}
-use Rattle.std.proofs.lemmas.List.Elements.{All-nil, All-cons, All-append, All-map}
-use Rattle.rio_chars.specs.declared.chars.Char.{Char}
-use Rattle.rio_symbols.specs.declared.characters.Delimiter.{Delimiter}
-use Rattle.rio_symbols.specs.Delimiters.{allowed}
-use Rattle.rio_symbols.specs.Fields.{Fields}
-use Rattle.rio_symbols.specs.Spelling.{is_spelling, fields_at, spelled}
+use Rattle.link_machine.proofs.Prelude.{ℕ, suc, ◌<◌, Bool, true, false, Option, Some, None, List, All, [], ◌∷◌, if◌then◌else◌, arith, nat_lt, length, All-nil, All-cons, All-append, All-map, Char, Delimiter, allowed, Fields, is_spelling, fields_at, spelled, Event, Ctl, Pending, Nothing, Opened, One, Two, packet_or_cause, packet_event, Place, byte_added, symbol_taken, finished, step_by, step, run, Text, Plain, Skipped, Within, packet_ended, ends_packet, told, placed, kind, HasAck}
 use Rattle.rio_packets.specs.Carries.{carried}
 use Rattle.rio_packets.specs.declared.cause.Cause.{Cause}
 use Rattle.rio_packets.specs.declared.cause.Cause.TheVariants.{General, BadPacket}
-use Rattle.link_model.specs.declared.event.Event.{Event}
-use Rattle.link_model.specs.declared.event.Event.TheVariants.{Ctl}
-use Rattle.link_model.specs.declared.reading_kinds.Kind.{Kind}
-use Rattle.link_model.specs.declared.reading_kinds.Kind.TheVariants.{Byte, Opens, Idle, Stray}
-use Rattle.link_model.specs.declared.reading_kinds.Pending.{Pending}
-use Rattle.link_model.specs.declared.reading_kinds.Pending.TheVariants.{Nothing, Opened, One, Two}
-use Rattle.link_model.specs.Events.{packet_or_cause, packet_event}
-use Rattle.link_model.specs.Places.{Place, byte_added, symbol_taken, finished, step_by, step, run}
-use Rattle.link_model.specs.Reading.{Text, Plain, Skipped, Within, packet_ended, ends_packet, told, placed}
-use Rattle.link_model.specs.ReadingKinds.{kind}
-use Rattle.link_sound.proofs.Ranged.{HasAck}
+use Rattle.link_model.specs.declared.reading_kinds.CharKind.{CharKind}
+use Rattle.link_model.specs.declared.reading_kinds.CharKind.TheVariants.{Byte, Opens, Idle, Stray}
 
 -- an event at a place
 abbrev pub HasAckAt : ℕ × Event → Type 0
@@ -70,7 +55,7 @@ added_has : (bytes : List ℕ) (i : ℕ) (b : Bool) → All HasAck (byte_added b
 added_has bytes i true = All-nil HasAck
 added_has bytes i false = one _ tt
 
-by_has : (t : Text) (p : Pending) (k : Kind) → All HasAck (step_by t p k).gives
+by_has : (t : Text) (p : Pending) (k : CharKind) → All HasAck (step_by t p k).gives
 by_has t Nothing (Opens d) = All-nil HasAck
 by_has Plain Nothing Idle = All-nil HasAck
 by_has Plain Nothing (Byte i) = one _ tt

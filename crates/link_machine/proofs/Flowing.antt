@@ -1,19 +1,9 @@
 -- A delivery keeps a link sound, and what is held and freed are steps of plain queues.
-use Rattle.std.proofs.Common.{◌≡◌, ℕ, ◌++◌, true, false, List, All, [], ◌∷◌, map, Option, Some, None, option_to_list, refl, sym, ap, ◌∙◌, subst, if◌then◌else◌, append_assoc}
-use Rattle.std.proofs.lemmas.List.{append-nil, map-append}
-use Rattle.std.proofs.lemmas.List.Elements.{All-head, All-tail}
-use Rattle.link_model.specs.Prelude.{Char, Fields, Place, IsBounded, step, run, place_after}
-use Rattle.link_port.specs.Prelude.{Event, Ctl, PortState, IsPort, acts, is_acted}
-use Rattle.link_model.specs.Events.{same_event}
+use Rattle.link_machine.proofs.Prelude.{◌≡◌, ℕ, ◌++◌, true, false, List, All, [], ◌∷◌, map, Option, Some, None, option_to_list, refl, sym, ap, ◌∙◌, subst, if◌then◌else◌, append_assoc, append-nil, map-append, All-head, All-tail, Char, Fields, Place, IsBounded, step, run, place_after, Event, Ctl, PortState, IsPort, acts, is_acted, same_event, IsSound, reply_sent, acted_keeps, other_keeps, lost_keeps, acted_port, other_port, read_port, HasAck, Queues, queues_between}
 use Rattle.link_model.specs.EventsEqual.{found_same}
 use Rattle.link_model.proofs.PlacesBounds.{step_bounded}
-use Rattle.link_sound.specs.Sound.{IsSound, reply_sent}
-use Rattle.link_sound.proofs.Steps.{acted_keeps, other_keeps, lost_keeps}
 use Rattle.link_sound.proofs.Moves.{acted_holds, other_holds, acted_frees, other_frees}
-use Rattle.link_sound.proofs.PortBounds.{acted_port, other_port, read_port}
-use Rattle.link_sound.proofs.Ranged.{HasAck}
 use Rattle.link_wires.specs.Prelude.{behind, Flow, Delivered, Through, WentUndetected, begun, done, met, comes, goes_on, come, ended, delivered}
-use Rattle.link_machine.specs.Queues.{Queues, queues_between}
 use Rattle.link_machine.proofs.Arriving.{HasAckAt, run_has}
 use Rattle.link_machine.proofs.Walking.{FirstWalks, Stays, walks_on, event_walks}
 

@@ -1,22 +1,8 @@
 -- A turn and a delivery keep what a port has told of its free buffers, and the room of packets.
-use Rattle.std.proofs.Common.{◌≡◌, ◌≢◌, ℕ, zero, suc, ◌+◌, ◌≤◌, ◌++◌, Bool, true, false, List, All, [], ◌∷◌, map, Option, Some, None, IfSome, option_to_list, refl, sym, ◌∙◌, subst, if◌then◌else◌, append_assoc}
-use Rattle.std.proofs.lemmas.List.{append-nil}
-use Rattle.std.proofs.lemmas.List.Elements.{All-nil, All-cons, All-append, All-head, All-tail}
-use Rattle.link_model.specs.Prelude.{Char, Fields, Place, run, place_after, PACKET_RETRY}
-use Rattle.link_port.specs.Prelude.{Event, Ctl, PortState, IsPort, acts, is_acted, turns_to, turn_sends}
-use Rattle.link_sound.specs.Sound.{IsSound, reply_sent}
-use Rattle.link_sound.proofs.Steps.{turn_keeps, lost_keeps}
-use Rattle.link_sound.proofs.PortBounds.{turn_port}
-use Rattle.link_sound.proofs.CreditTimely.{IsKnown}
-use Rattle.link_sound.proofs.CreditHistory.{answer_no_retry, known_open}
+use Rattle.link_machine.proofs.Prelude.{◌≡◌, ◌≢◌, ℕ, zero, suc, ◌+◌, ◌++◌, Bool, true, false, List, All, [], ◌∷◌, map, Option, Some, None, IfSome, option_to_list, refl, sym, subst, if◌then◌else◌, append_assoc, append-nil, All-nil, All-cons, All-append, All-head, All-tail, Char, Fields, Place, run, place_after, PACKET_RETRY, Event, Ctl, PortState, IsPort, acts, is_acted, turns_to, turn_sends, IsSound, reply_sent, turn_keeps, lost_keeps, turn_port, IsKnown, answer_no_retry, known_open, port_turned, bursts, LinkState, Queues, queues_between, NoRetries}
 use Rattle.link_sound.proofs.CreditHearer as hearer
 use Rattle.link_sound.proofs.CreditTeller as teller
 use Rattle.link_wires.specs.Prelude.{behind, Flow, Delivered, Through, WentUndetected, begun, done, met, comes, goes_on, come, ended, delivered}
-use Rattle.link_wires.specs.Wires.{port_turned, bursts}
-use Rattle.link_machine.specs.States.{LinkState}
-use Rattle.link_machine.specs.Calls.{delivery}
-use Rattle.link_machine.specs.Queues.{Queues, queues_between}
-use Rattle.link_machine.specs.InTime.{NoRetries}
 use Rattle.link_machine.proofs.Arriving.{HasAckAt, run_has}
 use Rattle.link_machine.proofs.Flowing.{IsFlowing, AreFlowing, behind_parts, answer_more, comes_flowing}
 use Rattle.link_machine.proofs.Walking.{Stays}
@@ -153,8 +139,8 @@ module _ (timely : Bool) where
     walks = Stays;
   }
 
-  pub delivered_hears : (a b : PortState) (kept_a kept_b : List Event) (chars : List Char) → IsPort a
-      → IsPort b → IsSound a b kept_a kept_b → IsKnown timely a b kept_a kept_b
+  pub delivered_hears : (a b : PortState) (kept_a kept_b : List Event) (chars : List Char)
+      → IsPort a → IsPort b → IsSound a b kept_a kept_b → IsKnown timely a b kept_a kept_b
       → AreHears b kept_a (delivered a kept_b chars)
   delivered_hears a b kept_a kept_b chars near far sound k =
       ended_hears b kept_a (place_after a.place chars) _
@@ -281,8 +267,8 @@ module _ (timely : Bool) where
   )
   ended_tells b kept_a place count (WentUndetected told e) t = t
 
-  pub delivered_tells : (a b : PortState) (kept_a kept_b : List Event) (chars : List Char) → IsPort a
-      → IsPort b → IsSound a b kept_a kept_b → IsKnown timely b a kept_b kept_a
+  pub delivered_tells : (a b : PortState) (kept_a kept_b : List Event) (chars : List Char)
+      → IsPort a → IsPort b → IsSound a b kept_a kept_b → IsKnown timely b a kept_b kept_a
       → AreTells b kept_a (delivered a kept_b chars)
   delivered_tells a b kept_a kept_b chars near far sound k =
       ended_tells b kept_a (place_after a.place chars) _

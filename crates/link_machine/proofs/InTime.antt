@@ -1,29 +1,10 @@
 -- Each call of a link keeps what a port has told of its free buffers, and the room of packets; and
 -- such a port asks for no packet again.
-use Rattle.std.proofs.Common.{◌≡◌, ◌≢◌, ℕ, ◌+◌, ◌≤◌, ◌++◌, Bool, true, false, List, ◌∷◌, map, length, take, refl, sym, ap, ◌∙◌, subst, if◌then◌else◌, arith, length-append}
-use Rattle.link_buffers.specs.Prelude.{list_at}
-use Rattle.link_buffers.proofs.QueueLemmas.{packet_count_four}
-use Rattle.link_model.specs.Prelude.{Input, Output, run}
-use Rattle.link_port.specs.Prelude.{Event, PortState, IsPort, prios_of}
-use Rattle.link_sound.specs.Meanings.{forward, receiver_of}
-use Rattle.link_sound.specs.Told.{last_report}
+use Rattle.link_machine.proofs.Prelude.{ℕ, ◌+◌, ◌≤◌, Bool, true, false, List, map, length, take, refl, sym, ap, ◌∙◌, subst, if◌then◌else◌, arith, length-append, list_at, packet_count_four, Input, Output, run, Event, PortState, IsPort, prios_of, forward, receiver_of, last_report, IsTimely, IsKnown, known_from_room, room_from_known, known_from_told, told_from_known, Delivered, Through, WentUndetected, told_of, Edit, other_side, Note, Side, A, B, LinkState, turned_round, at_end, from_end, IsServed, with_port, IsRun, RunRests, RunPumps, RunTells, RunDelivers, RunEdits, RunTimesOut, RunServes, IsSoundLink, RoomAhead, TellsTruly, NoRetries}
 use Rattle.link_sound.specs.Credits.{word, AreCountedAt, free_buffers}
-use Rattle.link_sound.proofs.CreditTimely.{IsTimely, IsKnown, known_from_room, room_from_known, known_from_told, told_from_known}
 use Rattle.link_sound.proofs.CreditHearer as hearer
 use Rattle.link_sound.proofs.CreditTeller as teller
-use Rattle.link_wires.specs.Prelude.{Delivered, Through, WentUndetected, comes, told_of}
-use Rattle.link_wires.specs.declared.edits.Edit.{Edit}
-use Rattle.link_watch.specs.Sides.{other_side}
-use Rattle.link_watch.specs.declared.note.Note.{Note}
-use Rattle.link_watch.specs.declared.side.Side.{Side}
-use Rattle.link_watch.specs.declared.side.Side.TheVariants.{A, B}
-use Rattle.link_machine.specs.States.{LinkState, turned_round, at_end, from_end}
 use Rattle.link_machine.specs.Calls.{first_turns, pumped, first_tells, told_from, delivery, after_delivery, first_takes, has_chars, delivery_from, delivered_from, first_edited, edited_from, is_silent, first_fires, timed_out_at}
-use Rattle.link_machine.specs.Layer.{IsServed, with_port}
-use Rattle.link_machine.specs.Runs.{IsRun}
-use Rattle.link_machine.specs.Runs.IsRun.{RunRests, RunPumps, RunTells, RunDelivers, RunEdits, RunTimesOut, RunServes}
-use Rattle.link_machine.specs.Sound.{IsSoundLink}
-use Rattle.link_machine.specs.InTime.{RoomAhead, TellsTruly, NoRetries}
 use Rattle.link_machine.proofs.Machine.{round_keeps, pump_keeps, told_keeps, delivery_keeps, edited_keeps, fired_keeps, layer_keeps}
 use Rattle.link_machine.proofs.Reversed.{run_round}
 use Rattle.link_machine.proofs.Turning.{edit_keeps}

@@ -1,3 +1,4 @@
+mod Prelude
 pub mod Walking
 pub mod Arriving
 pub mod Flowing

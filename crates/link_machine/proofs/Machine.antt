@@ -1,32 +1,9 @@
 -- Each call of a link keeps it sound, and its notes are steps of plain queues.
-use Rattle.std.proofs.Common.{◌≡◌, ◌≢◌, ℕ, ◌++◌, Bool, true, false, List, [], ◌∷◌, map, take, None, refl, sym, ap, ◌∙◌, subst, if◌then◌else◌}
-use Rattle.std.proofs.lemmas.List.{append-nil}
-use Rattle.rio_chars.specs.declared.chars.Char.{Char}
-use Rattle.link_port.specs.Prelude.{Event, PortState, IsPort, new_port}
+use Rattle.link_machine.proofs.Prelude.{◌≡◌, ◌≢◌, ℕ, ◌++◌, Bool, true, false, List, [], ◌∷◌, map, take, None, refl, sym, ap, ◌∙◌, subst, if◌then◌else◌, append-nil, Char, Event, PortState, IsPort, new_port, IsSound, exchanged, begins, tell_keeps, time_out_keeps, IsTold, time_out_port, new_is_port, not_failed, other_side, Note, Side, A, B, Told, Delivered, Through, WentUndetected, told_of, undetected, answers, Edit, Move, Held, Freed, LinkState, link, empty_wires, turned_round, at_end, from_end, IsServed, with_port, Queues, queues_of, queues_between, queues_round, PortStep, steps_at, Walks, note_steps, WalkEnds, IsRun, RunRests, RunPumps, RunTells, RunDelivers, RunEdits, RunTimesOut, RunServes, IsSoundLink}
 use Rattle.link_model.specs.Output as out
 use Rattle.link_sound.specs.Histories.{AreBuffers}
-use Rattle.link_sound.specs.Sound.{IsSound}
-use Rattle.link_sound.proofs.Steps.{exchanged, begins, tell_keeps, time_out_keeps}
-use Rattle.link_sound.specs.Told.{IsTold}
 use Rattle.link_sound.proofs.Told as telling
-use Rattle.link_sound.proofs.PortBounds.{time_out_port, new_is_port}
-use Rattle.link_sound.proofs.Promises.{not_failed}
-use Rattle.link_watch.specs.Sides.{other_side}
-use Rattle.link_watch.specs.declared.note.Note.{Note}
-use Rattle.link_watch.specs.declared.side.Side.{Side}
-use Rattle.link_watch.specs.declared.side.Side.TheVariants.{A, B}
-use Rattle.link_wires.specs.Prelude.{Told, Delivered, Through, WentUndetected, told_of, undetected, answers}
-use Rattle.link_wires.specs.declared.edits.Edit.{Edit}
-use Rattle.link_wires.specs.declared.moves.Move.{Move}
-use Rattle.link_wires.specs.declared.moves.Move.TheVariants.{Held, Freed}
-use Rattle.link_machine.specs.States.{LinkState, link, empty_wires, turned_round, at_end, from_end}
 use Rattle.link_machine.specs.Calls.{sent_notes, first_turns, pumped, first_tells, told_from, delivery, after_delivery, first_takes, has_chars, delivery_from, delivered_from, move_note, told_notes, delivery_notes, first_edited, edited_from, is_silent, first_fires, timed_out_at}
-use Rattle.link_machine.specs.Layer.{IsServed, with_port}
-use Rattle.link_machine.specs.Queues.{Queues, queues_of, queues_between, queues_round, PortStep, steps_at, Walks, note_steps}
-use Rattle.link_machine.specs.Queues.Walks.{WalkEnds}
-use Rattle.link_machine.specs.Runs.{IsRun}
-use Rattle.link_machine.specs.Runs.IsRun.{RunRests, RunPumps, RunTells, RunDelivers, RunEdits, RunTimesOut, RunServes}
-use Rattle.link_machine.specs.Sound.{IsSoundLink}
 use Rattle.link_machine.proofs.Flowing.{AreFlowing, delivered_flowing}
 use Rattle.link_machine.proofs.Telling.{AreTelling, delivered_telling}
 use Rattle.link_machine.proofs.Turning.{turned_port, turned_keeps, turned_told, turned_stays, time_out_moves_none, edit_keeps, served_keeps, served_told}

@@ -1,16 +1,6 @@
 -- A run of a link is one of the link with its ends in the other order.
-use Rattle.std.proofs.Common.{◌≡◌, ℕ, true, false, Bool, ◌&&◌, List, [], None, refl, ap, ◌∙◌, subst, if◌then◌else◌}
-use Rattle.link_port.specs.Prelude.{PortState}
-use Rattle.link_wires.specs.Prelude.{undetected}
-use Rattle.link_watch.specs.Sides.{other_side}
-use Rattle.link_watch.specs.declared.note.Note.{Note}
-use Rattle.link_watch.specs.declared.side.Side.{Side}
-use Rattle.link_watch.specs.declared.side.Side.TheVariants.{A, B}
-use Rattle.link_machine.specs.States.{LinkState, turned_round, at_end, from_end}
+use Rattle.link_machine.proofs.Prelude.{◌≡◌, ℕ, true, false, Bool, ◌&&◌, List, [], None, refl, ap, ◌∙◌, subst, if◌then◌else◌, PortState, undetected, other_side, Note, Side, A, B, LinkState, turned_round, at_end, from_end, IsServed, IsRun, RunRests, RunPumps, RunTells, RunDelivers, RunEdits, RunTimesOut, RunServes}
 use Rattle.link_machine.specs.Calls.{first_turns, first_tells, first_takes, has_none, has_chars, delivery_from, delivered_from, first_edited, is_silent, first_fires, timed_out_at}
-use Rattle.link_machine.specs.Layer.{IsServed}
-use Rattle.link_machine.specs.Runs.{IsRun}
-use Rattle.link_machine.specs.Runs.IsRun.{RunRests, RunPumps, RunTells, RunDelivers, RunEdits, RunTimesOut, RunServes}
 
 end_round : (side : Side) (does : LinkState → LinkState) (s : LinkState)
     → turned_round (at_end side does s) ≡ at_end (other_side side) does (turned_round s)

@@ -1,11 +1,7 @@
 -- What a port does for the layer above, one packet at a time.
-use Rattle.std.proofs.Common.{◌≡◌, ℕ, ◌<◌, ◌==◌, ◌++◌, cond, List, [], ◌∷◌, take, drop, sym, ap, ◌∙◌, subst}
-use Rattle.std.proofs.lemmas.List.{append-nil, take-append-drop}
+use Rattle.link_machine.proofs.Prelude.{◌≡◌, ℕ, ◌<◌, ◌==◌, ◌++◌, cond, List, [], ◌∷◌, take, drop, sym, ap, ◌∙◌, subst, append-nil, take-append-drop, list_at-popped, list_at-appended, IsServed}
 use Rattle.link_buffers.specs.Queues.{list_at, popped, appended}
-use Rattle.link_buffers.proofs.PriorityLists.{list_at-popped}
-use Rattle.link_buffers.proofs.PriorityLaws.{list_at-appended}
 use Rattle.link_port.specs.Ports.{PortState, IsPort, AreAlike}
-use Rattle.link_machine.specs.Layer.{IsServed}
 
 pub put_serves :
     (port next : PortState) (prio : ℕ) (packet : List ℕ) → IsPort port → prio < 4

@@ -1,6 +1,7 @@
 pub mod SaidLaws
 pub mod TableLaws
 pub mod AnswerLaws
+pub mod Replies
 pub mod Signals
 pub mod Packets
 pub mod Lines

@@ -1,14 +1,7 @@
 -- A delivery keeps what the ports of a link tell of their free buffers.
-use Rattle.std.proofs.Common.{◌≡◌, ℕ, ◌++◌, true, false, List, All, [], ◌∷◌, map, Option, Some, None, refl, sym, subst, if◌then◌else◌}
-use Rattle.std.proofs.lemmas.List.{append-nil}
-use Rattle.std.proofs.lemmas.List.Elements.{All-head, All-tail}
-use Rattle.link_model.specs.Prelude.{Char, Place, run, place_after}
-use Rattle.link_port.specs.Prelude.{Event, Ctl, PortState, IsPort, acts, is_acted}
-use Rattle.link_sound.specs.Sound.{IsSound}
-use Rattle.link_sound.specs.Told.{IsTold}
+use Rattle.link_machine.proofs.Prelude.{◌≡◌, ℕ, ◌++◌, true, false, List, All, [], ◌∷◌, map, Option, Some, None, refl, sym, subst, if◌then◌else◌, append-nil, All-head, All-tail, Char, Place, run, place_after, Event, Ctl, PortState, IsPort, acts, is_acted, IsSound, IsTold, Queues, queues_between}
 use Rattle.link_sound.proofs.Told as telling
 use Rattle.link_wires.specs.Prelude.{behind, Flow, Delivered, Through, WentUndetected, begun, done, met, comes, goes_on, come, ended, delivered}
-use Rattle.link_machine.specs.Queues.{Queues, queues_between}
 use Rattle.link_machine.proofs.Arriving.{HasAckAt, run_has}
 use Rattle.link_machine.proofs.Flowing.{IsFlowing, AreFlowing, behind_parts, answer_more, comes_flowing}
 use Rattle.link_machine.proofs.Walking.{Stays}

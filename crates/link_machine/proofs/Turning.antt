@@ -1,24 +1,9 @@
 -- Turns, time-outs, edits and the layer above keep a link sound, and none of them but the layer
 -- above moves a packet.
-use Rattle.std.proofs.Common.{◌≡◌, ℕ, zero, suc, ◌<◌, ◌≤◌, ◌==◌, ◌++◌, cond, true, false, IfSome, List, All, [], ◌∷◌, map, length, take, drop, inl, inr, refl, sym, ap, ◌∙◌, subst, if◌then◌else◌, append_assoc, arith}
+use Rattle.link_machine.proofs.Prelude.{◌≡◌, ℕ, zero, suc, ◌<◌, ◌≤◌, ◌==◌, ◌++◌, cond, true, false, IfSome, List, All, [], ◌∷◌, map, length, take, drop, inl, inr, refl, sym, ap, ◌∙◌, subst, if◌then◌else◌, append_assoc, arith, append-nil, take-append-le, drop-append-le, list_at, popped, Covers, packets_of, highest, list_at-popped, Covers-first, Covers-rest, Event, PortState, IsPort, turns_to, turn_sends, timed_out, waiting_in, prios_of, expected_of, forward, backward, IsBetween, IsSound, last_report, TellsAs, IsTold, turn_keeps, turn_port, WireState, port_turned, bursts, fits, edited, after_edit, Edit, IsServed, queues_between}
 use Rattle.std.proofs.lemmas.Bool.Decides.{eqb_tells}
-use Rattle.std.proofs.lemmas.List.{append-nil, take-append-le, drop-append-le}
-use Rattle.link_buffers.specs.Prelude.{list_at, popped, Covers, packets_of, highest}
-use Rattle.link_buffers.proofs.PriorityLists.{list_at-popped}
-use Rattle.link_buffers.proofs.PriorityLaws.{Covers-first, Covers-rest}
-use Rattle.link_port.specs.Prelude.{Event, PortState, IsPort, turns_to, turn_sends, timed_out, waiting_in, prios_of, expected_of}
-use Rattle.link_sound.specs.Meanings.{forward, backward}
-use Rattle.link_sound.specs.Between.{IsBetween}
-use Rattle.link_sound.specs.Sound.{IsSound}
-use Rattle.link_sound.specs.Told.{last_report, TellsAs, IsTold}
 use Rattle.link_sound.proofs.Told as telling
 use Rattle.link_sound.proofs.Freed.{turn_stays, time_out_stays}
-use Rattle.link_sound.proofs.Steps.{turn_keeps}
-use Rattle.link_sound.proofs.PortBounds.{turn_port}
-use Rattle.link_wires.specs.Wires.{WireState, port_turned, bursts, fits, edited, after_edit}
-use Rattle.link_wires.specs.declared.edits.Edit.{Edit}
-use Rattle.link_machine.specs.Layer.{IsServed}
-use Rattle.link_machine.specs.Queues.{queues_between}
 
 pub turned_port : (n : ℕ) (a : PortState) → IsPort a → IsPort (port_turned n a)
 unfolding port_turned
@@ -147,8 +132,7 @@ served_told a next b kept_a kept_b served ahead back =
     let same = served.alike.4 in (
       record {
         coming = subst (λ t. All (TellsAs t) kept_a) same ahead.coming;
-        keeps =
-            subst (λ t. IfSome (last_report b.output) (λ report. t ≡ true)) same ahead.keeps;
+        keeps = subst (λ t. IfSome (last_report b.output) (λ report. t ≡ true)) same ahead.keeps;
       },
       record {
         coming = back.coming;

@@ -1,13 +1,5 @@
 -- What an event does to the packets of a link, as steps of plain queues.
-use Rattle.std.proofs.Common.{◌≡◌, ℕ, ◌++◌, List, [], ◌∷◌, map, drop, slice_get, Option, Some, None, option_to_list, sym, ap, ◌∙◌, subst}
-use Rattle.link_port.specs.Ports.{PortState}
-use Rattle.link_sound.specs.Lent.{Holds, Frees}
-use Rattle.link_watch.specs.declared.side.Side.{Side}
-use Rattle.link_watch.specs.declared.side.Side.TheVariants.{A, B}
-use Rattle.link_wires.specs.declared.moves.Move.{Move}
-use Rattle.link_wires.specs.declared.moves.Move.TheVariants.{Held, Freed}
-use Rattle.link_machine.specs.Queues.{Queues, queues_between, queues_round, NeedsFirst, first_moved, steps_at, Walks}
-use Rattle.link_machine.specs.Queues.Walks.{WalkEnds, WalkGoes}
+use Rattle.link_machine.proofs.Prelude.{◌≡◌, ℕ, ◌++◌, List, [], ◌∷◌, map, drop, slice_get, Option, Some, None, option_to_list, sym, ap, ◌∙◌, subst, PortState, Holds, Frees, Side, A, B, Move, Held, Freed, Queues, queues_between, queues_round, NeedsFirst, first_moved, steps_at, Walks, WalkEnds, WalkGoes}
 
 -- steps of the first port, one after another
 pub data FirstWalks : Queues → List Move → Queues → Type 0 where
@@ -27,8 +19,7 @@ queues_from B q = queues_round q
 
 pub walks_at : {q end : Queues} {moves : List Move} (side : Side) → FirstWalks q moves end
     → Walks (queues_from side q) (steps_at side moves) (queues_from side end)
-walks_at A Stays = WalkEnds
-walks_at B Stays = WalkEnds
+walks_at _ Stays = WalkEnds
 walks_at A (Moves move needs walk) = WalkGoes A move needs (walks_at A walk)
 walks_at B (Moves move needs walk) = WalkGoes B move needs (walks_at B walk)
 

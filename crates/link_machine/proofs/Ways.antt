@@ -1,19 +1,7 @@
 -- No sender fails within a delivery: each event before one that was not sent leaves the link sound.
-use Rattle.std.proofs.Common.{◌≢◌, ℕ, List, All, [], ◌∷◌, take, sym, subst}
-use Rattle.std.proofs.lemmas.List.{append-nil}
-use Rattle.std.proofs.lemmas.List.Elements.{All-head, All-tail, All-take}
+use Rattle.link_machine.proofs.Prelude.{◌≢◌, ℕ, List, All, [], ◌∷◌, take, sym, subst, append-nil, All-head, All-tail, All-take, run, Event, PortState, IsPort, IsSound, not_failed, other_side, Side, Flow, Delivered, Through, WentUndetected, begun, comes, Queues, queues_between, IsSoundLink, LinkState, from_end}
 use Rattle.link_model.specs.Output as out
-use Rattle.link_model.specs.Prelude.{run}
-use Rattle.link_port.specs.Prelude.{Event, PortState, IsPort}
-use Rattle.link_sound.specs.Sound.{IsSound}
-use Rattle.link_sound.proofs.Promises.{not_failed}
-use Rattle.link_watch.specs.Sides.{other_side}
-use Rattle.link_watch.specs.declared.side.Side.{Side}
-use Rattle.link_wires.specs.Prelude.{Flow, Delivered, Through, WentUndetected, begun, comes}
 use Rattle.link_machine.specs.OnTheWay.{led_on, port_reached, first_reached, reached_within}
-use Rattle.link_machine.specs.Queues.{Queues, queues_between}
-use Rattle.link_machine.specs.Sound.{IsSoundLink}
-use Rattle.link_machine.specs.States.{LinkState, from_end}
 use Rattle.link_machine.proofs.Arriving.{HasAckAt, run_has}
 use Rattle.link_machine.proofs.Flowing.{IsFlowing, AreFlowing, comes_flowing}
 use Rattle.link_machine.proofs.Machine.{from_end_keeps}

@@ -8,7 +8,7 @@ use Rattle.link_watch.specs.declared.note.Note.TheVariants.{Sent, Got, Hold, Fre
 use Rattle.link_watch.specs.declared.side.Side.{Side}
 use Rattle.link_wires.specs.Wires.{with_sent, port_turned, bursts, answers, without_front, silenced, after_edit}
 use Rattle.link_wires.specs.Deliveries.{Told, Delivered, Through, WentUndetected, delivered, told_of}
-use Rattle.link_wires.specs.declared.edits.Edit.{Edit}
+use Rattle.rio_chars.specs.declared.edit.Edit.{Edit}
 use Rattle.link_wires.specs.declared.moves.Move.{Move}
 use Rattle.link_wires.specs.declared.moves.Move.TheVariants.{Held, Freed}
 use Rattle.link_machine.specs.States.{LinkState, at_end, from_end}

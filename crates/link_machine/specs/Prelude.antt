@@ -7,7 +7,7 @@ pub use Rattle.link_watch.specs.declared.note.Note.{Note}
 pub use Rattle.link_watch.specs.declared.note.Note.TheVariants.{Sent, Got, Fire}
 pub use Rattle.link_watch.specs.Stops.{Stopped}
 pub use Rattle.link_watch.specs.declared.watch.NoteEnd.{NoteEnd}
-pub use Rattle.link_wires.specs.declared.edits.Edit.{Edit}
+pub use Rattle.rio_chars.specs.declared.edit.Edit.{Edit}
 pub use Rattle.link_wires.specs.declared.moves.Move.{Move}
 pub use Rattle.link_wires.specs.declared.moves.Move.TheVariants.{Held, Freed}
 pub use Rattle.link_machine.specs.States.{LinkState, Wires, link, from_end, at_end, turned_round}

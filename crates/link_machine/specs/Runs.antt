@@ -4,7 +4,7 @@ use Rattle.link_port.specs.Ports.{PortState, IsPort}
 use Rattle.link_watch.specs.declared.note.Note.{Note}
 use Rattle.link_watch.specs.declared.side.Side.{Side}
 use Rattle.link_wires.specs.Deliveries.{undetected}
-use Rattle.link_wires.specs.declared.edits.Edit.{Edit}
+use Rattle.rio_chars.specs.declared.edit.Edit.{Edit}
 use Rattle.link_machine.specs.States.{LinkState, from_end}
 use Rattle.link_machine.specs.Calls.{pumped, pump_notes, told_from, tell_notes, delivery_from, delivered_from, delivery_notes, edited_from, timed_out_at, time_out_notes}
 use Rattle.link_machine.specs.Layer.{IsServed, with_port}

@@ -10,7 +10,7 @@ ghost use Rattle.link_sound.specs.Histories.{AreBuffers};
 ghost use Rattle.link_watch.specs.declared.note.Note.{Note};
 ghost use Rattle.link_watch.specs.declared.side.Side.{Side};
 ghost use Rattle.link_wires.specs.Deliveries.{undetected};
-ghost use Rattle.link_wires.specs.declared.edits.Edit.{Edit};
+ghost use Rattle.rio_chars.specs.declared.edit.Edit.{Edit};
 ghost use Rattle.link_machine.specs.Calls.{pumped, told_from, delivery_from, delivered_from, delivery_notes, edited_from, timed_out_at};
 ghost use Rattle.link_machine.specs.Layer.{IsServed, with_port};
 ghost use Rattle.link_machine.specs.OnTheWay.{reached_within};

@@ -1,24 +1,8 @@
 -- Each step of a port leaves a port: what is true of every port stays true.
-use Rattle.std.proofs.Common.{◌≡◌, ℕ, ◌-◌, ◌%◌, ◌<◌, ◌≤◌, Bool, true, false, Option, Some, None, IfSome, List, [], ◌∷◌, length, take, inl, inr, refl, sym, ap, ◌∙◌, subst, arith, length-append, length-drop}
-use Rattle.std.proofs.lemmas.Bool.{cases_lt, le-leb}
-use Rattle.std.proofs.lemmas.List.Elements.{All-nil, All-cons, All-drop, All-append}
-use Rattle.link_buffers.specs.Prelude.{lists_without, highest, Covers}
-use Rattle.link_buffers.proofs.PriorityLaws.{Covers-drop, Covers-highest, highest_below-some}
-use Rattle.link_model.specs.Prelude.{Fields, Input, Output, hears, hears_report, turns, times_out, Outstanding, IsOutstanding, distance, from_ack, window}
+use Rattle.link_sound.proofs.Prelude.{◌≡◌, ℕ, ◌-◌, ◌%◌, ◌<◌, ◌≤◌, Bool, true, false, Option, Some, None, IfSome, List, [], ◌∷◌, length, take, inl, inr, refl, sym, ap, ◌∙◌, subst, arith, length-append, length-drop, cases_lt, le-leb, All-nil, All-cons, All-drop, All-append, lists_without, highest, Covers, Covers-drop, Covers-highest, highest_below-some, Fields, Input, Output, hears, hears_report, turns, times_out, Outstanding, IsOutstanding, distance, from_ack, window, PacketAccepted, PacketRetry, PacketNotAccepted, LinkResponse, OtherStype0, without_oldest, with_next, Report, IsReport, startable-full, startable-open, prios_of, IsOutput, report_prios, Forward, Backward, Response, tells, receiver_of, IsBetween, credited_some}
 use Rattle.link_model.specs.Output.{Stype0, stype0, accepted, retried, responded, started, credited}
-use Rattle.link_model.specs.Output.Stype0.{PacketAccepted, PacketRetry, PacketNotAccepted, LinkResponse, OtherStype0}
-use Rattle.link_model.specs.Outstanding.{without_oldest, with_next}
-use Rattle.link_model.specs.declared.reports.Report.{Report}
-use Rattle.link_model.specs.Reports.{IsReport}
-use Rattle.link_model.proofs.WindowFacts.{startable-full, startable-open}
-use Rattle.link_port.specs.States.{prios_of, IsOutput}
-use Rattle.link_port.proofs.HearLaws.{report_prios}
-use Rattle.link_sound.specs.Marks.{Forward, Backward, Response}
-use Rattle.link_sound.specs.Meanings.{tells, receiver_of}
-use Rattle.link_sound.specs.Between.{IsBetween}
 use Rattle.link_sound.proofs.SenderMoves.{answered}
 use Rattle.link_sound.proofs.Hearing.{oldest_cases}
-use Rattle.link_model.proofs.WindowFacts.{credited_some}
 use Rattle.link_sound.proofs.Turning.{count_is}
 use Rattle.link_sound.proofs.Reported.{report_between, report_output}
 
@@ -92,19 +76,17 @@ turn_sends tells (Output.ErrorStopped false w) queued s = record {
   window_is = s.window_is;
   covered = s.covered;
 }
-turn_sends tells (Output.ErrorStopped true w) queued s = s
-turn_sends tells Output.Failed queued s = s
+turn_sends tells _ queued s = s
 
 -- a time-out
 pub time_out_sends : (output : Output) (queued : List (List (List ℕ))) → IsSender output queued
     → IsSender (times_out output) queued
 time_out_sends (Output.Ok w) queued s = record { window_is = s.window_is; covered = s.covered }
-time_out_sends (Output.RetryStopped w) queued s = s
 time_out_sends (Output.ErrorStopped asked w) queued s = record {
   window_is = s.window_is;
   covered = s.covered;
 }
-time_out_sends Output.Failed queued s = s
+time_out_sends _ queued s = s
 
 -- what comes back
 accepted_sends : (w : Outstanding) (ack : ℕ) (queued : List (List (List ℕ)))
@@ -164,35 +146,21 @@ pub heard_sends :
     (lists_without (take (hears kind output ack).freed (prios_of output)) queued)
 heard_sends PacketAccepted ack (Output.Ok w) input queued kept_ahead kept_back b s =
     accepted_sends w ack queued s
-heard_sends PacketAccepted ack (Output.RetryStopped w) input queued kept_ahead kept_back b s =
-    stopped_sends w queued s.window_is s.covered
-heard_sends PacketAccepted ack (Output.ErrorStopped asked w) input queued kept_ahead kept_back b s =
-    s
 heard_sends PacketAccepted ack Output.Failed input queued kept_ahead kept_back b s = s
 heard_sends PacketRetry ack (Output.Ok w) input queued kept_ahead kept_back b s =
     retried_sends w ack queued s
-heard_sends PacketRetry ack (Output.RetryStopped w) input queued kept_ahead kept_back b s =
-    stopped_sends w queued s.window_is s.covered
-heard_sends PacketRetry ack (Output.ErrorStopped asked w) input queued kept_ahead kept_back b s = s
-heard_sends PacketRetry ack Output.Failed input queued kept_ahead kept_back b s = s
 heard_sends PacketNotAccepted ack (Output.Ok w) input queued kept_ahead kept_back b s =
     stopped_sends w queued s.window_is s.covered
-heard_sends PacketNotAccepted ack (Output.RetryStopped w) input queued kept_ahead kept_back b s =
-    stopped_sends w queued s.window_is s.covered
-heard_sends PacketNotAccepted ack (Output.ErrorStopped asked w) input queued kept_ahead kept_back b
-    s =
-    s
-heard_sends PacketNotAccepted ack Output.Failed input queued kept_ahead kept_back b s = s
-heard_sends LinkResponse ack (Output.Ok w) input queued kept_ahead kept_back b s = s
 heard_sends LinkResponse ack (Output.RetryStopped w) input queued kept_ahead kept_back b s = s
 heard_sends LinkResponse ack (Output.ErrorStopped false w) input queued kept_ahead kept_back b s = s
 heard_sends LinkResponse ack (Output.ErrorStopped true w) input queued kept_ahead kept_back b s =
     responded_sends w ack input queued kept_ahead kept_back b s
-heard_sends LinkResponse ack Output.Failed input queued kept_ahead kept_back b s = s
-heard_sends OtherStype0 ack (Output.Ok w) input queued kept_ahead kept_back b s = s
+heard_sends _ ack (Output.Ok w) input queued kept_ahead kept_back b s = s
 heard_sends OtherStype0 ack (Output.RetryStopped w) input queued kept_ahead kept_back b s = s
-heard_sends OtherStype0 ack (Output.ErrorStopped asked w) input queued kept_ahead kept_back b s = s
-heard_sends OtherStype0 ack Output.Failed input queued kept_ahead kept_back b s = s
+heard_sends _ ack (Output.RetryStopped w) input queued kept_ahead kept_back b s =
+    stopped_sends w queued s.window_is s.covered
+heard_sends _ ack (Output.ErrorStopped asked w) input queued kept_ahead kept_back b s = s
+heard_sends _ ack Output.Failed input queued kept_ahead kept_back b s = s
 
 -- a symbol: its report, and then what it says
 pub symbol_sends :

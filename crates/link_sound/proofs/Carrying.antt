@@ -1,19 +1,6 @@
 -- What holds after every history of two ports: by one step after another.
-use Rattle.std.proofs.Common.{◌≡◌, ◌≢◌, ℕ, zero, suc, ◌<◌, ◌==◌, Bool, Option, Some, None, List, [], ◌∷◌, ◌++◌, map, length, take, drop, option_to_list, All, refl, sym, ap, ◌∙◌, subst, arith, append_assoc}
-use Rattle.std.proofs.lemmas.List.{append-nil}
-use Rattle.std.proofs.Math.Seq.{drop-append_seam}
-use Rattle.std.proofs.lemmas.List.Elements.{filter-append, All-nil, All-append, All-head, All-tail, All-drop}
-use Rattle.link_model.specs.Prelude.{prio_of, distance}
-use Rattle.link_buffers.specs.Queues.{no_packets, list_at, appended, of_prio}
-use Rattle.link_buffers.specs.Priorities.{Covers, highest}
-use Rattle.link_buffers.proofs.PriorityParts.{of_prio_one, held_of_prio}
-use Rattle.link_buffers.proofs.PriorityLaws.{list_at-appended, packets_of-appended, lists_without-appended, Covers-take, length-lists_without}
-use Rattle.link_port.specs.Prelude.{Event, PortState, IsPort, acts, turns_to, timed_out, waiting_in, prios_of, expected_of}
+use Rattle.link_sound.proofs.Prelude.{◌≡◌, ◌≢◌, ℕ, zero, suc, ◌<◌, ◌==◌, Bool, Option, Some, None, List, [], ◌∷◌, ◌++◌, map, length, take, drop, option_to_list, All, refl, sym, ap, ◌∙◌, subst, arith, append_assoc, append-nil, drop-append_seam, filter-append, All-nil, All-append, All-head, All-tail, All-drop, prio_of, distance, no_packets, list_at, appended, of_prio, Covers, highest, of_prio_one, held_of_prio, list_at-appended, packets_of-appended, lists_without-appended, Covers-take, length-lists_without, Event, PortState, IsPort, acts, turns_to, timed_out, waiting_in, prios_of, expected_of, forward, backward, oldest_of, IsSound, lent, waiting, Holds, Frees, AreBuffers, Journeys, Link, new_link, link_turned_round, after_event, IsStep, StepTurns, StepTells, StepActs, Others, StepTimesOut, Puts, Loses, StepGoesOn, IsHistory, Rests, AtFirst, AtSecond, AreCarried}
 use Rattle.link_model.specs.Output as out
-use Rattle.link_sound.specs.Meanings.{forward, backward, oldest_of}
-use Rattle.link_sound.specs.Sound.{IsSound}
-use Rattle.link_sound.specs.Lent.{lent, waiting, Holds, Frees}
-use Rattle.link_sound.specs.Histories.{AreBuffers, Journeys, Link, new_link, link_turned_round, after_event, IsStep, StepTurns, StepTells, StepActs, Others, StepTimesOut, Puts, Loses, StepGoesOn, IsHistory, Rests, AtFirst, AtSecond, AreCarried}
 use Rattle.link_sound.proofs.Freed.{turn_stays, time_out_stays}
 use Rattle.link_sound.proofs.Steps.{begins, exchanged, turn_keeps, tell_keeps, acted_keeps, other_keeps, time_out_keeps, lost_keeps, put_keeps, other_parts}
 use Rattle.link_sound.proofs.Moves.{acted_holds, other_holds, acted_frees, other_frees}

@@ -1,18 +1,5 @@
 -- What a receiver answers, and what it sends in its turns, tells of no buffer that is not there.
-use Rattle.std.proofs.Common.{◌≡◌, ℕ, ◌+◌, ◌%◌, ◌≤◌, Bool, true, false, Option, Some, None, List, [], ◌∷◌, ◌++◌, map, slice_get, append_assoc, refl, ◌∙◌, subst, arith, if◌then◌else◌}
-use Rattle.std.proofs.lemmas.List.{append-nil}
-use Rattle.rio_symbols.specs.Fields.{Fields}
-use Rattle.link_buffers.specs.Prelude.{Buffered, list_at}
-use Rattle.link_model.specs.Prelude.{Input, receives, Sends, status}
-use Rattle.link_model.specs.Input.{Arrival, InputOk, InputRetryStopped, InputErrorStopped}
-use Rattle.link_model.specs.Input.Arrival.{ExpectedWithRoom, ExpectedWithoutRoom, UnexpectedAck, Damaged, RestartFromRetry, LinkRequest, OtherStype1}
-use Rattle.link_model.specs.declared.reports.Report.{Report}
-use Rattle.link_port.specs.Prelude.{PortState, IsPort, standing, buffer_status, expected_of, burst_of, packet_burst, symbol_burst, no_burst}
-use Rattle.link_sound.specs.Marks.{Forward, is_forward}
-use Rattle.link_sound.specs.Kept.{Lacks}
-use Rattle.link_sound.specs.Meanings.{receiver_of}
-use Rattle.link_sound.specs.Sound.{reply_sent}
-use Rattle.link_sound.specs.Credits.{Word, WordTold, Responded, Silent, word, AreCounted, free_buffers, HaveRoomAt}
+use Rattle.link_sound.proofs.Prelude.{◌≡◌, ℕ, ◌+◌, ◌%◌, ◌≤◌, Bool, true, false, Option, Some, None, List, [], ◌∷◌, ◌++◌, map, slice_get, append_assoc, refl, ◌∙◌, subst, arith, if◌then◌else◌, append-nil, Fields, Buffered, list_at, Input, receives, Sends, status, Arrival, InputOk, InputRetryStopped, InputErrorStopped, ExpectedWithRoom, ExpectedWithoutRoom, UnexpectedAck, Damaged, RestartFromRetry, LinkRequest, OtherStype1, Report, PortState, IsPort, standing, buffer_status, expected_of, burst_of, packet_burst, symbol_burst, no_burst, Forward, is_forward, Lacks, receiver_of, reply_sent, Word, WordTold, Responded, Silent, word, AreCounted, free_buffers, HaveRoomAt}
 use Rattle.link_sound.proofs.CreditLaws.{WordsInTurn-append, MaySay, HaveRoom-none}
 use Rattle.link_sound.proofs.CreditTimely.{IsTimely}
 
@@ -77,17 +64,11 @@ pub burst_counted :
 burst_counted p (Sends.Packet ack prio) waiting oldest count report freed held words tells is c =
     packet_counted p oldest count report freed held ack (slice_get (list_at waiting prio) 0) words
     tells is c
-burst_counted p Sends.Restart waiting oldest count report freed held words tells is c =
-    say_counted oldest count report _ _ freed held words _
-    (may_tell p.tells p.received (expected_of p.input) held tells is.receives.most c.expected_is) c
-burst_counted p Sends.Request waiting oldest count report freed held words tells is c =
-    say_counted oldest count report _ _ freed held words _
-    (may_tell p.tells p.received (expected_of p.input) held tells is.receives.most c.expected_is) c
-burst_counted p Sends.Status waiting oldest count report freed held words tells is c =
-    say_counted oldest count report _ _ freed held words _
-    (may_tell p.tells p.received (expected_of p.input) held tells is.receives.most c.expected_is) c
 burst_counted p Sends.Nothing waiting oldest count report freed held words tells is c =
     rw append-nil c
+burst_counted p _ waiting oldest count report freed held words tells is c =
+    say_counted oldest count report _ _ freed held words _
+    (may_tell p.tells p.received (expected_of p.input) held tells is.receives.most c.expected_is) c
 
 -- it tells once more
 pub telling_counted :

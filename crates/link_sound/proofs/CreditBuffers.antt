@@ -1,11 +1,5 @@
 -- The credit that a report gives is no more than the buffers that are free.
-use Rattle.std.proofs.Common.{◌≡◌, ℕ, ◌+◌, ◌-◌, ◌%◌, ◌<◌, ◌≤◌, Option, Some, IfSome, List, map, length, subst, arith}
-use Rattle.link_model.specs.Prelude.{distance, Output, Outstanding}
-use Rattle.link_model.specs.Outstanding.{next_ack}
-use Rattle.link_model.specs.Reports.{credit}
-use Rattle.link_model.specs.declared.reports.Report.{Report}
-use Rattle.link_port.specs.Prelude.{Event, PortState, IsPort, prios_of, expected_of}
-use Rattle.link_sound.specs.Credits.{word, IsCovered, AreCountedAt, HasTold, free_buffers}
+use Rattle.link_sound.proofs.Prelude.{◌≡◌, ℕ, ◌+◌, ◌-◌, ◌%◌, ◌<◌, ◌≤◌, Option, Some, IfSome, List, map, length, subst, arith, distance, Output, Outstanding, next_ack, credit, Report, Event, PortState, IsPort, prios_of, expected_of, word, IsCovered, AreCountedAt, HasTold, free_buffers}
 use Rattle.link_sound.proofs.CreditHears.{distance_counts}
 use Rattle.link_sound.proofs.CreditStays.{few_outstanding}
 

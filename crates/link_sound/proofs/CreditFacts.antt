@@ -1,17 +1,5 @@
 -- What a sound direction says of a sender that was told of free buffers and of its receiver.
-use Rattle.std.proofs.Common.{◌≡◌, ℕ, ◌%◌, ◌<◌, true, false, List, ◌∷◌, length, inl, inr, sym, ap, ◌∙◌, arith}
-use Rattle.std.proofs.lemmas.Option.{slice_get_within}
-use Rattle.link_buffers.specs.Prelude.{Covers}
-use Rattle.link_model.specs.Prelude.{Input, Output, Outstanding, distance}
-use Rattle.link_model.specs.Input.{InputOk}
-use Rattle.link_model.proofs.WindowFacts.{window_few}
-use Rattle.link_port.specs.Prelude.{prios_of, expected_of}
-use Rattle.link_port.specs.States.{has_asked}
-use Rattle.link_sound.specs.Marks.{Forward, ForwardPacket, ForwardRequest, is_forward, Backward, Response, is_response}
-use Rattle.link_sound.specs.Receiver.{IsShut}
-use Rattle.link_sound.specs.Kept.{Lacks}
-use Rattle.link_sound.specs.Meanings.{oldest_of, receiver_of}
-use Rattle.link_sound.specs.Between.{IsBetween}
+use Rattle.link_sound.proofs.Prelude.{◌≡◌, ℕ, ◌%◌, ◌<◌, true, List, ◌∷◌, length, inl, inr, sym, ap, ◌∙◌, arith, slice_get_within, Covers, Input, Output, Outstanding, distance, InputOk, window_few, prios_of, expected_of, has_asked, Forward, ForwardPacket, ForwardRequest, is_forward, Backward, Response, is_response, IsShut, Lacks, oldest_of, receiver_of, IsBetween}
 use Rattle.link_sound.proofs.Turning.{count_is}
 use Rattle.link_sound.proofs.CreditHears.{distance_counts}
 
@@ -21,11 +9,9 @@ pub stopped_shut :
     (kept_back : List Backward) (w : Outstanding) → output ≡ Output.RetryStopped w
     → IsBetween output input queued kept_ahead kept_back
     → (oldest_of output ≡ expected_of input) × IsShut (receiver_of input)
-stopped_shut (Output.Ok v) input queued kept_ahead kept_back w is b = absurd cc
 stopped_shut (Output.RetryStopped v) input queued kept_ahead kept_back w is b =
     (b.oldest ∙ ap (λ n. n % 32) (sym b.is.sender.0) ∙ sym b.expected, b.is.sender.1)
-stopped_shut (Output.ErrorStopped asked v) input queued kept_ahead kept_back w is b = absurd cc
-stopped_shut Output.Failed input queued kept_ahead kept_back w is b = absurd cc
+stopped_shut _ input queued kept_ahead kept_back w is b = absurd cc
 
 -- a packet that comes is outstanding, and not held yet
 pub packet_within :
@@ -50,18 +36,15 @@ pub packet_unanswered :
     (kept_ahead : List Forward) (kept_back : List Backward)
     → IsBetween output input queued (ForwardPacket ack packet ∷ kept_ahead) kept_back
     → Lacks is_response kept_back
-packet_unanswered (Output.Ok w) input ack packet queued kept_ahead kept_back b = b.is.sender.1
 packet_unanswered (Output.RetryStopped w) input ack packet queued kept_ahead kept_back b =
     b.is.sender.5
-packet_unanswered (Output.ErrorStopped false w) input ack packet queued kept_ahead kept_back b =
-    b.is.sender.1
 packet_unanswered (Output.ErrorStopped true w) input ack packet queued kept_ahead kept_back b =
     elim b.is.sender.2 [
       | inl none ↦ none
       | inr none ↦ let never = none.0 in absurd cc
     ]
-packet_unanswered Output.Failed input ack packet queued kept_ahead kept_back b =
-    absurd b.is.sender
+packet_unanswered Output.Failed input ack packet queued kept_ahead kept_back b = absurd b.is.sender
+packet_unanswered _ input ack packet queued kept_ahead kept_back b = b.is.sender.1
 
 -- nothing that means anything is behind a link-request
 pub request_alone :
@@ -69,14 +52,11 @@ pub request_alone :
     (kept_back : List Backward)
     → IsBetween output input queued (ForwardRequest ∷ kept_ahead) kept_back
     → Lacks is_forward kept_ahead
-request_alone (Output.Ok w) input queued kept_ahead kept_back b =
-    let none = b.is.sender.0.0 in absurd cc
 request_alone (Output.RetryStopped w) input queued kept_ahead kept_back b =
     let none = b.is.sender.2.0 in absurd cc
-request_alone (Output.ErrorStopped false w) input queued kept_ahead kept_back b =
-    let none = b.is.sender.0.0 in absurd cc
 request_alone (Output.ErrorStopped true w) input queued kept_ahead kept_back b = b.is.sender.0
 request_alone Output.Failed input queued kept_ahead kept_back b = absurd b.is.sender
+request_alone _ input queued kept_ahead kept_back b = let none = b.is.sender.0.0 in absurd cc
 
 -- nothing that means anything goes ahead while a link-response is on its way
 pub response_alone :
@@ -84,13 +64,9 @@ pub response_alone :
     (kept_ahead : List Forward) (kept_back : List Backward) → has_asked output ≡ true
     → IsBetween output input queued kept_ahead (Response ack ∷ kept_back)
     → Lacks is_forward kept_ahead
-response_alone (Output.Ok w) input queued ack kept_ahead kept_back asked b = absurd cc
-response_alone (Output.RetryStopped w) input queued ack kept_ahead kept_back asked b = absurd cc
-response_alone (Output.ErrorStopped false w) input queued ack kept_ahead kept_back asked b =
-    absurd cc
 response_alone (Output.ErrorStopped true w) input queued ack kept_ahead kept_back asked b =
     elim b.is.sender.2 [
       | inl none ↦ let never = none.0 in absurd cc
       | inr none ↦ none
     ]
-response_alone Output.Failed input queued ack kept_ahead kept_back asked b = absurd cc
+response_alone _ input queued ack kept_ahead kept_back asked b = absurd cc

@@ -1,24 +1,7 @@
 -- Each step of a port that hears of free buffers keeps what is told of them true, and its packets
 -- find room if it was told in time.
-use Rattle.std.proofs.Common.{◌≡◌, ◌≢◌, ◌⊎◌, ℕ, ◌+◌, ◌%◌, ◌≤◌, Bool, true, false, Option, IsSome, List, [], ◌∷◌, ◌++◌, map, length, inl, inr, refl, sym, ap, ◌∙◌, subst, if◌then◌else◌, arith}
-use Rattle.std.proofs.lemmas.List.{append-nil, map-append}
-use Rattle.rio_symbols.specs.Fields.{Fields}
-use Rattle.link_buffers.specs.Prelude.{Buffered}
-use Rattle.link_model.specs.Prelude.{Input, Output, Outstanding, hears, hears_report, status, times_out, Place}
-use Rattle.link_model.specs.Output.{Stype0, stype0}
-use Rattle.link_model.specs.Reports.{has_buffer_status}
-use Rattle.link_model.specs.declared.reports.Report.{Report}
+use Rattle.link_sound.proofs.Prelude.{◌≡◌, ◌≢◌, ◌⊎◌, ℕ, ◌+◌, ◌%◌, ◌≤◌, Bool, true, false, Option, IsSome, List, [], ◌∷◌, ◌++◌, map, length, inl, inr, refl, sym, ap, ◌∙◌, subst, if◌then◌else◌, arith, append-nil, map-append, Fields, Buffered, Input, Output, Outstanding, hears, hears_report, status, times_out, Place, Stype0, stype0, has_buffer_status, Report, port_turn, has_asked, report_prios, Forward, Other, Receiver, IsShut, forward, backward, tells, oldest_of, receiver_of, IsBetween, IsSound, reply_sent, last_report, Word, word, WordsInTurn, AreCounted, AreCountedAt, free_buffers}
 use Rattle.link_port.specs.Prelude.{Event, Ctl, Pkt, Bad, PortState, IsPort, prios_of, expected_of, standing, acts, is_acted, turns_to, turn_sends, tell_sends, timed_out, symbol_burst, no_burst}
-use Rattle.link_port.specs.Turns.{port_turn}
-use Rattle.link_port.specs.States.{has_asked}
-use Rattle.link_port.proofs.HearLaws.{report_prios}
-use Rattle.link_sound.specs.Marks.{Forward, Other}
-use Rattle.link_sound.specs.Receiver.{Receiver, IsShut}
-use Rattle.link_sound.specs.Meanings.{forward, backward, tells, oldest_of, receiver_of}
-use Rattle.link_sound.specs.Between.{IsBetween}
-use Rattle.link_sound.specs.Sound.{IsSound, reply_sent}
-use Rattle.link_sound.specs.Told.{last_report}
-use Rattle.link_sound.specs.Credits.{Word, word, WordsInTurn, AreCounted, AreCountedAt, free_buffers}
 use Rattle.link_sound.proofs.ToldKept.{times_out_report}
 use Rattle.link_sound.proofs.Steps.{acted_keeps}
 use Rattle.link_sound.proofs.Promises.{not_failed}

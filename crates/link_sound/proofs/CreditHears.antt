@@ -1,15 +1,6 @@
 -- What a symbol that is heard does to what is told of free buffers.
-use Rattle.std.proofs.Common.{◌≡◌, ◌⊎◌, ℕ, suc, ◌+◌, ◌-◌, ◌%◌, ◌<◌, ◌≤◌, ◌==◌, nat_lt, Bool, true, false, Option, IfSome, List, ◌∷◌, length, drop, length-drop, inl, inr, refl, sym, ◌∙◌, arith, if◌then◌else◌}
-use Rattle.std.proofs.lemmas.Bool.{and_parts, eqb-true, le-leb}
-use Rattle.std.proofs.lemmas.Option.{IfSome_then}
-use Rattle.link_model.specs.Prelude.{Input, Output, Outstanding, distance, hears}
+use Rattle.link_sound.proofs.Prelude.{◌≡◌, ◌⊎◌, ℕ, suc, ◌+◌, ◌-◌, ◌%◌, ◌<◌, ◌≤◌, ◌==◌, nat_lt, Bool, true, false, Option, IfSome, List, ◌∷◌, length, drop, length-drop, inl, inr, refl, sym, ◌∙◌, arith, if◌then◌else◌, and_parts, eqb-true, le-leb, IfSome_then, Input, Output, Outstanding, distance, hears, Stype0, is_oldest, without_oldest, Report, prios_of, has_asked, Word, Accepted, WordTold, Responded, word_of, WordsInTurn, IsCovered, AreCounted, AreCountedAt}
 use Rattle.link_model.specs.Output as out
-use Rattle.link_model.specs.Output.{Stype0}
-use Rattle.link_model.specs.Outstanding.{is_oldest, without_oldest}
-use Rattle.link_model.specs.declared.reports.Report.{Report}
-use Rattle.link_port.specs.Prelude.{prios_of}
-use Rattle.link_port.specs.States.{has_asked}
-use Rattle.link_sound.specs.Credits.{Word, Accepted, WordTold, Responded, word_of, WordsInTurn, IsCovered, AreCounted, AreCountedAt}
 use Rattle.link_sound.proofs.CreditLaws.{WordsInTurn-lower, WordsInTurn-rest}
 
 -- a word is taken away
@@ -150,54 +141,22 @@ hears_counted Stype0.PacketAccepted has ack free (Output.Ok w) input total freed
 hears_counted Stype0.PacketAccepted has ack free (Output.RetryStopped w) input total freed held
     words most c =
     (freed, rest_counted _ _ _ _ total freed held _ words c, inl refl)
-hears_counted Stype0.PacketAccepted has ack free (Output.ErrorStopped asked w) input total freed
-    held words most c =
-    (freed, rest_counted _ _ _ _ total freed held _ words c, inl refl)
 hears_counted Stype0.PacketAccepted has ack free Output.Failed input total freed held words most
     c =
     (freed, rest_counted _ _ _ _ total freed held _ words c, inl refl)
 hears_counted Stype0.PacketRetry has ack free (Output.Ok w) input total freed held words most c =
     retry_counted (is_oldest w ack) w ack free input total freed held words c
-hears_counted Stype0.PacketRetry has ack free (Output.RetryStopped w) input total freed held words
-    most c =
-    (freed, rest_counted _ _ _ _ total freed held _ words c, inl refl)
-hears_counted Stype0.PacketRetry has ack free (Output.ErrorStopped asked w) input total freed held
-    words most c =
-    (freed, rest_counted _ _ _ _ total freed held _ words c, inl refl)
-hears_counted Stype0.PacketRetry has ack free Output.Failed input total freed held words most c =
-    (freed, rest_counted _ _ _ _ total freed held _ words c, inl refl)
-hears_counted Stype0.PacketNotAccepted has ack free (Output.Ok w) input total freed held words most
-    c =
-    (freed, rest_counted _ _ _ _ total freed held _ words c, inl refl)
-hears_counted Stype0.PacketNotAccepted has ack free (Output.RetryStopped w) input total freed held
-    words most c =
-    (freed, rest_counted _ _ _ _ total freed held _ words c, inl refl)
-hears_counted Stype0.PacketNotAccepted has ack free (Output.ErrorStopped asked w) input total freed
-    held words most c =
-    (freed, rest_counted _ _ _ _ total freed held _ words c, inl refl)
-hears_counted Stype0.PacketNotAccepted has ack free Output.Failed input total freed held words most
-    c =
-    (freed, rest_counted _ _ _ _ total freed held _ words c, inl refl)
-hears_counted Stype0.LinkResponse has ack free (Output.Ok w) input total freed held words most c =
-    (freed, rest_counted _ _ _ _ total freed held _ words c, inl refl)
-hears_counted Stype0.LinkResponse has ack free (Output.RetryStopped w) input total freed held words
-    most c =
-    (freed, rest_counted _ _ _ _ total freed held _ words c, inl refl)
 hears_counted Stype0.LinkResponse has ack free (Output.ErrorStopped false w) input total freed held
     words most c =
     (freed, rest_counted _ _ _ _ total freed held _ words c, inl refl)
 hears_counted Stype0.LinkResponse has ack free (Output.ErrorStopped true w) input total freed held
     words most c =
     response_counted w ack input total freed held words most c
-hears_counted Stype0.LinkResponse has ack free Output.Failed input total freed held words most c =
+hears_counted _ has ack free (Output.Ok w) input total freed held words most c =
     (freed, rest_counted _ _ _ _ total freed held _ words c, inl refl)
-hears_counted Stype0.OtherStype0 has ack free (Output.Ok w) input total freed held words most c =
+hears_counted _ has ack free (Output.RetryStopped w) input total freed held words most c =
     (freed, rest_counted _ _ _ _ total freed held _ words c, inl refl)
-hears_counted Stype0.OtherStype0 has ack free (Output.RetryStopped w) input total freed held words
-    most c =
+hears_counted _ has ack free (Output.ErrorStopped asked w) input total freed held words most c =
     (freed, rest_counted _ _ _ _ total freed held _ words c, inl refl)
-hears_counted Stype0.OtherStype0 has ack free (Output.ErrorStopped asked w) input total freed held
-    words most c =
-    (freed, rest_counted _ _ _ _ total freed held _ words c, inl refl)
-hears_counted Stype0.OtherStype0 has ack free Output.Failed input total freed held words most c =
+hears_counted _ has ack free Output.Failed input total freed held words most c =
     (freed, rest_counted _ _ _ _ total freed held _ words c, inl refl)

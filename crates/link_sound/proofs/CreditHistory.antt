@@ -1,20 +1,6 @@
 -- What is told of free buffers stays true in every history, and the packets of a sender that was
 -- told in time find room.
-use Rattle.std.proofs.Common.{◌≡◌, ◌≢◌, ℕ, ◌+◌, Bool, true, false, IfSome, List, [], ◌∷◌, map, length, inl, inr, refl, sym, subst, arith}
-use Rattle.std.proofs.lemmas.Bool.{cases_Bool}
-use Rattle.link_buffers.specs.Queues.{room_for, stored}
-use Rattle.link_model.specs.Prelude.{prio_of, number_of, Input, Arrival, Received, packet_arrival, symbol_arrival, receives, Damaged, PACKET_RETRY}
-use Rattle.link_model.specs.Input.Arrival.{ExpectedWithRoom, ExpectedWithoutRoom, UnexpectedAck, RestartFromRetry, LinkRequest, OtherStype1}
-use Rattle.link_model.specs.Input.{InputOk, InputRetryStopped, InputErrorStopped}
-use Rattle.link_port.specs.Prelude.{Event, Ctl, Pkt, Bad, PortState, acts, is_acted, buffer_status, prios_of, expected_of}
-use Rattle.link_sound.specs.Marks.{Forward, is_packet, ForwardPacket, ForwardRestart, ForwardRequest}
-use Rattle.link_sound.specs.Receiver.{Receiver, ReceiverRetryStopped, ReceiverOk, ReceiverErrorStopped}
-use Rattle.link_sound.specs.Kept.{Lacks}
-use Rattle.link_sound.specs.Meanings.{forward, receiver_of}
-use Rattle.link_sound.specs.Sound.{IsSound}
-use Rattle.link_sound.specs.Credits.{HasTold, FindsRoom, free_buffers, HaveRoom, HaveRoomAt}
-use Rattle.link_sound.specs.Histories.{Link, link_turned_round, IsHistory, Rests, AtFirst, AtSecond}
-use Rattle.link_sound.specs.InTime.{LeaveRoom, IsLinked, IsToldInTime}
+use Rattle.link_sound.proofs.Prelude.{◌≡◌, ◌≢◌, ℕ, ◌+◌, Bool, true, false, IfSome, List, [], ◌∷◌, map, length, inl, inr, refl, subst, arith, cases_Bool, room_for, stored, prio_of, number_of, Input, Arrival, Received, packet_arrival, symbol_arrival, receives, Damaged, PACKET_RETRY, ExpectedWithRoom, ExpectedWithoutRoom, UnexpectedAck, RestartFromRetry, LinkRequest, OtherStype1, InputOk, InputRetryStopped, InputErrorStopped, Event, Ctl, Pkt, Bad, PortState, acts, is_acted, buffer_status, prios_of, expected_of, Forward, is_packet, ForwardPacket, ForwardRestart, ForwardRequest, Receiver, ReceiverRetryStopped, ReceiverOk, ReceiverErrorStopped, Lacks, forward, receiver_of, IsSound, HasTold, FindsRoom, free_buffers, HaveRoom, HaveRoomAt, Link, link_turned_round, IsHistory, Rests, AtFirst, AtSecond, LeaveRoom, IsLinked, IsToldInTime}
 use Rattle.link_sound.proofs.Steps.{exchanged}
 use Rattle.link_sound.proofs.CreditSteps.{step_linked, round_linked, Hears, hearer_step, teller_step}
 use Rattle.link_sound.proofs.CreditTimely.{known_from_told, told_from_known, known_from_room, room_from_known, IsKnown}
@@ -55,8 +41,7 @@ unstarted_room total least next (Forward.Other ∷ kept) none =
 -- wherever the receiver stands that waits for no restart-from-retry
 unstarted_at : (r : Receiver) (total held next : ℕ) (kept : List Forward)
     → r ≢ ReceiverRetryStopped → Lacks is_packet kept → HaveRoomAt r total held next kept
-unstarted_at ReceiverOk total held next kept stands none =
-    unstarted_room total held next kept none
+unstarted_at ReceiverOk total held next kept stands none = unstarted_room total held next kept none
 unstarted_at ReceiverRetryStopped total held next kept stands none = absurd (stands refl)
 unstarted_at ReceiverErrorStopped total held next kept stands none = tt
 

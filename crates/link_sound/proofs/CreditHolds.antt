@@ -1,20 +1,5 @@
 -- What a packet that comes to a receiver does to what is told of free buffers.
-use Rattle.std.proofs.Common.{◌≡◌, ℕ, suc, ◌+◌, ◌-◌, ◌%◌, ◌<◌, ◌≤◌, ◌==◌, Bool, true, false, Option, IfSome, List, [], ◌∷◌, ◌++◌, length, inl, inr, refl, sym, ap, subst, arith, if◌then◌else◌}
-use Rattle.std.proofs.lemmas.Bool.{cases_lt, eq-eqb, ltb-false}
-use Rattle.std.proofs.lemmas.List.{append-nil, set_past}
-use Rattle.std.proofs.lemmas.Option.{IfSome_then}
-use Rattle.link_buffers.specs.Prelude.{Buffered, list_at, appended, packet_count, room_for, stored}
-use Rattle.link_buffers.proofs.QueueLemmas.{packet_count-appended}
-use Rattle.link_model.specs.Prelude.{prio_of, Input, packet_arrival, receives, untold}
-use Rattle.link_model.specs.Input.Arrival.{ExpectedWithRoom, ExpectedWithoutRoom, UnexpectedAck}
-use Rattle.link_model.specs.declared.reports.Report.{Report}
-use Rattle.link_model.specs.Input.{InputOk, InputRetryStopped, InputErrorStopped}
-use Rattle.link_port.specs.Prelude.{buffer_status, expected_of, expects}
-use Rattle.link_sound.specs.Marks.{Forward, ForwardPacket}
-use Rattle.link_sound.specs.Receiver.{ReceiverOk, ReceiverRetryStopped, ReceiverErrorStopped}
-use Rattle.link_sound.specs.Kept.{Lacks}
-use Rattle.link_sound.specs.Meanings.{receiver_of}
-use Rattle.link_sound.specs.Credits.{Word, Accepted, WordTold, WordsInTurn, IsCovered, AreCounted, free_buffers}
+use Rattle.link_sound.proofs.Prelude.{◌≡◌, ℕ, suc, ◌+◌, ◌-◌, ◌%◌, ◌<◌, ◌≤◌, ◌==◌, Bool, true, false, Option, IfSome, List, [], ◌∷◌, ◌++◌, length, inl, inr, refl, sym, ap, subst, arith, if◌then◌else◌, cases_lt, eq-eqb, ltb-false, append-nil, set_past, IfSome_then, Buffered, list_at, appended, packet_count, room_for, stored, packet_count-appended, prio_of, Input, packet_arrival, receives, untold, ExpectedWithRoom, ExpectedWithoutRoom, UnexpectedAck, Report, InputOk, InputRetryStopped, InputErrorStopped, buffer_status, expected_of, expects, Forward, ForwardPacket, ReceiverOk, ReceiverRetryStopped, ReceiverErrorStopped, Lacks, receiver_of, Word, Accepted, WordTold, WordsInTurn, IsCovered, AreCounted, free_buffers}
 use Rattle.link_sound.proofs.CreditLaws.{WordsInTurn-more, WordsInTurn-accept, is_responded, HaveRoom-lower, HaveRoom-more}
 use Rattle.link_sound.proofs.CreditTimely.{IsTimely}
 use Rattle.link_sound.proofs.CreditAnswers.{say_counted, may_tell, status_free, Answered, no_packet_answered}

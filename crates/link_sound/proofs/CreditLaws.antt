@@ -1,10 +1,6 @@
 -- Laws of what is told of free buffers on its way, and of the packets that have room: a front may
 -- be lost, more buffers may be free, and events come in at the end.
-use Rattle.std.proofs.Common.{◌≡◌, ℕ, suc, ◌+◌, ◌-◌, ◌%◌, ◌<◌, ◌≤◌, Bool, true, false, List, [], ◌∷◌, ◌++◌, refl, arith}
-use Rattle.link_model.specs.Prelude.{prio_of, untold}
-use Rattle.link_sound.specs.Marks.{Forward, ForwardPacket, ForwardRestart, ForwardRequest, Other, is_forward, is_packet}
-use Rattle.link_sound.specs.Kept.{Lacks}
-use Rattle.link_sound.specs.Credits.{Word, Accepted, WordTold, Responded, Silent, WordsInTurn, HaveRoom}
+use Rattle.link_sound.proofs.Prelude.{◌≡◌, ℕ, suc, ◌+◌, ◌-◌, ◌%◌, ◌<◌, ◌≤◌, Bool, true, false, List, [], ◌∷◌, ◌++◌, refl, arith, prio_of, untold, Forward, ForwardPacket, Other, is_forward, is_packet, Lacks, Word, Accepted, WordTold, Responded, Silent, WordsInTurn, HaveRoom}
 
 pub WordsInTurn-lower : (low least held total : ℕ) (words : List Word) → low ≤ least
     → WordsInTurn least held total words → WordsInTurn low held total words
@@ -163,11 +159,7 @@ HaveRoom-lower total low least next [] below have = tt
 HaveRoom-lower total low least next (ForwardPacket ack packet ∷ kept) below
     (n, is, from, within, room, rest) =
     (n, is, omega arith, within, room, rest)
-HaveRoom-lower total low least next (ForwardRestart ∷ kept) below have =
-    HaveRoom-lower total low least next kept below have
-HaveRoom-lower total low least next (ForwardRequest ∷ kept) below have =
-    HaveRoom-lower total low least next kept below have
-HaveRoom-lower total low least next (Other ∷ kept) below have =
+HaveRoom-lower total low least next (_ ∷ kept) below have =
     HaveRoom-lower total low least next kept below have
 
 pub HaveRoom-lost : (total least next : ℕ) (lost kept : List Forward)
@@ -183,12 +175,7 @@ HaveRoom-lost total least next (ForwardPacket ack packet ∷ lost) kept (
 ) =
     HaveRoom-lower total least (suc n) next kept (omega arith)
     (HaveRoom-lost total (suc n) next lost kept rest)
-HaveRoom-lost total least next (ForwardRestart ∷ lost) kept have =
-    HaveRoom-lost total least next lost kept have
-HaveRoom-lost total least next (ForwardRequest ∷ lost) kept have =
-    HaveRoom-lost total least next lost kept have
-HaveRoom-lost total least next (Other ∷ lost) kept have =
-    HaveRoom-lost total least next lost kept have
+HaveRoom-lost total least next (_ ∷ lost) kept have = HaveRoom-lost total least next lost kept have
 
 -- more buffers are free
 pub HaveRoom-more : (total more least next : ℕ) (kept : List Forward) → total ≤ more
@@ -197,28 +184,18 @@ HaveRoom-more total more least next [] grows have = tt
 HaveRoom-more total more least next (ForwardPacket ack packet ∷ kept) grows
     (n, is, from, within, room, rest) =
     (n, is, from, within, omega arith, HaveRoom-more total more (suc n) next kept grows rest)
-HaveRoom-more total more least next (ForwardRestart ∷ kept) grows have =
-    HaveRoom-more total more least next kept grows have
-HaveRoom-more total more least next (ForwardRequest ∷ kept) grows have =
-    HaveRoom-more total more least next kept grows have
-HaveRoom-more total more least next (Other ∷ kept) grows have =
+HaveRoom-more total more least next (_ ∷ kept) grows have =
     HaveRoom-more total more least next kept grows have
 
 pub HaveRoom-append : (total least next : ℕ) (kept : List Forward) (e : Forward)
     → is_packet e ≡ false → HaveRoom total least next kept
     → HaveRoom total least next (kept ++ e ∷ [])
 HaveRoom-append total least next [] (ForwardPacket ack packet) is have = absurd cc
-HaveRoom-append total least next [] ForwardRestart is have = tt
-HaveRoom-append total least next [] ForwardRequest is have = tt
-HaveRoom-append total least next [] Other is have = tt
+HaveRoom-append total least next [] _ is have = tt
 HaveRoom-append total least next (ForwardPacket ack packet ∷ kept) e is
     (n, number, from, within, room, rest) =
     (n, number, from, within, room, HaveRoom-append total (suc n) next kept e is rest)
-HaveRoom-append total least next (ForwardRestart ∷ kept) e is have =
-    HaveRoom-append total least next kept e is have
-HaveRoom-append total least next (ForwardRequest ∷ kept) e is have =
-    HaveRoom-append total least next kept e is have
-HaveRoom-append total least next (Other ∷ kept) e is have =
+HaveRoom-append total least next (_ ∷ kept) e is have =
     HaveRoom-append total least next kept e is have
 
 -- the next packet starts
@@ -236,18 +213,12 @@ HaveRoom-start total least next (ForwardPacket ack p ∷ kept) packet below room
       there,
       HaveRoom-start total (suc n) next kept packet within room rest,
     )
-HaveRoom-start total least next (ForwardRestart ∷ kept) packet below room have =
-    HaveRoom-start total least next kept packet below room have
-HaveRoom-start total least next (ForwardRequest ∷ kept) packet below room have =
-    HaveRoom-start total least next kept packet below room have
-HaveRoom-start total least next (Other ∷ kept) packet below room have =
+HaveRoom-start total least next (_ ∷ kept) packet below room have =
     HaveRoom-start total least next kept packet below room have
 
 -- nothing that means anything is on its way
 pub HaveRoom-none : (total least next : ℕ) (kept : List Forward) → Lacks is_forward kept
     → HaveRoom total least next kept
 HaveRoom-none total least next [] none = tt
-HaveRoom-none total least next (ForwardPacket ack packet ∷ kept) none = absurd cc
-HaveRoom-none total least next (ForwardRestart ∷ kept) none = absurd cc
-HaveRoom-none total least next (ForwardRequest ∷ kept) none = absurd cc
 HaveRoom-none total least next (Other ∷ kept) none = HaveRoom-none total least next kept none.1
+HaveRoom-none total least next (_ ∷ kept) none = absurd cc

@@ -1,12 +1,5 @@
 -- What the buffer status of a symbol does to what a sender keeps.
-use Rattle.std.proofs.Common.{◌≡◌, ℕ, suc, ◌+◌, ◌%◌, ◌<◌, ◌≤◌, ◌==◌, ◌||◌, nat_lt, Bool, true, false, Option, Some, None, IfSome, List, ◌∷◌, length, refl, arith, if◌then◌else◌}
-use Rattle.std.proofs.lemmas.Bool.{eqb-true}
-use Rattle.link_model.specs.Prelude.{Fields, Input, Output, hears_report, untold}
-use Rattle.link_model.specs.Output.{Stype0, stype0, reported}
-use Rattle.link_model.specs.Reports.{has_buffer_status, report_of}
-use Rattle.link_model.specs.declared.reports.Report.{Report}
-use Rattle.link_port.specs.Prelude.{prios_of}
-use Rattle.link_sound.specs.Credits.{Word, Accepted, WordTold, word_of, WordsInTurn, IsCovered, AreCountedAt}
+use Rattle.link_sound.proofs.Prelude.{◌≡◌, ℕ, suc, ◌+◌, ◌%◌, ◌<◌, ◌≤◌, ◌==◌, ◌||◌, nat_lt, Bool, true, false, Option, Some, None, IfSome, List, ◌∷◌, length, refl, arith, if◌then◌else◌, eqb-true, Fields, Input, Output, hears_report, untold, Stype0, stype0, reported, has_buffer_status, report_of, Report, prios_of, Word, Accepted, WordTold, word_of, WordsInTurn, IsCovered, AreCountedAt}
 
 -- what a symbol reports, by its stype0
 abbrev pub reports_as : Stype0 → Bool → (ack free : ℕ) → Output → Output
@@ -30,11 +23,9 @@ kinds_report :
     (accepted || (retry || status)) ack free output
 kinds_report true retry refused response status ack free output first second = refl
 kinds_report false true refused response status ack free output first second = refl
-kinds_report false false true response true ack free output first second =
-    absurd (first refl refl)
+kinds_report false false true response true ack free output first second = absurd (first refl refl)
 kinds_report false false true response false ack free output first second = refl
-kinds_report false false false true true ack free output first second =
-    absurd (second refl refl)
+kinds_report false false false true true ack free output first second = absurd (second refl refl)
 kinds_report false false false true false ack free output first second = refl
 kinds_report false false false false true ack free output first second = refl
 kinds_report false false false false false ack free output first second = refl
@@ -139,8 +130,6 @@ reports_counted Stype0.PacketAccepted has ack free output input total freed held
 reports_counted Stype0.PacketRetry has ack free output input total freed held words most c =
     reported_counted (report_of ack free) output input total freed held (WordTold ack free ∷ words)
     (told_is freed held (length (prios_of output)) total ack free words most c.words_are) c
-reports_counted Stype0.PacketNotAccepted has ack free output input total freed held words most c =
-    c
-reports_counted Stype0.LinkResponse has ack free output input total freed held words most c = c
 reports_counted Stype0.OtherStype0 has ack free output input total freed held words most c =
     status_counted has ack free output input total freed held words most c
+reports_counted _ has ack free output input total freed held words most c = c

@@ -1,25 +1,6 @@
 -- What a sender that hears a symbol keeps of what it was told in time.
-use Rattle.std.proofs.Common.{◌≡◌, ◌≢◌, ◌⊎◌, ℕ, ◌+◌, ◌%◌, ◌<◌, ◌≤◌, nat_lt, nat_le, Bool, true, false, Option, Some, None, IsSome, List, [], ◌∷◌, ◌++◌, map, length, inl, inr, refl, sym, ◌∙◌, subst, lt-ltb, arith, if◌then◌else◌}
-use Rattle.std.proofs.lemmas.List.{append-nil, map-append}
-use Rattle.rio_symbols.specs.Fields.{Fields}
-use Rattle.link_model.specs.Prelude.{Output, Outstanding, from_ack, distance, hears, hears_report, symbol_arrival, untold}
-use Rattle.link_model.specs.Input.{Arrival}
-use Rattle.link_model.specs.Input.Arrival.{ExpectedWithRoom, ExpectedWithoutRoom, UnexpectedAck, Damaged, RestartFromRetry, LinkRequest, OtherStype1}
+use Rattle.link_sound.proofs.Prelude.{◌≡◌, ◌≢◌, ◌⊎◌, ℕ, ◌+◌, ◌%◌, ◌<◌, ◌≤◌, nat_lt, nat_le, Bool, true, false, Option, Some, None, IsSome, List, [], ◌∷◌, ◌++◌, map, length, inl, inr, refl, sym, ◌∙◌, subst, lt-ltb, arith, if◌then◌else◌, append-nil, map-append, Fields, Output, Outstanding, from_ack, distance, hears, hears_report, symbol_arrival, untold, Arrival, ExpectedWithRoom, ExpectedWithoutRoom, UnexpectedAck, Damaged, RestartFromRetry, LinkRequest, OtherStype1, Stype0, stype0, reported, is_oldest, without_oldest, has_buffer_status, base_of, report_of, Report, Event, Ctl, Pkt, Bad, prios_of, has_asked, IsOutput, window_few, Forward, is_response, is_packet, Receiver, Lacks, asks, tells, forward, backward, reply_sent, last_report, Word, word, word_of, WordsInTurn}
 use Rattle.link_model.specs.Output as out
-use Rattle.link_model.specs.Output.{Stype0, stype0, reported}
-use Rattle.link_model.specs.Outstanding.{is_oldest, without_oldest}
-use Rattle.link_model.specs.Reports.{has_buffer_status, base_of, report_of}
-use Rattle.link_model.specs.declared.reports.Report.{Report}
-use Rattle.link_port.specs.Prelude.{Event, Ctl, Pkt, Bad, prios_of}
-use Rattle.link_port.specs.States.{has_asked, IsOutput}
-use Rattle.link_model.proofs.WindowFacts.{window_few}
-use Rattle.link_sound.specs.Marks.{Forward, is_response, is_packet}
-use Rattle.link_sound.specs.Receiver.{Receiver}
-use Rattle.link_sound.specs.Kept.{Lacks}
-use Rattle.link_sound.specs.Meanings.{asks, tells, forward, backward}
-use Rattle.link_sound.specs.Sound.{reply_sent}
-use Rattle.link_sound.specs.Told.{last_report}
-use Rattle.link_sound.specs.Credits.{Word, word, word_of, WordsInTurn}
 use Rattle.link_sound.proofs.CreditLaws.{is_responded}
 use Rattle.link_sound.proofs.CreditReports.{reports_as}
 use Rattle.link_sound.proofs.CreditTimely.{IsTimely, timely_append}
@@ -119,10 +100,9 @@ reports_some Stype0.PacketAccepted has ack free freed held total words output
 reports_some Stype0.PacketRetry has ack free freed held total words output
     (n, is, from, within, few, enough, rest) some =
     told_some ack free output few some
-reports_some Stype0.PacketNotAccepted has ack free freed held total words output are some = some
-reports_some Stype0.LinkResponse has ack free freed held total words output are some = some
 reports_some Stype0.OtherStype0 has ack free freed held total words output are some =
     status_some has ack free freed held total words output are some
+reports_some _ has ack free freed held total words output are some = some
 
 -- a report leaves whether a link-request was sent
 asked_reported : (report : Option Report) (output : Output)
@@ -144,10 +124,8 @@ report_asked symbol output =
     (report_of (base_of symbol.s0 symbol.p0) symbol.p1) output
 
 pub few_outstanding : (output : Output) → IsOutput output → length (prios_of output) ≤ 31
-few_outstanding (Output.Ok w) is = omega (arith, is.few, window_few)
-few_outstanding (Output.RetryStopped w) is = omega (arith, is.few, window_few)
-few_outstanding (Output.ErrorStopped asked w) is = omega (arith, is.few, window_few)
 few_outstanding Output.Failed is = omega arith
+few_outstanding _ is = omega (arith, is.few, window_few)
 
 -- a symbol is no packet
 asks_none : (what : Arrival) → is_packet (asks what) ≡ false

@@ -1,12 +1,6 @@
 -- Each step at either port keeps what is told of free buffers, and the room of packets.
-use Rattle.std.proofs.Common.{ℕ, Bool, true, false, All, List, ◌++◌, refl, subst, arith}
-use Rattle.std.proofs.lemmas.List.Elements.{All-nil, All-head, All-tail, All-append}
-use Rattle.link_buffers.specs.Queues.{appended}
-use Rattle.link_model.specs.Prelude.{prio_of}
+use Rattle.link_sound.proofs.Prelude.{ℕ, Bool, true, false, All, List, ◌++◌, refl, subst, arith, All-nil, All-head, All-tail, All-append, appended, prio_of, IsSound, reply_sent, HasTold, FindsRoom, AreBuffers, Link, new_link, link_turned_round, IsStep, StepTurns, StepTells, StepActs, Others, StepTimesOut, Puts, Loses, StepGoesOn, IsHistory, Rests, AtFirst, AtSecond}
 use Rattle.link_port.specs.Prelude.{Event, acts, turn_sends, tell_sends}
-use Rattle.link_sound.specs.Sound.{IsSound, reply_sent}
-use Rattle.link_sound.specs.Credits.{HasTold, FindsRoom}
-use Rattle.link_sound.specs.Histories.{AreBuffers, Link, new_link, link_turned_round, IsStep, StepTurns, StepTells, StepActs, Others, StepTimesOut, Puts, Loses, StepGoesOn, IsHistory, Rests, AtFirst, AtSecond}
 use Rattle.link_sound.specs.InTime.{LeavesRoom, HasAck, IsLinked}
 use Rattle.link_sound.proofs.Steps.{exchanged, turn_keeps, tell_keeps, acted_keeps, other_keeps, time_out_keeps, lost_keeps, put_keeps, other_parts, begins}
 use Rattle.link_sound.proofs.PortBounds.{new_is_port, turn_port, time_out_port, put_port, read_port, acted_port, other_port}

@@ -1,22 +1,7 @@
 -- Each step of a port that tells its free buffers keeps what it told true, and the packets of one
 -- that was told in time find room.
-use Rattle.std.proofs.Common.{◌≡◌, ℕ, ◌+◌, ◌%◌, ◌<◌, ◌≤◌, ◌==◌, ◌&&◌, Bool, true, false, Option, List, [], ◌∷◌, ◌++◌, map, length, sym, ap, ◌∙◌, subst, refl, if◌then◌else◌, arith}
-use Rattle.std.proofs.lemmas.List.{map-append}
-use Rattle.rio_symbols.specs.Fields.{Fields}
-use Rattle.link_buffers.specs.Prelude.{Buffered, room_for, stored}
-use Rattle.link_model.specs.Prelude.{number_of, prio_of, distance, Input, Output, Place, receives, symbol_arrival, packet_arrival}
-use Rattle.link_model.specs.Input.{Arrival, InputOk}
-use Rattle.link_model.specs.Input.Arrival.{ExpectedWithRoom, ExpectedWithoutRoom, UnexpectedAck, Damaged, RestartFromRetry, LinkRequest, OtherStype1}
-use Rattle.link_model.specs.declared.reports.Report.{Report}
+use Rattle.link_sound.proofs.Prelude.{◌≡◌, ℕ, ◌+◌, ◌%◌, ◌<◌, ◌≤◌, ◌==◌, ◌&&◌, Bool, true, false, Option, List, [], ◌∷◌, ◌++◌, map, length, sym, ap, ◌∙◌, subst, refl, if◌then◌else◌, arith, map-append, Fields, Buffered, room_for, stored, number_of, prio_of, distance, Input, Output, Place, receives, symbol_arrival, packet_arrival, Arrival, InputOk, ExpectedWithRoom, ExpectedWithoutRoom, UnexpectedAck, Damaged, RestartFromRetry, LinkRequest, OtherStype1, Report, port_turn, Forward, Backward, ForwardPacket, Lacks, asks, forward, backward, oldest_of, receiver_of, IsBetween, IsSound, reply_sent, last_report, Word, word, AreCounted, AreCountedAt, free_buffers}
 use Rattle.link_port.specs.Prelude.{Event, Ctl, Pkt, Bad, PortState, IsPort, buffer_status, prios_of, expected_of, acts, is_acted, turns_to, turn_sends, tell_sends, timed_out, waiting_in}
-use Rattle.link_port.specs.Turns.{port_turn}
-use Rattle.link_sound.specs.Marks.{Forward, Backward, ForwardPacket}
-use Rattle.link_sound.specs.Kept.{Lacks}
-use Rattle.link_sound.specs.Meanings.{asks, forward, backward, oldest_of, receiver_of}
-use Rattle.link_sound.specs.Between.{IsBetween}
-use Rattle.link_sound.specs.Sound.{IsSound, reply_sent}
-use Rattle.link_sound.specs.Told.{last_report}
-use Rattle.link_sound.specs.Credits.{Word, word, AreCounted, AreCountedAt, free_buffers}
 use Rattle.link_sound.proofs.Steps.{is_expected}
 use Rattle.link_sound.proofs.CreditLaws.{is_responded, WordsInTurn-more}
 use Rattle.link_sound.proofs.CreditHears.{distance_counts}

@@ -1,15 +1,6 @@
 -- A sender and a receiver that tells, and, where the sender was told in time, the packets that have
 -- room.
-use Rattle.std.proofs.Common.{◌≡◌, ℕ, suc, ◌+◌, ◌-◌, ◌%◌, ◌<◌, ◌≤◌, Bool, true, false, Option, IsSome, List, [], ◌∷◌, ◌++◌, map, length, refl, ◌∙◌, subst, append_assoc}
-use Rattle.link_model.specs.Prelude.{prio_of}
-use Rattle.link_model.specs.declared.reports.Report.{Report}
-use Rattle.link_port.specs.Prelude.{Event, PortState, prios_of}
-use Rattle.link_sound.specs.Marks.{Forward, ForwardPacket, Other, is_forward, is_packet}
-use Rattle.link_sound.specs.Receiver.{Receiver, IsShut, ReceiverOk, ReceiverRetryStopped, ReceiverErrorStopped}
-use Rattle.link_sound.specs.Kept.{Lacks}
-use Rattle.link_sound.specs.Meanings.{forward, receiver_of}
-use Rattle.link_sound.specs.Told.{last_report}
-use Rattle.link_sound.specs.Credits.{word, AreCountedAt, free_buffers, HasTold, HaveRoomAt, FindsRoom}
+use Rattle.link_sound.proofs.Prelude.{◌≡◌, ℕ, suc, ◌+◌, ◌-◌, ◌%◌, ◌<◌, ◌≤◌, Bool, true, false, Option, IsSome, List, [], ◌∷◌, ◌++◌, map, length, refl, ◌∙◌, subst, append_assoc, prio_of, Report, Event, PortState, prios_of, Forward, ForwardPacket, Other, is_forward, is_packet, Receiver, IsShut, ReceiverOk, ReceiverRetryStopped, ReceiverErrorStopped, Lacks, forward, receiver_of, last_report, word, AreCountedAt, free_buffers, HasTold, HaveRoomAt, FindsRoom}
 use Rattle.link_sound.proofs.CreditLaws.{HaveRoom-lost, HaveRoom-more, HaveRoom-append, HaveRoom-start, HaveRoom-none}
 
 -- the sender keeps a report, and its packets find room; nothing is said if it was not told in time

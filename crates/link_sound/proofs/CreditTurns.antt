@@ -1,23 +1,6 @@
 -- What a turn and a time-out of the sender do to what is told of free buffers.
-use Rattle.std.proofs.Common.{◌≡◌, ◌⊎◌, ℕ, suc, ◌+◌, ◌-◌, ◌%◌, ◌<◌, ◌≤◌, Bool, true, false, Option, Some, None, IfSome, IsSome, List, [], ◌∷◌, ◌++◌, map, length, slice_get, length-append, inl, inr, refl, sym, ap, ◌∙◌, subst, ltb-true, arith, if◌then◌else◌}
-use Rattle.std.proofs.lemmas.Bool.{cases_lt, cases_Bool}
-use Rattle.std.proofs.lemmas.List.{append-nil}
-use Rattle.link_buffers.specs.Prelude.{list_at, lists_without, highest, IsOutStore, Covers}
-use Rattle.link_buffers.proofs.PriorityLaws.{highest_below-some, IsOutStore-lists_without}
-use Rattle.link_model.specs.Prelude.{window, Input, Output, Outstanding, distance, turns}
-use Rattle.link_model.specs.Output.{startable, credited, started, unstarted}
-use Rattle.link_model.specs.Outstanding.{next_ack, with_next}
-use Rattle.link_model.specs.Reports.{IsReport, credit, has_credit}
-use Rattle.link_model.specs.declared.reports.Report.{Report}
-use Rattle.link_model.proofs.WindowFacts.{startable-full, startable-open}
-use Rattle.link_port.specs.Prelude.{PortState, standing, prios_of, burst_of, packet_burst}
-use Rattle.link_port.specs.States.{IsOutput}
+use Rattle.link_sound.proofs.Prelude.{◌≡◌, ◌⊎◌, ℕ, suc, ◌+◌, ◌-◌, ◌%◌, ◌<◌, ◌≤◌, Bool, true, false, Option, Some, None, IfSome, IsSome, List, [], ◌∷◌, ◌++◌, map, length, slice_get, length-append, inl, inr, refl, sym, ap, ◌∙◌, subst, ltb-true, arith, if◌then◌else◌, cases_lt, cases_Bool, append-nil, list_at, lists_without, highest, IsOutStore, Covers, highest_below-some, IsOutStore-lists_without, window, Input, Output, Outstanding, distance, turns, startable, credited, started, unstarted, next_ack, with_next, IsReport, credit, has_credit, Report, startable-full, startable-open, PortState, standing, prios_of, burst_of, packet_burst, IsOutput, Forward, ForwardPacket, ForwardRestart, ForwardRequest, Other, Receiver, IsShut, forward, last_report, Word, IsCovered, AreCountedAt}
 use Rattle.link_port.proofs.FirstPackets.{first_has_prio}
-use Rattle.link_sound.specs.Marks.{Forward, ForwardPacket, ForwardRestart, ForwardRequest, Other}
-use Rattle.link_sound.specs.Receiver.{Receiver, IsShut}
-use Rattle.link_sound.specs.Meanings.{forward}
-use Rattle.link_sound.specs.Told.{last_report}
-use Rattle.link_sound.specs.Credits.{Word, IsCovered, AreCountedAt}
 use Rattle.link_sound.proofs.Turning.{first_there}
 use Rattle.link_sound.proofs.CreditHears.{covered_next, distance_counts}
 use Rattle.link_sound.proofs.CreditTimely.{IsTimely, timely_append, timely_shut, timely_start}

@@ -1,20 +1,7 @@
 -- What a sender frees is the front of what is lent, and nothing else of its packets moves.
-use Rattle.std.proofs.Common.{◌≡◌, ℕ, suc, ◌+◌, ◌-◌, ◌%◌, Bool, true, false, List, [], ◌∷◌, ◌++◌, length, take, drop, Option, Some, None, inl, inr, refl, sym, ap, ◌∙◌, subst, arith}
-use Rattle.std.proofs.Math.Seq.{take-add, take-nil}
-use Rattle.std.proofs.lemmas.Bool.{le-leb}
-use Rattle.std.proofs.lemmas.List.{append-nil, take-append-le}
-use Rattle.link_buffers.specs.Priorities.{packets_of, lists_without, Covers}
-use Rattle.link_buffers.proofs.PriorityLists.{packets_of-append, lists_without-append}
-use Rattle.link_model.specs.Prelude.{Fields, Input, Output, hears, hears_report, turns, times_out, Outstanding, distance}
+use Rattle.link_sound.proofs.Prelude.{◌≡◌, ℕ, suc, ◌+◌, ◌-◌, ◌%◌, Bool, true, false, List, [], ◌∷◌, ◌++◌, length, take, drop, Option, Some, None, inl, inr, refl, sym, ap, ◌∙◌, subst, arith, take-add, take-nil, le-leb, append-nil, take-append-le, packets_of, lists_without, Covers, packets_of-append, lists_without-append, Fields, Input, Output, hears, hears_report, turns, times_out, Outstanding, distance, PacketAccepted, PacketRetry, LinkResponse, Forward, Backward, Accept, Response, prios_of, expected_of, report_prios, tells, receiver_of, oldest_of, IsBetween, lent_until, waiting_from}
 use Rattle.link_model.specs.Output.{Stype0, stype0, Heard, accepted, retried, responded, started, startable}
-use Rattle.link_model.specs.Output.Stype0.{PacketAccepted, PacketRetry, PacketNotAccepted, LinkResponse, OtherStype0}
-use Rattle.link_sound.specs.Marks.{Forward, Backward, Accept, Response}
 use Rattle.link_sound.proofs.SenderMoves.{oldest_accepted, answered, distance_is}
-use Rattle.link_port.specs.States.{prios_of, expected_of}
-use Rattle.link_port.proofs.HearLaws.{report_prios}
-use Rattle.link_sound.specs.Meanings.{tells, receiver_of, oldest_of}
-use Rattle.link_sound.specs.Between.{IsBetween}
-use Rattle.link_sound.specs.Lent.{lent_until, waiting_from}
 use Rattle.link_sound.proofs.Turning.{count_is}
 use Rattle.link_sound.proofs.Hearing.{next_oldest, oldest_cases, response_counts}
 use Rattle.link_sound.proofs.Plain.{lent_count}
@@ -114,46 +101,21 @@ heard_frees PacketAccepted ack (Output.Ok w) input queued kept_ahead kept_back c
     accepted_frees w ack input queued kept_ahead kept_back b
 heard_frees PacketAccepted ack (Output.RetryStopped w) input queued kept_ahead kept_back covers b =
     (refl, refl)
-heard_frees PacketAccepted ack (Output.ErrorStopped asked w) input queued kept_ahead kept_back
-    covers b =
-    (refl, refl)
 heard_frees PacketAccepted ack Output.Failed input queued kept_ahead kept_back covers b =
     (refl, refl)
 heard_frees PacketRetry ack (Output.Ok w) input queued kept_ahead kept_back covers b =
     retried_frees w ack (expected_of input) queued
-heard_frees PacketRetry ack (Output.RetryStopped w) input queued kept_ahead kept_back covers b =
-    (refl, refl)
-heard_frees PacketRetry ack (Output.ErrorStopped asked w) input queued kept_ahead kept_back covers
-    b =
-    (refl, refl)
-heard_frees PacketRetry ack Output.Failed input queued kept_ahead kept_back covers b = (refl, refl)
-heard_frees PacketNotAccepted ack (Output.Ok w) input queued kept_ahead kept_back covers b =
-    (refl, refl)
-heard_frees PacketNotAccepted ack (Output.RetryStopped w) input queued kept_ahead kept_back covers
-    b =
-    (refl, refl)
-heard_frees PacketNotAccepted ack (Output.ErrorStopped asked w) input queued kept_ahead kept_back
-    covers b =
-    (refl, refl)
-heard_frees PacketNotAccepted ack Output.Failed input queued kept_ahead kept_back covers b =
-    (refl, refl)
-heard_frees LinkResponse ack (Output.Ok w) input queued kept_ahead kept_back covers b = (refl, refl)
-heard_frees LinkResponse ack (Output.RetryStopped w) input queued kept_ahead kept_back covers b =
-    (refl, refl)
 heard_frees LinkResponse ack (Output.ErrorStopped false w) input queued kept_ahead kept_back covers
     b =
     (refl, refl)
 heard_frees LinkResponse ack (Output.ErrorStopped true w) input queued kept_ahead kept_back covers
     b =
     responded_frees w ack input queued kept_ahead kept_back covers b
-heard_frees LinkResponse ack Output.Failed input queued kept_ahead kept_back covers b = (refl, refl)
-heard_frees OtherStype0 ack (Output.Ok w) input queued kept_ahead kept_back covers b = (refl, refl)
-heard_frees OtherStype0 ack (Output.RetryStopped w) input queued kept_ahead kept_back covers b =
+heard_frees _ ack (Output.Ok w) input queued kept_ahead kept_back covers b = (refl, refl)
+heard_frees _ ack (Output.RetryStopped w) input queued kept_ahead kept_back covers b = (refl, refl)
+heard_frees _ ack (Output.ErrorStopped asked w) input queued kept_ahead kept_back covers b =
     (refl, refl)
-heard_frees OtherStype0 ack (Output.ErrorStopped asked w) input queued kept_ahead kept_back covers
-    b =
-    (refl, refl)
-heard_frees OtherStype0 ack Output.Failed input queued kept_ahead kept_back covers b = (refl, refl)
+heard_frees _ ack Output.Failed input queued kept_ahead kept_back covers b = (refl, refl)
 
 -- what a sender knows of is told by its oldest packet and its priorities alone
 lent_same :
@@ -253,6 +215,4 @@ turn_stays tells Output.Failed waiting input queued kept_ahead kept_back covers 
 pub time_out_stays : (output : Output) (expected : ℕ) (queued : List (List (List ℕ)))
     → Stays output (times_out output) expected queued
 time_out_stays (Output.Ok w) expected queued = (refl, refl)
-time_out_stays (Output.RetryStopped w) expected queued = (refl, refl)
-time_out_stays (Output.ErrorStopped asked w) expected queued = (refl, refl)
-time_out_stays Output.Failed expected queued = (refl, refl)
+time_out_stays _ expected queued = (refl, refl)

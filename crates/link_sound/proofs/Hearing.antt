@@ -1,24 +1,10 @@
 -- What a symbol that comes back does to the direction of the port that hears it.
-use Rattle.std.proofs.Common.{◌≡◌, ◌⊎◌, ℕ, suc, ◌+◌, ◌-◌, ◌%◌, ◌≤◌, true, false, List, [], ◌∷◌, length, take, drop, inl, inr, sym, ap, ◌∙◌, subst, arith}
+use Rattle.link_sound.proofs.Prelude.{◌≡◌, ◌⊎◌, ℕ, suc, ◌+◌, ◌-◌, ◌%◌, ◌≤◌, true, false, List, [], ◌∷◌, length, take, drop, inl, inr, sym, ap, ◌∙◌, subst, arith, cases_Bool, le-leb, drop-drop, lists_without, Covers, drop-packets_of, Fields, hears_report, Input, PacketAccepted, PacketRetry, PacketNotAccepted, LinkResponse, OtherStype0, Outstanding, distance, is_oldest, Forward, Backward, Accept, Retry, Response, Sender, prios_of, report_prios, tells, sender_of, receiver_of, IsBetween}
 use Rattle.std.proofs.Math.Bool.{and-false}
-use Rattle.std.proofs.lemmas.Bool.{cases_Bool, le-leb}
 use Rattle.std.proofs.lemmas.Bool.Decides.{eqb_tells}
-use Rattle.std.proofs.lemmas.List.{drop-drop}
-use Rattle.link_buffers.specs.Priorities.{lists_without, Covers}
-use Rattle.link_buffers.proofs.PriorityLaws.{drop-packets_of}
-use Rattle.link_model.specs.Prelude.{Fields, hears_report}
-use Rattle.link_model.specs.Input.{Input}
 use Rattle.link_model.specs.Output.{Output, Stype0, stype0, hears, accepted, retried, responded}
-use Rattle.link_model.specs.Output.Stype0.{PacketAccepted, PacketRetry, PacketNotAccepted, LinkResponse, OtherStype0}
-use Rattle.link_model.specs.Outstanding.{Outstanding, distance, is_oldest}
-use Rattle.link_sound.specs.Marks.{Forward, Backward, Accept, Retry, Response}
-use Rattle.link_sound.specs.Sender.{Sender}
 use Rattle.link_sound.proofs.MoveLaws.{lost_front}
 use Rattle.link_sound.proofs.SenderMoves.{error_at_ok_direction, error_at_retry_stopped, oldest_accepted, no_accept_at_retry, no_retry_at_retry, oldest_refused, no_response_unasked, answered}
-use Rattle.link_port.specs.States.{prios_of}
-use Rattle.link_port.proofs.HearLaws.{report_prios}
-use Rattle.link_sound.specs.Meanings.{tells, sender_of, receiver_of}
-use Rattle.link_sound.specs.Between.{IsBetween}
 use Rattle.link_sound.proofs.Turning.{count_is, drop_taken}
 use Rattle.link_sound.proofs.Reported.{report_between}
 
@@ -220,11 +206,6 @@ heard_keeps PacketNotAccepted ack (Output.RetryStopped w) input queued kept_ahea
     b =
     error_at_retry w input queued kept_ahead kept_back
     (one_lost (Output.RetryStopped w) input queued kept_ahead _ kept_back b)
-heard_keeps PacketNotAccepted ack (Output.ErrorStopped asked w) input queued kept_ahead kept_back
-    covers b =
-    one_lost (Output.ErrorStopped asked w) input queued kept_ahead _ kept_back b
-heard_keeps PacketNotAccepted ack Output.Failed input queued kept_ahead kept_back covers b =
-    one_lost Output.Failed input queued kept_ahead _ kept_back b
 heard_keeps LinkResponse ack (Output.Ok w) input queued kept_ahead kept_back covers b =
     let asked = no_response (Output.Ok w) ack input queued kept_ahead kept_back b in absurd cc
 heard_keeps LinkResponse ack (Output.RetryStopped w) input queued kept_ahead kept_back covers b =
@@ -243,10 +224,9 @@ heard_keeps OtherStype0 ack (Output.Ok w) input queued kept_ahead kept_back cove
     one_lost (Output.Ok w) input queued kept_ahead _ kept_back b
 heard_keeps OtherStype0 ack (Output.RetryStopped w) input queued kept_ahead kept_back covers b =
     one_lost (Output.RetryStopped w) input queued kept_ahead _ kept_back b
-heard_keeps OtherStype0 ack (Output.ErrorStopped asked w) input queued kept_ahead kept_back covers
-    b =
+heard_keeps _ ack (Output.ErrorStopped asked w) input queued kept_ahead kept_back covers b =
     one_lost (Output.ErrorStopped asked w) input queued kept_ahead _ kept_back b
-heard_keeps OtherStype0 ack Output.Failed input queued kept_ahead kept_back covers b =
+heard_keeps _ ack Output.Failed input queued kept_ahead kept_back covers b =
     one_lost Output.Failed input queued kept_ahead _ kept_back b
 
 -- a symbol: its report, and then what it says

@@ -1,3 +1,4 @@
+mod Prelude
 pub mod KeptLaws
 pub mod NoneLaws
 pub mod MoveLaws

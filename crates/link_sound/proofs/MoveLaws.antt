@@ -1,9 +1,5 @@
 -- What each step of the sender or the receiver does to a direction.
-use Rattle.std.proofs.Common.{◌≡◌, ℕ, ◌+◌, ◌%◌, ◌<◌, ◌≤◌, List, [], ◌∷◌, ◌++◌, inl, inr, refl, arith}
-use Rattle.link_sound.specs.Marks.{Forward, Other, is_restart, is_forward_request, is_forward, Backward, Neutral, is_retry, is_response}
-use Rattle.link_sound.specs.Sender.{Sender, SenderOk, SenderRetryStopped, SenderErrorStopped, SenderFailed}
-use Rattle.link_sound.specs.Receiver.{Receiver, ReceiverOk, ReceiverRetryStopped, ReceiverErrorStopped}
-use Rattle.link_sound.specs.Direction.{FitsSender, FitsReceiver, IsDirection}
+use Rattle.link_sound.proofs.Prelude.{◌≡◌, ℕ, ◌+◌, ◌%◌, ◌<◌, ◌≤◌, List, [], ◌∷◌, ◌++◌, inl, inr, refl, arith, Forward, Other, is_restart, is_forward_request, is_forward, Backward, Neutral, is_retry, is_response, Sender, SenderOk, SenderRetryStopped, SenderErrorStopped, SenderFailed, Receiver, ReceiverOk, ReceiverRetryStopped, ReceiverErrorStopped, FitsSender, FitsReceiver, IsDirection}
 use Rattle.link_sound.proofs.KeptLaws.{Lacks-lost, Lacks-append, AcceptsInTurn-lost, AcceptsInTurn-append, PacketsInTurn-lost, PacketsInTurn-append, RetryOnce-lost, RetryOnce-append, RestartOnce-lost, RestartOnce-append, RequestLast-lost, RequestLast-append, ResponseLast-lost, ResponseLast-append}
 
 -- a number is told by its ackID among 32

@@ -1,17 +1,5 @@
 -- What a port holds and frees when an event comes.
-use Rattle.std.proofs.Common.{◌≡◌, ℕ, ◌==◌, ◌&&◌, Bool, true, false, Some, None, List, ◌∷◌, refl, sym, ap, subst, if◌then◌else◌}
-use Rattle.std.proofs.lemmas.Bool.{eq-eqb}
-use Rattle.link_model.specs.Prelude.{number_of, prio_of, Input, packet_arrival, symbol_arrival, receives, Damaged, Output}
-use Rattle.link_buffers.specs.Prelude.{Buffered, room_for, stored, IsOutStore, Covers}
-use Rattle.link_port.specs.Prelude.{Event, Ctl, Pkt, Bad, prios_of, expected_of, expects, PortState, acts, is_acted}
-use Rattle.link_model.specs.Input.Arrival.{ExpectedWithRoom, ExpectedWithoutRoom, UnexpectedAck}
-use Rattle.link_model.specs.Input.{InputOk, InputRetryStopped, InputErrorStopped}
-use Rattle.link_sound.specs.Marks.{Forward, Backward, ForwardPacket}
-use Rattle.link_sound.specs.Receiver.{IsShut}
-use Rattle.link_sound.specs.Meanings.{receiver_of}
-use Rattle.link_sound.specs.Between.{IsBetween}
-use Rattle.link_sound.specs.Sound.{IsSound}
-use Rattle.link_sound.specs.Lent.{lent_until, waiting_from, HoldsAt, Holds, Frees}
+use Rattle.link_sound.proofs.Prelude.{◌≡◌, ℕ, ◌==◌, ◌&&◌, Bool, true, false, Some, None, List, ◌∷◌, refl, sym, ap, subst, if◌then◌else◌, eq-eqb, number_of, prio_of, Input, packet_arrival, symbol_arrival, receives, Damaged, Output, Buffered, room_for, stored, IsOutStore, Covers, Event, Ctl, Pkt, Bad, prios_of, expected_of, expects, PortState, acts, is_acted, ExpectedWithRoom, ExpectedWithoutRoom, UnexpectedAck, InputOk, InputRetryStopped, InputErrorStopped, Forward, Backward, ForwardPacket, IsShut, receiver_of, IsBetween, IsSound, lent_until, waiting_from, HoldsAt, Holds, Frees}
 use Rattle.link_sound.proofs.Plain.{held_is}
 use Rattle.link_sound.proofs.Freed.{symbol_frees}
 use Rattle.link_sound.proofs.Receiving.{arrival}
@@ -169,5 +157,4 @@ acted_frees a b kept_a kept_b (Bad cause) covers acted s = absurd cc
 pub other_frees : (a b : PortState) (e : Event) → is_acted a e ≡ false
     → Frees a (acts a e).port b (acts a e).freed
 other_frees a b (Ctl symbol) other = absurd cc
-other_frees a b (Pkt ack packet) other = (refl, refl)
-other_frees a b (Bad cause) other = (refl, refl)
+other_frees a b _ other = (refl, refl)

@@ -1,20 +1,7 @@
 -- What a packet that is held is of the packets that wait, and what becomes of the queues.
-use Rattle.std.proofs.Common.{◌≡◌, ℕ, zero, suc, ◌+◌, ◌-◌, ◌%◌, ◌<◌, List, [], ◌∷◌, ◌++◌, length, take, drop, Some, option_map, slice_get, refl, sym, ap, ◌∙◌, subst, arith}
-use Rattle.std.proofs.lemmas.Option.{slice_get_within, slice_get-map}
-use Rattle.link_model.specs.Prelude.{prio_of, Input, Output, distance}
-use Rattle.link_model.specs.Input.{InputOk}
-use Rattle.link_buffers.specs.Queues.{list_at, popped, Sorted, IsOutStore}
-use Rattle.link_buffers.specs.Priorities.{packets_of, lists_without, Covers}
-use Rattle.link_buffers.proofs.PriorityParts.{drop_at}
-use Rattle.link_buffers.proofs.PriorityLists.{lists_without-append}
-use Rattle.link_buffers.proofs.PriorityLaws.{map-prio_of-packets_of, take-packets_of, drop-packets_of, Covers-drop, Covers-first}
-use Rattle.link_sound.specs.Marks.{Forward, Backward, ForwardPacket}
+use Rattle.link_sound.proofs.Prelude.{◌≡◌, ℕ, zero, suc, ◌+◌, ◌-◌, ◌%◌, ◌<◌, List, [], ◌∷◌, ◌++◌, length, take, drop, Some, option_map, slice_get, refl, sym, ap, ◌∙◌, subst, arith, slice_get_within, slice_get-map, prio_of, Input, Output, distance, InputOk, list_at, popped, Sorted, IsOutStore, packets_of, lists_without, Covers, drop_at, lists_without-append, map-prio_of-packets_of, take-packets_of, drop-packets_of, Covers-drop, Covers-first, Forward, Backward, ForwardPacket, prios_of, expected_of, sender_of, oldest_of, IsBetween, lent_until, waiting_from}
 use Rattle.link_sound.proofs.ReceiverMoves.{packet_held}
 use Rattle.link_sound.proofs.SenderMoves.{distance_is}
-use Rattle.link_port.specs.States.{prios_of, expected_of}
-use Rattle.link_sound.specs.Meanings.{sender_of, oldest_of}
-use Rattle.link_sound.specs.Between.{IsBetween}
-use Rattle.link_sound.specs.Lent.{lent_until, waiting_from}
 use Rattle.link_sound.proofs.Receiving.{next_expected}
 
 -- how many packets are lent

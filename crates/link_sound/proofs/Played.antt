@@ -1,10 +1,5 @@
 -- Histories that are played: moves of two ports, one after another, of which each is a step.
-use Rattle.std.proofs.Common.{◌≡◌, nat_lt, Bool, true, false, List, [], ◌∷◌, length, refl, arith, ltb-true}
-use Rattle.link_model.specs.Prelude.{BadPacket, place_start}
-use Rattle.link_buffers.specs.Queues.{no_packets, list_at}
-use Rattle.link_port.specs.Prelude.{Event, Bad, is_acted}
-use Rattle.link_sound.specs.Histories.{Link, link_turned_round, after_turn, after_event, after_put, IsStep, StepTurns, StepActs, Others, Puts, Loses, StepGoesOn, IsHistory, Rests, AtFirst, AtSecond}
-use Rattle.link_sound.specs.Worked.{worked_packet}
+use Rattle.link_sound.proofs.Prelude.{◌≡◌, nat_lt, Bool, true, false, List, [], ◌∷◌, length, refl, arith, ltb-true, BadPacket, place_start, no_packets, list_at, Event, Bad, is_acted, Link, link_turned_round, after_turn, after_event, after_put, IsStep, StepTurns, StepActs, Others, Puts, Loses, StepGoesOn, IsHistory, Rests, AtFirst, AtSecond, worked_packet}
 use Rattle.link_sound.proofs.PortBounds.{new_is_port}
 use Rattle.link_sound.proofs.WorkedHistory.{passes_packet}
 

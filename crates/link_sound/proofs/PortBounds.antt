@@ -1,26 +1,8 @@
 -- After each step of a history both ends are ports again.
-use Rattle.std.proofs.Common.{◌≡◌, ℕ, zero, suc, ◌+◌, ◌-◌, ◌<◌, ◌≤◌, ◌==◌, Bool, true, false, Some, None, List, [], ◌∷◌, length, take, slice_get, inl, inr, refl, sym, ap, subst, if◌then◌else◌, arith}
-use Rattle.std.proofs.lemmas.Bool.{eq-eqb, ltb-true, cases_lt}
-use Rattle.std.proofs.lemmas.List.Elements.{All-nil}
-use Rattle.std.proofs.lemmas.Option.{slice_get_within}
+use Rattle.link_sound.proofs.Prelude.{◌≡◌, ℕ, zero, suc, ◌+◌, ◌-◌, ◌<◌, ◌≤◌, ◌==◌, Bool, true, false, Some, None, List, [], ◌∷◌, length, take, slice_get, inl, inr, refl, sym, ap, subst, if◌then◌else◌, arith, eq-eqb, ltb-true, cases_lt, All-nil, slice_get_within, number_of, prio_of, Passes, Input, Arrival, packet_arrival, symbol_arrival, receives, Damaged, Output, Place, IsBounded, distance, no_packets, Sorted, list_at, appended, Buffered, room_for, stored, packet_count, IsInStore, IsOutStore, ArePackets, Covers, Passes-at, Covers-appended, Covers-take, IsOutStore-lists_without, length-lists_without, Event, Ctl, Pkt, Bad, prios_of, expected_of, expects, PortState, IsPort, new_port, acts, is_acted, turns_to, timed_out, ExpectedWithRoom, ExpectedWithoutRoom, UnexpectedAck, InputOk, InputRetryStopped, InputErrorStopped, Forward, Backward, ForwardPacket, IsShut, receiver_of, oldest_of, IsBetween, IsSound, waiting_from, AreBuffers}
 use Rattle.std.proofs.Math.ListN.{get_or-eq_default}
-use Rattle.link_model.specs.Prelude.{number_of, prio_of, Passes, Input, Arrival, packet_arrival, symbol_arrival, receives, Damaged, Output, Place, IsBounded, distance}
-use Rattle.link_buffers.specs.Queues.{no_packets, Sorted, list_at, appended, Buffered, room_for, stored, packet_count, IsInStore, IsOutStore, ArePackets}
-use Rattle.link_buffers.specs.Priorities.{Covers}
-use Rattle.link_buffers.proofs.QueueLemmas.{Passes-at}
 use Rattle.link_buffers.proofs.StoreLemmas.{IsInStore-appended, IsOutStore-appended}
-use Rattle.link_buffers.proofs.PriorityLaws.{Covers-appended, Covers-take, IsOutStore-lists_without, length-lists_without}
-use Rattle.link_port.specs.Prelude.{Event, Ctl, Pkt, Bad, prios_of, expected_of, expects, PortState, IsPort, new_port, acts, is_acted, turns_to, timed_out}
-use Rattle.link_model.specs.Input.Arrival.{ExpectedWithRoom, ExpectedWithoutRoom, UnexpectedAck, RestartFromRetry, LinkRequest, OtherStype1}
-use Rattle.link_model.specs.Input.{InputOk, InputRetryStopped, InputErrorStopped}
 use Rattle.link_port.specs.Steps.{symbol_heard}
-use Rattle.link_sound.specs.Marks.{Forward, Backward, ForwardPacket}
-use Rattle.link_sound.specs.Receiver.{IsShut}
-use Rattle.link_sound.specs.Meanings.{receiver_of, oldest_of}
-use Rattle.link_sound.specs.Between.{IsBetween}
-use Rattle.link_sound.specs.Sound.{IsSound}
-use Rattle.link_sound.specs.Lent.{waiting_from}
-use Rattle.link_sound.specs.Histories.{AreBuffers}
 use Rattle.link_sound.proofs.Bounds.{IsSender, covers_none, nothing_from, turn_sends, time_out_sends, symbol_sends}
 use Rattle.link_sound.proofs.Plain.{held_is}
 use Rattle.link_sound.proofs.Ranged.{HasAck}
@@ -32,24 +14,9 @@ pub expected_below : (what : Arrival) (input : Input) → expected_of input < 32
 expected_below (ExpectedWithRoom buffers) (InputOk expected) below = omega arith
 expected_below (ExpectedWithRoom buffers) (InputRetryStopped expected) below = below
 expected_below (ExpectedWithRoom buffers) (InputErrorStopped expected) below = below
-expected_below (ExpectedWithoutRoom buffers) (InputOk expected) below = below
-expected_below (ExpectedWithoutRoom buffers) (InputRetryStopped expected) below = below
-expected_below (ExpectedWithoutRoom buffers) (InputErrorStopped expected) below = below
-expected_below UnexpectedAck (InputOk expected) below = below
-expected_below UnexpectedAck (InputRetryStopped expected) below = below
-expected_below UnexpectedAck (InputErrorStopped expected) below = below
-expected_below (Damaged cause) (InputOk expected) below = below
-expected_below (Damaged cause) (InputRetryStopped expected) below = below
-expected_below (Damaged cause) (InputErrorStopped expected) below = below
-expected_below RestartFromRetry (InputOk expected) below = below
-expected_below RestartFromRetry (InputRetryStopped expected) below = below
-expected_below RestartFromRetry (InputErrorStopped expected) below = below
-expected_below LinkRequest (InputOk expected) below = below
-expected_below LinkRequest (InputRetryStopped expected) below = below
-expected_below LinkRequest (InputErrorStopped expected) below = below
-expected_below OtherStype1 (InputOk expected) below = below
-expected_below OtherStype1 (InputRetryStopped expected) below = below
-expected_below OtherStype1 (InputErrorStopped expected) below = below
+expected_below _ (InputOk expected) below = below
+expected_below _ (InputRetryStopped expected) below = below
+expected_below _ (InputErrorStopped expected) below = below
 
 -- a list that has a packet is one of the lists
 list_within : (lists : List (List (List ℕ))) (prio : ℕ) (packet : List ℕ)

@@ -1,15 +1,5 @@
 -- What soundness promises of a sender, and what is not sound.
-use Rattle.std.proofs.Common.{ap, ◌∙◌, [], ◌∷◌, drop, length-drop, ◌≡◌, ◌≢◌, ℕ, ◌≤◌, None, List, length, subst, arith, map}
-use Rattle.std.proofs.lemmas.Option.{slice_get_within}
-use Rattle.link_buffers.specs.Prelude.{no_packets, Covers}
-use Rattle.link_port.specs.Prelude.{Event, PortState, prios_of, expected_of}
-use Rattle.link_model.specs.Prelude.{Input, Output, Outstanding, distance, from_ack}
-use Rattle.link_model.specs.Input.{InputOk}
-use Rattle.link_sound.specs.Marks.{Forward, ForwardPacket, Backward, Accept, Response}
-use Rattle.link_sound.specs.Kept.{AcceptsInTurn, PacketsInTurn}
-use Rattle.link_sound.specs.Meanings.{forward, backward, oldest_of}
-use Rattle.link_sound.specs.Between.{IsBetween}
-use Rattle.link_sound.specs.Sound.{IsSound}
+use Rattle.link_sound.proofs.Prelude.{ap, ◌∙◌, [], ◌∷◌, drop, length-drop, ◌≡◌, ◌≢◌, ℕ, ◌≤◌, None, List, length, subst, arith, map, slice_get_within, no_packets, Covers, Event, PortState, prios_of, expected_of, Input, Output, Outstanding, distance, from_ack, InputOk, Forward, ForwardPacket, Backward, Accept, Response, PacketsInTurn, forward, backward, oldest_of, IsBetween, IsSound}
 use Rattle.link_sound.proofs.SenderMoves.{none_between}
 use Rattle.link_sound.proofs.Turning.{count_is}
 use Rattle.link_sound.proofs.Plain.{lent_count}

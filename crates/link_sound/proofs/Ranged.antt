@@ -1,13 +1,6 @@
 -- The symbols that a port sends have ackIDs of five bits.
-use Rattle.std.proofs.Common.{ℕ, ◌<◌, Bool, true, false, if◌then◌else◌, Option, Some, None, List, All, [], ◌∷◌, slice_get}
-use Rattle.std.proofs.lemmas.List.Elements.{All-nil, All-cons}
-use Rattle.link_model.specs.Prelude.{Fields, Input, Arrival, number_of, receives, symbol_arrival, Damaged, Sends, status, start_of_packet, end_of_packet}
-use Rattle.link_model.specs.Input.Arrival.{ExpectedWithRoom, ExpectedWithoutRoom, UnexpectedAck, RestartFromRetry, LinkRequest, OtherStype1}
-use Rattle.link_model.specs.Input.{InputOk, InputRetryStopped, InputErrorStopped}
-use Rattle.link_buffers.specs.Queues.{list_at}
+use Rattle.link_sound.proofs.Prelude.{ℕ, ◌<◌, Bool, true, false, if◌then◌else◌, Option, Some, None, List, All, [], ◌∷◌, slice_get, All-nil, All-cons, Fields, Input, Arrival, number_of, receives, symbol_arrival, Damaged, Sends, status, start_of_packet, end_of_packet, ExpectedWithRoom, ExpectedWithoutRoom, UnexpectedAck, RestartFromRetry, LinkRequest, OtherStype1, InputOk, InputRetryStopped, InputErrorStopped, list_at, port_turn, reply_sent}
 use Rattle.link_port.specs.Prelude.{Event, Ctl, Pkt, Bad, PortState, expected_of, acts, standing, burst_of, packet_burst, symbol_burst, no_burst, turn_sends, tell_sends, waiting_in}
-use Rattle.link_port.specs.Turns.{port_turn}
-use Rattle.link_sound.specs.Sound.{reply_sent}
 pub use Rattle.link_sound.specs.InTime.{HasAck}
 
 one_symbol : (symbol : Fields) → symbol.p0 < 32 → All HasAck (Ctl symbol ∷ [])
@@ -76,6 +69,5 @@ reply_has OtherStype1 (InputErrorStopped expected) below = All-nil HasAck
 pub event_has : (a : PortState) (e : Event) → expected_of a.input < 32
     → All HasAck (reply_sent (acts a e).reply)
 event_has a (Ctl symbol) below = reply_has (symbol_arrival symbol.s1 symbol.cmd) a.input below
-event_has a (Pkt ack packet) below =
-    reply_has _ a.input below
+event_has a (Pkt ack packet) below = reply_has _ a.input below
 event_has a (Bad cause) below = reply_has (Damaged (number_of cause)) a.input below

@@ -1,13 +1,5 @@
 -- What a receiver does to a direction when something comes.
-use Rattle.std.proofs.Common.{◌≡◌, ℕ, suc, ◌+◌, ◌%◌, ◌≤◌, List, [], ◌∷◌, ◌++◌, length, Some, slice_get, inl, inr, refl, sym, ◌∙◌, subst, arith}
-use Rattle.std.proofs.lemmas.Option.{slice_get_within}
-use Rattle.link_model.specs.Window.{window}
-use Rattle.link_model.proofs.WindowFacts.{window_few}
-use Rattle.link_sound.specs.Marks.{Forward, ForwardPacket, ForwardRestart, ForwardRequest, is_restart, is_forward, Backward, Accept, Retry, Response, Neutral, is_retry, is_response}
-use Rattle.link_sound.specs.Kept.{Lacks, AcceptsInTurn, PacketsInTurn, RetryOnce}
-use Rattle.link_sound.specs.Sender.{Sender, SenderOk, SenderRetryStopped, SenderErrorStopped, SenderFailed}
-use Rattle.link_sound.specs.Receiver.{Receiver, ReceiverErrorStopped, ReceiverOk, ReceiverRetryStopped}
-use Rattle.link_sound.specs.Direction.{FitsSender, IsDirection}
+use Rattle.link_sound.proofs.Prelude.{◌≡◌, ℕ, suc, ◌+◌, ◌%◌, ◌≤◌, List, [], ◌∷◌, ◌++◌, length, Some, slice_get, inl, inr, refl, sym, ◌∙◌, subst, arith, slice_get_within, window, window_few, Forward, ForwardPacket, ForwardRestart, ForwardRequest, is_restart, is_forward, Backward, Accept, Retry, Response, Neutral, is_retry, is_response, Lacks, AcceptsInTurn, PacketsInTurn, RetryOnce, Sender, SenderOk, SenderRetryStopped, SenderErrorStopped, SenderFailed, Receiver, ReceiverErrorStopped, ReceiverOk, ReceiverRetryStopped, FitsSender, IsDirection}
 use Rattle.link_sound.proofs.KeptLaws.{Lacks-append, AcceptsInTurn-accept, AcceptsInTurn-append, PacketsInTurn-none, RetryOnce-none, RetryOnce-retry, RestartOnce-none, RequestLast-none, ResponseLast-none, ResponseLast-response}
 use Rattle.link_sound.proofs.NoneLaws.{Lacks-restart}
 use Rattle.link_sound.proofs.MoveLaws.{same_number, neutral_sent}
@@ -220,8 +212,7 @@ FitsSender-answered SenderOk r freed held kept_ahead kept_back (asks, answers, o
 FitsSender-answered SenderRetryStopped r freed held kept_ahead kept_back
     (same, shut, asks, starts, retries, answers) =
     absurd cc
-FitsSender-answered SenderErrorStopped r freed held kept_ahead kept_back (asks, answers) =
-    absurd cc
+FitsSender-answered SenderErrorStopped r freed held kept_ahead kept_back (asks, answers) = absurd cc
 FitsSender-answered Sender.ErrorStoppedAsked r freed held kept_ahead kept_back
     (asks, answers, inl none) =
     ((RequestLast-none kept_ahead asks, ResponseLast-response held kept_back none, inr asks), asks)

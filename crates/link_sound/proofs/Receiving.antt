@@ -1,18 +1,7 @@
 -- What comes to a receiver does to its direction, and what it replies to both.
-use Rattle.std.proofs.Common.{◌≡◌, ◌⊎◌, ℕ, suc, ◌+◌, ◌%◌, ◌==◌, ◌&&◌, Bool, true, false, List, [], ◌∷◌, ◌++◌, inl, inr, refl, sym, subst, if◌then◌else◌, arith}
-use Rattle.std.proofs.lemmas.Bool.{eq-eqb}
-use Rattle.std.proofs.lemmas.List.{append-nil}
-use Rattle.link_model.specs.Prelude.{Input, Arrival, packet_arrival, symbol_arrival, receives, Damaged, Output}
-use Rattle.link_model.specs.Input.Arrival.{ExpectedWithRoom, ExpectedWithoutRoom, UnexpectedAck, RestartFromRetry, LinkRequest, OtherStype1}
-use Rattle.link_model.specs.Input.{InputErrorStopped, InputOk, InputRetryStopped}
-use Rattle.link_sound.specs.Marks.{Forward, Backward, ForwardPacket, ForwardRestart, ForwardRequest, Other, Response, Neutral}
-use Rattle.link_sound.specs.Receiver.{IsShut, ReceiverOk}
-use Rattle.link_sound.specs.Direction.{IsDirection}
+use Rattle.link_sound.proofs.Prelude.{◌≡◌, ◌⊎◌, ℕ, suc, ◌+◌, ◌%◌, ◌==◌, ◌&&◌, Bool, true, false, List, [], ◌∷◌, ◌++◌, inl, inr, refl, sym, subst, if◌then◌else◌, arith, eq-eqb, append-nil, Input, Arrival, packet_arrival, symbol_arrival, receives, Damaged, Output, ExpectedWithRoom, ExpectedWithoutRoom, UnexpectedAck, RestartFromRetry, LinkRequest, OtherStype1, InputErrorStopped, InputOk, InputRetryStopped, Forward, Backward, ForwardPacket, ForwardRestart, ForwardRequest, Other, Response, Neutral, IsShut, ReceiverOk, IsDirection, expected_of, expects, asks, reply_forward, reply_backward, sender_of, receiver_of, IsBetween}
 use Rattle.link_sound.proofs.MoveLaws.{lost_front, other_sent}
 use Rattle.link_sound.proofs.ReceiverMoves.{error_met, packet_held, packet_refused, no_restart_at_ok, restart_met, request_met}
-use Rattle.link_port.specs.States.{expected_of, expects}
-use Rattle.link_sound.specs.Meanings.{asks, reply_forward, reply_backward, sender_of, receiver_of}
-use Rattle.link_sound.specs.Between.{IsBetween}
 
 -- what the receiver acts on is taken away
 pub one_taken :

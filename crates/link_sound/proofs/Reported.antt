@@ -1,18 +1,5 @@
 -- A report that comes leaves a sender as it is, but for its last report.
-use Rattle.std.proofs.Common.{◌≡◌, ℕ, ◌+◌, ◌%◌, ◌<◌, ◌==◌, Bool, true, false, if◌then◌else◌, IfSome, List, Option, inl, inr, refl, ap, ◌∙◌, sym, subst, arith}
-use Rattle.std.proofs.lemmas.Bool.{cases_lt, lt-ltb, le-ltb}
-use Rattle.link_model.specs.Prelude.{Fields, Input, Output, untold, hears_report}
-use Rattle.link_model.specs.declared.reports.Report.{Report}
-use Rattle.link_model.specs.Output.{reported}
-use Rattle.link_model.specs.Reports.{IsReport, has_buffer_status, base_of, report_of}
-use Rattle.link_port.specs.States.{IsOutput}
-use Rattle.link_port.proofs.HearLaws.{report_prios}
-use Rattle.link_buffers.specs.Priorities.{packets_of}
-use Rattle.link_sound.specs.Marks.{Forward, Backward}
-use Rattle.link_sound.specs.Sender.{Sender}
-use Rattle.link_sound.specs.Direction.{IsDirection}
-use Rattle.link_sound.specs.Meanings.{sender_of, receiver_of, oldest_of}
-use Rattle.link_sound.specs.Between.{IsBetween}
+use Rattle.link_sound.proofs.Prelude.{◌≡◌, ℕ, ◌+◌, ◌%◌, ◌<◌, ◌==◌, Bool, true, false, if◌then◌else◌, IfSome, List, Option, inl, inr, refl, ap, ◌∙◌, sym, subst, arith, cases_lt, lt-ltb, le-ltb, Fields, Input, Output, untold, hears_report, Report, reported, IsReport, has_buffer_status, base_of, report_of, IsOutput, report_prios, packets_of, Forward, Backward, Sender, IsDirection, sender_of, receiver_of, oldest_of, IsBetween}
 
 reported_sender : (report : Option Report) (output : Output)
     → sender_of (reported report output) ≡ sender_of output

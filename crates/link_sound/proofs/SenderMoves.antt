@@ -1,13 +1,5 @@
 -- What a sender does to a direction when a symbol comes back.
-use Rattle.std.proofs.Common.{◌≡◌, ℕ, suc, ◌+◌, ◌-◌, ◌%◌, ◌<◌, ◌≤◌, List, ◌∷◌, length, take, inl, inr, refl, sym, ◌∙◌, subst, arith}
-use Rattle.std.proofs.lemmas.List.{length-take-le}
-use Rattle.link_model.specs.Prelude.{distance, window}
-use Rattle.link_model.proofs.WindowFacts.{window_few}
-use Rattle.link_sound.specs.Marks.{Forward, is_forward, Backward, Accept, Retry, Response, is_backward}
-use Rattle.link_sound.specs.Kept.{Lacks, AcceptsInTurn}
-use Rattle.link_sound.specs.Sender.{Sender, SenderOk, SenderErrorStopped, SenderRetryStopped, SenderFailed}
-use Rattle.link_sound.specs.Receiver.{Receiver, ReceiverOk, ReceiverRetryStopped, ReceiverErrorStopped}
-use Rattle.link_sound.specs.Direction.{FitsSender, FitsReceiver, IsDirection}
+use Rattle.link_sound.proofs.Prelude.{◌≡◌, ℕ, suc, ◌+◌, ◌-◌, ◌%◌, ◌<◌, ◌≤◌, List, ◌∷◌, length, take, inl, inr, refl, sym, ◌∙◌, subst, arith, length-take-le, distance, window, window_few, Forward, is_forward, Backward, Accept, Retry, Response, is_backward, Lacks, AcceptsInTurn, Sender, SenderOk, SenderErrorStopped, SenderRetryStopped, SenderFailed, Receiver, ReceiverOk, ReceiverRetryStopped, ReceiverErrorStopped, FitsSender, FitsReceiver, IsDirection}
 use Rattle.link_sound.proofs.KeptLaws.{AcceptsInTurn-none, PacketsInTurn-none, RetryOnce-none, RestartOnce-none, Lacks-response}
 use Rattle.link_sound.proofs.NoneLaws.{Lacks-restart, Lacks-request, Lacks-retry}
 use Rattle.link_sound.proofs.MoveLaws.{same_number}
@@ -140,14 +132,12 @@ pub no_response_unasked :
     (kept_ahead : List Forward) (kept_back : List Backward)
     → IsDirection s r freed held sent kept_ahead (Response ack ∷ kept_back)
     → s ≡ Sender.ErrorStoppedAsked
-no_response_unasked SenderOk r freed held ack sent kept_ahead kept_back d =
-    let none = d.sender.1.0 in absurd cc
 no_response_unasked SenderRetryStopped r freed held ack sent kept_ahead kept_back d =
     let none = d.sender.5.0 in absurd cc
-no_response_unasked SenderErrorStopped r freed held ack sent kept_ahead kept_back d =
-    let none = d.sender.1.0 in absurd cc
 no_response_unasked Sender.ErrorStoppedAsked r freed held ack sent kept_ahead kept_back d = refl
 no_response_unasked SenderFailed r freed held ack sent kept_ahead kept_back d = absurd d.sender
+no_response_unasked _ r freed held ack sent kept_ahead kept_back d =
+    let none = d.sender.1.0 in absurd cc
 
 response_alone :
     (r : Receiver) (freed held ack : ℕ) (kept_ahead : List Forward) (kept_back : List Backward)

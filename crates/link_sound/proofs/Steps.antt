@@ -1,23 +1,10 @@
 -- Each step of a port keeps both directions of its link.
-use Rattle.std.proofs.Common.{◌≡◌, ℕ, Bool, true, false, Option, Some, None, List, [], ◌∷◌, ◌++◌, map, length, inl, refl, sym, ap, ◌∙◌, subst, arith, ◌<◌}
-use Rattle.std.proofs.lemmas.Bool.{eqb-true}
-use Rattle.std.proofs.lemmas.List.{map-append}
-use Rattle.link_model.specs.Prelude.{Fields, number_of, prio_of, Place, from_ack, Input, packet_arrival, symbol_arrival, receives, Damaged, times_out, hears_report}
-use Rattle.link_buffers.specs.Prelude.{Buffered, room_for, stored, appended, Covers}
-use Rattle.link_port.specs.Prelude.{Event, Ctl, Pkt, Bad, buffer_status, prios_of, expected_of, expects, PortState, acts, is_acted}
-use Rattle.link_buffers.proofs.PriorityLaws.{packets_of-appended}
+use Rattle.link_sound.proofs.Prelude.{◌≡◌, ℕ, Bool, true, false, Option, Some, None, List, [], ◌∷◌, ◌++◌, map, length, inl, refl, sym, ap, ◌∙◌, subst, arith, ◌<◌, eqb-true, map-append, Fields, number_of, prio_of, Place, from_ack, Input, Arrival, packet_arrival, symbol_arrival, receives, Damaged, times_out, hears_report, Buffered, room_for, stored, appended, Covers, Event, Ctl, Pkt, Bad, buffer_status, prios_of, expected_of, expects, PortState, acts, is_acted, packets_of-appended, stype0, InputOk, Forward, Backward, ForwardPacket, Neutral, IsDirection, forward, backward, reply_forward, reply_backward, sender_of, receiver_of, IsBetween, IsSound, reply_sent}
 use Rattle.link_model.specs.Output as out
-use Rattle.link_model.specs.Output.{stype0}
-use Rattle.link_model.specs.Input.{InputOk, InputRetryStopped, InputErrorStopped}
-use Rattle.link_sound.specs.Marks.{Forward, Backward, ForwardPacket, Neutral}
-use Rattle.link_sound.specs.Direction.{IsDirection}
 use Rattle.link_sound.proofs.MoveLaws.{lost_front}
 use Rattle.link_sound.proofs.TurnMoves.{emptied, time_is_out}
 use Rattle.link_port.specs.Steps.{acts_symbol, acts_packet}
 use Rattle.link_port.specs.Turns as turn
-use Rattle.link_sound.specs.Meanings.{forward, backward, reply_forward, reply_backward, sender_of, receiver_of}
-use Rattle.link_sound.specs.Between.{IsBetween}
-use Rattle.link_sound.specs.Sound.{IsSound, reply_sent}
 use Rattle.link_sound.proofs.Turning.{own_turn, other_turn, tell_ahead, tell_back}
 use Rattle.link_sound.proofs.Hearing.{one_lost, symbol_heard}
 use Rattle.link_sound.proofs.Receiving.{symbol_keeps, damaged_keeps, expected_keeps, unexpected_keeps, reply_keeps}
@@ -55,14 +42,17 @@ reply_backward_is None = refl
 reply_backward_is (Some symbol) = refl
 
 replied_ahead :
-    (output : out.Output) (input : Input) (queued : List (List (List ℕ))) (kept : List Event)
-    (reply : Option Fields) (kept_back : List Backward)
-    → IsBetween output input queued (map forward kept ++ reply_forward reply) kept_back
-    → IsBetween output input queued (map forward (kept ++ reply_sent reply)) kept_back
-replied_ahead output input queued kept reply kept_back b =
+    (what : Arrival) (half : Input) (output : out.Output) (input : Input)
+    (queued : List (List (List ℕ))) (kept : List Event) (kept_back : List Backward)
+    → IsBetween output input queued (map forward kept) kept_back
+    → IsBetween output input queued (map forward (kept ++ reply_sent (receives what half).reply))
+    kept_back
+replied_ahead what half output input queued kept kept_back b =
+    let reply = (receives what half).reply in
     sent_ahead output input queued kept (reply_sent reply) kept_back
     (subst (λ (fs : List Forward). IsBetween output input queued (map forward kept ++ fs) kept_back)
-    (reply_forward_is reply) b)
+    (reply_forward_is reply)
+    (reply_keeps what half output input queued (map forward kept) kept_back b))
 
 replied_back :
     (output : out.Output) (input : Input) (queued : List (List (List ℕ)))
@@ -116,12 +106,9 @@ symbol_acted a b kept_a kept_b symbol covers s =
     let out_half = out.hears (stype0 symbol.s0) (hears_report symbol a.output) symbol.p0 in
     record {
       a_to_b =
-          replied_ahead out_half.state b.input _ kept_a (receives what a.input).reply
-          (map backward kept_b)
-          (reply_keeps what a.input out_half.state b.input _ (map forward kept_a)
-          (map backward kept_b)
+          replied_ahead what a.input out_half.state b.input _ kept_a (map backward kept_b)
           (symbol_heard symbol a.output b.input a.queued (map forward kept_a)
-          (map backward kept_b) covers s.a_to_b));
+          (map backward kept_b) covers s.a_to_b);
       b_to_a =
           replied_back b.output (receives what a.input).state b.queued (map forward kept_b) kept_a
           (receives what a.input).reply
@@ -131,8 +118,7 @@ symbol_acted a b kept_a kept_b symbol covers s =
 
 pub is_expected : (input : Input) (ack : ℕ) → expects input ack ≡ true → input ≡ InputOk ack
 is_expected (InputOk expected) ack same = ap InputOk (sym (eqb-true ack expected same))
-is_expected (InputRetryStopped expected) ack same = absurd cc
-is_expected (InputErrorStopped expected) ack same = absurd cc
+is_expected _ ack same = absurd cc
 
 expected_there :
     (input : Input) (room : Bool) (buffers ack : ℕ) (packet : List ℕ) (output : out.Output)
@@ -166,11 +152,9 @@ packet_acted a b kept_a kept_b ack packet same s =
     let what = packet_arrival (expected_of a.input) ack room buffers in
     record {
       a_to_b =
-          replied_ahead a.output b.input a.queued kept_a (receives what a.input).reply
-          (map backward kept_b)
-          (reply_keeps what a.input a.output b.input a.queued (map forward kept_a)
-          (map backward kept_b) (one_lost a.output b.input a.queued (map forward kept_a) Neutral
-          (map backward kept_b) s.a_to_b));
+          replied_ahead what a.input a.output b.input a.queued kept_a (map backward kept_b)
+          (one_lost a.output b.input a.queued (map forward kept_a) Neutral (map backward kept_b)
+          s.a_to_b);
       b_to_a =
           replied_back b.output (receives what a.input).state b.queued (map forward kept_b) kept_a
           (receives what a.input).reply
@@ -200,10 +184,8 @@ other_keeps a b kept_a kept_b (Pkt ack packet) other s =
     let what = packet_arrival (expected_of a.input) ack room buffers in
     record {
       a_to_b =
-          replied_ahead a.output b.input a.queued kept_a (receives what a.input).reply
-          (map backward kept_b)
-          (reply_keeps what a.input a.output b.input a.queued (map forward kept_a)
-          (map backward kept_b) s.a_to_b);
+          replied_ahead what a.input a.output b.input a.queued kept_a (map backward kept_b)
+          s.a_to_b;
       b_to_a =
           replied_back b.output (receives what a.input).state b.queued (map forward kept_b) kept_a
           (receives what a.input).reply
@@ -214,10 +196,8 @@ other_keeps a b kept_a kept_b (Bad cause) other s =
     let what = Damaged (number_of cause) in
     record {
       a_to_b =
-          replied_ahead a.output b.input a.queued kept_a (receives what a.input).reply
-          (map backward kept_b)
-          (reply_keeps what a.input a.output b.input a.queued (map forward kept_a)
-          (map backward kept_b) s.a_to_b);
+          replied_ahead what a.input a.output b.input a.queued kept_a (map backward kept_b)
+          s.a_to_b;
       b_to_a =
           replied_back b.output (receives what a.input).state b.queued (map forward kept_b) kept_a
           (receives what a.input).reply
@@ -263,24 +243,7 @@ own_time_out :
     (kept_ahead : List Forward) (kept_back : List Backward)
     → IsBetween output input queued kept_ahead kept_back
     → IsBetween (times_out output) input queued [] []
-own_time_out (out.Output.Ok w) input queued kept_ahead kept_back b = record {
-  sent = b.sent;
-  freed = b.freed;
-  held = b.held;
-  oldest = b.oldest;
-  expected = b.expected;
-  outstanding = b.outstanding;
-  is = time_is_out _ (receiver_of input) b.freed b.held b.sent kept_ahead kept_back b.is;
-}
-own_time_out (out.Output.RetryStopped w) input queued kept_ahead kept_back b = record {
-  sent = b.sent;
-  freed = b.freed;
-  held = b.held;
-  oldest = b.oldest;
-  expected = b.expected;
-  outstanding = b.outstanding;
-  is = time_is_out _ (receiver_of input) b.freed b.held b.sent kept_ahead kept_back b.is;
-}
+own_time_out out.Output.Failed input queued kept_ahead kept_back b = absurd b.is.sender
 own_time_out (out.Output.ErrorStopped false w) input queued kept_ahead kept_back b = record {
   sent = b.sent;
   freed = b.freed;
@@ -290,7 +253,7 @@ own_time_out (out.Output.ErrorStopped false w) input queued kept_ahead kept_back
   outstanding = b.outstanding;
   is = time_is_out _ (receiver_of input) b.freed b.held b.sent kept_ahead kept_back b.is;
 }
-own_time_out (out.Output.ErrorStopped true w) input queued kept_ahead kept_back b = record {
+own_time_out _ input queued kept_ahead kept_back b = record {
   sent = b.sent;
   freed = b.freed;
   held = b.held;
@@ -299,7 +262,6 @@ own_time_out (out.Output.ErrorStopped true w) input queued kept_ahead kept_back 
   outstanding = b.outstanding;
   is = time_is_out _ (receiver_of input) b.freed b.held b.sent kept_ahead kept_back b.is;
 }
-own_time_out out.Output.Failed input queued kept_ahead kept_back b = absurd b.is.sender
 
 other_time_out :
     (output : out.Output) (input : Input) (queued : List (List (List ℕ)))

@@ -1,13 +1,6 @@
 -- Each step of a port keeps what is told between two ports true.
-use Rattle.std.proofs.Common.{◌≡◌, ℕ, Bool, true, false, Option, IfSome, All, List, [], ◌∷◌, ◌++◌, sym, subst}
-use Rattle.std.proofs.lemmas.List.Elements.{All-nil, All-head, All-tail, All-append}
-use Rattle.link_model.specs.declared.reports.Report.{Report}
-use Rattle.link_model.specs.Prelude.{hears_report}
-use Rattle.link_model.specs.Output.{stype0}
-use Rattle.link_buffers.specs.Prelude.{highest}
+use Rattle.link_sound.proofs.Prelude.{◌≡◌, ℕ, Bool, true, false, Option, IfSome, All, List, [], ◌∷◌, ◌++◌, sym, subst, All-nil, All-head, All-tail, All-append, Report, hears_report, stype0, highest, reply_sent, TellsAs, IsTold}
 use Rattle.link_port.specs.Prelude.{Event, Ctl, Pkt, Bad, PortState, IsPort, new_port, acts, is_acted, turns_to, turn_sends, tell_sends, timed_out, waiting_in}
-use Rattle.link_sound.specs.Sound.{reply_sent}
-use Rattle.link_sound.specs.Told.{TellsAs, IsTold}
 use Rattle.link_sound.proofs.ToldLaws.{acts_told, turn_told, tell_told}
 use Rattle.link_sound.proofs.ToldKept.{hears_keeps, report_keeps, turns_report, times_out_report}
 
@@ -30,8 +23,7 @@ turn_keeps a b kept_a kept_b is ahead back = (
   },
   record {
     coming = back.coming;
-    keeps =
-        kept_of b.tells _ _ (turns_report a.tells a.output (highest (waiting_in a))) back.keeps;
+    keeps = kept_of b.tells _ _ (turns_report a.tells a.output (highest (waiting_in a))) back.keeps;
   },
 )
 

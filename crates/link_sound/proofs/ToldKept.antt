@@ -1,14 +1,7 @@
 -- What an output half keeps of what it was told: each step keeps its last report, has none, or has
 -- that of a symbol that it heard.
-use Rattle.std.proofs.Common.{◌≡◌, ℕ, nat_lt, nat_le, Bool, true, false, Option, Some, None, IfSome, IsTrue, refl, sym, if◌then◌else◌}
-use Rattle.link_model.specs.Prelude.{Fields, Outstanding, from_ack, distance, Output, hears, hears_report, turns, times_out, untold}
-use Rattle.link_model.specs.declared.reports.Report.{Report}
-use Rattle.link_model.specs.Reports.{has_buffer_status, base_of, report_of}
-use Rattle.link_model.specs.Outstanding.{is_oldest, without_oldest}
+use Rattle.link_sound.proofs.Prelude.{◌≡◌, ℕ, nat_lt, nat_le, Bool, true, false, Option, Some, None, IfSome, IsTrue, refl, sym, if◌then◌else◌, Fields, Outstanding, from_ack, distance, Output, hears, hears_report, turns, times_out, untold, Report, has_buffer_status, base_of, report_of, is_oldest, without_oldest, Stype0, reported, started, startable, Ctl, last_report, TellsAs}
 use Rattle.link_model.specs.Output as out
-use Rattle.link_model.specs.Output.{Stype0, reported, started, startable}
-use Rattle.link_port.specs.Prelude.{Ctl}
-use Rattle.link_sound.specs.Told.{last_report, TellsAs}
 
 -- what is kept is true of reports
 abbrev pub Keeps : (Report → Type 0) → Output → Type 0
@@ -36,34 +29,21 @@ pub hears_keeps : (P : Report → Type 0) (what : Stype0) (output : Output) (ack
 hears_keeps P Stype0.PacketAccepted (Output.Ok w) ack keeps =
     accepted_keeps P (is_oldest w ack) w keeps
 hears_keeps P Stype0.PacketAccepted (Output.RetryStopped w) ack keeps = keeps
-hears_keeps P Stype0.PacketAccepted (Output.ErrorStopped asked w) ack keeps = keeps
 hears_keeps P Stype0.PacketAccepted Output.Failed ack keeps = keeps
 hears_keeps P Stype0.PacketRetry (Output.Ok w) ack keeps =
     retried_keeps P (is_oldest w ack) w keeps
-hears_keeps P Stype0.PacketRetry (Output.RetryStopped w) ack keeps = keeps
-hears_keeps P Stype0.PacketRetry (Output.ErrorStopped asked w) ack keeps = keeps
-hears_keeps P Stype0.PacketRetry Output.Failed ack keeps = keeps
-hears_keeps P Stype0.PacketNotAccepted (Output.Ok w) ack keeps = keeps
-hears_keeps P Stype0.PacketNotAccepted (Output.RetryStopped w) ack keeps = keeps
-hears_keeps P Stype0.PacketNotAccepted (Output.ErrorStopped asked w) ack keeps = keeps
-hears_keeps P Stype0.PacketNotAccepted Output.Failed ack keeps = keeps
-hears_keeps P Stype0.LinkResponse (Output.Ok w) ack keeps = keeps
-hears_keeps P Stype0.LinkResponse (Output.RetryStopped w) ack keeps = keeps
 hears_keeps P Stype0.LinkResponse (Output.ErrorStopped false w) ack keeps = keeps
 hears_keeps P Stype0.LinkResponse (Output.ErrorStopped true w) ack keeps =
     responded_keeps P (nat_le (distance w.oldest ack) _) w ack (distance w.oldest ack) keeps
-hears_keeps P Stype0.LinkResponse Output.Failed ack keeps = keeps
-hears_keeps P Stype0.OtherStype0 (Output.Ok w) ack keeps = keeps
-hears_keeps P Stype0.OtherStype0 (Output.RetryStopped w) ack keeps = keeps
-hears_keeps P Stype0.OtherStype0 (Output.ErrorStopped asked w) ack keeps = keeps
-hears_keeps P Stype0.OtherStype0 Output.Failed ack keeps = keeps
+hears_keeps P _ (Output.Ok w) ack keeps = keeps
+hears_keeps P _ (Output.RetryStopped w) ack keeps = keeps
+hears_keeps P _ (Output.ErrorStopped asked w) ack keeps = keeps
+hears_keeps P _ Output.Failed ack keeps = keeps
 
 pub reported_keeps : (P : Report → Type 0) (report : Option Report) (output : Output)
     → IfSome report P → Keeps P (reported report output)
-reported_keeps P report (Output.Ok w) is = is
-reported_keeps P report (Output.RetryStopped w) is = is
-reported_keeps P report (Output.ErrorStopped asked w) is = is
 reported_keeps P report Output.Failed is = tt
+reported_keeps P report _ is = is
 
 -- the report of a symbol tells as its port does
 report_tells : (tells : Bool) (base free : ℕ) (few : Bool) → nat_lt free untold ≡ few
@@ -109,6 +89,4 @@ turns_report tells Output.Failed waiting = refl
 -- a time-out keeps it
 pub times_out_report : (output : Output) → last_report (times_out output) ≡ last_report output
 times_out_report (Output.Ok w) = refl
-times_out_report (Output.RetryStopped w) = refl
-times_out_report (Output.ErrorStopped asked w) = refl
-times_out_report Output.Failed = refl
+times_out_report _ = refl

@@ -1,16 +1,7 @@
 -- What each step of a port tells of its free buffers, and what it keeps of what it was told.
-use Rattle.std.proofs.Common.{◌≡◌, ℕ, ◌-◌, ◌≤◌, ◌==◌, nat_lt, Bool, true, false, Option, Some, None, All, List, [], ◌∷◌, refl, lt-ltb, slice_get, arith, if◌then◌else◌}
-use Rattle.std.proofs.lemmas.List.Elements.{All-nil, All-cons}
-use Rattle.link_model.specs.Prelude.{Fields, number_of, prio_of, Input, receives, symbol_arrival, packet_arrival, Sends, untold, status, start_of_packet, end_of_packet}
-use Rattle.link_model.specs.Input.{Arrival, InputOk, InputRetryStopped, InputErrorStopped}
-use Rattle.link_model.specs.Input.Arrival.{ExpectedWithRoom, ExpectedWithoutRoom, UnexpectedAck, Damaged, RestartFromRetry, LinkRequest, OtherStype1}
-use Rattle.link_model.specs.Reports.{has_buffer_status}
-use Rattle.link_buffers.specs.Prelude.{Buffered, packet_count, room_for, stored, list_at}
+use Rattle.link_sound.proofs.Prelude.{◌≡◌, ℕ, ◌-◌, ◌≤◌, ◌==◌, nat_lt, Bool, true, false, Option, Some, None, All, List, [], ◌∷◌, refl, lt-ltb, slice_get, arith, if◌then◌else◌, All-nil, All-cons, Fields, number_of, prio_of, Input, receives, symbol_arrival, packet_arrival, Sends, untold, status, start_of_packet, end_of_packet, Arrival, InputOk, InputRetryStopped, InputErrorStopped, ExpectedWithRoom, ExpectedWithoutRoom, UnexpectedAck, Damaged, RestartFromRetry, LinkRequest, OtherStype1, has_buffer_status, Buffered, packet_count, room_for, stored, list_at, port_turn, reply_sent, TellsAs}
 use Rattle.link_port.specs.Prelude.{Event, Ctl, Pkt, Bad, PortState, IsPort, standing, buffer_status, expected_of, acts, burst_of, packet_burst, turn_sends, tell_sends, waiting_in}
-use Rattle.link_port.specs.Turns.{port_turn}
 use Rattle.link_port.specs.Turns as turn
-use Rattle.link_sound.specs.Sound.{reply_sent}
-use Rattle.link_sound.specs.Told.{TellsAs}
 
 -- the buffer status of a port is a number of buffers exactly if it tells
 pub status_tells : (tells : Bool) (store : Buffered) → store.buffers ≤ 30
@@ -27,11 +18,7 @@ port_tells port is = status_tells port.tells port.received is.receives.most
 abbrev ArrivalTells : Bool → Arrival → Type 0
 ArrivalTells tells (ExpectedWithRoom buffers) = nat_lt buffers untold ≡ tells
 ArrivalTells tells (ExpectedWithoutRoom buffers) = nat_lt buffers untold ≡ tells
-ArrivalTells tells UnexpectedAck = Unit {0}
-ArrivalTells tells (Damaged cause) = Unit {0}
-ArrivalTells tells RestartFromRetry = Unit {0}
-ArrivalTells tells LinkRequest = Unit {0}
-ArrivalTells tells OtherStype1 = Unit {0}
+ArrivalTells tells _ = Unit {0}
 
 none_told : (tells : Bool) → All (TellsAs tells) []
 none_told tells = All-nil (TellsAs tells)
@@ -57,8 +44,7 @@ reply_told tells UnexpectedAck (InputOk expected) is = no_status tells _ refl
 reply_told tells UnexpectedAck (InputRetryStopped expected) is = none_told tells
 reply_told tells UnexpectedAck (InputErrorStopped expected) is = none_told tells
 reply_told tells (Damaged cause) (InputOk expected) is = no_status tells _ refl
-reply_told tells (Damaged cause) (InputRetryStopped expected) is =
-    no_status tells _ refl
+reply_told tells (Damaged cause) (InputRetryStopped expected) is = no_status tells _ refl
 reply_told tells (Damaged cause) (InputErrorStopped expected) is = none_told tells
 reply_told tells RestartFromRetry (InputOk expected) is = no_status tells _ refl
 reply_told tells RestartFromRetry (InputRetryStopped expected) is = none_told tells
@@ -114,8 +100,7 @@ acts_told port (Pkt ack packet) is =
     (buffer_status port.tells (stored room port.received packet))) port.input
     (packet_tells port.tells port.received (expected_of port.input) ack packet room
     is.receives.most)
-acts_told port (Bad cause) is =
-    reply_told port.tells (Damaged (number_of cause)) port.input tt
+acts_told port (Bad cause) is = reply_told port.tells (Damaged (number_of cause)) port.input tt
 
 packet_told : (port : PortState) (ack : ℕ) (packet : Option (List ℕ)) → IsPort port
     → All (TellsAs port.tells) (packet_burst (standing port) ack packet).sent

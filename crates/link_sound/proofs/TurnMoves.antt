@@ -1,11 +1,5 @@
 -- What turns of the sender and time-outs do to a direction.
-use Rattle.std.proofs.Common.{ℕ, ◌+◌, ◌%◌, ◌<◌, ◌≤◌, List, [], ◌∷◌, ◌++◌, length, take, inl, inr, refl, arith, length-append}
-use Rattle.std.proofs.lemmas.List.{length-take-le}
-use Rattle.link_model.specs.Window.{window}
-use Rattle.link_sound.specs.Marks.{Forward, ForwardPacket, ForwardRestart, ForwardRequest, is_restart, is_forward_request, Backward}
-use Rattle.link_sound.specs.Sender.{Sender, SenderOk, SenderRetryStopped, SenderErrorStopped, SenderFailed}
-use Rattle.link_sound.specs.Receiver.{Receiver, ReceiverOk, ReceiverRetryStopped, ReceiverErrorStopped}
-use Rattle.link_sound.specs.Direction.{FitsSender, FitsReceiver, IsDirection}
+use Rattle.link_sound.proofs.Prelude.{ℕ, ◌+◌, ◌%◌, ◌<◌, ◌≤◌, List, [], ◌∷◌, ◌++◌, length, take, inl, inr, refl, arith, length-append, length-take-le, window, Forward, ForwardPacket, ForwardRestart, ForwardRequest, is_restart, is_forward_request, Backward, Sender, SenderOk, SenderRetryStopped, SenderErrorStopped, SenderFailed, Receiver, ReceiverOk, ReceiverRetryStopped, ReceiverErrorStopped, FitsSender, FitsReceiver, IsDirection}
 use Rattle.link_sound.proofs.KeptLaws.{Lacks-append, PacketsInTurn-append, PacketsInTurn-start, RetryOnce-none, RestartOnce-append, RestartOnce-start, RestartOnce-restart, RequestLast-request, ResponseLast-none}
 
 FitsSender-start :

@@ -1,25 +1,7 @@
 -- What a turn does to the two directions of a link.
-use Rattle.std.proofs.Common.{◌≡◌, ℕ, zero, suc, ◌+◌, Bool, true, false, if◌then◌else◌, ◌%◌, ◌<◌, ◌≤◌, List, [], ◌∷◌, ◌++◌, length, take, drop, map, Option, Some, None, slice_get, inl, inr, refl, sym, ap, ◌∙◌, subst, arith, length-drop, append_assoc}
-use Rattle.std.proofs.lemmas.Bool.{cases_lt}
-use Rattle.std.proofs.lemmas.List.{append-nil, drop-append-le}
-use Rattle.link_buffers.specs.Prelude.{list_at, packets_of, lists_without, highest, Covers}
-use Rattle.link_buffers.proofs.PriorityLists.{slice_get-lists_without}
-use Rattle.link_buffers.proofs.PriorityLaws.{length-packets_of, packets_of-next, highest_below-some}
-use Rattle.link_model.specs.Prelude.{Input, Output, Sends, turns, Outstanding, window, status}
-use Rattle.link_model.specs.Output.{started, startable, credited, unstarted}
-use Rattle.link_model.specs.Reports.{has_credit}
-use Rattle.link_model.specs.Outstanding.{next_ack, with_next}
-use Rattle.link_model.proofs.WindowFacts.{startable-full, startable-open}
-use Rattle.link_sound.specs.Marks.{Forward, Backward, ForwardPacket, Other, Neutral}
-use Rattle.link_sound.specs.Sender.{SenderOk}
-use Rattle.link_sound.specs.Receiver.{Receiver}
-use Rattle.link_sound.specs.Direction.{IsDirection}
-use Rattle.link_model.proofs.WindowFacts.{credited_some}
+use Rattle.link_sound.proofs.Prelude.{◌≡◌, ℕ, zero, suc, ◌+◌, Bool, true, false, if◌then◌else◌, ◌%◌, ◌<◌, ◌≤◌, List, [], ◌∷◌, ◌++◌, length, take, drop, map, Option, Some, None, slice_get, inl, inr, refl, sym, ap, ◌∙◌, subst, arith, length-drop, append_assoc, cases_lt, append-nil, drop-append-le, list_at, packets_of, lists_without, highest, Covers, slice_get-lists_without, length-packets_of, packets_of-next, highest_below-some, Input, Output, Sends, turns, Outstanding, window, status, started, startable, credited, unstarted, next_ack, with_next, startable-full, startable-open, Forward, Backward, ForwardPacket, Other, Neutral, SenderOk, Receiver, IsDirection, credited_some, PortState, standing, prios_of, burst_of, packet_burst, symbol_burst, no_burst, forward, backward, sender_of, receiver_of, IsBetween}
 use Rattle.link_sound.proofs.MoveLaws.{other_sent, neutral_sent}
 use Rattle.link_sound.proofs.TurnMoves.{packet_started, restarted, requested}
-use Rattle.link_port.specs.Prelude.{PortState, standing, prios_of, burst_of, packet_burst, symbol_burst, no_burst}
-use Rattle.link_sound.specs.Meanings.{forward, backward, sender_of, receiver_of}
-use Rattle.link_sound.specs.Between.{IsBetween}
 
 -- the number of a next packet is that of those sent
 number_of_next : (oldest count freed total : ℕ) → oldest ≡ freed % 32 → total ≡ freed + count
@@ -214,9 +196,7 @@ own_turn tells (Output.ErrorStopped false w) input queued p kept_ahead kept_back
       outstanding = b.outstanding;
       is = requested (receiver_of input) b.freed b.held b.sent kept_ahead kept_back b.is;
     }
-own_turn tells (Output.ErrorStopped true w) input queued p kept_ahead kept_back covers b =
-    rw append-nil b
-own_turn tells Output.Failed input queued p kept_ahead kept_back covers b = rw append-nil b
+own_turn tells _ input queued p kept_ahead kept_back covers b = rw append-nil b
 
 -- something that means nothing for the direction comes on the way back
 pub neutral_back :
@@ -262,14 +242,9 @@ pub other_turn :
 other_turn output input queued (Sends.Packet ack prio) p waiting kept_ahead kept_back b =
     packet_back output input queued p ack (slice_get (list_at waiting prio) 0) kept_ahead
     kept_back b
-other_turn output input queued Sends.Restart p waiting kept_ahead kept_back b =
+other_turn output input queued Sends.Nothing p waiting kept_ahead kept_back b = rw append-nil b
+other_turn output input queued _ p waiting kept_ahead kept_back b =
     neutral_back output input queued kept_ahead kept_back b
-other_turn output input queued Sends.Request p waiting kept_ahead kept_back b =
-    neutral_back output input queued kept_ahead kept_back b
-other_turn output input queued Sends.Status p waiting kept_ahead kept_back b =
-    neutral_back output input queued kept_ahead kept_back b
-other_turn output input queued Sends.Nothing p waiting kept_ahead kept_back b =
-    rw append-nil b
 
 -- it tells its free buffers
 pub tell_back :

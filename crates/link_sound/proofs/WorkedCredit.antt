@@ -1,16 +1,7 @@
 -- A link in which a port is told of free buffers before it starts a packet, and one in which it is
 -- not.
-use Rattle.std.proofs.Common.{true, false, [], refl, arith, ◌≡◌, List, ◌∷◌}
-use Rattle.link_model.specs.Prelude.{status}
-use Rattle.link_port.specs.Prelude.{Event, Ctl, new_port}
-use Rattle.link_buffers.specs.Priorities.{highest_below}
-use Rattle.link_model.specs.Window.{window}
-use Rattle.link_sound.specs.Receiver.{ReceiverRetryStopped}
-use Rattle.link_sound.specs.Meanings.{receiver_of}
+use Rattle.link_sound.proofs.Prelude.{true, false, [], refl, arith, ◌≡◌, List, ◌∷◌, status, Event, Ctl, new_port, highest_below, window, ReceiverRetryStopped, receiver_of, HasTold, Link, AreBuffers, new_link, link_turned_round, after_telling, after_event, StepTells, StepActs, IsHistory, Rests, AtFirst, AtSecond, IsToldInTime}
 use Rattle.link_sound.proofs.Played.{Move, First, Second, PutsOne, TakesTurn, Hears, played, is_history}
-use Rattle.link_sound.specs.Credits.{HasTold}
-use Rattle.link_sound.specs.Histories.{Link, AreBuffers, new_link, link_turned_round, after_telling, after_event, StepTells, StepActs, IsHistory, Rests, AtFirst, AtSecond}
-use Rattle.link_sound.specs.InTime.{IsToldInTime}
 use Rattle.link_sound.proofs.CreditSteps.{all_linked, new_linked}
 use Rattle.link_sound.proofs.CreditHistory.{told_stays}
 

@@ -1,16 +1,11 @@
 -- A packet's way between two ports, step by step.
-use Rattle.std.proofs.Common.{◌≡◌, ℕ, true, false, None, List, [], ◌∷◌, refl, subst, arith}
-use Rattle.link_model.specs.Prelude.{Passes, place_start, start_of_packet, end_of_packet, packet_accepted, Outstanding, from_ack, window}
+use Rattle.link_sound.proofs.Prelude.{◌≡◌, ℕ, true, false, None, List, [], ◌∷◌, refl, subst, arith, Passes, place_start, start_of_packet, end_of_packet, packet_accepted, Outstanding, from_ack, window, no_packets, highest_below, Link, new_link, link_turned_round, after_turn, after_event, after_put, IsStep, StepTurns, StepActs, Puts, IsHistory, Rests, AtFirst, AtSecond, no_journeys, worked_packet, one_arrived}
 use Rattle.rio_packets.specs.Carries.{passes}
 use Rattle.rio_packets.specs.Register.{shifted, shifted_times, fed}
 use Rattle.rio_packets.proofs.CarriesLaws.{decides_passes}
-use Rattle.link_buffers.specs.Queues.{no_packets}
-use Rattle.link_buffers.specs.Priorities.{highest_below}
 use Rattle.link_port.specs.Prelude.{Event, Ctl, Pkt, PortState, new_port, turns_to, turn_sends}
 use Rattle.link_model.specs.Input as in_half
 use Rattle.link_model.specs.Output as out
-use Rattle.link_sound.specs.Histories.{Link, new_link, link_turned_round, after_turn, after_event, after_put, IsStep, StepTurns, StepActs, Puts, IsHistory, Rests, AtFirst, AtSecond, no_journeys}
-use Rattle.link_sound.specs.Worked.{worked_packet, one_arrived}
 
 -- the lists of a store with the packet alone
 abbrev one : List (List (List ℕ))

@@ -1,10 +1,6 @@
 -- A history with a retry, and one with a recovery past ackID 31, played.
-use Rattle.std.proofs.Common.{◌≡◌, ℕ, zero, suc, true, false, None, List, [], ◌∷◌, ◌++◌, refl}
-use Rattle.link_buffers.specs.Priorities.{highest_below}
+use Rattle.link_sound.proofs.Prelude.{◌≡◌, ℕ, zero, suc, true, false, None, List, [], ◌∷◌, ◌++◌, refl, highest_below, from_ack, window, Link, new_link, IsHistory, arrivals}
 use Rattle.link_model.specs.Output as out
-use Rattle.link_model.specs.Prelude.{from_ack, window}
-use Rattle.link_sound.specs.Histories.{Link, new_link, IsHistory}
-use Rattle.link_sound.specs.Worked.{arrivals}
 use Rattle.link_sound.proofs.Played.{Move, First, Second, PutsOne, TakesTurn, Hears, Misses, MeetsError, Empties, played, is_history}
 
 -- what a turn sends for a packet comes to the far port: the packet between its two symbols

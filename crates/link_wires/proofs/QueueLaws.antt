@@ -1,6 +1,81 @@
--- Lists of which a front was taken, or a part moved.
-use Rattle.std.proofs.Common.{◌≡◌, ℕ, ◌+◌, ◌-◌, ◌++◌, ◌≤◌, List, [], ◌∷◌, length, take, drop, slice_set, refl, ap, sym, ◌∙◌, arith, length-take, length-drop, length-append, take-append-drop}
-use Rattle.std.proofs.lemmas.List.{append-nil, drop-take, drop_all, take_all, drop-drop, drop-append-le, drop_at, length-take-le, length_push, set_at, take-append-le, take_at, take-take}
+-- Lists of which a front was taken or a part moved, and lists that follow each other.
+use Rattle.std.proofs.Common.{◌≡◌, ℕ, ◌+◌, ◌-◌, ◌++◌, ◌≤◌, List, [], ◌∷◌, length, take, drop, slice_set, replicate, min, zero, suc, refl, ap, sym, ◌∙◌, arith, length-take, length-drop, length-append, take-append-drop}
+use Rattle.std.proofs.lemmas.List.{append-nil, drop-take, drop_all, take_all, drop-drop, drop-append-le, drop_at, length-take-le, length_push, set_at, take-append-le, take_at, take-take, length-replicate, append_assoc, take_min}
+use Rattle.std.proofs.Math.Seq.{take-append-add, drop-append-add}
+
+-- what is taken of two lists that follow each other, where the first one is taken whole
+pub take_past : {X : Type 0} → (xs ys : List X) (cut place : ℕ) → length xs ≡ cut → cut ≤ place
+    → take place (xs ++ ys) ≡ xs ++ take (place - cut) ys
+take_past xs ys cut place size past =
+    let all : place ≡ length xs + (place - cut) = omega (arith, size, past) in
+    ap (λ n. take n (xs ++ ys)) all ∙ take-append-add xs ys (place - cut)
+
+-- what is taken of two lists that follow each other, part by part
+take_joined : {X : Type 0} → (n : ℕ) (xs ys : List X)
+    → take n (xs ++ ys) ≡ take n xs ++ take (n - length xs) ys
+take_joined zero xs ys =
+    let none : 0 ≡ 0 - length xs = omega arith in
+    ap (λ n. take n ys) none
+take_joined (suc n) [] ys =
+    let all : suc n ≡ suc n - 0 = omega arith in
+    ap (λ n. take n ys) all
+take_joined (suc n) (x ∷ xs) ys =
+    let less : n - length xs ≡ suc n - suc (length xs) = omega arith in
+    ap (λ l. x ∷ l) (take_joined n xs ys ∙ ap (λ m. take n xs ++ take m ys) less)
+
+-- the same, where it is counted what is taken of the first one
+pub take_both : {X : Type 0} → (xs ys : List X) (count before : ℕ) → before ≡ min count (length xs)
+    → take before xs ++ take (count - before) ys ≡ take count (xs ++ ys)
+take_both xs ys count before is =
+    let rest : count - before ≡ count - length xs = omega (arith, is) in
+    ap (λ n. take n xs ++ take (count - before) ys) is
+    ∙ ap (λ l. l ++ take (count - before) ys) (take_min count xs)
+    ∙ ap (λ n. take count xs ++ take n ys) rest
+    ∙ sym (take_joined count xs ys)
+
+-- what is left of two lists that follow each other, where the first one is taken whole
+pub drop_past : {X : Type 0} → (xs ys : List X) (cut place : ℕ) → length xs ≡ cut → cut ≤ place
+    → drop place (xs ++ ys) ≡ drop (place - cut) ys
+drop_past xs ys cut place size past =
+    let all : place ≡ length xs + (place - cut) = omega (arith, size, past) in
+    ap (λ n. drop n (xs ++ ys)) all ∙ drop-append-add xs ys (place - cut)
+
+-- of two lists that follow each other, a part of the second one becomes another
+pub changed_past : {X : Type 0} → (xs ys part : List X) (cut place end : ℕ) → length xs ≡ cut
+    → cut ≤ place → cut ≤ end
+    → xs ++ (take (place - cut) ys ++ (part ++ drop (end - cut) ys))
+    ≡ take place (xs ++ ys) ++ (part ++ drop end (xs ++ ys))
+changed_past xs ys part cut place end size past_place past_end =
+    sym (append_assoc xs (take (place - cut) ys) (part ++ drop (end - cut) ys))
+    ∙ ap (λ l. l ++ (part ++ drop (end - cut) ys))
+    (sym (take_past xs ys cut place size past_place))
+    ∙ ap (λ l. take place (xs ++ ys) ++ (part ++ l))
+    (sym (drop_past xs ys cut end size past_end))
+
+-- a list behind the room that was made at its front: a longer one, which moved up by as much
+pub behind_room : {X : Type 0} → (xs longer moved : List X) (fill : X) (head len size : ℕ)
+    → length xs ≡ len → len ≤ size
+    → longer ≡ take size xs ++ replicate (size - len) fill
+    → drop (size - len) moved ≡ take (length longer - (size - len)) longer
+    → drop (head + (size - len)) moved ≡ drop head xs
+behind_room xs longer moved fill head len size all more is was =
+    let room = replicate (size - len) fill in
+    let whole : longer ≡ xs ++ room =
+    is ∙ ap (λ l. l ++ room) (take_all size xs (omega (arith, all, more))) in
+    let rest : length longer - (size - len) ≡ len =
+    omega (
+      arith,
+      all,
+      ap length whole,
+      length-append xs room,
+      length-replicate (size - len) fill,
+    ) in
+    let there : drop (size - len) moved ≡ xs =
+    was ∙ ap (λ n. take n longer) rest ∙ ap (take len) whole ∙ take_at xs room len all in
+    let order : head + (size - len) ≡ size - len + head = omega arith in
+    ap (λ n. drop n moved) order
+    ∙ sym (drop-drop head (size - len) moved)
+    ∙ ap (drop head) there
 
 -- a list that begins as another one, behind what was taken of that
 pub behind_head : {X : Type 0} → (xs ys : List X) (head place : ℕ) → head ≤ length xs

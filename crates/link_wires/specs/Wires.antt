@@ -3,8 +3,8 @@ use Rattle.std.specs.Prelude.{ℕ, zero, suc, ◌+◌, ◌++◌, nat_lt, nat_le,
 use Rattle.std.specs.List.{flat_map}
 use Rattle.link_model.specs.Prelude.{Char, Fields, symbol_chars_of}
 use Rattle.link_port.specs.Prelude.{Event, Ctl, PortState, Burst, no_burst, turns_to, turn_sends}
-use Rattle.link_wires.specs.declared.edits.Edit.{Edit}
-use Rattle.link_wires.specs.declared.edits.Edit.TheVariants.{Alter, Erase, Insert}
+use Rattle.rio_chars.specs.declared.edit.Edit.{Edit}
+use Rattle.rio_chars.specs.declared.edit.Edit.TheVariants.{Alter, Erase, Insert}
 use Rattle.link_wires.specs.declared.edits.Edited.{Edited}
 use Rattle.link_wires.specs.declared.edits.Edited.TheVariants.{Done, Short}
 

@@ -1,5 +1,5 @@
 //! `Delivery`: what came of characters that a port took.
-ghost use Rattle.std.specs.Prelude.{◌≡◌, ◌++◌, ◌∷◌, [], Some, None, map, option_to_list, OnOk, if◌then◌else◌};
+ghost use Rattle.std.specs.Prelude.{◌≡◌, ◌++◌, ◌∷◌, [], Some, None, map, option_to_list, IfOk, OnOk, if◌then◌else◌};
 ghost use Rattle.link_wires.specs.declared.moves.Move.TheVariants.{Held, Freed};
 
 use crate::moves::Move;
@@ -10,7 +10,7 @@ use rio_symbols::Symbol;
 use std::alloc::Global;
 
 /// What came of characters that a port took, as it happened. A caller has one for all its
-/// deliveries, so that none makes a list or a packet.
+/// deliveries, so that a list or a packet is not made for each.
 #[derive(Drop)]
 pub struct Delivery {
     /// The characters: all that were to be taken, or those up to the one that completed an event
@@ -22,8 +22,9 @@ pub struct Delivery {
     pub replies: Vec<Symbol>,
     /// Where a packet is put that comes in.
     pub(crate) packet: Packet,
-    /// Where packets are put that a symbol frees.
-    pub(crate) freed: ArrayVec<Packet, 31>,
+    /// Where packets are put that a symbol frees. The list takes more room than all else of a link,
+    /// so it is made when a symbol first comes, and kept.
+    freed: Option<Box<ArrayVec<Packet, 31>>>,
 }
 
 impl Delivery {
@@ -38,7 +39,7 @@ impl Delivery {
             moves: Vec::new(alloc),
             replies: Vec::new(alloc),
             packet: Packet::default(),
-            freed: ArrayVec::new(),
+            freed: None,
         }
     }
 
@@ -55,13 +56,28 @@ impl Delivery {
         Ok(())
     }
 
-    /// The packets that a symbol freed.
-    pub(crate) fn free(&mut self) -> Result<(), NoMemory>
-        ensures moves { OnOk result (self.new.moves.items ≡ self.old.moves.items
-            ++ map (λ packet. Freed packet) self.old.freed.items) }
+    /// A list for the packets that a symbol frees, with none in it.
+    pub(crate) fn list(&mut self, alloc: Global) -> Result<Box<ArrayVec<Packet, 31>>, NoMemory>
+        ensures empty { IfOk result (λ list. list.value.items ≡ []) }
+        ensures moves { self.new.moves ≡ self.old.moves }
         ensures replies { self.new.replies ≡ self.old.replies }
     {
-        push_all_freed(&mut self.moves, self.freed.as_slice())
+        let Some(mut list) = self.freed.take() else {
+            return new_list(alloc);
+        };
+        list.as_mut().clear();
+        Ok(list)
+    }
+
+    /// The packets that a symbol freed. Their list is kept for the next one.
+    pub(crate) fn free(&mut self, list: Box<ArrayVec<Packet, 31>>) -> Result<(), NoMemory>
+        ensures moves { OnOk result (self.new.moves.items ≡ self.old.moves.items
+            ++ map (λ packet. Freed packet) list.value.items) }
+        ensures replies { self.new.replies ≡ self.old.replies }
+    {
+        push_all_freed(&mut self.moves, list.as_ref().as_slice())?;
+        self.freed = Some(list);
+        Ok(())
     }
 
     /// The symbol that answers, if there is one.
@@ -75,6 +91,16 @@ impl Delivery {
             self.replies.push_reserved(symbol);
         }
         Ok(())
+    }
+}
+
+/// A list in a box, with nothing in it.
+fn new_list(alloc: Global) -> Result<Box<ArrayVec<Packet, 31>>, NoMemory>
+    ensures { IfOk result (λ list. list.value.items ≡ []) }
+{
+    match Box::new(alloc, ArrayVec::new()) {
+        Ok(list) => Ok(list),
+        Err(_) => Err(NoMemory),
     }
 }
 

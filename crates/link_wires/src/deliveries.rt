@@ -13,6 +13,7 @@ use rio_chars::{Char, NoMemory};
 use rio_packets::{Cause, Packet};
 use rio_symbols::Symbol;
 use std::alloc::Global;
+use std::mem;
 
 impl Wire {
     /// Has the port at the end of the wire take characters from the front. Each event that is acted
@@ -43,14 +44,11 @@ impl Wire {
     {
         came.moves.clear();
         came.replies.clear();
-        let (read, undetected) = lead(
-            alloc,
-            port,
-            &mut self.kept,
-            &self.chars.as_slice()[..count],
-            came,
-        )?;
-        self.take_front(count, read, &mut came.got)?;
+        let mut got = mem::replace(&mut came.got, Vec::new(alloc));
+        self.chars.take_front(count, &mut got)?;
+        let (read, undetected) = lead(alloc, port, &mut self.kept, got.as_slice(), came)?;
+        got.truncate(read);
+        came.got = got;
         Ok(undetected)
     }
 }
@@ -214,9 +212,9 @@ fn act_symbol(
         let undetected = UndetectedEvent::symbol(alloc, symbol)?;
         return Ok(Some(undetected));
     }
-    came.freed.clear();
-    let reply = port.act_symbol(symbol, &mut came.freed);
-    came.free()?;
+    let mut freed = came.list(alloc)?;
+    let reply = port.act_symbol(symbol, freed.as_mut());
+    came.free(freed)?;
     came.reply(reply)?;
     Ok(None)
 }

@@ -2,21 +2,9 @@
 ghost use Rattle.std.specs.Prelude.{◌≡◌, IfOk, OnOk, OnErr, if◌then◌else◌};
 ghost use Rattle.link_wires.specs.Wires.{fits, edited, after_edit, edit_answered};
 
-use crate::queue::Queue;
+use crate::chars::Chars;
 use crate::wire::Wire;
-use rio_chars::{Char, NoMemory};
-
-/// A change of the characters of a wire, which leaves what was sent as it is. Places are counted
-/// from the front, from 0.
-#[derive(Clone, Copy, Debug, PartialEq, Eq)]
-pub enum Edit {
-    /// The character at a place becomes another.
-    Alter { place: u32, ch: Char },
-    /// Characters from a place on are lost.
-    Erase { place: u32, count: u32 },
-    /// A character comes in before the one at a place, or at the end.
-    Insert { place: u32, ch: Char },
-}
+use rio_chars::{Char, Edit, NoMemory};
 
 /// What came of an edit, or of a delivery.
 #[derive(Clone, Copy, Debug, PartialEq, Eq)]
@@ -41,7 +29,7 @@ impl Wire {
     }
 }
 
-impl Queue<Char> {
+impl Chars {
     /// Changes the characters. Short exactly where the place of an alteration is not below the
     /// length, an erasure goes past the end, or the place of an insertion lies past the end. Then,
     /// and where memory is not given, nothing changes.
@@ -53,7 +41,7 @@ impl Queue<Char> {
     {
         match edit {
             Edit::Alter { place, ch } => Ok(self.alter(*place, *ch)),
-            Edit::Erase { place, count } => Ok(self.erase(*place, *count)),
+            Edit::Erase { place, count } => self.erase(*place, *count),
             Edit::Insert { place, ch } => self.put_before(*place, *ch),
         }
     }
@@ -73,18 +61,20 @@ impl Queue<Char> {
     }
 
     /// Characters from a place on are lost.
-    fn erase(&mut self, place: u32, count: u32) -> Edited
-        ensures short { result ≡ edit_answered (fits (Edit.Erase place count) self.old) }
-        ensures changed { self.new ≡ (if fits (Edit.Erase place count) self.old
-            then edited (Edit.Erase place count) self.old else self.old) }
+    fn erase(&mut self, place: u32, count: u32) -> Result<Edited, NoMemory>
+        ensures short { IfOk result (λ answer. answer
+            ≡ edit_answered (fits (Edit.Erase place count) self.old)) }
+        ensures changed { OnOk result (self.new ≡ (if fits (Edit.Erase place count) self.old
+            then edited (Edit.Erase place count) self.old else self.old)) }
+        ensures unchanged { OnErr result (self.new ≡ self.old) }
     {
         let place = place as usize;
         let end = place + count as usize;
         if end > self.len() {
-            return Edited::Short;
+            return Ok(Edited::Short);
         }
-        self.remove(place, end);
-        Edited::Done
+        self.remove(place, end)?;
+        Ok(Edited::Done)
     }
 
     /// A character comes in before the one at a place.

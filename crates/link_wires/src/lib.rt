@@ -6,15 +6,16 @@
 //! tables, one event after another; each event that is acted on must be one that was sent, and such
 //! events are found exactly where they were sent in this order. An edit changes characters alone,
 //! and nothing where it does not lie within them. Taking from the front costs what is taken,
-//! appending what is appended, and an edit what stands on its shorter side.
+//! appending what is appended, and an edit what stands between it and the nearest of the last edit
+//! and both ends.
 //!
 //! Left out: the other way of the link, and what is noted for whoever watches.
 //!
 //! - [`Wire`]: one way, with `pump`, `tell`, `reply`, `deliver`, `edit` and `silence`
 //! - [`Delivery`] and [`Move`]: what came of characters that a port took
 //! - [`UndetectedEvent`]: an event that a port acted on and that was not sent
-//! - [`Edit`] and [`Edited`]: a change of the characters, and what came of it
-//! - [`Queue`]: characters, or other items, first in first out
+//! - [`Edited`]: what came of a change of the characters
+//! - [`Chars`]: characters as a wire has them, first in first out
 //! - [`acted_events_are_sent_ones`], [`deliveries_go_by_pieces`] and
 //!   [`a_delivery_acts_on_what_was_sent`]: laws; the calls do nothing
 //!
@@ -24,6 +25,7 @@
 #![tactic(auto)]
 
 mod came;
+mod chars;
 mod deliveries;
 mod edits;
 mod kept;
@@ -36,11 +38,11 @@ mod undetected_event;
 mod wire;
 
 pub use came::Delivery;
-pub use edits::{Edit, Edited};
+pub use chars::Chars;
+pub use edits::Edited;
 pub use laws::{
     a_delivery_acts_on_what_was_sent, acted_events_are_sent_ones, deliveries_go_by_pieces,
 };
 pub use moves::Move;
-pub use queue::Queue;
 pub use undetected_event::UndetectedEvent;
 pub use wire::Wire;

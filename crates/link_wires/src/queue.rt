@@ -1,5 +1,5 @@
 //! `Queue`: what stands on a wire, first in first out.
-ghost use Rattle.std.specs.Prelude.{◌≡◌, ◌≤◌, ◌<◌, ◌+◌, ◌-◌, ◌++◌, ◌∷◌, ◌↔◌, [], length, take, drop, slice_set, IsTrue, OnOk, OnErr};
+ghost use Rattle.std.specs.Prelude.{◌≡◌, ◌≤◌, ◌<◌, ◌+◌, ◌^◌, ◌-◌, ◌++◌, ◌∷◌, ◌↔◌, [], length, take, drop, slice_set, IsTrue, OnOk, OnErr};
 
 use rio_chars::{Char, NoMemory};
 use std::alloc::Global;
@@ -11,7 +11,7 @@ const BLOCK: usize = 256;
 /// Items, first in first out. Those before `head` were taken, or are room; they go once they are
 /// more than the half, so that taking costs what is taken, and putting costs what is put.
 #[derive(Drop)]
-pub struct Queue<T> {
+pub(crate) struct Queue<T> {
     items: Vec<T>,
     head: usize,
 }
@@ -28,7 +28,7 @@ impl<T> Model for Queue<T> {
 
 impl<T: Copy> Queue<T> {
     /// No items. It takes no memory yet.
-    pub fn new(alloc: Global) -> Queue<T>
+    pub(crate) fn new(alloc: Global) -> Queue<T>
         ensures { result ≡ [] }
     {
         Queue {
@@ -38,21 +38,22 @@ impl<T: Copy> Queue<T> {
     }
 
     /// The number of items.
-    pub fn len(&self) -> usize
-        ensures { result ≡ length self.now }
+    pub(crate) fn len(&self) -> usize
+        ensures number { result ≡ length self.now }
+        ensures small { result < 2 ^ 63 }
     {
         self.items.len() - self.head
     }
 
     /// Whether there are no items.
-    pub fn is_empty(&self) -> bool
+    pub(crate) fn is_empty(&self) -> bool
         ensures { IsTrue result ↔ (self.now ≡ []) }
     {
         self.len() == 0
     }
 
     /// The items, in order.
-    pub fn as_slice(&self) -> &[T]
+    pub(crate) fn as_slice(&self) -> &[T]
         ensures { result.now ≡ self.now }
     {
         &self.items.as_slice()[self.head..]
@@ -66,8 +67,16 @@ impl<T: Copy> Queue<T> {
         self.head = 0;
     }
 
+    /// Takes items away from the end, until so many are left.
+    pub(crate) fn truncate(&mut self, left: usize)
+        requires { left ≤ length self.old }
+        ensures { self.new ≡ take left self.old }
+    {
+        self.items.truncate(self.head + left);
+    }
+
     /// Puts items at the end. If memory is not given, nothing changes.
-    pub fn put(&mut self, more: &[T]) -> Result<(), NoMemory>
+    pub(crate) fn put(&mut self, more: &[T]) -> Result<(), NoMemory>
         ensures put { OnOk result (self.new ≡ self.old ++ more.now) }
         ensures unchanged { OnErr result (self.new ≡ self.old) }
     {
@@ -78,7 +87,7 @@ impl<T: Copy> Queue<T> {
     }
 
     /// Takes items away from the front.
-    pub fn skip(&mut self, count: usize)
+    pub(crate) fn skip(&mut self, count: usize)
         requires { count ≤ length self.old }
         ensures { self.new ≡ drop count self.old }
     {
@@ -96,6 +105,16 @@ impl Queue<Char> {
         ensures { self.new ≡ slice_set self.old place ch }
     {
         self.items[self.head + place] = ch;
+    }
+
+    /// Puts characters at the front. If memory is not given, nothing changes.
+    pub(crate) fn put_front(&mut self, more: &[Char]) -> Result<(), NoMemory>
+        ensures put { OnOk result (self.new ≡ more.now ++ self.old) }
+        ensures unchanged { OnErr result (self.new ≡ self.old) }
+    {
+        make_room(&mut self.items, &mut self.head, more.len())?;
+        write_before(&mut self.items, &mut self.head, more);
+        Ok(())
     }
 
     /// Characters from a place on go away, up to another place. The shorter side is moved.
@@ -120,7 +139,7 @@ impl Queue<Char> {
         ensures unchanged { OnErr result (self.new ≡ self.old) }
     {
         if place < self.len() / 2 {
-            make_room(&mut self.items, &mut self.head)?;
+            make_room(&mut self.items, &mut self.head, 1)?;
             insert_near_front(&mut self.items, &mut self.head, place, ch);
             return Ok(());
         }
@@ -211,23 +230,37 @@ fn move_block(chars: &mut [Char], start: usize, end: usize, by: usize)
     chars[start + by..end + by].copy_from_slice(moved);
 }
 
-/// Makes room at the front if there is none: for half as many characters as there are, so that it
-/// is rarely made. If memory is not given, nothing changes.
-fn make_room(chars: &mut Vec<Char>, head: &mut usize) -> Result<(), NoMemory>
+/// Writes characters into the room at the front, beside those that stand there.
+fn write_before(chars: &mut Vec<Char>, head: &mut usize, more: &[Char])
+    requires room { length more.now ≤ head.old }
+    requires head { head.old ≤ length chars.old.items }
+    ensures chars { drop head.new chars.new.items ≡ more.now ++ drop head.old chars.old.items }
+    ensures head { head.new ≤ length chars.new.items }
+{
+    let end = *head;
+    *head -= more.len();
+    chars.slice_mut(*head..end).copy_from_slice(more);
+}
+
+/// Makes room at the front for so many characters if it is not there: and for half as many as there
+/// are, so that it is rarely made. If memory is not given, nothing changes.
+fn make_room(chars: &mut Vec<Char>, head: &mut usize, count: usize) -> Result<(), NoMemory>
     requires { head.old ≤ length chars.old.items }
     ensures chars { drop head.new chars.new.items ≡ drop head.old chars.old.items }
     ensures head { head.new ≤ length chars.new.items }
-    ensures room { OnOk result (0 < head.new) }
+    ensures room { OnOk result (count ≤ head.new) }
 {
-    if *head > 0 {
+    if count <= *head {
         return Ok(());
     }
     let len = chars.len();
-    let room = len / 2 + 1;
-    let Ok(()) = chars.resize(len + room, Char::Invalid) else {
+    let Some(size) = (len + len / 2).checked_add(count) else {
         return Err(NoMemory);
     };
-    chars.rotate_right(room);
-    *head = room;
+    let Ok(()) = chars.resize(size, Char::Invalid) else {
+        return Err(NoMemory);
+    };
+    move_up(chars.as_mut_slice(), size - len);
+    *head += size - len;
     Ok(())
 }

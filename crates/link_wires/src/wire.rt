@@ -1,10 +1,10 @@
 //! `Wire`: one way of a link.
-ghost use Rattle.std.specs.Prelude.{◌≡◌, ◌≤◌, length, take, drop, OnOk};
+ghost use Rattle.std.specs.Prelude.{◌≡◌, length};
 ghost use Rattle.link_wires.specs.Wires.{empty_wire, silenced};
 
+use crate::chars::Chars;
 use crate::kept::Kept;
-use crate::queue::Queue;
-use rio_chars::{Char, NoMemory};
+use rio_chars::Char;
 use std::alloc::Global;
 use std::marker::Model;
 
@@ -12,7 +12,7 @@ use std::marker::Model;
 /// event has met.
 #[derive(Drop)]
 pub struct Wire {
-    pub(crate) chars: Queue<Char>,
+    pub(crate) chars: Chars,
     pub(crate) kept: Kept,
 }
 
@@ -30,7 +30,7 @@ impl Wire {
         ensures { result ≡ empty_wire }
     {
         Wire {
-            chars: Queue::new(alloc),
+            chars: Chars::new(alloc),
             kept: Kept::new(alloc),
         }
     }
@@ -47,25 +47,5 @@ impl Wire {
         ensures { self.new ≡ silenced self.old }
     {
         self.kept.clear();
-    }
-
-    /// Takes characters away from the front. Those that were read of them are what was got.
-    pub(crate) fn take_front(
-        &mut self,
-        count: usize,
-        read: usize,
-        got: &mut Vec<Char>,
-    ) -> Result<(), NoMemory>
-        requires within { count ≤ length self.old.chars }
-        requires read { read ≤ count }
-        ensures got { OnOk result (got.new.items ≡ take read (take count self.old.chars)) }
-        ensures left { OnOk result (self.new
-            ≡ record self.old { chars = drop count self.old.chars }) }
-    {
-        got.clear();
-        let front = &self.chars.as_slice()[..count];
-        got.extend_from_slice(&front[..read])?;
-        self.chars.skip(count);
-        Ok(())
     }
 }

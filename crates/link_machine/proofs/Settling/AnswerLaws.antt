@@ -1,17 +1,7 @@
 -- What ports answer says nothing to a receiver: answers have no answer.
-use Rattle.std.proofs.Common.{◌≡◌, ℕ, ◌<◌, Bool, true, false, Option, Some, None, option_to_list, List, [], ◌∷◌, ◌++◌, refl, sym, ap, ◌∙◌, subst, arith, append_assoc}
-use Rattle.link_model.specs.Prelude.{Fields, number_of, Input, Arrival, symbol_arrival, receives, run, place, place_after, Text}
-use Rattle.link_buffers.specs.Queues.{Buffered, stored}
-use Rattle.link_port.specs.Prelude.{Event, Ctl, Pkt, Bad, Pending, Nothing, PortState, IsPort, expected_of, acts, replies}
+use Rattle.link_machine.proofs.Prelude.{◌≡◌, ℕ, ◌<◌, Bool, true, false, Option, Some, None, option_to_list, List, [], ◌∷◌, ◌++◌, refl, sym, ap, ◌∙◌, subst, arith, append_assoc, Fields, number_of, Input, Arrival, symbol_arrival, receives, run, place, place_after, Text, Buffered, stored, Event, Ctl, Pkt, Bad, Pending, Nothing, PortState, IsPort, expected_of, acts, replies, broken_off, begins_in, opened, text_after, told, InputOk, IsAnswer, IsReply, expected_below, begins_opened, led, chars_of, controls, AreAnswers}
 use Rattle.link_model.specs.Input as in_half
-use Rattle.link_model.specs.Places.{broken_off, begins_in, opened}
-use Rattle.link_model.specs.Reading.{text_after, told}
-use Rattle.link_model.specs.Input.{InputOk, InputRetryStopped, InputErrorStopped}
-use Rattle.link_port.specs.Answers.{IsAnswer, IsReply}
 use Rattle.link_port.proofs.AnswerLaws.{reply_answers, answer_tells, answer_stays}
-use Rattle.link_sound.proofs.PortBounds.{expected_below}
-use Rattle.link_model.proofs.ReadingSpeltLaws.{begins_opened}
-use Rattle.link_machine.specs.Led.{led, chars_of, controls, AreAnswers}
 use Rattle.link_machine.proofs.Settling.SaidLaws.{reads, prepended, symbol_reads}
 
 -- ---- what a port answers
@@ -26,8 +16,7 @@ port_narrow p is = let most = is.receives.most in (is.expected_ack, omega arith)
 acts_below : (p : PortState) (e : Event) → expected_of p.input < 32
     → expected_of (acts p e).port.input < 32
 acts_below p (Ctl s) below = expected_below (symbol_arrival s.s1 s.cmd) p.input below
-acts_below p (Pkt ack packet) below =
-    expected_below _ p.input below
+acts_below p (Pkt ack packet) below = expected_below _ p.input below
 acts_below p (Bad cause) below = expected_below (Arrival.Damaged (number_of cause)) p.input below
 
 stored_buffers : (held : Bool) (store : Buffered) (packet : List ℕ)
@@ -105,8 +94,7 @@ first_breaks t k s ss are =
 
 pub silent : (input : Input) → receives Arrival.OtherStype1 input ≡ in_half.silent input
 silent (InputOk e) = refl
-silent (InputRetryStopped e) = refl
-silent (InputErrorStopped e) = refl
+silent _ = refl
 
 answer_is_silent : (p : PortState) (s : Fields) → IsAnswer s
     → receives (symbol_arrival s.s1 s.cmd) p.input ≡ in_half.silent p.input

@@ -1,18 +1,6 @@
 -- What a port sends, read by a receiver at rest, is what was sent, also if the receiver skips data.
-use Rattle.std.proofs.Common.{◌≡◌, ℕ, zero, suc, Bool, true, false, if◌then◌else◌, List, [], ◌∷◌, ◌++◌, map, Option, Some, None, slice_get, refl, ap, ◌∙◌}
-use Rattle.rio_symbols.specs.Delimiters.{delimiter_of}
-use Rattle.link_model.specs.Places.{ReaderStep, rests_by}
-use Rattle.link_model.specs.Prelude.{Char, Fields, Delimiter, Sc, Pd, Place, place, place_start, step, at_rest, placed, run, place_after, said, Text, Plain, Skipped, Within, Sends, symbol_bytes, data_chars, symbol_chars_of, packet_chars_of, status, start_of_packet, end_of_packet}
-use Rattle.link_model.specs.ReadingKinds.{kind}
+use Rattle.link_machine.proofs.Prelude.{◌≡◌, ℕ, zero, suc, Bool, true, false, if◌then◌else◌, List, [], ◌∷◌, ◌++◌, map, Option, Some, None, slice_get, refl, ap, ◌∙◌, delimiter_of, ReaderStep, rests_by, Char, Fields, Delimiter, Sc, Pd, Place, place, place_start, step, at_rest, placed, run, place_after, said, Text, Plain, Skipped, Within, Sends, symbol_bytes, data_chars, symbol_chars_of, packet_chars_of, status, start_of_packet, end_of_packet, kind, place_after-append, list_at, Event, Pending, Nothing, Opened, One, Two, PortState, IsPort, standing, symbol_burst, tell_sends, Burst, IsRead, no_burst, packet_burst, burst_of, port_turn, turn_sends, turns_to, waiting_in, none_read, standing_range, status_read, turn_read, turn_port, both_bursts, port_turned, bursts, answers, AreAnswers, chars_of, controls}
 use Rattle.link_model.specs.ReadingSpelt.{delimiter_char, bytes_with_ack}
-use Rattle.link_model.proofs.PlacesLaws.{place_after-append}
-use Rattle.link_buffers.specs.Queues.{list_at}
-use Rattle.link_port.specs.Prelude.{Event, Pending, Nothing, Opened, One, Two, PortState, IsPort, standing, symbol_burst, tell_sends}
-use Rattle.link_port.specs.Turns.{Burst, IsRead, no_burst, packet_burst, burst_of, port_turn, turn_sends, turns_to, waiting_in}
-use Rattle.link_port.proofs.SentReads.{none_read, standing_range, status_read, turn_read}
-use Rattle.link_sound.proofs.PortBounds.{turn_port}
-use Rattle.link_wires.specs.Wires.{both_bursts, port_turned, bursts, answers}
-use Rattle.link_machine.specs.Led.{AreAnswers, chars_of, controls}
 use Rattle.link_machine.proofs.Settling.AnswerLaws.{answers_read}
 use Rattle.link_machine.proofs.Settling.SaidLaws.{said-append}
 

@@ -1,26 +1,12 @@
 -- Turns, deliveries and time-outs of a calm link act on nothing that was not sent, and leave it
 -- calm.
-use Rattle.std.proofs.Common.{◌≡◌, ℕ, ◌+◌, ◌++◌, ◌&&◌, Bool, true, false, if◌then◌else◌, List, [], ◌∷◌, map, length, take, drop, Some, refl, sym, ap, ◌∙◌, subst}
-use Rattle.std.proofs.lemmas.Bool.{and_parts}
-use Rattle.std.proofs.lemmas.List.{take-append-drop}
-use Rattle.link_model.specs.Prelude.{Char, Place, at_rest, run, place_after, said}
-use Rattle.link_model.proofs.PlacesLaws.{place_after-append}
-use Rattle.link_port.specs.Prelude.{Event, PortState, IsPort, is_acted, tell_sends}
-use Rattle.link_port.specs.Ports.{new_port}
-use Rattle.link_port.specs.Turns.{Burst, IsRead, timed_out}
+use Rattle.link_machine.proofs.Prelude.{◌≡◌, ℕ, ◌+◌, ◌++◌, ◌&&◌, Bool, true, false, if◌then◌else◌, List, [], ◌∷◌, map, length, take, drop, Some, refl, sym, ap, ◌∙◌, subst, and_parts, take-append-drop, Char, Place, at_rest, run, place_after, said, place_after-append, Event, PortState, IsPort, is_acted, tell_sends, new_port, Burst, IsRead, timed_out, WireState, with_sent, port_turned, bursts, answers, silenced, IsServed, with_port, Side, A, B, IsSoundLink, LinkState, turned_round, at_end, from_end, link, empty_wires, Act, Pump, Tell, Deliver, Fire, Reached, At, OnState, reached_by, after_act, goes, AreAnswers, port_answers, IsQuiet}
 use Rattle.link_wires.specs.Deliveries.{Flow, Delivered, Through, begun, done, met, comes, goes_on, come, ended, delivered}
 use Rattle.link_wires.specs.Kept.{behind, IsSubsequence}
-use Rattle.link_wires.specs.Wires.{WireState, with_sent, port_turned, bursts, answers, silenced}
 use Rattle.link_wires.proofs.Subsequences.{sub_none, sub_drop, sub-append, sub_behind}
 use Rattle.link_wires.proofs.Throughs.{through_place}
 use Rattle.link_machine.specs.Calls.{first_turns, pumped, first_tells, told_from, delivery, after_delivery, first_takes, has_chars, has_none, is_silent, first_fires, timed_out_at}
-use Rattle.link_machine.specs.Layer.{IsServed, with_port}
-use Rattle.link_machine.specs.Prelude.{Side, A, B, IsSoundLink, LinkState, turned_round, at_end, from_end}
-use Rattle.link_machine.specs.States.{link, empty_wires}
-use Rattle.link_machine.specs.Acts.{Act, Pump, Tell, Deliver, Fire, Reached, At, OnState, reached_by, after_act, goes}
 use Rattle.link_machine.specs.Calm.{IsCalmWay, IsCalm, IsStillCalm}
-use Rattle.link_machine.specs.Led.{AreAnswers, port_answers}
-use Rattle.link_machine.specs.Rest.{IsQuiet}
 use Rattle.link_machine.proofs.Settling.AnswerLaws.{port_narrow, replies_answer}
 use Rattle.link_machine.proofs.Settling.Bursting.{IsDelimited, turned_is, turns_read, turns_delimited, tell_read, tell_delimited, answers_are_read, answers_delimited, read_at_rest}
 use Rattle.link_machine.proofs.Settling.Ends.{acts_keep}
@@ -150,8 +136,7 @@ turns_calm n s is calm = record {
 
 tells_calm : (s : LinkState) → IsPort s.a → IsCalm s → IsCalm (first_tells s)
 tells_calm s is calm = record {
-  to_b =
-      calm_sent s.b s.wire_a (tell_sends s.a) (tell_read s.a is) (tell_delimited s.a) calm.to_b;
+  to_b = calm_sent s.b s.wire_a (tell_sends s.a) (tell_read s.a is) (tell_delimited s.a) calm.to_b;
   to_a = calm.to_a;
 }
 
@@ -225,8 +210,7 @@ fire_calm side s calm = by_test (is_silent s) refl side
     by_test : (b : Bool) → is_silent s ≡ b → (side : Side)
         → IsCalm (if b then at_end side first_fires s else s)
     by_test true is A = fires_calm s is calm
-    by_test true is B =
-        calm_round (fires_calm (turned_round s) (round_silent is) (calm_round calm))
+    by_test true is B = calm_round (fires_calm (turned_round s) (round_silent is) (calm_round calm))
     by_test false is side = calm
 
 -- ---- all of these

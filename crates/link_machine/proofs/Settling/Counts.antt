@@ -1,11 +1,5 @@
 -- How many time-outs a schedule fires.
-use Rattle.std.proofs.Common.{◌≡◌, ℕ, ◌+◌, ◌≤◌, ◌++◌, Bool, true, false, MatchBool, List, [], ◌∷◌, refl, ap, ◌∙◌, arith, if◌then◌else◌}
-use Rattle.link_machine.specs.Prelude.{Side, A, B}
-use Rattle.link_machine.specs.Schedules.{NextOf, WhereOf, Is, LoopOf}
-use Rattle.link_machine.specs.Schedules.LoopOf.{LoopRests, LoopGoesOn, LoopLeaves}
-use Rattle.link_machine.specs.Acts.{Act, Pump, Tell, Fire, Reached, At, FoundAt, goes}
-use Rattle.link_machine.specs.Settling.{SchedulePart, all_chars, Empties, Drains, TakesTurn, Restarts, TimesOut, Requests, Recovers, Tells, SendsAll, Settles}
-use Rattle.link_machine.specs.Counts.{same_side, fires}
+use Rattle.link_machine.proofs.Prelude.{◌≡◌, ℕ, ◌+◌, ◌≤◌, ◌++◌, Bool, true, false, MatchBool, List, [], ◌∷◌, refl, ap, ◌∙◌, arith, if◌then◌else◌, Side, A, B, NextOf, WhereOf, Is, LoopOf, LoopRests, LoopGoesOn, LoopLeaves, Act, Pump, Tell, Fire, Reached, At, FoundAt, goes, SchedulePart, all_chars, Empties, Drains, TakesTurn, Restarts, TimesOut, Requests, Recovers, Tells, SendsAll, Settles, same_side, fires}
 
 fires-append : (side : Side) (xs ys : List Act)
     → fires side (xs ++ ys) ≡ fires side xs + fires side ys

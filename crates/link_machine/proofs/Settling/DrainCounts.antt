@@ -1,11 +1,5 @@
 -- A drain is at most five deliveries, and from every sound link there is one.
-use Rattle.std.proofs.Common.{◌≡◌, inl, inr, ℕ, zero, suc, ◌+◌, ◌-◌, ◌≤◌, ◌++◌, Bool, true, false, MatchBool, List, [], length, length-append, refl, sym, ap, ◌∙◌, subst, if◌then◌else◌, arith, append_assoc, append-nil}
-use Rattle.std.proofs.lemmas.Bool.{or_parts, cases_lt}
-use Rattle.link_machine.specs.Prelude.{Side, A, B, LinkState, IsSoundLink}
-use Rattle.link_machine.specs.Schedules.{NextOf}
-use Rattle.link_machine.specs.Schedules.LoopOf.{LoopRests, LoopGoesOn, LoopLeaves}
-use Rattle.link_machine.specs.Acts.{Act, Reached, At, FoundAt, goes}
-use Rattle.link_machine.specs.Settling.{first_has_chars, of_end, all_chars, Empties, is_busy, Drains}
+use Rattle.link_machine.proofs.Prelude.{◌≡◌, inl, inr, ℕ, zero, suc, ◌+◌, ◌-◌, ◌≤◌, ◌++◌, Bool, true, false, MatchBool, List, [], length, length-append, refl, sym, ap, ◌∙◌, subst, if◌then◌else◌, arith, append_assoc, append-nil, or_parts, cases_lt, Side, A, B, LinkState, IsSoundLink, NextOf, LoopRests, LoopGoesOn, LoopLeaves, Act, Reached, At, FoundAt, goes, first_has_chars, of_end, all_chars, Empties, is_busy, Drains}
 use Rattle.link_machine.proofs.Settling.Lines.{emptied}
 use Rattle.link_machine.proofs.Settling.Drains.{round, rounds, idle_stays, idle_round, first_goes, round_goes, five, rested_is_idle, three_rounds}
 

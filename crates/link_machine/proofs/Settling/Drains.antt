@@ -1,14 +1,5 @@
 -- A drain is at most three rounds, and of its six deliveries the last has nothing to deliver.
-use Rattle.std.proofs.Common.{◌≡◌, ◌||◌, inl, inr, ℕ, zero, suc, ◌+◌, ◌-◌, ◌≤◌, ◌++◌, Bool, true, false, not, MatchBool, List, [], ◌∷◌, refl, sym, ap, ◌∙◌, subst, if◌then◌else◌, arith}
-use Rattle.std.proofs.lemmas.Bool.{or_parts, cases_lt}
-use Rattle.link_model.specs.Prelude.{Char, Fields, place, said}
-use Rattle.link_port.specs.Prelude.{Event, Pending, Nothing, PortState}
-use Rattle.link_machine.specs.Prelude.{Side, A, B, LinkState, turned_round, has_none, IsSoundLink}
-use Rattle.link_machine.specs.Led.{port_fed, port_answers, chars_of, AreAnswers}
-use Rattle.link_machine.specs.Schedules.{NextOf}
-use Rattle.link_machine.specs.Schedules.LoopOf.{LoopRests, LoopGoesOn, LoopLeaves}
-use Rattle.link_machine.specs.Acts.{Act, Reached, At, FoundAt, after_act, goes, OnState}
-use Rattle.link_machine.specs.Settling.{first_has_chars, of_end, all_chars, Empties, is_busy, Drains}
+use Rattle.link_machine.proofs.Prelude.{◌≡◌, ◌||◌, inl, inr, ℕ, zero, suc, ◌+◌, ◌-◌, ◌≤◌, ◌++◌, Bool, true, false, not, MatchBool, List, [], ◌∷◌, refl, sym, ap, ◌∙◌, subst, if◌then◌else◌, arith, or_parts, cases_lt, Char, Fields, place, said, Event, Pending, Nothing, PortState, Side, A, B, LinkState, turned_round, has_none, IsSoundLink, port_fed, port_answers, chars_of, AreAnswers, NextOf, LoopRests, LoopGoesOn, LoopLeaves, Act, Reached, At, FoundAt, after_act, goes, OnState, first_has_chars, of_end, all_chars, Empties, is_busy, Drains}
 use Rattle.link_machine.proofs.Machine.{round_keeps}
 use Rattle.link_machine.proofs.Settling.AnswerLaws.{IsNarrow, port_narrow, replies_answer}
 use Rattle.link_machine.proofs.Settling.Signals.{unbroken_leaves, third_is_silent}

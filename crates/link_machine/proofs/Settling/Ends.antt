@@ -1,16 +1,6 @@
 -- From every sound link there is a way to settle it.
-use Rattle.std.proofs.Common.{◌≡◌, inl, inr, ℕ, zero, suc, ◌<◌, ◌++◌, Bool, true, false, not, MatchBool, List, [], ◌∷◌, refl, sym, subst, if◌then◌else◌, arith}
-use Rattle.link_buffers.specs.Queues.{packet_count}
-use Rattle.link_model.specs.declared.event.Event.{Event}
-use Rattle.link_port.specs.Prelude.{is_ready}
-use Rattle.link_machine.specs.Prelude.{other_side, Side, A, B, LinkState, from_end, pumped, told_from, has_chars, delivery_from, delivered_from, IsSoundLink}
-use Rattle.link_wires.specs.Deliveries.{Delivered, Through, WentUndetected}
+use Rattle.link_machine.proofs.Prelude.{◌≡◌, inl, inr, ℕ, zero, suc, ◌<◌, ◌++◌, Bool, true, false, not, MatchBool, List, [], ◌∷◌, refl, sym, subst, if◌then◌else◌, arith, packet_count, Event, is_ready, other_side, Side, A, B, LinkState, from_end, pumped, told_from, has_chars, delivery_from, delivered_from, IsSoundLink, Delivered, Through, WentUndetected, NextOf, WhereOf, Is, LoopRests, LoopGoesOn, LoopLeaves, Act, Pump, Tell, Deliver, Fire, Reached, At, FoundAt, reached_by, after_act, goes, OnState, SchedulePart, is_retry_stopped, has_failed, may_fire, first_rests, of_end, Drains, TakesTurn, Restarts, TimesOut, Requests, Recovers, Tells, SendsAll, Settles, IsRound}
 use Rattle.link_machine.proofs.Machine.{pump_keeps, told_keeps, delivery_keeps, fired_keeps}
-use Rattle.link_machine.specs.Schedules.{NextOf, WhereOf, Is}
-use Rattle.link_machine.specs.Schedules.LoopOf.{LoopRests, LoopGoesOn, LoopLeaves}
-use Rattle.link_machine.specs.Acts.{Act, Pump, Tell, Deliver, Fire, Reached, At, FoundAt, reached_by, after_act, goes, OnState}
-use Rattle.link_machine.specs.Settling.{SchedulePart, is_retry_stopped, has_failed, may_fire, first_rests, of_end, Drains, TakesTurn, Restarts, TimesOut, Requests, Recovers, Tells, SendsAll, Settles}
-use Rattle.link_machine.specs.Rest.{IsRound}
 use Rattle.link_machine.proofs.Settling.Lines.{goes_one}
 use Rattle.link_machine.proofs.Settling.DrainCounts.{drain_exists}
 use Rattle.link_machine.proofs.Settling.SendingRounds.{Quiet, AfterRound, round_goes}

@@ -1,11 +1,5 @@
 -- A drain where one wire alone has characters.
-use Rattle.std.proofs.Common.{◌≡◌, ◌++◌, Bool, false, List, [], refl, sym, ap, ◌∙◌, subst, if◌then◌else◌}
-use Rattle.rio_chars.specs.declared.chars.Char.{Char}
-use Rattle.link_port.specs.Ports.{PortState}
-use Rattle.link_machine.specs.Prelude.{other_side, Side, A, B, LinkState, turned_round, from_end, IsSoundLink}
-use Rattle.link_machine.specs.Led.{port_fed, port_answers, chars_of}
-use Rattle.link_machine.specs.Acts.{Act, Reached, At, FoundAt, goes, OnState}
-use Rattle.link_machine.specs.Settling.{all_chars, is_busy, Drains}
+use Rattle.link_machine.proofs.Prelude.{◌≡◌, ◌++◌, Bool, false, List, [], refl, sym, ap, ◌∙◌, subst, if◌then◌else◌, Char, PortState, other_side, Side, A, B, LinkState, turned_round, from_end, IsSoundLink, port_fed, port_answers, chars_of, Act, Reached, At, FoundAt, goes, OnState, all_chars, is_busy, Drains}
 use Rattle.link_machine.proofs.Machine.{round_keeps}
 use Rattle.link_machine.proofs.Settling.Lines.{Takes, emptied, emptied_takes}
 use Rattle.link_machine.proofs.Settling.Drains.{on_state, then_emptied, rounds, idle_stays, AreEmpty, empty_has, empty_is_idle, drain_is}

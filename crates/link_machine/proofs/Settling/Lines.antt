@@ -1,20 +1,9 @@
 -- What a delivery of all characters of a wire makes of a link, where every event was sent.
-use Rattle.std.proofs.Common.{◌≡◌, ℕ, ◌++◌, Bool, true, false, not, List, [], ◌∷◌, length, take, Option, Some, None, option_to_list, refl, sym, ap, ◌∙◌, if◌then◌else◌, arith, append_assoc, append-nil, nat_le}
-use Rattle.std.proofs.lemmas.List.{take_all, drop_all}
-use Rattle.std.proofs.lemmas.Bool.{le-leb}
-use Rattle.link_model.specs.Prelude.{Char, Fields, run, place_after, said}
-use Rattle.link_port.specs.Prelude.{Event, PortState, acts, is_acted, replies}
-use Rattle.link_model.proofs.PlacesLaws.{events_of}
-use Rattle.link_machine.specs.Prelude.{other_side, Side, A, B, LinkState, turned_round, from_end, first_takes, has_none, IsSoundLink}
+use Rattle.link_machine.proofs.Prelude.{◌≡◌, ℕ, ◌++◌, Bool, true, false, not, List, [], ◌∷◌, length, take, Option, Some, None, option_to_list, refl, sym, ap, ◌∙◌, if◌then◌else◌, arith, append_assoc, append-nil, nat_le, take_all, drop_all, le-leb, Char, Fields, run, place_after, said, Event, PortState, acts, is_acted, replies, events_of, other_side, Side, A, B, LinkState, turned_round, from_end, first_takes, has_none, IsSoundLink, delivery, after_delivery, queues_between, led, port_fed, port_answers, chars_of, Act, Deliver, Reached, At, reached_by, after_act, goes, OnState, first_has_chars, of_end, all_chars}
 use Rattle.link_wires.specs.Prelude.{behind, Flow, Delivered, Through, WentUndetected, begun, done, met, goes_on, come, ended, delivered}
-use Rattle.link_machine.specs.Calls.{delivery, after_delivery}
-use Rattle.link_machine.specs.Queues.{queues_between}
 use Rattle.link_machine.proofs.Flowing.{AreFlowing, delivered_flowing}
 use Rattle.link_machine.proofs.Machine.{round_keeps}
 use Rattle.link_machine.proofs.Telling.{AreTelling, delivered_telling}
-use Rattle.link_machine.specs.Led.{led, port_fed, port_answers, chars_of}
-use Rattle.link_machine.specs.Acts.{Act, Deliver, Reached, At, reached_by, after_act, goes, OnState}
-use Rattle.link_machine.specs.Settling.{first_has_chars, of_end, all_chars}
 use Rattle.link_machine.proofs.Settling.Signals.{fed_none, answered_none}
 
 -- ---- what a delivery is by the tables

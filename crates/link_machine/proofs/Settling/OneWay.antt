@@ -1,10 +1,6 @@
 -- There is at most one way to settle a link: each part of the schedule determines what is done.
-use Rattle.std.proofs.Common.{◌≡◌, Bool, true, false, not, List, [], ◌∷◌, MatchBool, sym, ◌∙◌, subst}
-use Rattle.link_port.specs.Prelude.{is_ready}
-use Rattle.link_machine.specs.Prelude.{Side, A, B}
+use Rattle.link_machine.proofs.Prelude.{◌≡◌, Bool, true, false, not, List, [], ◌∷◌, MatchBool, sym, ◌∙◌, subst, is_ready, Side, A, B, Pump, Tell, Fire, Reached, goes, holds_at, of_end, first_has_chars, first_rests, is_retry_stopped, has_failed, may_fire, all_chars, Empties, is_busy, Drains, TakesTurn, Restarts, TimesOut, Requests, Recovers, Tells, SendsAll, Settles}
 use Rattle.link_machine.specs.Schedules.{NextOf, WhereOf, Is, LoopOf, LoopRests, LoopGoesOn, LoopLeaves}
-use Rattle.link_machine.specs.Acts.{Pump, Tell, Fire, Reached, goes, holds_at}
-use Rattle.link_machine.specs.Settling.{of_end, first_has_chars, first_rests, is_retry_stopped, has_failed, may_fire, all_chars, Empties, is_busy, Drains, TakesTurn, Restarts, TimesOut, Requests, Recovers, Tells, SendsAll, Settles}
 
 -- no two lists are of this kind
 abbrev pub AtMostOne : {L : Type 0} → (List L → Type 0) → Type 0

@@ -1,24 +1,9 @@
 -- A packet comes to a port whose direction is at rest, and the answer comes back.
-use Rattle.std.proofs.Common.{◌≡◌, ℕ, ◌+◌, ◌%◌, ◌<◌, Bool, true, false, if◌then◌else◌, Option, Some, None, option_to_list, List, [], ◌∷◌, ◌++◌, map, length, slice_get, refl, ap, ◌∙◌, arith}
-use Rattle.std.proofs.lemmas.Bool.{eq-eqb}
-use Rattle.link_model.specs.Prelude.{Char, Fields, InRange, prio_of, Passes, Input, Arrival, Received, receives, packet_arrival, Output, Sends, hears, turns, Outstanding, from_ack, Place, place, place_start, at_rest, Text, Plain, Skipped, Within, placed, packet_chars_of, start_of_packet, end_of_packet, packet_accepted, window}
-use Rattle.link_model.specs.declared.reports.Report.{Report}
-use Rattle.link_buffers.specs.Prelude.{list_at, popped, room_for, stored, lists_without, highest}
-use Rattle.link_port.specs.Prelude.{Event, Ctl, Pkt, Nothing, PortState, prios_of, expected_of, Acted, acts, replies, buffer_status, standing, packet_burst, burst_of, turn_sends, turns_to}
-use Rattle.link_model.specs.Input.{input_accepted, replied, InputRetryStopped, InputOk}
+use Rattle.link_machine.proofs.Prelude.{◌≡◌, ℕ, ◌+◌, ◌%◌, ◌<◌, Bool, true, false, if◌then◌else◌, Option, Some, None, option_to_list, List, [], ◌∷◌, ◌++◌, map, length, slice_get, refl, ap, ◌∙◌, arith, eq-eqb, Char, Fields, InRange, prio_of, Passes, Input, Arrival, Received, receives, packet_arrival, Output, Sends, hears, turns, Outstanding, from_ack, Place, place, place_start, at_rest, Text, Plain, Skipped, Within, placed, packet_chars_of, start_of_packet, end_of_packet, packet_accepted, window, Report, list_at, popped, room_for, stored, lists_without, highest, Event, Ctl, Pkt, Nothing, PortState, prios_of, expected_of, Acted, acts, replies, buffer_status, standing, packet_burst, burst_of, turn_sends, turns_to, input_accepted, replied, InputRetryStopped, InputOk, Stype0, Turned, heard, reported, turned, credited, started, next_ack, is_oldest, without_oldest, begins_in, opened, ends_packet, packet_ended, told, report_of, run-packet_anywhere, place_after-packet_anywhere, acted, arrived, port_turn, led, port_fed, port_answers, chars_of, controls, AreAnswers}
 use Rattle.link_model.specs.Input as in_half
-use Rattle.link_model.specs.Output.{Stype0, Turned, heard, reported, turned, credited, started}
 use Rattle.link_model.specs.Output as out
-use Rattle.link_model.specs.Outstanding.{next_ack, is_oldest, without_oldest}
-use Rattle.link_model.specs.Places.{begins_in, opened}
-use Rattle.link_model.specs.Reading.{ends_packet, packet_ended, told}
-use Rattle.link_model.specs.Reports.{report_of}
 use Rattle.link_model.specs.Symbols.{packet_retry, status_with}
-use Rattle.link_model.proofs.ReadingSpeltLaws.{run-packet_anywhere, place_after-packet_anywhere}
 use Rattle.link_model.proofs.WindowFacts.{window_is, startable-open}
-use Rattle.link_port.specs.Steps.{acted, arrived}
-use Rattle.link_port.specs.Turns.{port_turn}
-use Rattle.link_machine.specs.Led.{led, port_fed, port_answers, chars_of, controls, AreAnswers}
 use Rattle.link_machine.proofs.Settling.SaidLaws.{reads}
 use Rattle.link_machine.proofs.Settling.AnswerLaws.{silent}
 use Rattle.link_machine.proofs.Settling.Signals.{fed_by, fed_is, answered_is, status_moved, hearing, status_acts, unbroken_reads}

@@ -1,19 +1,7 @@
 -- One side recovers: its direction comes to rest, and the other direction stays at rest if it was.
-use Rattle.std.proofs.Common.{◌≡◌, ℕ, ◌%◌, ◌&&◌, Bool, true, false, not, MatchBool, Option, List, [], ◌∷◌, length, refl, sym, ap, ◌∙◌, subst, if◌then◌else◌, arith, length-drop, map}
-use Rattle.std.proofs.lemmas.Bool.{and_parts, and_from}
-use Rattle.link_model.specs.Prelude.{Input, Output, times_out, Outstanding, from_ack, at_rest}
-use Rattle.link_model.specs.declared.reports.Report.{Report}
-use Rattle.link_model.specs.Input.{InputOk, InputRetryStopped, InputErrorStopped}
+use Rattle.link_machine.proofs.Prelude.{◌≡◌, ℕ, ◌%◌, ◌&&◌, Bool, true, false, not, MatchBool, Option, List, [], ◌∷◌, length, refl, sym, ap, ◌∙◌, subst, if◌then◌else◌, arith, length-drop, map, and_parts, and_from, Input, Output, times_out, Outstanding, from_ack, at_rest, Report, InputOk, InputRetryStopped, InputErrorStopped, IsBetween, forward, backward, Side, A, B, LinkState, at_end, from_end, is_silent, has_none, timed_out_at, IsSoundLink, first_fires, NextOf, Act, Fire, Reached, At, FoundAt, goes, OnState, is_retry_stopped, has_failed, may_fire, is_none, is_done, is_ok, first_rests, TakesTurn, Restarts, TimesOut, Requests, Recovers, IsAtRest}
 use Rattle.link_sound.specs.Marks.{Forward, Backward}
-use Rattle.link_sound.specs.Between.{IsBetween}
-use Rattle.link_sound.specs.Meanings.{forward, backward}
-use Rattle.link_machine.specs.Prelude.{Side, A, B, LinkState, at_end, from_end, is_silent, has_none, timed_out_at, IsSoundLink}
-use Rattle.link_machine.specs.Calls.{first_fires}
 use Rattle.link_machine.proofs.Machine.{fired_keeps, none_failed, from_end_keeps}
-use Rattle.link_machine.specs.Schedules.{NextOf}
-use Rattle.link_machine.specs.Acts.{Act, Fire, Reached, At, FoundAt, goes, OnState}
-use Rattle.link_machine.specs.Settling.{is_retry_stopped, has_failed, may_fire, is_none, is_done, is_ok, first_rests, TakesTurn, Restarts, TimesOut, Requests, Recovers}
-use Rattle.link_machine.specs.Rest.{IsAtRest}
 use Rattle.link_machine.proofs.Settling.Lines.{goes_one}
 use Rattle.link_machine.proofs.Settling.Drains.{goes_none, goes_found, goes-append, on_state, AreEmpty}
 use Rattle.link_machine.proofs.Settling.Restarting.{Kept, IsAwake, restarted, Rested, requested}

@@ -1,19 +1,6 @@
 -- A restart-from-retry or a link-request is sent, and what comes of it.
-use Rattle.std.proofs.Common.{◌≡◌, inl, inr, ℕ, Bool, true, false, if◌then◌else◌, Option, List, [], ◌∷◌, refl, sym, ap, ◌∙◌, subst, arith}
-use Rattle.link_model.specs.Prelude.{Fields, Arrival, Output, hears_report, turns, Outstanding, from_ack, Place, place, at_rest, Text, Plain, Skipped, Within, symbol_chars_of, restart_from_retry, link_request}
-use Rattle.link_model.specs.declared.reports.Report.{Report}
-use Rattle.link_buffers.specs.Priorities.{highest}
-use Rattle.link_port.specs.Prelude.{Pending, Nothing, Opened, One, Two, PortState, IsPort, expected_of, buffer_status, standing, burst_of, turn_sends, turns_to, waiting_in}
-use Rattle.link_port.proofs.SentReads.{standing_range}
-use Rattle.link_model.specs.Output.{responded, reported}
-use Rattle.link_model.specs.Reports.{has_buffer_status, base_of, report_of}
-use Rattle.link_model.specs.Places.{broken_off, rests_by}
-use Rattle.link_machine.specs.Prelude.{Side, A, B, LinkState, turned_round, from_end, IsSoundLink}
+use Rattle.link_machine.proofs.Prelude.{◌≡◌, inl, inr, ℕ, Bool, true, false, if◌then◌else◌, Option, List, [], ◌∷◌, refl, sym, ap, ◌∙◌, subst, arith, Fields, Arrival, Output, hears_report, turns, Outstanding, from_ack, Place, place, at_rest, Text, Plain, Skipped, Within, symbol_chars_of, restart_from_retry, link_request, Report, highest, Pending, Nothing, Opened, One, Two, PortState, IsPort, expected_of, buffer_status, standing, burst_of, turn_sends, turns_to, waiting_in, standing_range, responded, reported, has_buffer_status, base_of, report_of, broken_off, rests_by, Side, A, B, LinkState, turned_round, from_end, IsSoundLink, led, port_fed, port_answers, chars_of, controls, AreAnswers, Act, At, goes, OnState, is_retry_stopped, TakesTurn, IsAtRest}
 use Rattle.link_machine.proofs.Machine.{none_failed, from_end_keeps, round_keeps}
-use Rattle.link_machine.specs.Led.{led, port_fed, port_answers, chars_of, controls, AreAnswers}
-use Rattle.link_machine.specs.Acts.{Act, At, goes, OnState}
-use Rattle.link_machine.specs.Settling.{is_retry_stopped, TakesTurn}
-use Rattle.link_machine.specs.Rest.{IsAtRest}
 use Rattle.link_machine.proofs.Settling.TableLaws.{led-append}
 use Rattle.link_machine.proofs.Settling.AnswerLaws.{IsNarrow, port_narrow, first_breaks}
 use Rattle.link_machine.proofs.Settling.Signals.{IsSignal, fed_by, fed_is, fed_none, break_led, signal_fed, signal_answered, input_signalled, replies_signalled, unbroken_leaves, resting_answered, IsDown, down_fed, request_input, output_after, output_led, response_heard, response_is}

@@ -1,15 +1,5 @@
 -- What a sender that knows the room of the far port starts.
-use Rattle.std.proofs.Common.{◌≡◌, inl, inr, ℕ, Bool, true, false, List, slice_get, Option, Some, refl, sym, ap, ◌∙◌, arith}
-use Rattle.link_model.specs.Prelude.{prio_of, Input, from_ack}
-use Rattle.link_model.specs.Outstanding.{next_ack}
-use Rattle.link_model.specs.Output.{credited}
-use Rattle.link_model.specs.Reports.{report_of, has_credit}
-use Rattle.link_buffers.specs.Prelude.{list_at, room_for, highest}
-use Rattle.link_buffers.proofs.PriorityLaws.{highest_below-some}
-use Rattle.link_port.specs.Prelude.{PortState, IsPort, expected_of, buffer_status, is_ready}
-use Rattle.link_sound.specs.Told.{last_report}
-use Rattle.link_machine.specs.Settling.{is_some}
-use Rattle.link_machine.specs.Rest.{IsAtRest, KnowsRoom, IsDone}
+use Rattle.link_machine.proofs.Prelude.{◌≡◌, inl, inr, ℕ, Bool, true, false, List, slice_get, Option, Some, refl, sym, ap, ◌∙◌, arith, prio_of, Input, from_ack, next_ack, credited, report_of, has_credit, list_at, room_for, highest, highest_below-some, PortState, IsPort, expected_of, buffer_status, is_ready, last_report, is_some, IsAtRest, KnowsRoom, IsDone}
 use Rattle.link_machine.proofs.Settling.Packets.{next_is}
 use Rattle.link_machine.proofs.Settling.Waiting.{first_waiting, ready_is, credited_has, uncredited, no_room, has_room, All-first}
 

@@ -1,13 +1,5 @@
 -- Each round of the last step is a packet held and freed, or the last.
-use Rattle.std.proofs.Common.{◌≡◌, inl, inr, ℕ, Bool, true, false, List, length, sym, ap, ◌∙◌, subst, arith}
-use Rattle.link_buffers.specs.Queues.{popped, packet_count}
-use Rattle.link_buffers.proofs.QueueLemmas.{packet_count-popped}
-use Rattle.link_buffers.proofs.PriorityLaws.{highest_below-some}
-use Rattle.link_port.specs.Prelude.{PortState, is_ready}
-use Rattle.link_machine.specs.Prelude.{Side, A, B, LinkState, from_end, IsSoundLink}
-use Rattle.link_machine.specs.Acts.{Act, At, goes, OnState}
-use Rattle.link_machine.specs.Settling.{is_retry_stopped, of_end, TakesTurn}
-use Rattle.link_machine.specs.Rest.{IsBlocked, IsQuiet, KnowsRoom, HasPassed, IsRound}
+use Rattle.link_machine.proofs.Prelude.{◌≡◌, inl, inr, ℕ, Bool, true, false, List, length, sym, ap, ◌∙◌, subst, arith, popped, packet_count, packet_count-popped, highest_below-some, PortState, is_ready, Side, A, B, LinkState, from_end, IsSoundLink, Act, At, goes, OnState, is_retry_stopped, of_end, TakesTurn, IsBlocked, IsQuiet, KnowsRoom, HasPassed, IsRound}
 use Rattle.link_machine.proofs.Machine.{from_end_keeps}
 use Rattle.link_machine.proofs.Settling.Drains.{on_state}
 use Rattle.link_machine.proofs.Settling.SendingRounds.{Round, Quiet, AfterRound, round_goes}

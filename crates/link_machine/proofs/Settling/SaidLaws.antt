@@ -1,12 +1,5 @@
 -- What is said in pieces, and what is sent for a symbol.
-use Rattle.std.proofs.Common.{◌≡◌, ℕ, suc, ◌+◌, List, [], ◌∷◌, ◌++◌, length, refl, sym, ap, ◌∙◌}
-use Rattle.std.proofs.lemmas.List.{map-append}
-use Rattle.link_model.specs.Prelude.{Char, Fields, InRange, Place, place, step, run, place_after, Text, placed, symbol_chars_of, said}
-use Rattle.link_port.specs.Prelude.{Event, Pending, Nothing}
-use Rattle.link_model.specs.Places.{broken_off, begins_in}
-use Rattle.link_model.specs.Reading.{text_after, told}
-use Rattle.link_model.proofs.PlacesLaws.{run-append, place_after-append, events_of, placed_away}
-use Rattle.link_model.proofs.ReadingSpeltLaws.{run-symbol_anywhere, place_after-symbol_anywhere}
+use Rattle.link_machine.proofs.Prelude.{◌≡◌, ℕ, suc, ◌+◌, List, [], ◌∷◌, ◌++◌, length, refl, sym, ap, ◌∙◌, map-append, Char, Fields, InRange, Place, place, step, run, place_after, Text, placed, symbol_chars_of, said, Event, Pending, Nothing, broken_off, begins_in, text_after, told, run-append, place_after-append, events_of, placed_away, run-symbol_anywhere, place_after-symbol_anywhere}
 
 -- what is said does not depend on the place of the first character
 said_from : (from : Place) (at n : ℕ) (cs : List Char)

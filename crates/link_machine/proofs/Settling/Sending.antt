@@ -1,18 +1,5 @@
 -- What waits is sent: each round is a packet that is held and freed, or the last.
-use Rattle.std.proofs.Common.{◌≡◌, inr, ℕ, ◌+◌, ◌%◌, [], Bool, true, false, MatchBool, List, slice_get, refl, sym, ap, ◌∙◌, subst}
-use Rattle.link_model.specs.Prelude.{Fields, prio_of, Input, Arrival, Output, hears_report, Place, place_start, at_rest, symbol_chars_of}
-use Rattle.link_model.specs.Output.{reported}
-use Rattle.link_model.specs.Input.{InputRetryStopped, InputOk}
-use Rattle.link_buffers.specs.Prelude.{Buffered, list_at, room_for, highest}
-use Rattle.link_port.specs.Prelude.{PortState, turns_to, is_ready}
-use Rattle.link_sound.specs.Told.{last_report}
-use Rattle.link_machine.specs.Prelude.{Side, LinkState, from_end, IsSoundLink}
-use Rattle.link_machine.specs.Led.{port_fed, port_answers, chars_of}
-use Rattle.link_machine.specs.Schedules.{LoopOf}
-use Rattle.link_machine.specs.Schedules.LoopOf.{LoopRests, LoopGoesOn, LoopLeaves}
-use Rattle.link_machine.specs.Acts.{Act, Reached, At, FoundAt, goes, OnState}
-use Rattle.link_machine.specs.Settling.{is_retry_stopped, of_end, TakesTurn, SendsAll}
-use Rattle.link_machine.specs.Rest.{IsAtRest, KnowsRoom, IsDone}
+use Rattle.link_machine.proofs.Prelude.{◌≡◌, inr, ℕ, ◌+◌, ◌%◌, [], Bool, true, false, MatchBool, List, slice_get, refl, sym, ap, ◌∙◌, subst, Fields, prio_of, Input, Arrival, Output, hears_report, Place, place_start, at_rest, symbol_chars_of, reported, InputRetryStopped, InputOk, Buffered, list_at, room_for, highest, PortState, turns_to, is_ready, last_report, Side, LinkState, from_end, IsSoundLink, port_fed, port_answers, chars_of, LoopOf, LoopRests, LoopGoesOn, LoopLeaves, Act, Reached, At, FoundAt, goes, OnState, is_retry_stopped, of_end, TakesTurn, SendsAll, IsAtRest, KnowsRoom, IsDone}
 use Rattle.link_machine.proofs.Machine.{from_end_keeps}
 use Rattle.link_machine.proofs.Settling.AnswerLaws.{port_narrow}
 use Rattle.link_machine.proofs.Settling.Signals.{input_signalled, replies_signalled, fed_none, answered_none, signal_fed, signal_answered}

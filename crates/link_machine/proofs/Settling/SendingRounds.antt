@@ -1,17 +1,5 @@
 -- One packet is sent on a link of which both directions are at rest, and what comes of it.
-use Rattle.std.proofs.Common.{◌≡◌, ℕ, ◌<◌, ◌∷◌, [], Bool, true, false, List, slice_get, Some, refl, sym, ap, ◌∙◌, subst, arith}
-use Rattle.link_model.specs.Prelude.{Char, Fields, prio_of, Passes, Output, from_ack, Place, place, at_rest, Text, Plain, Skipped, Within}
-use Rattle.link_buffers.specs.Prelude.{list_at, room_for, highest}
-use Rattle.link_port.specs.Prelude.{Nothing, PortState, IsPort, expected_of, buffer_status, turn_sends, turns_to, is_ready}
-use Rattle.link_port.proofs.SentReads.{standing_range}
-use Rattle.link_model.specs.Output.{credited, reported}
-use Rattle.link_sound.specs.Told.{last_report}
-use Rattle.link_model.specs.Places.{opened}
-use Rattle.link_machine.specs.Prelude.{Side, LinkState, from_end, IsSoundLink}
-use Rattle.link_machine.specs.Led.{port_fed, port_answers, chars_of, AreAnswers}
-use Rattle.link_machine.specs.Acts.{Act, At, goes, OnState}
-use Rattle.link_machine.specs.Settling.{is_some, TakesTurn}
-use Rattle.link_machine.specs.Rest.{IsAtRest, KnowsRoom}
+use Rattle.link_machine.proofs.Prelude.{◌≡◌, ℕ, ◌<◌, ◌∷◌, [], Bool, true, false, List, slice_get, Some, refl, sym, ap, ◌∙◌, subst, arith, Char, Fields, prio_of, Passes, Output, from_ack, Place, place, at_rest, Text, Within, list_at, room_for, highest, Nothing, PortState, IsPort, expected_of, buffer_status, turn_sends, turns_to, is_ready, standing_range, credited, reported, last_report, opened, Side, LinkState, from_end, IsSoundLink, port_fed, port_answers, chars_of, AreAnswers, Act, At, goes, OnState, is_some, TakesTurn, IsAtRest, KnowsRoom}
 use Rattle.link_machine.proofs.Machine.{from_end_keeps}
 use Rattle.link_machine.proofs.Settling.AnswerLaws.{port_narrow}
 use Rattle.link_machine.proofs.Settling.Signals.{fed_none, answered_none, unbroken_leaves}
@@ -26,9 +14,8 @@ use Rattle.link_machine.proofs.Settling.Waiting.{First, first_waiting, ready_is,
 
 pub resting_open : (t : Text) → at_rest (place t Nothing) ≡ true
     → at_rest (place (opened t) Nothing) ≡ true
-resting_open Plain rests = refl
-resting_open Skipped rests = refl
 resting_open (Within bytes) rests = absurd cc
+resting_open _ rests = refl
 
 -- the ports after a packet was sent and its answer came back
 pub record Round (room : Bool) (ack : ℕ) (p q m_a m_b : PortState) : Type 0 where

@@ -1,16 +1,5 @@
 -- Settling ends at rest.
-use Rattle.std.proofs.Common.{◌≡◌, inl, inr, ℕ, [], List, take, slice_get, sym, ap, ◌∙◌, subst, arith}
-use Rattle.std.proofs.lemmas.List.{take_all}
-use Rattle.link_buffers.specs.Prelude.{Buffered, list_at, room_for, packets_of, highest}
-use Rattle.link_model.specs.Prelude.{prio_of, Output, distance}
-use Rattle.link_port.specs.Prelude.{PortState, prios_of, expected_of}
-use Rattle.link_sound.specs.Lent.{lent}
-use Rattle.link_sound.specs.Meanings.{oldest_of}
-use Rattle.link_machine.specs.Prelude.{A, B, LinkState, IsSoundLink}
-use Rattle.link_machine.specs.Schedules.{NextOf}
-use Rattle.link_machine.specs.Acts.{Act, Reached, At, FoundAt, goes, OnState}
-use Rattle.link_machine.specs.Settling.{SchedulePart, Drains, Recovers, Tells, SendsAll, Settles}
-use Rattle.link_machine.specs.Rest.{IsAtRest, KnowsRoom, IsDone, IsSettled}
+use Rattle.link_machine.proofs.Prelude.{◌≡◌, inl, inr, ℕ, [], List, take, slice_get, sym, ap, ◌∙◌, subst, arith, take_all, Buffered, list_at, room_for, packets_of, highest, prio_of, Output, distance, PortState, prios_of, expected_of, lent, oldest_of, A, B, LinkState, IsSoundLink, NextOf, Act, Reached, At, FoundAt, goes, OnState, SchedulePart, Drains, Recovers, Tells, SendsAll, Settles, IsAtRest, KnowsRoom, IsDone, IsSettled}
 use Rattle.link_machine.proofs.Settling.Drains.{goes_found, goes-append, on_state, AreEmpty, drain_rests}
 use Rattle.link_machine.proofs.Settling.Recovery.{recovers}
 use Rattle.link_machine.proofs.Settling.SendingRounds.{Quiet}

@@ -1,17 +1,5 @@
 -- A restart-from-retry or a link-request comes to a port, and answers come back.
-use Rattle.std.proofs.Common.{◌≡◌, ◌⊎◌, inl, inr, ℕ, Bool, true, false, nat_lt, nat_le, ◌&&◌, ◌==◌, if◌then◌else◌, Option, None, option_to_list, List, [], ◌∷◌, ◌++◌, take, length, refl, sym, ap, ◌∙◌, append-nil}
-use Rattle.link_model.specs.Prelude.{Char, Fields, InRange, Input, Arrival, Received, symbol_arrival, receives, Output, hears, hears_report, Outstanding, from_ack, distance, Place, run, place, place_start, place_after, at_rest, Text, Plain, Skipped, Within, symbol_chars_of, said}
-use Rattle.link_model.specs.declared.reports.Report.{Report}
-use Rattle.link_buffers.specs.Priorities.{packets_of, lists_without}
-use Rattle.link_port.specs.Prelude.{Event, Ctl, Pkt, Bad, Pending, Nothing, Opened, One, Two, PortState, prios_of, expected_of, Acted, acts, replies}
-use Rattle.link_model.specs.Output.{Heard, Stype0, stype0, heard, ignored, accepted, retried, responded, reported}
-use Rattle.link_model.specs.Reports.{has_buffer_status, base_of, report_of}
-use Rattle.link_model.specs.Outstanding.{is_oldest}
-use Rattle.link_model.specs.Places.{broken_off, begins_in, opened}
-use Rattle.link_model.specs.Reading.{text_after, told}
-use Rattle.link_model.specs.Input.{InputOk, InputRetryStopped, InputErrorStopped}
-use Rattle.link_port.specs.Steps.{acted, acts_symbol}
-use Rattle.link_machine.specs.Led.{led, port_fed, port_answers, chars_of, controls, AreAnswers}
+use Rattle.link_machine.proofs.Prelude.{◌≡◌, ◌⊎◌, inl, inr, ℕ, Bool, true, false, nat_lt, nat_le, ◌&&◌, ◌==◌, if◌then◌else◌, Option, None, option_to_list, List, [], ◌∷◌, ◌++◌, take, length, refl, sym, ap, ◌∙◌, append-nil, Char, Fields, InRange, Input, Arrival, Received, symbol_arrival, receives, Output, hears, hears_report, Outstanding, from_ack, distance, Place, run, place, place_start, place_after, at_rest, Text, Plain, Within, symbol_chars_of, said, Report, packets_of, lists_without, Event, Ctl, Pkt, Bad, Pending, Nothing, Opened, One, Two, PortState, prios_of, expected_of, Acted, acts, replies, Heard, Stype0, stype0, heard, ignored, accepted, retried, responded, reported, has_buffer_status, base_of, report_of, is_oldest, broken_off, begins_in, opened, text_after, told, InputOk, InputRetryStopped, InputErrorStopped, acted, acts_symbol, led, port_fed, port_answers, chars_of, controls, AreAnswers}
 use Rattle.link_machine.proofs.Settling.SaidLaws.{reads, prepended, symbol_reads}
 use Rattle.link_machine.proofs.Settling.TableLaws.{led-append, replies-append}
 use Rattle.link_machine.proofs.Settling.AnswerLaws.{LeavesInput, answers_leave, first_breaks}
@@ -57,19 +45,13 @@ pub break_led : (p : PortState) (k : Pending)
     → led p (broken_off k) ≡ record p { input = input_broken k p.input }
 unfolding led
 break_led p Nothing = refl
-break_led p (Opened d) = refl
-break_led p (One d x) = refl
-break_led p (Two d x y) = refl
+break_led p _ = refl
 
 pub break_replies : (p : PortState) (k : Pending)
     → replies p (broken_off k) ≡ option_to_list (reply_broken k p.input)
 unfolding replies
 break_replies p Nothing = refl
-break_replies p (Opened d) =
-    append-nil (option_to_list (receives (Arrival.Damaged 5) p.input).reply)
-break_replies p (One d x) = append-nil (option_to_list (receives (Arrival.Damaged 5) p.input).reply)
-break_replies p (Two d x y) =
-    append-nil (option_to_list (receives (Arrival.Damaged 5) p.input).reply)
+break_replies p _ = append-nil (option_to_list (receives (Arrival.Damaged 5) p.input).reply)
 
 -- ---- a symbol that ends whatever was in progress
 
@@ -190,9 +172,8 @@ unbroken_reads t (s ∷ ss) are = first_breaks t Nothing s ss are
 pub resting_answered : (ss : List Fields) (t : Text) → at_rest (place t Nothing) ≡ true
     → at_rest (place (text_answered ss t) Nothing) ≡ true
 resting_answered [] t rests = rests
-resting_answered (s ∷ ss) Plain rests = refl
-resting_answered (s ∷ ss) Skipped rests = refl
 resting_answered (s ∷ ss) (Within bytes) rests = absurd cc
+resting_answered (s ∷ ss) _ rests = refl
 
 -- where no symbol is in progress, answers leave the input half as it is, and have no answer
 pub unbroken_leaves : (p : PortState) (t : Text) (ss : List Fields) → p.place ≡ place t Nothing
@@ -318,15 +299,9 @@ pub request_input : (k : Pending) (i : Input)
 request_input Nothing (InputOk e) = refl
 request_input Nothing (InputRetryStopped e) = refl
 request_input Nothing (InputErrorStopped e) = refl
-request_input (Opened d) (InputOk e) = refl
-request_input (Opened d) (InputRetryStopped e) = refl
-request_input (Opened d) (InputErrorStopped e) = refl
-request_input (One d x) (InputOk e) = refl
-request_input (One d x) (InputRetryStopped e) = refl
-request_input (One d x) (InputErrorStopped e) = refl
-request_input (Two d x y) (InputOk e) = refl
-request_input (Two d x y) (InputRetryStopped e) = refl
-request_input (Two d x y) (InputErrorStopped e) = refl
+request_input _ (InputOk e) = refl
+request_input _ (InputRetryStopped e) = refl
+request_input _ (InputErrorStopped e) = refl
 
 -- the output half after a list of symbols
 unfoldable pub output_after : Output → List Fields → Output
@@ -347,15 +322,9 @@ unfolding output_after
 response_heard Nothing (InputOk e) w = refl
 response_heard Nothing (InputRetryStopped e) w = refl
 response_heard Nothing (InputErrorStopped e) w = refl
-response_heard (Opened d) (InputOk e) w = refl
-response_heard (Opened d) (InputRetryStopped e) w = refl
-response_heard (Opened d) (InputErrorStopped e) w = refl
-response_heard (One d x) (InputOk e) w = refl
-response_heard (One d x) (InputRetryStopped e) w = refl
-response_heard (One d x) (InputErrorStopped e) w = refl
-response_heard (Two d x y) (InputOk e) w = refl
-response_heard (Two d x y) (InputRetryStopped e) w = refl
-response_heard (Two d x y) (InputErrorStopped e) w = refl
+response_heard _ (InputOk e) w = refl
+response_heard _ (InputRetryStopped e) w = refl
+response_heard _ (InputErrorStopped e) w = refl
 
 responded_by : (within : Bool) (next : Outstanding) (count : ℕ)
     → ((if within then heard (Output.Ok next) count else heard Output.Failed 0).state

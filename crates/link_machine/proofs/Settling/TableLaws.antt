@@ -1,8 +1,5 @@
 -- The tables over lists of events: in pieces, and without a look at the framer.
-use Rattle.std.proofs.Common.{◌≡◌, Option, option_to_list, List, [], ◌∷◌, ◌++◌, refl, sym, ap, ◌∙◌, append_assoc}
-use Rattle.link_model.specs.Prelude.{Fields, Place}
-use Rattle.link_port.specs.Prelude.{Event, Ctl, Pkt, Bad, PortState, acts, replies}
-use Rattle.link_machine.specs.Led.{led}
+use Rattle.link_machine.proofs.Prelude.{◌≡◌, Option, option_to_list, List, [], ◌∷◌, ◌++◌, refl, sym, ap, ◌∙◌, append_assoc, Fields, Place, Event, Ctl, Pkt, Bad, PortState, acts, replies, led}
 
 pub led-append : (p : PortState) (xs ys : List Event) → led p (xs ++ ys) ≡ led (led p xs) ys
 unfolding led

@@ -1,21 +1,6 @@
 -- A port at rest tells its free buffers, and what comes of it.
-use Rattle.std.proofs.Common.{◌≡◌, ◌++◌, Bool, true, false, MatchBool, Option, Some, None, List, [], ◌∷◌, IfSome, refl, sym, ap, ◌∙◌, subst, if◌then◌else◌, append-nil, arith}
-use Rattle.link_model.specs.Prelude.{Char, Fields, Output, Place, place, at_rest, symbol_chars_of, status}
-use Rattle.link_model.specs.Output.{reported}
-use Rattle.link_model.specs.declared.reports.Report.{Report}
-use Rattle.link_model.specs.Places.{opened}
-use Rattle.link_port.specs.Prelude.{Nothing, PortState, IsPort, Acted, expected_of, buffer_status, tell_sends}
-use Rattle.link_port.specs.Answers.{IsAnswer}
-use Rattle.link_port.specs.Turns.{symbol_burst, no_burst}
-use Rattle.link_port.proofs.SentReads.{standing_range}
-use Rattle.link_sound.specs.Told.{last_report}
-use Rattle.link_machine.specs.Prelude.{Side, A, B, LinkState, from_end, told_from, IsSoundLink}
+use Rattle.link_machine.proofs.Prelude.{◌≡◌, ◌++◌, Bool, true, false, MatchBool, Option, Some, None, List, [], ◌∷◌, IfSome, refl, sym, ap, ◌∙◌, subst, if◌then◌else◌, append-nil, arith, Char, Fields, Output, Place, place, at_rest, symbol_chars_of, status, reported, Report, opened, Nothing, PortState, IsPort, Acted, expected_of, buffer_status, tell_sends, IsAnswer, symbol_burst, no_burst, standing_range, last_report, Side, A, B, LinkState, from_end, told_from, IsSoundLink, led, port_fed, port_answers, chars_of, controls, AreAnswers, Act, Tell, Reached, At, goes, OnState, NextOf, Is, Drains, Tells, KnowsRoom}
 use Rattle.link_machine.proofs.Machine.{told_keeps, from_end_keeps}
-use Rattle.link_machine.specs.Led.{led, port_fed, port_answers, chars_of, controls, AreAnswers}
-use Rattle.link_machine.specs.Acts.{Act, Tell, Reached, At, goes, OnState}
-use Rattle.link_machine.specs.Schedules.{NextOf, Is}
-use Rattle.link_machine.specs.Settling.{Drains, Tells}
-use Rattle.link_machine.specs.Rest.{KnowsRoom}
 use Rattle.link_machine.proofs.Settling.SaidLaws.{reads}
 use Rattle.link_machine.proofs.Settling.Signals.{fed_by, fed_is, fed_none, answered_none, unbroken_reads, unbroken_leaves}
 use Rattle.link_machine.proofs.Settling.Packets.{status_range, told_by, bound_tells}

@@ -1,13 +1,6 @@
 -- A link with one of its ends first, and what comes of a turn of the port there.
-use Rattle.std.proofs.Common.{◌≡◌, ◌++◌, List, [], refl, sym, ap, ◌∙◌, subst, append-nil}
-use Rattle.link_model.specs.Prelude.{Char, Fields}
-use Rattle.link_port.specs.Prelude.{PortState, turn_sends, turns_to}
-use Rattle.link_machine.specs.Prelude.{Side, A, B, LinkState, from_end, pumped, IsSoundLink}
-use Rattle.link_wires.specs.Wires.{port_turned, bursts}
+use Rattle.link_machine.proofs.Prelude.{◌≡◌, ◌++◌, List, [], refl, sym, ap, ◌∙◌, subst, append-nil, Char, Fields, PortState, turn_sends, turns_to, Side, A, B, LinkState, from_end, pumped, IsSoundLink, port_turned, bursts, port_fed, port_answers, chars_of, Act, Pump, Reached, At, goes, OnState, Drains, TakesTurn}
 use Rattle.link_machine.proofs.Machine.{pump_keeps}
-use Rattle.link_machine.specs.Led.{port_fed, port_answers, chars_of}
-use Rattle.link_machine.specs.Acts.{Act, Pump, Reached, At, goes, OnState}
-use Rattle.link_machine.specs.Settling.{Drains, TakesTurn}
 use Rattle.link_machine.proofs.Settling.Lines.{goes_one}
 use Rattle.link_machine.proofs.Settling.Exchanges.{Exchanged, drain_exchanges}
 use Rattle.link_machine.proofs.Settling.Drains.{goes-append, AreEmpty}

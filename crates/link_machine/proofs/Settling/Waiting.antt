@@ -1,16 +1,6 @@
 -- A packet that waits, whether a turn starts it, and whether it has room.
-use Rattle.std.proofs.Common.{◌≡◌, ◌⊎◌, inl, inr, ℕ, ◌+◌, ◌-◌, ◌<◌, ◌∷◌, [], Bool, true, false, nat_lt, if◌then◌else◌, List, slice_get, All, Option, Some, None, refl, sym, ap, ◌∙◌, subst, arith}
-use Rattle.std.proofs.lemmas.Bool.{ltb-true, ltb-false, lt-ltb, le-ltb}
+use Rattle.link_machine.proofs.Prelude.{◌≡◌, ◌⊎◌, inl, inr, ℕ, ◌+◌, ◌-◌, ◌<◌, ◌∷◌, [], Bool, true, false, nat_lt, if◌then◌else◌, List, slice_get, All, Option, Some, None, refl, sym, ap, ◌∙◌, subst, arith, ltb-true, ltb-false, lt-ltb, le-ltb, Output, Outstanding, untold, from_ack, distance, Report, Buffered, list_at, packet_count, room_for, highest, IsInStore, highest_below-some, PortState, buffer_status, is_ready, Turned, credited, started, starts, next_ack, report_of, has_credit, is_some}
 use Rattle.std.proofs.lemmas.Option.{slice_get_cases}
-use Rattle.link_model.specs.Prelude.{Output, Outstanding, untold, from_ack, distance}
-use Rattle.link_model.specs.declared.reports.Report.{Report}
-use Rattle.link_buffers.specs.Prelude.{Buffered, list_at, packet_count, room_for, highest, IsInStore}
-use Rattle.link_buffers.proofs.PriorityLaws.{highest_below-some}
-use Rattle.link_port.specs.Prelude.{PortState, buffer_status, is_ready}
-use Rattle.link_model.specs.Output.{Turned, credited, started, starts}
-use Rattle.link_model.specs.Outstanding.{next_ack}
-use Rattle.link_model.specs.Reports.{report_of, has_credit}
-use Rattle.link_machine.specs.Settling.{is_some}
 use Rattle.link_machine.proofs.Settling.Packets.{turn_is}
 
 -- ---- a packet that waits
@@ -90,8 +80,7 @@ pub uncredited : (w : Outstanding) (waiting : Option ℕ) → is_some (credited 
     → (waiting ≡ None)
     ⊎ ((prio : ℕ) × (waiting ≡ Some prio) × (has_credit w.report (next_ack w) prio ≡ false))
 uncredited w None none = inl refl
-uncredited w (Some prio) none =
-    inr (prio, refl, by (has_credit w.report (next_ack w) prio) none)
+uncredited w (Some prio) none = inr (prio, refl, by (has_credit w.report (next_ack w) prio) none)
   where
     by : (b : Bool) → is_some (if b then Some prio else None) ≡ false → b ≡ false
     by true none = absurd cc

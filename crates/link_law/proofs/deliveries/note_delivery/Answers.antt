@@ -1,7 +1,4 @@
-use Rattle.std.proofs.Common.{List, [], ◌∷◌, ◌++◌, map, subst}
-use Rattle.rio_chars.specs.declared.chars.Char.{Char}
-use Rattle.link_machine.specs.Prelude.{Stopped, Got, Move, move_note, sent_notes}
-use Rattle.link_watch.proofs.StopLaws.{stopped_in_one, stopped_then, stopped_before}
+use Rattle.link_law.proofs.Prelude.{List, [], ◌∷◌, ◌++◌, map, subst, Char, Stopped, Got, Move, move_note, sent_notes, stopped_in_one, stopped_then, stopped_before}
 use Rattle.link_law.proofs.Noting.{on_err, ok_then, err_then}
 use Rattle.link_law.proofs.deliveries.note_delivery.Goals as goal
 

@@ -1,7 +1,6 @@
-use Rattle.std.proofs.Common.{◌++◌, ◌∷◌, ◌∙◌, map, take, drop, suc, sym, ap, arith}
+use Rattle.link_law.proofs.Prelude.{◌++◌, ◌∷◌, ◌∙◌, map, take, drop, suc, sym, ap, arith, Move, move_note}
 use Rattle.std.proofs.Math.Seq.{split_at}
 use Rattle.std.proofs.lemmas.List.{map-append}
-use Rattle.link_machine.specs.Prelude.{Move, move_note}
 use Rattle.link_law.proofs.Noting.{on_err}
 use Rattle.link_law.proofs.deliveries.note_moves.Goals as goal
 

@@ -1,5 +1,4 @@
-use Rattle.std.proofs.Common.{◌≡◌, take, map}
-use Rattle.link_machine.specs.Calls.{move_note}
+use Rattle.link_law.proofs.Prelude.{◌≡◌, take, map, move_note}
 use Rattle.link_law.proofs.deliveries.note_moves.Given as goal
 
 abbrev pub invariant-loop-step : goal.invariant-loop-step

@@ -1,7 +1,6 @@
-use Rattle.std.proofs.Common.{◌<◌, List, length, subst, sym, arith}
+use Rattle.link_law.proofs.Prelude.{◌<◌, List, length, subst, sym, arith, stopped_in_one}
 use Rattle.std.proofs.lemmas.Bool.Decides.{nat_tests}
 use Rattle.link_machine.specs.Prelude.{Stopped, Note, Sent}
-use Rattle.link_watch.proofs.StopLaws.{stopped_in_one}
 use Rattle.link_law.proofs.Noting.{sent_one, ok_then, err_then}
 use Rattle.link_law.proofs.link.note_sent.Goals as goal
 

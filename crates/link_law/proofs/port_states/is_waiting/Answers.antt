@@ -1,7 +1,4 @@
-use Rattle.std.proofs.Common.{◌∙◌, refl}
-use Rattle.link_buffers.specs.Priorities.{highest}
-use Rattle.link_buffers.proofs.PriorityLaws.{length-lists_without}
-use Rattle.link_port.specs.Prelude.{prios_of, waiting_in}
+use Rattle.link_law.proofs.Prelude.{◌∙◌, refl, highest, length-lists_without, prios_of, waiting_in}
 use Rattle.link_law.proofs.SendLaws.{waits_by}
 use Rattle.link_law.proofs.port_states.is_waiting.Goals as goal
 

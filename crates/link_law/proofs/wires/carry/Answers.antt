@@ -1,6 +1,5 @@
-use Rattle.std.proofs.Common.{List, ap, ◌∙◌}
+use Rattle.link_law.proofs.Prelude.{List, ap, ◌∙◌, answers}
 use Rattle.rio_symbols.specs.Fields.{Fields}
-use Rattle.link_wires.specs.Wires.{answers}
 use Rattle.link_law.proofs.wires.carry.Goals as goal
 
 pub returns-clause-told : goal.returns-clause-told

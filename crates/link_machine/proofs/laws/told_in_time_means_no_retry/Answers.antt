@@ -1,6 +1,4 @@
-use Rattle.link_sound.proofs.CreditHistory.{room_in_time}
-use Rattle.link_machine.specs.States.{from_end}
-use Rattle.link_machine.specs.InTime.{ends_of_link}
+use Rattle.link_machine.proofs.Prelude.{room_in_time, from_end, ends_of_link}
 use Rattle.link_machine.proofs.InTime.{runs_find_room, runs_tell_truly, deliveries_ask_none}
 use Rattle.link_machine.proofs.laws.told_in_time_means_no_retry.Goals as goal
 

@@ -1,7 +1,4 @@
-use Rattle.std.proofs.Common.{refl, map}
-use Rattle.link_buffers.specs.Priorities.{highest}
-use Rattle.link_port.specs.Prelude.{waiting_in, expected_of}
-use Rattle.link_sound.specs.Meanings.{forward, backward}
+use Rattle.link_sound.proofs.Prelude.{refl, map, highest, waiting_in, expected_of, forward, backward}
 use Rattle.link_sound.proofs.Freed.{turn_stays, time_out_stays}
 use Rattle.link_sound.proofs.queues.turns_and_time_outs_move_nothing.Goals as goal
 

@@ -1,13 +1,7 @@
-use Rattle.std.proofs.Common.{◌≡◌, true, false, [], List, None, take, OnOk, Result, sym, ap, ◌∙◌, subst, if◌then◌else◌}
-use Rattle.link_watch.proofs.StopLaws.{stopped_at_once}
-use Rattle.link_wires.specs.Deliveries.{told_of, undetected}
-use Rattle.link_wires.specs.declared.edits.Edited.{Edited}
-use Rattle.link_machine.specs.Prelude.{Stopped, Note, other_side, has_chars, delivery_from, delivered_from, told_notes, delivery_notes, queues_of, Walks, IsSoundLink, LinkState, Wires, link, from_end}
+use Rattle.link_law.proofs.Prelude.{◌≡◌, true, false, [], List, None, take, OnOk, Result, sym, ap, ◌∙◌, subst, if◌then◌else◌, stopped_at_once, told_of, undetected, Edited, Stopped, Note, other_side, has_chars, delivery_from, delivered_from, told_notes, delivery_notes, queues_of, Walks, IsSoundLink, LinkState, Wires, link, from_end, delivery_keeps, delivery_walks, LinkEnd}
 use Rattle.link_machine.specs.Queues.{note_steps}
 use Rattle.link_machine.specs.Queues.Walks.{WalkEnds}
-use Rattle.link_machine.proofs.Machine.{delivery_keeps, delivery_walks}
 use Rattle.link_watch.specs.declared.watch.NoteEnd.TheVariants as Stop
-use Rattle.link_law.specs.declared.answers.LinkEnd.{LinkEnd}
 use Rattle.link_law.proofs.Noting.{given_up, on_given_up}
 use Rattle.link_law.proofs.Delivering.{link_is, notes_are, on_done}
 use Rattle.link_law.proofs.link.Link.deliver.Goals as goal

@@ -1,6 +1,4 @@
-use Rattle.std.proofs.Common.{not, refl, ap, ◌∙◌, arith, rules}
-use Rattle.link_machine.specs.States.{link}
-use Rattle.link_machine.specs.Settling.{Drains}
+use Rattle.link_law.proofs.Prelude.{not, refl, ap, ◌∙◌, arith, rules, link, Drains}
 use Rattle.link_law.proofs.DrainLaws.{drain_over, round_ends, draining_begins, draining_on, draining_ends}
 use Rattle.link_law.proofs.DoesLaws.{did_end}
 use Rattle.link_law.proofs.link.Link.drain.Goals as goal

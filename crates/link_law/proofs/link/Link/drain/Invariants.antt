@@ -1,5 +1,4 @@
-use Rattle.std.proofs.Common.{◌≡◌}
-use Rattle.link_machine.specs.States.{link}
+use Rattle.link_law.proofs.Prelude.{◌≡◌, link}
 use Rattle.link_law.proofs.DrainLaws.{Draining}
 use Rattle.link_law.proofs.link.Link.drain.Given as goal
 

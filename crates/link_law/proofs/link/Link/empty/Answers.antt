@@ -1,6 +1,4 @@
-use Rattle.std.proofs.Common.{arith, rules}
-use Rattle.link_machine.specs.States.{link}
-use Rattle.link_machine.specs.Settling.{Empties}
+use Rattle.link_law.proofs.Prelude.{arith, rules, link, Empties}
 use Rattle.link_law.proofs.DeliverLaws.{empties_none, empties_stop, empties_come, empties_end, delivery_comes, delivery_ends, wire_is}
 use Rattle.link_law.proofs.DoesLaws.{did_end}
 use Rattle.link_law.proofs.link.Link.empty.Goals as goal

@@ -1,7 +1,4 @@
-use Rattle.std.proofs.Common.{rules}
-use Rattle.link_machine.specs.Prelude.{link, B}
-use Rattle.link_machine.specs.Settling.{SendsAll}
-use Rattle.link_machine.proofs.Settling.Settled.{BothTold, FromSending}
+use Rattle.link_law.proofs.Prelude.{rules, link, B, SendsAll, BothTold, FromSending}
 use Rattle.link_law.proofs.DoesLaws.{did_next, did_early}
 use Rattle.link_law.proofs.SettleLaws.{SecondTells, quiet_of, told_at, both_told_at, sent_at, is_quiet, tells_follow, sends_follow, send_follows}
 use Rattle.link_law.proofs.link.Link.finish.Given.{Over}

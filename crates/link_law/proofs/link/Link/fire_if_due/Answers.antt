@@ -1,11 +1,6 @@
-use Rattle.std.proofs.Common.{sym, ap, ◌∙◌}
-use Rattle.link_port.specs.Ports.{PortState}
-use Rattle.link_machine.specs.States.{link}
-use Rattle.link_machine.specs.Settling.{TimesOut, may_fire, of_end}
-use Rattle.link_law.specs.Does.{end_of}
+use Rattle.link_law.proofs.Prelude.{sym, ap, ◌∙◌, PortState, link, TimesOut, may_fire, of_end, end_of, Fire}
 use Rattle.link_law.proofs.Noting.{given_is}
 use Rattle.link_law.proofs.DeliverLaws.{Only}
-use Rattle.link_machine.specs.Acts.{Fire}
 use Rattle.link_law.proofs.DoesLaws.{comes_none, did_end}
 use Rattle.link_law.proofs.DrainLaws.{fire_comes, fire_ends}
 use Rattle.link_law.proofs.link.Link.fire_if_due.Goals as goal

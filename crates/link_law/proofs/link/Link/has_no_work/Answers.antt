@@ -1,6 +1,4 @@
-use Rattle.std.proofs.Common.{◌&&◌, sym, ap, ◌∙◌}
-use Rattle.link_machine.specs.Prelude.{Wires, has_none}
-use Rattle.link_law.specs.Resting.{are_idle}
+use Rattle.link_law.proofs.Prelude.{◌&&◌, sym, ap, ◌∙◌, Wires, has_none, are_idle}
 use Rattle.link_law.proofs.link.Link.has_no_work.Goals as goal
 
 pub returns-then-are_silent : goal.returns-then-are_silent

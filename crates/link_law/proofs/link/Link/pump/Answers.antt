@@ -1,7 +1,4 @@
-use Rattle.std.proofs.Common.{subst, sym, ap, ◌∙◌}
-use Rattle.link_watch.proofs.StopLaws.{stopped_at_once}
-use Rattle.link_machine.specs.Prelude.{pumped, pump_notes, IsSoundLink, LinkState, Wires, link}
-use Rattle.link_machine.proofs.Machine.{pump_keeps}
+use Rattle.link_law.proofs.Prelude.{subst, sym, ap, ◌∙◌, stopped_at_once, pumped, pump_notes, IsSoundLink, LinkState, Wires, link, pump_keeps}
 use Rattle.link_law.proofs.Noting.{on_ok, on_err}
 use Rattle.link_law.proofs.link.Link.pump.Goals as goal
 

@@ -1,9 +1,4 @@
-use Rattle.std.proofs.Common.{◌≡◌, true, not, sym, ap, ◌∙◌, rules}
-use Rattle.link_port.specs.Ports.{PortState}
-use Rattle.link_machine.specs.States.{link}
-use Rattle.link_machine.specs.Schedules.{NextOf}
-use Rattle.link_machine.specs.Acts.{At, goes}
-use Rattle.link_machine.specs.Settling.{Restarts, Requests, has_failed, of_end}
+use Rattle.link_law.proofs.Prelude.{◌≡◌, true, not, sym, ap, ◌∙◌, rules, PortState, link, NextOf, At, goes, Restarts, Requests, has_failed, of_end}
 use Rattle.link_law.proofs.DoesLaws.{comes_none, did_where, did_next, did_early}
 use Rattle.link_law.proofs.DrainLaws.{requests_follow, sound_then}
 use Rattle.link_law.proofs.link.Link.recover.Given.{Over}

@@ -1,9 +1,4 @@
-use Rattle.std.proofs.Common.{◌≡◌, true, not, sym, ap, ◌∙◌, rules}
-use Rattle.link_port.specs.Ports.{PortState}
-use Rattle.link_machine.specs.States.{link, from_end}
-use Rattle.link_machine.specs.Schedules.{NextOf}
-use Rattle.link_machine.specs.Acts.{At, goes}
-use Rattle.link_machine.specs.Settling.{TimesOut, TakesTurn, rests_to, first_rests, of_end}
+use Rattle.link_law.proofs.Prelude.{◌≡◌, true, not, sym, ap, ◌∙◌, rules, PortState, link, from_end, NextOf, At, goes, TimesOut, TakesTurn, rests_to, first_rests, of_end}
 use Rattle.link_law.proofs.DoesLaws.{comes_none, did_where, did_next, did_early}
 use Rattle.link_law.proofs.DrainLaws.{turn_follows, sound_then}
 use Rattle.link_law.proofs.link.Link.request.Given.{Over}

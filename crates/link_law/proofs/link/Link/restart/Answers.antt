@@ -1,7 +1,4 @@
-use Rattle.std.proofs.Common.{sym, ap, ◌∙◌}
-use Rattle.link_port.specs.Ports.{PortState}
-use Rattle.link_machine.specs.States.{link}
-use Rattle.link_machine.specs.Settling.{TakesTurn, is_retry_stopped, of_end}
+use Rattle.link_law.proofs.Prelude.{sym, ap, ◌∙◌, PortState, link, TakesTurn, is_retry_stopped, of_end}
 use Rattle.link_law.proofs.DoesLaws.{comes_none, did_where}
 use Rattle.link_law.proofs.link.Link.restart.Goals as goal
 

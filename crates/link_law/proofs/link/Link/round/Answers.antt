@@ -1,6 +1,4 @@
-use Rattle.std.proofs.Common.{rules}
-use Rattle.link_machine.specs.Prelude.{B, link}
-use Rattle.link_machine.specs.Settling.{Empties}
+use Rattle.link_law.proofs.Prelude.{rules, B, link, Empties}
 use Rattle.link_law.proofs.DoesLaws.{did_next, did_early, empties_follow}
 use Rattle.link_law.proofs.link.Link.round.Goals as goal
 

@@ -1,8 +1,4 @@
-use Rattle.std.proofs.Common.{rules}
-use Rattle.link_machine.specs.Prelude.{link}
-use Rattle.link_machine.specs.Settling.{Settles}
-use Rattle.link_machine.proofs.Settling.Settled.{FromTelling, FromRecovering}
-use Rattle.link_law.specs.Does.{CallDid}
+use Rattle.link_law.proofs.Prelude.{rules, link, Settles, FromTelling, FromRecovering, CallDid}
 use Rattle.link_law.proofs.DoesLaws.{did_next, did_early}
 use Rattle.link_law.proofs.SettleLaws.{SecondRecovers, drained_at, first_at, second_at, is_quiet, did_comes, did_settles, did_ends, first_follows, second_follows, finish_follows}
 use Rattle.link_law.proofs.link.Link.settle.Given.{Over}

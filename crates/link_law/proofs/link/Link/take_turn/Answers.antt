@@ -1,6 +1,4 @@
-use Rattle.link_machine.specs.States.{link}
-use Rattle.link_machine.specs.Settling.{Drains}
-use Rattle.link_law.specs.Does.{Pumps, end_of}
+use Rattle.link_law.proofs.Prelude.{link, Drains, Pumps, end_of}
 use Rattle.link_law.proofs.Noting.{given_is}
 use Rattle.link_law.proofs.DoesLaws.{did_next, did_early}
 use Rattle.link_law.proofs.DrainLaws.{drain_follows, sound_then, pump_comes, pump_ends}

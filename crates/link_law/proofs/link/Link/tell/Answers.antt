@@ -1,10 +1,4 @@
-use Rattle.std.proofs.Common.{List, [], ◌∷◌, refl, ap, subst, ◌∙◌}
-use Rattle.rio_chars.specs.declared.chars.Char.{Char}
-use Rattle.link_port.specs.Turns.{tell_sends}
-use Rattle.link_machine.specs.Prelude.{Stopped, Wires, link, from_end, told_from, sent_notes}
-use Rattle.link_machine.specs.Acts.{Tell}
-use Rattle.link_law.specs.Does.{TellsOnce, end_of}
-use Rattle.link_law.specs.declared.answers.LinkEnd.TheVariants.{NoMemory}
+use Rattle.link_law.proofs.Prelude.{List, [], ◌∷◌, refl, ap, subst, ◌∙◌, Char, tell_sends, Stopped, Wires, link, from_end, told_from, sent_notes, Tell, TellsOnce, end_of, NoMemory}
 use Rattle.link_law.proofs.Noting.{given_is}
 use Rattle.link_law.proofs.DoesLaws.{did_end, stops_at_once}
 use Rattle.link_law.proofs.DrainLaws.{tell_comes, tell_ends}

@@ -1,10 +1,4 @@
-use Rattle.std.proofs.Common.{sym, ap, ◌∙◌, rules}
-use Rattle.link_port.specs.Ports.{PortState}
-use Rattle.link_machine.specs.States.{link}
-use Rattle.link_machine.specs.Schedules.{NextOf}
-use Rattle.link_machine.specs.Acts.{goes}
-use Rattle.link_machine.specs.Settling.{Drains, of_end}
-use Rattle.link_law.specs.Does.{TellsOnce}
+use Rattle.link_law.proofs.Prelude.{sym, ap, ◌∙◌, rules, PortState, link, NextOf, goes, Drains, of_end, TellsOnce}
 use Rattle.link_law.proofs.DoesLaws.{comes_none, did_where, did_next, did_early}
 use Rattle.link_law.proofs.DrainLaws.{drain_follows, sound_then}
 use Rattle.link_law.proofs.link.Link.tell_if_due.Goals as goal

@@ -1,7 +1,5 @@
-use Rattle.std.proofs.Common.{◌≡◌, true, [], ◌∷◌, subst, sym, ap, ◌∙◌, if◌then◌else◌}
+use Rattle.link_law.proofs.Prelude.{◌≡◌, true, [], ◌∷◌, subst, sym, ap, ◌∙◌, if◌then◌else◌, stopped_in_one, fired_keeps}
 use Rattle.link_machine.specs.Prelude.{Stopped, Fire, is_silent, timed_out_at, IsSoundLink, LinkState, Wires, link}
-use Rattle.link_watch.proofs.StopLaws.{stopped_in_one}
-use Rattle.link_machine.proofs.Machine.{fired_keeps}
 use Rattle.link_law.proofs.Noting.{on_err}
 use Rattle.link_law.proofs.link.Link.time_out.Goals as goal
 

@@ -1,7 +1,4 @@
-use Rattle.std.proofs.Common.{◌≡◌, [], sym, ◌∙◌, subst}
-use Rattle.link_port.specs.Ports.{PortState}
-use Rattle.link_port.specs.Turns.{turn_sends}
-use Rattle.link_machine.specs.Prelude.{link, from_end}
+use Rattle.link_law.proofs.Prelude.{◌≡◌, [], sym, ◌∙◌, subst, PortState, turn_sends, link, from_end}
 use Rattle.link_law.proofs.IdleTurns.{idle_pumped, idle_chars}
 use Rattle.link_law.proofs.wires.WirePair.turn.Goals as goal
 
