@@ -1,41 +1,24 @@
 -- The packet of an ask comes to an end: as a request, or as the response to it.
-use Rattle.std.proofs.Common.{◌≡◌, ℕ, ◌<◌, Bool, true, false, List, [], ◌∷◌, Option, Some, None, option_and_then, option_map, slice_get, if◌then◌else◌, refl, sym, ap, ◌∙◌, subst, arith}
+use Rattle.ask_laws.proofs.Prelude.{◌≡◌, ℕ, ◌<◌, Bool, true, false, List, [], ◌∷◌, Option, Some, None, option_and_then, option_map, slice_get, if◌then◌else◌, refl, sym, ap, ◌∙◌, subst, arith, prio_of, is_request, Registers, PortRef, Network, peer_in, port_of, with_device, device_after, response_at, Take, AtNode, item_of, few_prio, Full, Stepped, Lacked, seen_line, seen, Seen, made_keeps, AskRounds, most_rounds, IsLaid, Waits, IsOnly, IsOn, split, AsksEndSomewhere}
 use Rattle.std.specs.List.{AllByRecursion}
-use Rattle.rio_packets.specs.Fields.{prio_of, is_request}
 use Rattle.rio_packets.proofs.FormLaws.{Passes-from_form}
-use Rattle.maint_registers.specs.Devices.{Registers}
 use Rattle.maint_registers.specs.Within.{IsWithin}
 use Rattle.maint_packets.specs.Answers.{request_answered}
 use Rattle.maint_packets.specs.Requests.{request_of, request_body}
 use Rattle.maint_packets.specs.Responses.{response_bytes}
 use Rattle.maint_packets.specs.declared.request.Request.{Request}
 use Rattle.maint_packets.proofs.AnswerLaws.{responses_pass}
-use Rattle.fabric_script.specs.declared.ports.PortRef.{PortRef}
-use Rattle.fabric_model.specs.Network.{Network, peer_in, port_of, with_device}
-use Rattle.fabric_model.specs.Serving.{device_after, response_at}
-use Rattle.fabric_model.specs.Steps.{Take, AtNode, item_of}
 use Rattle.fabric_model.proofs.Forms.{device_at}
-use Rattle.fabric_model.proofs.Nodes.{few_prio}
-use Rattle.trace_lines.specs.Lines.{Full, Stepped, Lacked}
 use Rattle.fabric_trace.specs.Blocks.{Asks}
-use Rattle.fabric_trace.specs.Fold.{seen_line, seen}
-use Rattle.fabric_trace.specs.Known.{Seen}
 use Rattle.fabric_trace.specs.Parts.{Made, PartSteps}
-use Rattle.fabric_trace.proofs.Parts.Keeping.{made_keeps}
 use Rattle.fabric_trace.proofs.Parts.Making.{one_part, made_by}
 use Rattle.fabric_trace.proofs.Traces.Existing.{good_of}
 use Rattle.fabric_ask.specs.Answered.{after_request}
-use Rattle.fabric_ask.specs.Asks.{AskRounds, most_rounds}
-use Rattle.fabric_ask.specs.Course.{IsLaid}
-use Rattle.fabric_ask.specs.Only.{Waits, IsOnly}
-use Rattle.fabric_ask.specs.Travel.{IsOn}
-use Rattle.fabric_ask.proofs.Crossing.{split}
 use Rattle.fabric_ask.proofs.Hosting.{has_room_out}
 use Rattle.fabric_ask.proofs.Laying.{laid_heard}
 use Rattle.fabric_ask.proofs.OnWay.{asks, on_request, on_response, response_asks}
 use Rattle.fabric_ask.proofs.Packets.{is_back, read_again}
 use Rattle.fabric_ask.proofs.Serving.{put_only}
-use Rattle.ask_laws.specs.Ended.{AsksEndSomewhere}
 use Rattle.ask_laws.proofs.Rounds.{ended_behind, Heard, goes_on}
 
 -- ---- the response

@@ -1,39 +1,22 @@
 -- A packet goes on round by round, with fewer hops left, until it comes to an end.
-use Rattle.std.proofs.Common.{◌≡◌, ℕ, zero, suc, ◌+◌, ◌<◌, ◌≤◌, Bool, false, List, ◌++◌, Some, None, refl, sym, ap, ◌∙◌, subst, arith, MatchBool, append_assoc}
+use Rattle.ask_laws.proofs.Prelude.{◌≡◌, ℕ, zero, suc, ◌+◌, ◌<◌, ◌≤◌, Bool, false, List, ◌++◌, Some, None, refl, sym, ap, ◌∙◌, subst, arith, MatchBool, append_assoc, is_request, Registers, PortRef, IsEndpoint, Item, Network, peer_in, port_of, response_at, item_of, moved_item, few_prio, TraceLine, seen, Seen, IsGood, AskRound, AskRounds, holds_some, answered_registers, IsEndpointIn, IsLaid, Handled, Home, Away, Rounded, Waited, Handed, Final, Fell, WasHeard, HasLeft, Held, Waits, IsOnly, IsClear, IsOn, GoesOn, Split, split, HasRun, AskEnded, IsGone, WaitsThere, CameHome}
 use Rattle.std.proofs.lemmas.Bool.{ne_eqb}
-use Rattle.rio_packets.specs.Fields.{is_request}
 use Rattle.rio_packets.specs.LinkForm.{Passes}
-use Rattle.maint_registers.specs.Devices.{Registers}
 use Rattle.maint_packets.specs.NextHops.{moved, is_spent}
-use Rattle.link_wires.specs.declared.edits.Edit.{Edit}
+use Rattle.rio_chars.specs.declared.edit.Edit.{Edit}
 use Rattle.fabric_script.specs.Ports.{port_at}
-use Rattle.fabric_script.specs.declared.ports.PortRef.{PortRef}
-use Rattle.fabric_model.specs.Network.{IsEndpoint, Item, Network, peer_in, port_of}
-use Rattle.fabric_model.specs.Serving.{response_at}
-use Rattle.fabric_model.specs.Steps.{item_of, moved_item}
 use Rattle.fabric_model.specs.Laws.Leaving.IsAfterMoves.{AsItWas, OnceMore}
 use Rattle.fabric_model.proofs.Moving.{moves_on}
-use Rattle.fabric_model.proofs.Nodes.{few_prio}
 use Rattle.fabric_model.proofs.Peers.{peer_back}
-use Rattle.trace_lines.specs.Lines.{TraceLine}
-use Rattle.fabric_trace.specs.Fold.{seen}
-use Rattle.fabric_trace.specs.Known.{Seen}
 use Rattle.fabric_trace.specs.Served.{IsCollect}
 use Rattle.fabric_trace.proofs.Parts.Folding.{seen-append}
-use Rattle.fabric_trace.proofs.Parts.Keeping.{IsGood}
-use Rattle.fabric_ask.specs.Asks.{AskRound, AskRounds, holds_some}
-use Rattle.fabric_ask.specs.Course.{answered_registers, IsEndpointIn, IsLaid, Handled, Home, Away, Rounded, Waited, Handed, Final, Fell, WasHeard, HasLeft}
-use Rattle.fabric_ask.specs.Only.{Held, Waits, IsOnly, IsClear}
-use Rattle.fabric_ask.specs.Travel.{IsOn, GoesOn}
 use Rattle.fabric_ask.proofs.Asking.{holds_it}
-use Rattle.fabric_ask.proofs.Crossing.{Split, split, HasRun}
 use Rattle.fabric_ask.proofs.Losing.{clear_rounds}
 use Rattle.fabric_ask.proofs.Lowering.{moves_same}
 use Rattle.fabric_ask.proofs.Rounding.{rounded}
 use Rattle.fabric_ask.proofs.Uncollected.{made_endpoint}
 use Rattle.fabric_ask.proofs.Traveling.{nothing_holds, EndsThere, IsLost, IsThere, GoesFurther, ends_there}
 use Rattle.fabric_ask.proofs.Walking.{on_moves}
-use Rattle.ask_laws.specs.Ended.{AskEnded, IsGone, WaitsThere, CameHome}
 
 -- ---- lines before
 

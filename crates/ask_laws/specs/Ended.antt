@@ -3,7 +3,7 @@ use Rattle.std.specs.Prelude.{◌≡◌, ℕ, ◌<◌, List, ◌++◌, None, Som
 use Rattle.rio_packets.specs.LinkForm.{LinkForm}
 use Rattle.maint_packets.specs.Requests.{request_of, request_body}
 use Rattle.maint_packets.specs.declared.request.Request.{Request}
-use Rattle.link_wires.specs.declared.edits.Edit.{Edit}
+use Rattle.rio_chars.specs.declared.edit.Edit.{Edit}
 use Rattle.fabric_script.specs.declared.ports.PortRef.{PortRef}
 use Rattle.fabric_model.specs.Network.{Item, port_of, peer_in}
 use Rattle.trace_lines.specs.Lines.{TraceLine}

@@ -1,12 +1,5 @@
 -- The one packet of a network over the steps of a link.
-use Rattle.std.proofs.Common.{◌≡◌, ℕ, ◌==◌, ◌&&◌, Bool, true, false, List, [], ◌∷◌, ◌++◌, Option, Some, refl, sym, ap, ◌∙◌, subst, if◌then◌else◌, eq-eqb}
-use Rattle.std.proofs.lemmas.Bool.{and_parts, and_from}
-use Rattle.rio_packets.specs.Fields.{prio_of}
-use Rattle.fabric_script.specs.declared.ports.PortRef.{PortRef}
-use Rattle.fabric_model.specs.Network.{Item, Network, same_port, peer_in, first_packet}
-use Rattle.fabric_model.specs.Steps.{Hold, Free, Linked, AtNode, ByDevice, Step, Needs, after, after_hold, behind_first, only_first, LegalFrom}
-use Rattle.fabric_model.proofs.Peers.{port_is, same_port-refl}
-use Rattle.fabric_ask.specs.Only.{Held, Waits, waits_at, alone, IsOnly, IsLent, is_end, AreAt, Carried, Stays, Lends, Crosses, IsSame}
+use Rattle.fabric_ask.proofs.Prelude.{◌≡◌, ℕ, ◌==◌, ◌&&◌, Bool, true, false, List, [], ◌∷◌, ◌++◌, Option, Some, refl, sym, ap, ◌∙◌, subst, if◌then◌else◌, eq-eqb, and_parts, and_from, prio_of, PortRef, Item, Network, same_port, peer_in, first_packet, Hold, Free, Linked, AtNode, ByDevice, Step, Needs, after, after_hold, behind_first, only_first, LegalFrom, port_is, same_port-refl, Held, Waits, waits_at, alone, IsOnly, IsLent, is_end, AreAt, Carried, Stays, Lends, Crosses, IsSame}
 
 -- what is first where the item is alone
 pub first_alone : (b : Bool) (item : Item) (packet : List ℕ)
@@ -111,8 +104,7 @@ none_carried a b net end (Linked (Hold c packet) ∷ steps) waiting lent at lega
     absurd (none_first _ packet (waiting legal.0.0 (prio_of packet)) legal.0.2)
 none_carried a b net end (Linked (Free c packet) ∷ steps) waiting lent at legal =
     absurd (none_first _ packet (lent c) legal.0)
-none_carried a b net end (AtNode step ∷ steps) waiting lent at legal = absurd at
-none_carried a b net end (ByDevice step ∷ steps) waiting lent at legal = absurd at
+none_carried a b net end (_ ∷ steps) waiting lent at legal = absurd at
 
 lends_on : (a b : PortRef) (start net end : Network) (steps : List Step) (p q : PortRef)
     (item : Item) → is_end a b q ≡ true → peer_in start.links q ≡ Some p → IsLent net p q item
@@ -145,8 +137,7 @@ carries a b net end (Linked (Hold c packet) ∷ steps) p item only at legal =
     rest
 carries a b net end (Linked (Free c packet) ∷ steps) p item only at legal =
     absurd (none_first _ packet (only.lent c) legal.0)
-carries a b net end (AtNode step ∷ steps) p item only at legal = absurd at
-carries a b net end (ByDevice step ∷ steps) p item only at legal = absurd at
+carries a b net end (_ ∷ steps) p item only at legal = absurd at
 
 -- the steps of a link change no registers
 pub at_same : (a b : PortRef) (net end : Network) (steps : List Step) → AreAt a b steps
@@ -165,5 +156,4 @@ at_same a b net end (Linked (Hold c packet) ∷ steps) at legal =
 at_same a b net end (Linked (Free c packet) ∷ steps) at legal =
     let rest = at_same a b (after net (Linked (Free c packet))) end steps at.1 legal.1 in
     record { registers = rest.registers; given = rest.given }
-at_same a b net end (AtNode step ∷ steps) at legal = absurd at
-at_same a b net end (ByDevice step ∷ steps) at legal = absurd at
+at_same a b net end (_ ∷ steps) at legal = absurd at

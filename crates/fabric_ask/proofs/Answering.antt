@@ -1,26 +1,5 @@
 -- An ask whose two walks end where they should is answered.
-use Rattle.std.proofs.Common.{◌≡◌, ◌≢◌, ℕ, ◌<◌, Bool, true, false, List, [], ◌∷◌, ◌++◌, Option, Some, None, refl, sym, ap, ◌∙◌, subst, inl, inr, ◌⊎◌}
-use Rattle.std.specs.List.{AllByRecursion}
-use Rattle.rio_packets.specs.LinkForm.{LinkForm}
-use Rattle.maint_registers.specs.Within.{IsWithin}
-use Rattle.maint_packets.specs.declared.request.Request.{Request}
-use Rattle.maint_packets.specs.Requests.{request_of, request_body}
-use Rattle.link_wires.specs.declared.edits.Edit.{Edit}
-use Rattle.fabric_script.specs.declared.ports.PortRef.{PortRef}
-use Rattle.fabric_map.specs.Routes.{walk}
-use Rattle.fabric_model.proofs.Peers.{port_is, same_port-refl}
-use Rattle.fabric_model.specs.Network.{port_of, same_port}
-use Rattle.fabric_model.specs.Steps.{Leave, AtNode}
-use Rattle.fabric_trace.specs.Fold.{seen}
-use Rattle.fabric_trace.specs.Known.{Seen}
-use Rattle.trace_lines.specs.Lines.{TraceLine, Stepped}
-use Rattle.fabric_trace.proofs.Parts.Keeping.{IsGood}
-use Rattle.fabric_ask.specs.Only.{IsClear}
-use Rattle.fabric_ask.specs.Course.{IsLaid}
-use Rattle.fabric_ask.specs.Asks.{IsAsk}
-use Rattle.fabric_map.specs.Plain.{topology_of, registers_of}
-use Rattle.fabric_ask.specs.Answered.{after_request, IsRoundTrip, IsReplied}
-use Rattle.fabric_ask.specs.Own.{CollectsNothing}
+use Rattle.fabric_ask.proofs.Prelude.{◌≡◌, ◌≢◌, ℕ, ◌<◌, Bool, true, false, List, [], ◌∷◌, ◌++◌, Option, Some, None, refl, sym, ap, ◌∙◌, subst, inl, inr, ◌⊎◌, AllByRecursion, LinkForm, IsWithin, Request, request_of, request_body, Edit, PortRef, walk, port_is, same_port-refl, port_of, same_port, Leave, AtNode, seen, Seen, TraceLine, Stepped, IsGood, IsClear, IsLaid, IsAsk, topology_of, registers_of, after_request, IsRoundTrip, IsReplied, CollectsNothing}
 use Rattle.fabric_ask.proofs.Uncollected.{nothing_leaves}
 use Rattle.fabric_ask.proofs.AskEnds.{ends_nowhere, comes_back, not_returning, replied}
 

@@ -1,47 +1,9 @@
 -- What an ask shows, by where its request ends and where the response to it ends.
-use Rattle.std.proofs.Common.{◌≡◌, ◌≢◌, ℕ, ◌<◌, true, false, List, [], ◌∷◌, ◌++◌, Option, Some, None, slice_get, refl, sym, ap, ◌∙◌, subst, arith, if◌then◌else◌, append_assoc, MatchBool}
-use Rattle.std.specs.List.{AllByRecursion}
-use Rattle.rio_packets.specs.Fields.{prio_of, is_request}
-use Rattle.rio_packets.specs.LinkForm.{Passes, LinkForm}
-use Rattle.rio_packets.proofs.FormLaws.{Passes-from_form}
-use Rattle.maint_registers.specs.Devices.{Registers}
-use Rattle.maint_registers.specs.Within.{IsWithin}
-use Rattle.maint_packets.specs.declared.request.Request.{Request}
-use Rattle.maint_packets.specs.declared.response.Response.{Response}
-use Rattle.maint_packets.specs.Requests.{request_of, request_body}
-use Rattle.maint_packets.specs.Responses.{response_of, response_bytes}
-use Rattle.maint_packets.specs.Answers.{request_answered}
-use Rattle.maint_packets.proofs.AnswerLaws.{responses_pass}
-use Rattle.switch_core.specs.EndpointSteps.{collected}
-use Rattle.link_wires.specs.declared.edits.Edit.{Edit}
-use Rattle.fabric_script.specs.declared.ports.PortRef.{PortRef}
-use Rattle.fabric_map.specs.Routes.{AllRegisters, walk}
-use Rattle.std.proofs.lemmas.List.{same_from_push}
-use Rattle.fabric_model.specs.Network.{Item, port_of, peer_in, room_out}
-use Rattle.fabric_model.specs.Steps.{Take, Leave, AtNode, item_of}
-use Rattle.fabric_model.specs.Laws.Leaving.{IsAfterMoves}
+use Rattle.fabric_ask.proofs.Prelude.{◌≡◌, ◌≢◌, ℕ, ◌<◌, true, false, List, [], ◌∷◌, ◌++◌, Option, Some, None, slice_get, refl, sym, ap, ◌∙◌, subst, arith, if◌then◌else◌, append_assoc, MatchBool, AllByRecursion, prio_of, is_request, Passes, LinkForm, Passes-from_form, Registers, IsWithin, Request, Response, request_of, request_body, response_of, response_bytes, request_answered, responses_pass, collected, Edit, PortRef, AllRegisters, walk, same_from_push, Item, port_of, peer_in, room_out, Take, Leave, AtNode, item_of, IsAfterMoves, few_prio, Asks, seen_line, seen, Seen, TraceLine, Stepped, Lacked, Full, Made, PartSteps, face_in, IsCollect, seen-append, IsGood, good_by_priority, made_keeps, one_part, made-append, made_by, Held, Waits, IsOnly, IsClear, IsDevicePort, IsEndpointIn, IsLaid, FinalAt, AtHost, NotHost, AskRounds, most_rounds, IsAsk, topology_of, registers_of, IsOn, HasCome, after_request, hops_left, response_home, IsReplied, CollectsNothing, Topology}
 use Rattle.fabric_model.proofs.Forms.{device_at}
-use Rattle.fabric_model.proofs.Nodes.{few_prio}
-use Rattle.fabric_trace.specs.Blocks.{Asks}
-use Rattle.fabric_trace.specs.Fold.{seen_line, seen}
-use Rattle.fabric_trace.specs.Known.{Seen}
-use Rattle.trace_lines.specs.Lines.{TraceLine, Stepped, Lacked, Full}
-use Rattle.fabric_trace.specs.Parts.{Made, PartSteps}
-use Rattle.fabric_trace.specs.Served.{face_in, IsCollect}
-use Rattle.fabric_trace.proofs.Parts.Folding.{seen-append}
-use Rattle.fabric_trace.proofs.Parts.Keeping.{IsGood, good_by_priority, made_keeps}
-use Rattle.fabric_trace.proofs.Parts.Making.{one_part, made-append, made_by}
-use Rattle.fabric_ask.specs.Only.{Held, Waits, IsOnly, IsClear}
-use Rattle.fabric_ask.specs.Course.{IsDevicePort, IsEndpointIn, IsLaid, FinalAt, AtHost, NotHost}
-use Rattle.fabric_ask.specs.Asks.{AskRounds, most_rounds, IsAsk}
-use Rattle.fabric_map.specs.Plain.{topology_of, registers_of}
-use Rattle.fabric_ask.specs.Travel.{IsOn, HasCome}
-use Rattle.fabric_ask.specs.Answered.{after_request, hops_left, response_home, IsReplied}
-use Rattle.fabric_ask.specs.Own.{CollectsNothing}
 use Rattle.fabric_ask.proofs.Laying.{laid_heard}
 use Rattle.fabric_ask.proofs.Losing.{never_comes}
 use Rattle.fabric_ask.proofs.Uncollected.{never-append, never_by}
-use Rattle.fabric_map.specs.Topology.{Topology}
 use Rattle.fabric_ask.proofs.Crossing.{Split, split}
 use Rattle.fabric_ask.proofs.Serving.{put_only, cleared}
 use Rattle.fabric_ask.proofs.Collecting.{collect_lines_made}

@@ -1,37 +1,8 @@
 -- An ask is answered where the walks of its request and of its response end.
 use Rattle.std.proofs.Common.{◌≡◌, ◌≢◌, ℕ, zero, suc, ◌+◌, ◌<◌, ◌≤◌, Bool, true, false, List, [], ◌∷◌, ◌++◌, length, Option, Some, None, option_map, option_and_then, slice_get, refl, sym, ap, ◌∙◌, subst, arith, if◌then◌else◌, MatchBool, lt-ltb}
-use Rattle.rio_packets.specs.Fields.{prio_of, is_request}
-use Rattle.maint_registers.specs.Devices.{Registers}
-use Rattle.maint_packets.specs.declared.request.Request.{Request}
-use Rattle.maint_packets.specs.declared.next_hop.Next.TheVariants.{Nowhere, RegisterUnit}
-use Rattle.maint_packets.specs.Requests.{request_of}
-use Rattle.maint_packets.specs.Responses.{response_bytes}
-use Rattle.maint_packets.specs.Answers.{RequestAnswered, request_answered}
-use Rattle.link_wires.specs.declared.edits.Edit.{Edit}
-use Rattle.fabric_script.specs.declared.ports.PortRef.{PortRef}
-use Rattle.fabric_map.specs.Routes.{walk}
-use Rattle.fabric_model.specs.Network.{IsEndpoint, Item, Network, port_of, with_device, held, in_turn}
-use Rattle.fabric_model.specs.Serving.{response_at, device_after}
-use Rattle.fabric_model.specs.Steps.{item_of}
-use Rattle.fabric_model.specs.Laws.Leaving.{IsAfterMoves}
-use Rattle.fabric_model.proofs.Moving.{sent_by}
-use Rattle.fabric_model.proofs.Nodes.{few_prio}
-use Rattle.fabric_trace.specs.Fold.{seen}
-use Rattle.fabric_trace.specs.Known.{Seen}
-use Rattle.trace_lines.specs.Lines.{TraceLine}
-use Rattle.fabric_trace.specs.Parts.{Made}
-use Rattle.fabric_trace.specs.Served.{IsCollect}
-use Rattle.fabric_trace.proofs.Parts.Folding.{seen-append}
-use Rattle.fabric_trace.proofs.Parts.Keeping.{IsGood, made_keeps}
+use Rattle.fabric_ask.proofs.Prelude.{prio_of, is_request, Registers, Request, Nowhere, RegisterUnit, request_of, response_bytes, RequestAnswered, request_answered, Edit, PortRef, walk, IsEndpoint, Item, Network, port_of, with_device, held, in_turn, response_at, device_after, item_of, IsAfterMoves, sent_by, few_prio, seen, Seen, TraceLine, Made, IsCollect, seen-append, IsGood, made_keeps, Held, Waits, IsOnly, IsClear, IsEndpointIn, IsLaid, Final, Fell, WasHeard, HasLeft, FinalAt, AtHost, NotHost, after_request, hops_left, holds_some, AskRounds, topology_of, registers_of, CollectsNothing, IsOn, HasCome}
 use Rattle.fabric_ask.proofs.Serving.{first_only}
 use Rattle.fabric_ask.proofs.Passing.{turn_some}
-use Rattle.fabric_ask.specs.Only.{Held, Waits, IsOnly, IsClear}
-use Rattle.fabric_ask.specs.Course.{IsEndpointIn, IsLaid, Final, Fell, WasHeard, HasLeft, FinalAt, AtHost, NotHost}
-use Rattle.fabric_ask.specs.Answered.{after_request, hops_left}
-use Rattle.fabric_ask.specs.Asks.{holds_some, AskRounds}
-use Rattle.fabric_map.specs.Plain.{topology_of, registers_of}
-use Rattle.fabric_ask.specs.Own.{CollectsNothing}
-use Rattle.fabric_ask.specs.Travel.{IsOn, HasCome}
 use Rattle.fabric_ask.proofs.Uncollected.{never-append, never_by, made_endpoint}
 use Rattle.fabric_ask.proofs.Losing.{clear_rounds}
 use Rattle.fabric_ask.proofs.Walking.{next_ends}

@@ -1,32 +1,5 @@
 -- From each state that a trace may go on from there are lines of an ask.
-use Rattle.std.proofs.Common.{◌≡◌, ℕ, zero, suc, Bool, true, false, List, [], ◌∷◌, ◌++◌, Option, Some, None, MatchBool, refl, sym, ap, ◌∙◌, subst, if◌then◌else◌}
-use Rattle.rio_packets.specs.Fields.{prio_of}
-use Rattle.rio_packets.specs.LinkForm.{LinkForm, Passes}
-use Rattle.rio_packets.proofs.FormLaws.{Passes-from_form}
-use Rattle.maint_packets.specs.declared.request.Request.{Request}
-use Rattle.maint_packets.specs.Requests.{request_body}
-use Rattle.switch_core.specs.EndpointSteps.{collected}
-use Rattle.link_wires.specs.declared.edits.Edit.{Edit}
-use Rattle.fabric_script.specs.declared.ports.PortRef.{PortRef}
-use Rattle.fabric_model.specs.Network.{port_of, room_out, IsEndpoint, link_in}
-use Rattle.fabric_model.specs.Steps.{Take, AtNode}
-use Rattle.fabric_model.proofs.Peers.{ArePeers, link_peers}
-use Rattle.fabric_model.proofs.Nodes.{few_prio}
-use Rattle.fabric_trace.proofs.Network.Walks.{peers_round}
-use Rattle.fabric_trace.specs.Blocks.{take_lines, Asks, pumps}
-use Rattle.fabric_trace.specs.Fold.{seen}
-use Rattle.fabric_trace.specs.Known.{UndetectedAt, Seen}
-use Rattle.trace_lines.specs.Lines.{Full, TraceLine, Stepped, Lacked, steps_of}
-use Rattle.fabric_trace.specs.Parts.{Done, PartSteps, PartLacks}
-use Rattle.fabric_trace.specs.Ready.{IsReady}
-use Rattle.fabric_trace.specs.Rounds.{Follows, NamesNothing, ServeNodes}
-use Rattle.fabric_trace.specs.Served.{face_in, collect_lines, IsCollect}
-use Rattle.fabric_trace.proofs.Traces.Existing.{Exists, good_of, ready_on, settle_exists, serve_all_exist, joined_exist}
-use Rattle.fabric_trace.proofs.Parts.Keeping.{IsGood, made_keeps, legal_links}
-use Rattle.fabric_trace.proofs.Parts.Making.{one_part, made-append}
-use Rattle.fabric_trace.proofs.Rounds.Blocks.{AreFound, all_found}
-use Rattle.fabric_ask.specs.Asks.{CarryAll, CollectNodes, Handles, AskRound, holds_some, AskRounds, most_rounds, IsAsk}
-use Rattle.fabric_ask.specs.Noise.{stirred, IsCarry}
+use Rattle.fabric_ask.proofs.Prelude.{◌≡◌, ℕ, zero, suc, Bool, true, false, List, [], ◌∷◌, ◌++◌, Option, Some, None, MatchBool, refl, sym, ap, ◌∙◌, subst, if◌then◌else◌, prio_of, LinkForm, Passes, Passes-from_form, Request, request_body, collected, Edit, PortRef, port_of, room_out, IsEndpoint, link_in, Take, AtNode, ArePeers, link_peers, few_prio, peers_round, take_lines, Asks, pumps, seen, UndetectedAt, Seen, Full, TraceLine, Stepped, Lacked, steps_of, Done, PartSteps, PartLacks, IsReady, Follows, NamesNothing, ServeNodes, face_in, collect_lines, IsCollect, Exists, good_of, ready_on, settle_exists, serve_all_exist, joined_exist, IsGood, made_keeps, legal_links, one_part, made-append, AreFound, all_found, CarryAll, CollectNodes, Handles, AskRound, holds_some, AskRounds, most_rounds, IsAsk, stirred, IsCarry}
 use Rattle.fabric_ask.proofs.Carrying.{turn_goes, round_goes, stirred_goes, has_carried}
 use Rattle.fabric_ask.proofs.Collecting.{collect_lines_made}
 use Rattle.fabric_ask.proofs.Gathering.{collect_exists, stays_endpoint, all_others_exist}

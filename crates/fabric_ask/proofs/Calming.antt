@@ -1,41 +1,11 @@
 -- In rounds without edits no event is undetected.
-use Rattle.std.proofs.Common.{◌≡◌, ℕ, zero, suc, ◌||◌, ◌==◌, Bool, true, false, List, [], ◌∷◌, ◌++◌, Some, None, refl, sym, ap, ◌∙◌, subst}
-use Rattle.link_model.specs.Places.{place_after, at_rest}
+use Rattle.fabric_ask.proofs.Prelude.{◌≡◌, ℕ, zero, suc, ◌||◌, ◌==◌, Bool, true, false, List, [], ◌∷◌, ◌++◌, Some, None, refl, sym, ap, ◌∙◌, subst, place_after, at_rest, Edit, pumped, At, A, PortRef, same_port, port_of, peer_in, link_in, AreProper, ArePeers, port_is, link_peers, peer_back, same_port-refl, some_is, pumps, IsSettle, seen_line, seen, Wire, Seen, link_at, kept_of, Half, Full, TraceLine, Stepped, Lacked, steps_of, Made, Done, face_in, collect_lines, IsCollect, Collected, collected, Registers, is_switch, Follows, NamesNothing, Joined, ServesAll, ServeNodes, seen-append, IsGood, made_keeps, legal_links, AreOthers, Reaches, pump_reaches, made-append, made_by, AreFound, all_found, by_test, serves_made, acts_reach, move_made, peers_round, stirred, IsCarry, CarryAll, CollectsAll, CollectNodes, Handles, AskRound, holds_some, AskRounds, CollectRests, CollectStops, CollectGoes, GoesOn, calm_round, turns_calm, acts_calm}
 use Rattle.link_model.specs.Said.{said}
 use Rattle.link_wires.specs.Kept.{IsSubsequence}
-use Rattle.link_wires.specs.declared.edits.Edit.{Edit}
-use Rattle.link_machine.specs.Calls.{pumped}
-use Rattle.link_machine.specs.Acts.{At}
-use Rattle.link_watch.specs.declared.side.Side.TheVariants.{A}
-use Rattle.fabric_script.specs.declared.ports.PortRef.{PortRef}
-use Rattle.fabric_model.specs.Network.{same_port, port_of, peer_in, link_in}
-use Rattle.fabric_model.specs.Laws.Proper.{AreProper}
-use Rattle.fabric_model.proofs.Peers.{ArePeers, port_is, link_peers, peer_back, same_port-refl, some_is}
-use Rattle.fabric_trace.specs.Blocks.{pumps, IsSettle}
-use Rattle.fabric_trace.specs.Fold.{seen_line, seen}
-use Rattle.fabric_trace.specs.Known.{Wire, Seen, link_at, kept_of}
-use Rattle.fabric_trace.specs.Views.{Half}
-use Rattle.trace_lines.specs.Lines.{Full, TraceLine, Begun, Stepped, Signed, Lacked, Ended, Undetected, steps_of}
-use Rattle.fabric_trace.specs.Parts.{Made, Done}
-use Rattle.fabric_trace.specs.Served.{face_in, collect_lines, IsCollect}
-use Rattle.switch_core.specs.declared.endpoint.Collected.{Collected}
 use Rattle.switch_core.specs.declared.endpoint.Collected.TheVariants as Collects
-use Rattle.switch_core.specs.EndpointSteps.{collected}
-use Rattle.maint_registers.specs.Devices.{Registers, is_switch}
-use Rattle.fabric_trace.specs.Rounds.{Follows, NamesNothing, Joined, ServesAll, ServeNodes}
-use Rattle.fabric_trace.proofs.Parts.Folding.{seen-append}
-use Rattle.fabric_trace.proofs.Parts.Keeping.{IsGood, made_keeps, legal_links}
-use Rattle.fabric_trace.proofs.Parts.Making.{AreOthers, Reaches, pump_reaches, made-append, made_by}
-use Rattle.fabric_trace.proofs.Rounds.Blocks.{AreFound, all_found, by_test, serves_made}
-use Rattle.fabric_trace.proofs.Rounds.Running.{acts_reach, move_made}
-use Rattle.fabric_trace.proofs.Network.Walks.{peers_round}
-use Rattle.fabric_ask.specs.Noise.{stirred, IsCarry}
-use Rattle.fabric_ask.specs.Asks.{CarryAll, CollectsAll, CollectNodes, Handles, AskRound, holds_some, AskRounds, CollectRests, CollectStops, CollectGoes}
-use Rattle.fabric_ask.specs.Travel.{GoesOn}
 use Rattle.fabric_ask.proofs.Collecting.{collect_lines_made}
 use Rattle.link_machine.specs.Calm.{IsCalm}
 use Rattle.fabric_ask.proofs.Carrying.{has_carried}
-use Rattle.link_machine.proofs.Settling.Calming.{calm_round, turns_calm, acts_calm}
 use Rattle.fabric_ask.proofs.Quieting.{IsSamePort, OnlySteps, steps_same, serves_steps, serve_steps, collects_steps, handles_steps}
 
 -- each link of the fabric is calm
@@ -133,8 +103,7 @@ module _ (left : List Edit) (s : Seen) (a b : PortRef) (lines : List TraceLine) 
   pub carry_calm : StaysCalm s a b lines
   carry_calm = record {
     still = ap (λ (x : Seen). x.undetected) lines_end ∙ last.still;
-    calm =
-        subst (λ x. IsCalm (link_at x a b)) (sym lines_end) last.calm;
+    calm = subst (λ x. IsCalm (link_at x a b)) (sym lines_end) last.calm;
   }
 
   pub none_left : left ≡ []
@@ -250,11 +219,8 @@ pub steps_still : (s : Seen) (lines : List TraceLine) → OnlySteps lines
 unfolding OnlySteps
 steps_still s [] only = refl
 steps_still s (Stepped step ∷ lines) only = steps_still (seen_line s (Stepped step)) lines only
-steps_still s (Begun line ∷ lines) only = absurd only
-steps_still s (Signed sign ∷ lines) only = absurd only
 steps_still s (Lacked lack ∷ lines) only = steps_still s lines only
-steps_still s (Ended ∷ lines) only = absurd only
-steps_still s (Undetected n q e ∷ lines) only = absurd only
+steps_still s (_ ∷ lines) only = absurd only
 
 pub collects_made : {s : Seen} {node : ℕ} {lines : List TraceLine} → IsGood s → s.undetected ≡ None
     → CollectsAll s node lines → Made s lines

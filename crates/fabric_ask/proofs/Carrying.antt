@@ -1,35 +1,13 @@
 -- What a link does in a round: it is made of parts, moves packets between its two ports alone, and
 -- is at rest then.
-use Rattle.std.proofs.Common.{◌≡◌, ◌&&◌, ◌||◌, not, Bool, true, false, List, [], ◌∷◌, ◌++◌, Some, None, refl, sym, ap, ◌∙◌, subst, append_assoc, if◌then◌else◌}
-use Rattle.std.proofs.lemmas.Bool.{or_right}
+use Rattle.fabric_ask.proofs.Prelude.{◌≡◌, ◌&&◌, ◌||◌, not, Bool, true, false, List, [], ◌∷◌, ◌++◌, Some, None, refl, sym, ap, ◌∙◌, subst, append_assoc, if◌then◌else◌, or_right, A, B, Edit, pumped, pump_notes, has_none, At, acts_notes, IsSettled, Char, PortRef, same_port, Hold, Free, Linked, AtNode, ByDevice, Step, ArePeers, same_port-refl, pumps, IsSettle, changed, edit_of, edited_by, seen, Seen, link_at, TraceLine, Begun, steps_of, Made, Done, PartBegins, seen-append, IsGood, made_keeps, steps_of-append, AreOthers, others_here, others_on, others_round, one_part, made-append, pump_reaches, acts_reach, peers_round, elsewhere_here, is_end, AreAt, is_idle, edit_lines, stirred, IsCarry}
 use Rattle.link_watch.specs.declared.note.Note.{Note}
 use Rattle.link_watch.specs.declared.note.Note.TheVariants as Notes
 use Rattle.link_watch.specs.declared.side.Side.{Side}
-use Rattle.link_watch.specs.declared.side.Side.TheVariants.{A, B}
 use Rattle.link_wires.specs.Wires.{fits}
-use Rattle.link_wires.specs.declared.edits.Edit.{Edit}
-use Rattle.link_machine.specs.Calls.{pumped, pump_notes, has_none}
-use Rattle.link_machine.specs.Acts.{At, acts_notes}
-use Rattle.link_machine.specs.Rest.{IsSettled}
-use Rattle.rio_chars.specs.declared.chars.Char.{Char}
-use Rattle.fabric_script.specs.declared.ports.PortRef.{PortRef}
-use Rattle.fabric_model.specs.Network.{same_port}
-use Rattle.fabric_model.specs.Steps.{Hold, Free, Linked, AtNode, ByDevice, Step}
-use Rattle.fabric_model.proofs.Peers.{ArePeers, same_port-refl}
 use Rattle.trace_lines.specs.Notes.{port_at_side, lines_of}
-use Rattle.fabric_trace.specs.Blocks.{pumps, IsSettle}
-use Rattle.fabric_trace.specs.Fold.{changed, edit_of, edited_by, seen}
-use Rattle.fabric_trace.specs.Known.{Seen, link_at}
-use Rattle.trace_lines.specs.Lines.{TraceLine, Begun, steps_of}
-use Rattle.fabric_trace.specs.Parts.{Made, Done, PartBegins}
-use Rattle.fabric_trace.proofs.Parts.Folding.{seen-append}
-use Rattle.fabric_trace.proofs.Parts.Keeping.{IsGood, made_keeps, steps_of-append}
-use Rattle.fabric_trace.proofs.Parts.Making.{AreOthers, others_here, others_on, others_round, one_part, made-append, pump_reaches}
-use Rattle.fabric_trace.proofs.Rounds.Running.{acts_reach}
 use Rattle.fabric_trace.proofs.SetUps.Starting.{settles_rest}
-use Rattle.fabric_trace.proofs.Network.Walks.{peers_round, elsewhere_here}
-use Rattle.fabric_ask.specs.Only.{is_end, AreAt}
-use Rattle.fabric_ask.specs.Noise.{edit_line, is_idle, edit_lines, stirred, IsCarry}
+use Rattle.fabric_script.specs.Operations.{line_editing}
 
 -- ---- the steps that lines say are at the ends
 
@@ -157,17 +135,16 @@ edit_others s a b edit = record {
   };
 }
 
-pub edit_is : (p : PortRef) (edit : Edit) → edit_of (edit_line p edit) ≡ Some (p, edit)
+pub edit_is : (p : PortRef) (edit : Edit) → edit_of (line_editing p edit) ≡ Some (p, edit)
 edit_is p (Edit.Alter place ch) = refl
-edit_is p (Edit.Erase place n) = refl
-edit_is p (Edit.Insert place ch) = refl
+edit_is p _ = refl
 
 edit_goes : (s : Seen) (a b : PortRef) (edit : Edit) → IsGood s → s.undetected ≡ None
-    → ArePeers s.network.links a b → KeepsOn s a b (Begun (edit_line a edit) ∷ [])
+    → ArePeers s.network.links a b → KeepsOn s a b (Begun (line_editing a edit) ∷ [])
 edit_goes s a b edit good none peers =
     let is = edit_is a edit in
-    goes_on s a b (Begun (edit_line a edit) ∷ []) good peers (record {
-      made = one_part (PartBegins (edit_line a edit) refl);
+    goes_on s a b (Begun (line_editing a edit) ∷ []) good peers (record {
+      made = one_part (PartBegins (line_editing a edit) refl);
       at = tt;
       others = subst (λ o. AreOthers s (edited_by s o) a b) (sym is) (edit_others s a b edit);
     }) (ap (λ o. (edited_by s o).undetected) is ∙ none)
@@ -180,7 +157,7 @@ nothing_goes s a b good none peers =
 
 by_test : (s : Seen) (a b : PortRef) (edit : Edit) (test : Bool) → IsGood s → s.undetected ≡ None
     → ArePeers s.network.links a b → KeepsOn s a b
-    (if test then Begun (edit_line a edit) ∷ [] else [])
+    (if test then Begun (line_editing a edit) ∷ [] else [])
 by_test s a b edit true good none peers = edit_goes s a b edit good none peers
 by_test s a b edit false good none peers = nothing_goes s a b good none peers
 

@@ -1,38 +1,7 @@
 -- An endpoint and the one packet.
-use Rattle.std.proofs.Common.{◌≡◌, ℕ, zero, suc, ◌+◌, ◌<◌, ◌≤◌, ◌==◌, ◌||◌, Bool, true, false, List, [], ◌∷◌, ◌++◌, Option, Some, None, slice_get, refl, sym, ap, ◌∙◌, subst, arith, if◌then◌else◌, MatchBool, append-nil, map, filter, length, nat_lt}
-use Rattle.std.specs.Bool.{⊤}
-use Rattle.rio_packets.specs.Fields.{prio_of, is_request}
-use Rattle.rio_packets.specs.LinkForm.{Passes}
-use Rattle.maint_registers.specs.Devices.{Registers, is_switch}
-use Rattle.maint_packets.specs.declared.request.Request.{Request}
-use Rattle.maint_packets.specs.Requests.{request_of}
-use Rattle.maint_packets.specs.Responses.{response_bytes}
-use Rattle.maint_packets.specs.Answers.{request_answered}
-use Rattle.switch_core.specs.declared.endpoint.Collected.{Collected}
+use Rattle.fabric_ask.proofs.Prelude.{◌≡◌, ℕ, zero, suc, ◌+◌, ◌<◌, ◌≤◌, ◌==◌, ◌||◌, Bool, true, false, List, [], ◌∷◌, ◌++◌, Option, Some, None, slice_get, refl, sym, ap, ◌∙◌, subst, arith, if◌then◌else◌, MatchBool, append-nil, map, filter, length, nat_lt, ⊤, prio_of, is_request, Passes, Registers, is_switch, Request, request_of, response_bytes, request_answered, Collected, Face, head_of, has_room, first_held, collected_of, collected_head, collected, PortRef, Item, Network, port_of, IsEndpoint, Step, Leave, Answer, AtNode, ByDevice, Needs, IsFirst, without_first, after, few_prio, seen_line, seen, Seen, Full, Empty, TraceLine, Stepped, Lacked, Made, Joined, face_in, collect_lines, HasResponseForm, IsCollect, lists_in, queue, CollectNeeds, collect_needs, head_held, list_at, greatest_first-is, IsGood, good_by_priority, made_keeps, by_test, block_made, Held, IsOnly, IsClear, HandledAs, GoesOut, CollectsAll, CollectNodes, CollectRests, CollectStops, CollectGoes}
 use Rattle.switch_core.specs.declared.endpoint.Collected.TheVariants as Collects
-use Rattle.switch_core.specs.Faces.{Face, head_of, has_room}
-use Rattle.switch_core.specs.EndpointSteps.{first_held, collected_of, collected_head, collected}
-use Rattle.fabric_script.specs.declared.ports.PortRef.{PortRef}
 use Rattle.fabric_script.specs.declared.lines.Line.TheVariants.{Collect}
-use Rattle.fabric_model.specs.Network.{Item, Network, port_of, IsEndpoint}
-use Rattle.fabric_model.specs.Steps.{Step, Leave, Answer, AtNode, ByDevice, Needs, IsFirst, without_first, after}
-use Rattle.fabric_model.proofs.Nodes.{few_prio}
-use Rattle.fabric_trace.specs.Fold.{seen_line, seen}
-use Rattle.fabric_trace.specs.Known.{Seen}
-use Rattle.trace_lines.specs.Lines.{Full, Empty, TraceLine, Stepped, Lacked}
-use Rattle.fabric_trace.specs.Parts.{Made}
-use Rattle.fabric_trace.specs.Rounds.{Joined}
-use Rattle.fabric_trace.specs.Served.{face_in, collect_lines, HasResponseForm, IsCollect}
-use Rattle.fabric_trace.specs.Views.{lists_in, queue}
-use Rattle.fabric_trace.proofs.Network.Faces.{CollectNeeds, collect_needs, head_held}
-use Rattle.link_buffers.specs.Queues.{list_at}
-use Rattle.switch_core.proofs.OrderLaws.{greatest_first-is}
-use Rattle.fabric_trace.proofs.Parts.Keeping.{IsGood, good_by_priority, made_keeps}
-use Rattle.fabric_trace.proofs.Rounds.Blocks.{by_test}
-use Rattle.fabric_trace.proofs.Rounds.Running.{block_made}
-use Rattle.fabric_ask.specs.Only.{Held, IsOnly, IsClear}
-use Rattle.fabric_ask.specs.Course.{HandledAs, GoesOut}
-use Rattle.fabric_ask.specs.Asks.{CollectsAll, CollectNodes, CollectRests, CollectStops, CollectGoes}
 use Rattle.fabric_ask.proofs.Alone.{none_first}
 use Rattle.fabric_ask.proofs.Crossing.{split, HasRun}
 use Rattle.fabric_ask.proofs.Serving.{is_one, cleared, becomes_answer, head_is, greatest-none}
@@ -100,10 +69,8 @@ makes_becomes net node step q item only (Answering packet response is needs) =
 
 pub is_empty : (node : ℕ) (made : Collected) → Lacked Empty ∷ [] ≡ collect_lines node made
     → made ≡ Collects.Empty
-is_empty node (Collects.Left packet) is = absurd cc
-is_empty node (Collects.Answered request response) is = absurd cc
 is_empty node Collects.Empty is = refl
-is_empty node Collects.Full is = absurd cc
+is_empty node _ is = absurd cc
 
 pub none_first_held : (device : Registers) (face : Face) → collected device face ≡ Collects.Empty
     → first_held face ≡ None

@@ -1,27 +1,6 @@
 -- The one packet, while one link after another carries what it can.
-use Rattle.std.proofs.Common.{◌≡◌, ◌<◌, ◌||◌, Bool, true, false, List, [], ◌∷◌, ◌++◌, length, Option, Some, None, refl, sym, ap, ◌∙◌, subst, arith, inl, inr, ◌⊎◌, cond}
-use Rattle.std.proofs.lemmas.Bool.{or_right}
-use Rattle.std.specs.List.{AllByRecursion}
-use Rattle.rio_packets.specs.Fields.{prio_of}
-use Rattle.link_machine.specs.Rest.{IsSettled}
-use Rattle.link_wires.specs.declared.edits.Edit.{Edit}
-use Rattle.fabric_script.specs.declared.ports.PortRef.{PortRef}
-use Rattle.fabric_model.specs.Network.{Item, Network, same_port, peer_in, link_in}
-use Rattle.fabric_model.proofs.Peers.{ArePeers, port_is, same_port-refl, link_peers, some_is}
-use Rattle.fabric_trace.specs.Fold.{seen}
-use Rattle.fabric_trace.specs.Known.{UndetectedAt, Seen, link_at}
-use Rattle.trace_lines.specs.Lines.{TraceLine, steps_of}
-use Rattle.fabric_trace.specs.Links.{IsLink}
-use Rattle.fabric_trace.specs.Parts.{Made, Done}
-use Rattle.fabric_trace.specs.Rounds.{Follows, NamesNothing, Joined}
-use Rattle.fabric_trace.proofs.Parts.Folding.{seen-append}
+use Rattle.fabric_ask.proofs.Prelude.{◌≡◌, ◌<◌, ◌||◌, Bool, true, false, List, [], ◌∷◌, ◌++◌, length, Option, Some, None, refl, sym, ap, ◌∙◌, subst, arith, inl, inr, ◌⊎◌, cond, or_right, AllByRecursion, prio_of, IsSettled, Edit, PortRef, Item, Network, same_port, peer_in, link_in, ArePeers, port_is, same_port-refl, link_peers, some_is, seen, UndetectedAt, Seen, link_at, TraceLine, steps_of, IsLink, Made, Done, Follows, NamesNothing, Joined, seen-append, IsGood, IsKept, made_keeps, made-append, made_by, AreFound, Held, Waits, alone, IsOnly, IsClear, IsLent, is_end, Carried, Stays, Lends, Crosses, IsSame, IsCarry, CarryAll}
 use Rattle.fabric_trace.proofs.Links.Serving.{link_round}
-use Rattle.fabric_trace.proofs.Parts.Keeping.{IsGood, IsKept, made_keeps}
-use Rattle.fabric_trace.proofs.Parts.Making.{made-append, made_by}
-use Rattle.fabric_trace.proofs.Rounds.Blocks.{AreFound}
-use Rattle.fabric_ask.specs.Only.{Held, Waits, alone, IsOnly, IsClear, IsLent, is_end, Carried, Stays, Lends, Crosses, IsSame}
-use Rattle.fabric_ask.specs.Noise.{IsCarry}
-use Rattle.fabric_ask.specs.Asks.{CarryAll}
 use Rattle.fabric_ask.proofs.Alone.{carries, none_carried, and_refl, at_same}
 use Rattle.fabric_ask.proofs.Passing.{lent_none, waits_not}
 use Rattle.fabric_ask.proofs.Carrying.{HasCarried, has_carried}
@@ -149,8 +128,7 @@ split First More s lines joined still = by_found (seen s joined.0).undetected re
       first = joined.0;
       rest = joined.1;
       whole = joined.2;
-      own =
-          joined.3;
+      own = joined.3;
       still = is;
       more = follows;
       after = after;

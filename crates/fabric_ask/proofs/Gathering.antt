@@ -1,28 +1,7 @@
 -- What an endpoint collects, one packet after another.
-use Rattle.std.proofs.Common.{◌≡◌, ℕ, zero, suc, ◌+◌, ◌<◌, ◌==◌, ◌||◌, Bool, true, false, List, [], ◌∷◌, Option, Some, None, MatchBool, option_map, slice_get, arith, refl, sym, ap, ◌∙◌, subst}
-use Rattle.rio_packets.specs.Fields.{prio_of}
-use Rattle.maint_registers.specs.Devices.{Registers, is_switch}
-use Rattle.switch_core.specs.declared.endpoint.Collected.{Collected}
+use Rattle.fabric_ask.proofs.Prelude.{◌≡◌, ℕ, zero, suc, ◌+◌, ◌<◌, ◌==◌, ◌||◌, Bool, true, false, List, [], ◌∷◌, Option, Some, None, MatchBool, option_map, slice_get, arith, refl, sym, ap, ◌∙◌, subst, prio_of, Registers, is_switch, Collected, collected, PortRef, Network, port_of, held, IsEndpoint, switch_at, Leave, Answer, Step, AtNode, ByDevice, IsFirst, behind_first, without_first, behind_length, own_shorter, few_prio, seen_line, seen, Seen, Full, TraceLine, Stepped, Lacked, Done, IsReady, Joined, face_in, collect_lines, IsCollect, seen_board, Exists, good_of, ready_on, AreKinds, all_kinds, joined_exist, IsGood, passes_first, made-append, CollectsAll, CollectNodes, CollectGoes, CollectRests, CollectStops}
 use Rattle.switch_core.specs.declared.endpoint.Collected.TheVariants as Collects
-use Rattle.switch_core.specs.EndpointSteps.{collected}
-use Rattle.fabric_script.specs.declared.ports.PortRef.{PortRef}
-use Rattle.fabric_model.specs.Network.{Network, port_of, held, IsEndpoint, switch_at}
-use Rattle.fabric_model.specs.Steps.{Leave, Answer, Step, AtNode, ByDevice, IsFirst, behind_first, without_first}
-use Rattle.fabric_model.proofs.Emptying.{behind_length, own_shorter}
-use Rattle.fabric_model.proofs.Nodes.{few_prio}
-use Rattle.fabric_trace.specs.Fold.{seen_line, seen}
-use Rattle.fabric_trace.specs.Known.{Seen}
-use Rattle.trace_lines.specs.Lines.{Full, TraceLine, Stepped, Lacked}
-use Rattle.fabric_trace.specs.Parts.{Done}
-use Rattle.fabric_trace.specs.Ready.{IsReady}
-use Rattle.fabric_trace.specs.Rounds.{Joined}
-use Rattle.fabric_trace.specs.Served.{face_in, collect_lines, IsCollect}
-use Rattle.fabric_trace.proofs.Network.Boards.{seen_board}
-use Rattle.fabric_trace.proofs.Traces.Existing.{Exists, good_of, ready_on, AreKinds, all_kinds, joined_exist}
-use Rattle.fabric_trace.proofs.Parts.Keeping.{IsGood, passes_first}
-use Rattle.fabric_trace.proofs.Parts.Making.{made-append}
 use Rattle.fabric_trace.proofs.Traces.Tracing.{collect_form}
-use Rattle.fabric_ask.specs.Asks.{CollectsAll, CollectNodes, CollectGoes, CollectRests, CollectStops}
 use Rattle.fabric_ask.proofs.Collecting.{Makes, Leaving, Answering, collect_makes, collect_lines_made}
 
 -- ---- lines, and more behind them

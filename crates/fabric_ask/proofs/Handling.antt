@@ -1,24 +1,5 @@
 -- Switches serve and endpoints collect, and the one packet is with one of them.
-use Rattle.std.proofs.Common.{◌≡◌, ℕ, zero, suc, ◌+◌, ◌≤◌, true, false, List, [], ◌∷◌, ◌++◌, Some, None, slice_get, sym, ap, ◌∙◌, subst, arith, MatchBool, append-nil}
-use Rattle.rio_packets.specs.Fields.{prio_of}
-use Rattle.rio_packets.specs.LinkForm.{Passes}
-use Rattle.maint_registers.specs.Devices.{Registers, is_switch}
-use Rattle.fabric_script.specs.declared.ports.PortRef.{PortRef}
-use Rattle.fabric_model.specs.Network.{Item, Network, IsEndpoint, IsSwitch, switch_at}
-use Rattle.fabric_model.specs.Steps.{DeviceStep, ByDevice}
-use Rattle.fabric_model.proofs.Emptying.{port_by}
-use Rattle.fabric_model.proofs.Nodes.{few_prio}
-use Rattle.fabric_model.proofs.Flows.{two_kinds}
-use Rattle.fabric_trace.specs.Fold.{seen_line, seen}
-use Rattle.fabric_trace.specs.Known.{Seen}
-use Rattle.trace_lines.specs.Lines.{TraceLine, Stepped, steps_of}
-use Rattle.fabric_trace.specs.Parts.{Made}
-use Rattle.fabric_trace.specs.Rounds.{Joined, ServesAll, ServeRests, ServeGoes, ServeNodes}
-use Rattle.fabric_trace.specs.Served.{IsMove}
-use Rattle.fabric_trace.proofs.Parts.Keeping.{IsGood, made_keeps, legal_links}
-use Rattle.fabric_trace.proofs.Rounds.Blocks.{by_test}
-use Rattle.fabric_trace.proofs.Rounds.Running.{move_made}
-use Rattle.fabric_ask.specs.Only.{Held, IsOnly}
+use Rattle.fabric_ask.proofs.Prelude.{◌≡◌, ℕ, zero, suc, ◌+◌, ◌≤◌, true, false, List, [], ◌∷◌, ◌++◌, Some, None, slice_get, sym, ap, ◌∙◌, subst, arith, MatchBool, append-nil, prio_of, Passes, Registers, is_switch, PortRef, Item, Network, IsEndpoint, IsSwitch, switch_at, DeviceStep, ByDevice, port_by, few_prio, two_kinds, seen_line, seen, Seen, TraceLine, Stepped, steps_of, Made, Joined, ServesAll, ServeRests, ServeGoes, ServeNodes, IsMove, IsGood, made_keeps, legal_links, by_test, move_made, Held, IsOnly}
 use Rattle.fabric_ask.specs.Course.{IsDevicePort, HandledAs, Moves, Falls, IsHeard, GoesOut}
 use Rattle.fabric_ask.proofs.Alone.{none_first}
 use Rattle.fabric_ask.proofs.Crossing.{split, HasRun}
@@ -43,8 +24,7 @@ run_of s lines Is good made is =
     record {
       made = made;
       good = kept.good;
-      links =
-          legal_links s.network (steps_of lines) (seen s lines).network kept.legal;
+      links = legal_links s.network (steps_of lines) (seen s lines).network kept.legal;
       is = is;
     }
 

@@ -1,23 +1,7 @@
 -- What a host collects, and that its request is taken.
-use Rattle.std.proofs.Common.{◌≡◌, ℕ, ◌+◌, ◌<◌, nat_lt, true, false, List, [], ◌∷◌, length, filter, ◌==◌, Option, Some, None, refl, sym, ap, ◌∙◌}
-use Rattle.rio_packets.specs.Fields.{prio_of, is_request}
-use Rattle.maint_registers.specs.Devices.{Registers}
-use Rattle.maint_packets.specs.Requests.{request_of}
-use Rattle.switch_core.specs.declared.endpoint.Collected.{Collected}
+use Rattle.fabric_ask.proofs.Prelude.{◌≡◌, ℕ, ◌+◌, ◌<◌, nat_lt, true, false, List, [], ◌∷◌, length, filter, ◌==◌, Option, Some, None, refl, sym, ap, ◌∙◌, prio_of, is_request, Registers, request_of, Collected, head_of, first_held, collected_of, collected_head, collected, greatest_first-is, PortRef, Item, Network, port_of, to_send, room_out, Leave, Answer, AtNode, ByDevice, Seen, Empty, TraceLine, Stepped, Lacked, Full, face_in, collect_lines, IsCollect, head_held, IsGood, Held, IsOnly, IsClear}
 use Rattle.switch_core.specs.declared.endpoint.Collected.TheVariants as Collects
-use Rattle.switch_core.specs.Faces.{head_of}
-use Rattle.switch_core.specs.EndpointSteps.{first_held, collected_of, collected_head, collected}
-use Rattle.switch_core.proofs.OrderLaws.{greatest_first-is}
-use Rattle.fabric_script.specs.declared.ports.PortRef.{PortRef}
-use Rattle.fabric_model.specs.Network.{Item, Network, port_of, to_send, room_out}
-use Rattle.fabric_model.specs.Steps.{Leave, Answer, AtNode, ByDevice}
 use Rattle.fabric_model.specs.Laws.Priorities.{ByPriority}
-use Rattle.fabric_trace.specs.Known.{Seen}
-use Rattle.trace_lines.specs.Lines.{Empty, TraceLine, Stepped, Lacked, Full}
-use Rattle.fabric_trace.specs.Served.{face_in, collect_lines, IsCollect}
-use Rattle.fabric_trace.proofs.Network.Faces.{head_held}
-use Rattle.fabric_trace.proofs.Parts.Keeping.{IsGood}
-use Rattle.fabric_ask.specs.Only.{Held, IsOnly, IsClear}
 use Rattle.fabric_ask.proofs.Serving.{is_one, head_is, greatest-none}
 use Rattle.fabric_ask.proofs.Collecting.{Makes, Leaving, Answering, collect_makes}
 

@@ -1,15 +1,7 @@
 -- A fabric stays laid out as it is when a device answers.
-use Rattle.std.proofs.Common.{◌≡◌, ℕ, zero, suc, ◌<◌, List, [], ◌∷◌, Some, option_map, slice_get, refl, sym, ap, ◌∙◌, subst}
-use Rattle.maint_registers.specs.Devices.{Registers, is_switch}
+use Rattle.fabric_ask.proofs.Prelude.{◌≡◌, ℕ, zero, suc, ◌<◌, List, [], ◌∷◌, Some, option_map, slice_get, refl, sym, ap, ◌∙◌, subst, Registers, is_switch, Request, request_answered, answered_same, PortRef, with_device, IsLaid, after_request}
 use Rattle.maint_registers.proofs.SameLaws.{same_kind}
-use Rattle.maint_packets.specs.declared.request.Request.{Request}
-use Rattle.maint_packets.specs.Answers.{request_answered}
-use Rattle.maint_packets.proofs.AnswerLaws.{answered_same}
-use Rattle.fabric_script.specs.declared.ports.PortRef.{PortRef}
-use Rattle.fabric_model.specs.Network.{with_device}
 use Rattle.fabric_model.proofs.Devices.{kinds_stay}
-use Rattle.fabric_ask.specs.Course.{IsLaid}
-use Rattle.fabric_ask.specs.Answered.{after_request}
 
 -- ---- a device that answers
 
@@ -40,8 +32,7 @@ laid_heard registers links host at request laid = record {
       record {
         device = own.0;
         stands = own.1;
-        below =
-            subst (λ n. q.port < n) (sym own.2) port.below;
+        below = subst (λ n. q.port < n) (sym own.2) port.below;
       };
   ends = λ q p peer endpoint. laid.ends q p peer (sym (kinds q.node) ∙ endpoint);
   host_is = kinds host ∙ laid.host_is;

@@ -1,3 +1,4 @@
+mod Prelude
 pub mod Alone
 pub mod Passing
 pub mod Carrying

@@ -1,26 +1,5 @@
 -- A packet whose walk ends nowhere comes to no host.
-use Rattle.std.proofs.Common.{◌≡◌, ℕ, zero, suc, false, List, ◌++◌, Option, Some, None, refl, sym, ap, ◌∙◌, subst, MatchBool, append-nil}
-use Rattle.maint_registers.specs.Devices.{Registers}
-use Rattle.link_wires.specs.declared.edits.Edit.{Edit}
-use Rattle.fabric_script.specs.declared.ports.PortRef.{PortRef}
-use Rattle.fabric_script.specs.Ports.{port_at}
-use Rattle.fabric_map.specs.Routes.{walk}
-use Rattle.fabric_model.specs.Network.{Item, Network, peer_in, IsEndpoint}
-use Rattle.fabric_model.specs.Steps.{moved_item}
-use Rattle.fabric_model.proofs.Peers.{peer_back}
-use Rattle.fabric_trace.specs.Fold.{seen}
-use Rattle.fabric_trace.specs.Known.{Seen}
-use Rattle.trace_lines.specs.Lines.{TraceLine}
-use Rattle.fabric_trace.specs.Served.{IsCollect}
-use Rattle.fabric_trace.proofs.Parts.Keeping.{IsGood}
-use Rattle.fabric_trace.proofs.Parts.Making.{made_by}
-use Rattle.fabric_trace.proofs.Rounds.Blocks.{all_found}
-use Rattle.fabric_ask.specs.Only.{Waits, IsOnly, IsClear}
-use Rattle.fabric_ask.specs.Course.{IsEndpointIn, IsLaid, Handled, Home, Away, Rounded, Waited, Handed}
-use Rattle.fabric_ask.specs.Asks.{CarryAll, Handles, AskRound, holds_some, AskRounds}
-use Rattle.fabric_map.specs.Plain.{topology_of, registers_of}
-use Rattle.fabric_ask.specs.Travel.{IsOn, GoesOn}
-use Rattle.fabric_ask.specs.Own.{CollectsNothing}
+use Rattle.fabric_ask.proofs.Prelude.{◌≡◌, ℕ, zero, suc, false, List, ◌++◌, Option, Some, None, refl, sym, ap, ◌∙◌, subst, MatchBool, append-nil, Registers, Edit, PortRef, port_at, walk, Item, Network, peer_in, IsEndpoint, moved_item, peer_back, seen, Seen, TraceLine, IsCollect, IsGood, made_by, all_found, Waits, IsOnly, IsClear, IsEndpointIn, IsLaid, Handled, Home, Away, Rounded, Waited, Handed, CarryAll, Handles, AskRound, holds_some, AskRounds, topology_of, registers_of, IsOn, GoesOn, CollectsNothing}
 use Rattle.fabric_ask.proofs.Crossing.{Split, split, HasRun, clear_stays}
 use Rattle.fabric_ask.proofs.Handling.{run_of}
 use Rattle.fabric_ask.proofs.Rounding.{handles_nothing, rounded}

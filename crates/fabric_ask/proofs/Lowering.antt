@@ -1,20 +1,5 @@
 -- A request or a response as it moves on.
-use Rattle.std.proofs.Common.{◌≡◌, ℕ, zero, suc, ◌+◌, ◌-◌, ◌/◌, ◌%◌, ◌<◌, ◌≤◌, ◌==◌, ◌&&◌, Bool, true, false, List, length, Option, Some, None, option_map, unwrap_or, refl, sym, ap, ◌∙◌, arith, if◌then◌else◌, MatchBool, eqb-true}
-use Rattle.std.specs.List.{slice_index}
-use Rattle.std.proofs.lemmas.Bool.{and_parts}
-use Rattle.std.proofs.lemmas.Option.{same_Some}
-use Rattle.rio_packets.specs.Fields.{prio_of, tt_of, ttype_of, dest_of, source_of, hop_of, ids_end, hop_place, crc_place, is_maintenance, is_request, Lowered}
-use Rattle.rio_packets.specs.Hops.{is_large}
-use Rattle.rio_packets.specs.Words.{word_at}
-use Rattle.rio_packets.proofs.PlaceLaws.{Places, places}
-use Rattle.maint_packets.specs.declared.request.Op.TheVariants.{Read, Write, BadRead, BadWrite}
-use Rattle.maint_packets.specs.declared.request.Request.{Request}
-use Rattle.maint_packets.specs.declared.response.Response.{Response}
-use Rattle.maint_packets.specs.Layout.{offset_of, tid_of, low_half_of, short_length, long_length}
-use Rattle.maint_packets.specs.Requests.{names_second, value_in, has_form, op_of, request_of}
-use Rattle.maint_packets.specs.Responses.{is_with_data, is_without_data, with_words, response_of}
-use Rattle.fabric_model.specs.Laws.Leaving.{IsAfterMoves, MovesTo}
-use Rattle.fabric_model.specs.Laws.Leaving.IsAfterMoves.{AsItWas, OnceMore}
+use Rattle.fabric_ask.proofs.Prelude.{◌≡◌, ℕ, zero, suc, ◌+◌, ◌-◌, ◌/◌, ◌%◌, ◌<◌, ◌≤◌, ◌==◌, ◌&&◌, Bool, true, false, List, length, Option, Some, None, option_map, unwrap_or, refl, sym, ap, ◌∙◌, arith, if◌then◌else◌, MatchBool, eqb-true, slice_index, and_parts, same_Some, prio_of, tt_of, ttype_of, dest_of, source_of, hop_of, ids_end, hop_place, crc_place, is_maintenance, is_request, Lowered, is_large, word_at, Places, places, Read, Write, BadRead, BadWrite, Request, Response, offset_of, tid_of, low_half_of, short_length, long_length, names_second, value_in, has_form, op_of, request_of, is_with_data, is_without_data, with_words, response_of, IsAfterMoves, MovesTo, AsItWas, OnceMore}
 use Rattle.fabric_ask.proofs.OnWay.{hop_there}
 
 -- ---- a request or a response as it moves on

@@ -1,19 +1,5 @@
 -- A packet that carries a request or a response is one on its way.
-use Rattle.std.proofs.Common.{◌≡◌, ℕ, ◌==◌, ◌&&◌, ◌||◌, nat_lt, Bool, true, false, List, length, Option, Some, None, unwrap_or, refl, sym, ap, ◌∙◌, subst, ◌+◌, ◌<◌, ◌⊎◌, inl, inr, arith, if◌then◌else◌, eqb-true}
-use Rattle.std.specs.List.{slice_index}
-use Rattle.std.proofs.lemmas.Bool.{and_parts}
-use Rattle.std.proofs.lemmas.Option.{same_Some}
-use Rattle.rio_packets.specs.Fields.{tt_of, ftype_of, ttype_of, dest_of, hop_of, half_word_at, ids_end, hop_place, is_maintenance, is_maintenance_length, is_padded_form, is_request}
-use Rattle.rio_packets.specs.Hops.{is_large}
-use Rattle.rio_packets.specs.LinkForm.{Passes}
-use Rattle.rio_packets.specs.Words.{word_at, is_status}
-use Rattle.rio_packets.proofs.PlaceLaws.{places}
-use Rattle.maint_packets.specs.declared.request.Request.{Request}
-use Rattle.maint_packets.specs.declared.response.Response.{Response}
-use Rattle.maint_packets.specs.Layout.{low_half_of, short_length, long_length}
-use Rattle.maint_packets.specs.Requests.{request_of}
-use Rattle.maint_packets.specs.Responses.{is_with_data, is_without_data, with_words, response_of}
-use Rattle.fabric_ask.specs.Travel.{IsOn}
+use Rattle.fabric_ask.proofs.Prelude.{◌≡◌, ℕ, ◌==◌, ◌&&◌, ◌||◌, nat_lt, Bool, true, false, List, length, Option, Some, None, unwrap_or, refl, sym, ap, ◌∙◌, subst, ◌+◌, ◌<◌, ◌⊎◌, inl, inr, arith, if◌then◌else◌, eqb-true, slice_index, and_parts, same_Some, tt_of, ftype_of, ttype_of, dest_of, hop_of, half_word_at, ids_end, hop_place, is_maintenance, is_maintenance_length, is_padded_form, is_request, is_large, Passes, word_at, is_status, places, Request, Response, low_half_of, short_length, long_length, request_of, is_with_data, is_without_data, with_words, response_of, IsOn}
 
 -- a maintenance packet has a destination
 dest_there : (packet : List ℕ) → is_maintenance packet ≡ true
@@ -38,8 +24,7 @@ dest_there packet is = by_tests (ftype_of packet == 8) (tt_of packet == 0) (tt_o
 -- and a hop count
 pub hop_there : (packet : List ℕ) → is_maintenance packet ≡ true
     → hop_of packet ≡ Some (slice_index packet (hop_place packet))
-hop_there packet is =
-    ap (λ b. if b then Some (slice_index packet (hop_place packet)) else None) is
+hop_there packet is = ap (λ b. if b then Some (slice_index packet (hop_place packet)) else None) is
 
 pub asks : (packet : List ℕ) (request : Request) → request_of packet ≡ Some request
     → is_request packet ≡ true

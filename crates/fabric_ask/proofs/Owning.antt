@@ -1,34 +1,9 @@
 -- Lines in which a host's registers answer nothing may follow whatever these registers are.
 use Rattle.std.proofs.Common.{◌≡◌, ◌≢◌, ℕ, zero, suc, false, List, [], ◌∷◌, ◌++◌, Option, Some, None, option_map, option_and_then, slice_get, refl, sym, ap, ◌∙◌, subst, arith, inl, inr, ◌⊎◌, if◌then◌else◌}
-use Rattle.std.proofs.lemmas.Bool.{cases_eq}
-use Rattle.rio_chars.specs.declared.chars.Char.{Char}
-use Rattle.rio_packets.specs.Fields.{prio_of}
-use Rattle.maint_registers.specs.Devices.{Registers, is_switch}
-use Rattle.maint_packets.specs.declared.next_hop.Next.{Next}
-use Rattle.maint_packets.specs.declared.request.Request.{Request}
-use Rattle.maint_packets.specs.NextHops.{next_of}
-use Rattle.maint_packets.specs.Requests.{request_of}
-use Rattle.maint_packets.specs.Responses.{response_bytes}
-use Rattle.maint_packets.specs.Answers.{request_answered}
-use Rattle.link_wires.specs.declared.edits.Edit.{Edit}
-use Rattle.fabric_script.specs.declared.ports.PortRef.{PortRef}
-use Rattle.fabric_model.specs.Network.{Network, with_device, peer_in, IsEndpoint}
-use Rattle.fabric_model.specs.Serving.{next_at, response_at, device_after}
-use Rattle.fabric_model.specs.Steps.{Hold, Free, Take, Leave, NodeStep, Move, Drop, Answer, DeviceStep, Step, Linked, AtNode, ByDevice, Needs, after_hold, after}
+use Rattle.fabric_ask.proofs.Prelude.{cases_eq, Char, prio_of, Registers, is_switch, Next, Request, next_of, request_of, response_bytes, request_answered, Edit, PortRef, Network, with_device, peer_in, IsEndpoint, next_at, response_at, device_after, Hold, Free, Take, Leave, NodeStep, Move, Drop, Answer, DeviceStep, Step, Linked, AtNode, ByDevice, Needs, after_hold, after, Seen, peer_of, edit_of, edited_by, got_from, fired_from, seen_line, seen, Got, Fired, TraceLine, Begun, Stepped, Signed, Part, PartBegins, PartLacks, PartEnds, PartNames, PartSteps, PartServes, PartTurns, PartTells, PartDelivers, PartFires, Made, Done, Then, seen_board, IsGood, IsReady, IsWithin, AllByRecursion, IsEndpointIn, with_own, NoAnswer, NeverAnswers}
 use Rattle.fabric_trace.specs.Settings.{with_change}
-use Rattle.fabric_trace.specs.Known.{Seen, peer_of}
-use Rattle.fabric_trace.specs.Fold.{edit_of, edited_by, got_from, fired_from, seen_line, seen}
-use Rattle.trace_lines.specs.Lines.{Sent, Got, Fired, TraceLine, Begun, Stepped, Signed, Lacked, Ended, Undetected}
-use Rattle.fabric_trace.specs.Parts.{Part, PartBegins, PartLacks, PartEnds, PartNames, PartSteps, PartServes, PartTurns, PartTells, PartDelivers, PartFires, Made, Done, Then}
-use Rattle.fabric_trace.proofs.Network.Boards.{seen_board}
-use Rattle.fabric_trace.proofs.Parts.Keeping.{IsGood}
 use Rattle.fabric_model.proofs.Lanes.{AreWell}
-use Rattle.fabric_trace.specs.Ready.{IsReady}
-use Rattle.maint_registers.specs.Within.{IsWithin}
 use Rattle.fabric_model.specs.Laws.Holding.{ReceivedAt, WaitingAt, Over}
-use Rattle.std.specs.List.{AllByRecursion}
-use Rattle.fabric_ask.specs.Course.{IsEndpointIn}
-use Rattle.fabric_ask.specs.Own.{with_own, NoAnswer, NeverAnswers}
 
 -- ---- devices
 
@@ -167,12 +142,9 @@ module _ (host : ℕ) (device : Registers) (endpoint : is_switch device ≡ fals
   line_own s (Begun line) apart = edited_own s (edit_of line)
   line_own s (Stepped step) apart = ap (λ (n : Network). record s { network = n })
       (after_own s.network step apart)
-  line_own s (Signed (Sent p chars)) apart = refl
   line_own s (Signed (Got q chars)) apart = got_own s (peer_of s q) q chars
   line_own s (Signed (Fired p)) apart = fired_own s (peer_of s p) p
-  line_own s (Lacked lack) apart = refl
-  line_own s Ended apart = refl
-  line_own s (Undetected number q e) apart = refl
+  line_own s _ apart = refl
 
   pub seen_own : (s : Seen) (lines : List TraceLine) → NeverAnswers host lines
       → seen (with_own host device s) lines ≡ with_own host device (seen s lines)

@@ -1,23 +1,9 @@
 -- Requests and responses as packets on their way.
-use Rattle.std.proofs.Common.{◌≡◌, ℕ, ◌+◌, ◌%◌, ◌<◌, ◌≤◌, min, Bool, true, false, List, ◌++◌, length, Option, Some, None, option_map, refl, ap, ◌∙◌, subst, arith, inl, inr, All, length-append}
-use Rattle.std.proofs.lemmas.List.{get_or_append_left}
-use Rattle.rio_packets.specs.Fields.{hop_of}
-use Rattle.rio_packets.specs.Hops.{closed, message_ended}
-use Rattle.rio_packets.specs.LinkForm.{IsBody, LinkForm, Passes}
+use Rattle.fabric_ask.proofs.Prelude.{◌≡◌, ℕ, ◌+◌, ◌%◌, ◌<◌, ◌≤◌, min, Bool, true, false, List, ◌++◌, length, Option, Some, None, option_map, refl, ap, ◌∙◌, subst, arith, inl, inr, All, length-append, get_or_append_left, hop_of, closed, message_ended, IsBody, LinkForm, Passes, LinkForm-made, Registers, Read, Write, BadRead, BadWrite, Request, Response, response_of, IsResponseForm, response_body, response_bytes, status_fits, in_half, is_writing, accessed_by, words_read, request_answered, IsAfterMoves}
 use Rattle.rio_packets.specs.Making.{made}
-use Rattle.rio_packets.proofs.FormLaws.{LinkForm-made}
-use Rattle.maint_registers.specs.Devices.{Registers}
 use Rattle.maint_registers.specs.Access.{value_at, written_at, access_status}
 use Rattle.maint_packets.specs.declared.request.Op.{Op}
-use Rattle.maint_packets.specs.declared.request.Op.TheVariants.{Read, Write, BadRead, BadWrite}
-use Rattle.maint_packets.specs.declared.request.Request.{Request}
-use Rattle.maint_packets.specs.declared.response.Response.{Response}
-use Rattle.maint_packets.specs.Responses.{response_of, IsResponseForm, response_body, response_bytes}
 use Rattle.maint_packets.proofs.ResponseLaws.{read_back, is_bytes}
-use Rattle.maint_packets.proofs.AnswerLaws.{status_fits}
-use Rattle.maint_packets.specs.Requests.{in_half}
-use Rattle.maint_packets.specs.Answers.{is_writing, accessed_by, words_read, request_answered}
-use Rattle.fabric_model.specs.Laws.Leaving.{IsAfterMoves}
 use Rattle.fabric_ask.proofs.OnWay.{hop_read}
 use Rattle.fabric_ask.proofs.Lowering.{unhopped, anyhow, responses_same}
 
@@ -27,8 +13,7 @@ use Rattle.fabric_ask.proofs.Lowering.{unhopped, anyhow, responses_same}
 pub answered_alike : (device : Registers) (first second : Request) (port : ℕ)
     → anyhow first ≡ anyhow second
     → request_answered device first port ≡ request_answered device second port
-answered_alike device first second port same =
-    ap (λ r. request_answered device r port) same
+answered_alike device first second port same = ap (λ r. request_answered device r port) same
 
 -- ---- a response
 

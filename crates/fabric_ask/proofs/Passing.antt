@@ -1,16 +1,7 @@
 -- A link that settles has carried the one packet over.
-use Rattle.std.proofs.Common.{◌≡◌, ℕ, zero, suc, ◌+◌, ◌-◌, ◌<◌, ◌≤◌, ◌==◌, IsSome, List, [], ◌∷◌, ◌++◌, length, filter, Option, Some, None, refl, ap, ◌∙◌, arith, inl, inr, length-append, lt-ltb}
-use Rattle.rio_packets.specs.Fields.{prio_of}
-use Rattle.link_buffers.specs.Queues.{packet_count}
+use Rattle.fabric_ask.proofs.Prelude.{◌≡◌, ℕ, zero, suc, ◌+◌, ◌-◌, ◌<◌, ◌≤◌, ◌==◌, IsSome, List, [], ◌∷◌, ◌++◌, length, filter, Option, Some, None, refl, ap, ◌∙◌, arith, inl, inr, length-append, lt-ltb, prio_of, packet_count, IsDone, IsSettled, PortRef, Item, in_turn, packets_in, lists_in, queue, Seen, link_at, port_seen, IsLink, counted}
 use Rattle.link_buffers.proofs.PriorityLaws.{packet_count-highest}
-use Rattle.link_machine.specs.Rest.{IsDone, IsSettled}
 use Rattle.link_machine.specs.Queues.{Queues}
-use Rattle.fabric_script.specs.declared.ports.PortRef.{PortRef}
-use Rattle.fabric_model.specs.Network.{Item, in_turn}
-use Rattle.fabric_trace.specs.Views.{packets_in, lists_in, queue}
-use Rattle.fabric_trace.specs.Known.{Seen, link_at, port_seen}
-use Rattle.fabric_trace.specs.Links.{IsLink}
-use Rattle.fabric_trace.proofs.Network.Lanes.{counted}
 
 no_items : (items : List Item) → packets_in items ≡ [] → items ≡ []
 no_items [] none = refl

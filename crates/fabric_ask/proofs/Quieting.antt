@@ -1,25 +1,5 @@
 -- After each round of an ask every link is quiet.
-use Rattle.std.proofs.Common.{◌≡◌, ℕ, suc, ◌||◌, ◌==◌, Bool, true, false, List, [], ◌∷◌, ◌++◌, Option, Some, None, refl, sym, ap, ◌∙◌, subst, cond}
-use Rattle.std.specs.Bool.{⊤}
-use Rattle.link_model.specs.Places.{at_rest}
-use Rattle.link_machine.specs.Rest.{IsQuiet}
-use Rattle.link_wires.specs.declared.edits.Edit.{Edit}
-use Rattle.maint_registers.specs.Devices.{Registers, is_switch}
-use Rattle.fabric_script.specs.declared.ports.PortRef.{PortRef}
-use Rattle.fabric_model.specs.Network.{same_port, peer_in}
-use Rattle.fabric_model.specs.Steps.{Step, ByDevice}
-use Rattle.fabric_model.specs.Laws.Proper.{AreProper}
-use Rattle.fabric_model.proofs.Peers.{apart_back}
-use Rattle.fabric_trace.specs.Fold.{seen_line, seen}
-use Rattle.fabric_trace.specs.Known.{UndetectedAt, Wire, Seen, link_at}
-use Rattle.fabric_trace.specs.Views.{Half}
-use Rattle.trace_lines.specs.Lines.{Full, TraceLine, Begun, Stepped, Signed, Lacked, Ended, Undetected}
-use Rattle.fabric_trace.specs.Rounds.{Follows, NamesNothing, Joined, ServesAll, ServeRests, ServeGoes, ServeNodes}
-use Rattle.fabric_trace.proofs.Parts.Keeping.{IsGood}
-use Rattle.fabric_trace.proofs.Rounds.Blocks.{AreFound, all_found, by_test}
-use Rattle.fabric_ask.specs.Only.{is_end}
-use Rattle.fabric_ask.specs.Asks.{CarryAll, CollectsAll, CollectNodes, Handles, AskRound, CollectRests, CollectStops, CollectGoes}
-use Rattle.fabric_ask.specs.Quiet.{AreQuiet}
+use Rattle.fabric_ask.proofs.Prelude.{◌≡◌, ℕ, suc, ◌||◌, ◌==◌, Bool, true, false, List, [], ◌∷◌, ◌++◌, Option, Some, None, refl, sym, ap, ◌∙◌, subst, cond, ⊤, at_rest, IsQuiet, Edit, Registers, is_switch, PortRef, same_port, peer_in, Step, ByDevice, AreProper, apart_back, seen_line, seen, UndetectedAt, Wire, Seen, link_at, Half, Full, TraceLine, Stepped, Lacked, Follows, NamesNothing, Joined, ServesAll, ServeRests, ServeGoes, ServeNodes, IsGood, AreFound, all_found, by_test, is_end, CarryAll, CollectsAll, CollectNodes, Handles, AskRound, CollectRests, CollectStops, CollectGoes, AreQuiet}
 use Rattle.fabric_ask.proofs.Crossing.{split, AreAway, first_carried}
 
 -- what is known of a port's wire and half is the same
@@ -72,11 +52,8 @@ steps-append : (xs ys : List TraceLine) → OnlySteps xs → OnlySteps ys → On
 unfolding OnlySteps
 steps-append [] ys first rest = rest
 steps-append (Stepped step ∷ xs) ys first rest = steps-append xs ys first rest
-steps-append (Begun line ∷ xs) ys first rest = absurd first
-steps-append (Signed sign ∷ xs) ys first rest = absurd first
 steps-append (Lacked lack ∷ xs) ys first rest = steps-append xs ys first rest
-steps-append (Ended ∷ xs) ys first rest = absurd first
-steps-append (Undetected n q e ∷ xs) ys first rest = absurd first
+steps-append (_ ∷ xs) ys first rest = absurd first
 
 steps_by : {xs ys : List TraceLine} → xs ≡ ys → OnlySteps ys → OnlySteps xs
 steps_by is only = subst OnlySteps (sym is) only
@@ -92,11 +69,8 @@ steps_same s [] c only = record { wire = refl; half = refl }
 steps_same s (Stepped step ∷ lines) c only = let rest =
     steps_same (seen_line s (Stepped step)) lines c only in
     record { wire = rest.wire; half = rest.half }
-steps_same s (Begun line ∷ lines) c only = absurd only
-steps_same s (Signed sign ∷ lines) c only = absurd only
 steps_same s (Lacked lack ∷ lines) c only = steps_same s lines c only
-steps_same s (Ended ∷ lines) c only = absurd only
-steps_same s (Undetected n q e ∷ lines) c only = absurd only
+steps_same s (_ ∷ lines) c only = absurd only
 
 one_step : (step : Step) (rest : List TraceLine) → OnlySteps rest → OnlySteps (Stepped step ∷ rest)
 unfolding OnlySteps

@@ -1,31 +1,6 @@
 -- After a response all links are at rest.
-use Rattle.std.proofs.Common.{◌≡◌, ℕ, List, [], ◌∷◌, ◌++◌, Option, Some, None, refl, sym, ap, ◌∙◌, subst, inl, inr, ◌⊎◌, Bool, true, false, if◌then◌else◌}
-use Rattle.maint_packets.specs.declared.request.Request.{Request}
-use Rattle.switch_core.specs.declared.endpoint.Collected.{Collected}
+use Rattle.fabric_ask.proofs.Prelude.{◌≡◌, ℕ, List, [], ◌∷◌, ◌++◌, Option, Some, None, refl, sym, ap, ◌∙◌, subst, inl, inr, ◌⊎◌, Bool, true, false, if◌then◌else◌, Request, Collected, Edit, PortRef, IsEndpoint, port_of, room_out, Leave, AtNode, Take, few_prio, Asks, seen, seen_line, Seen, UndetectedAt, TraceLine, Stepped, steps_of, Full, Lacked, Made, PartSteps, PartLacks, collect_lines, seen-append, IsGood, made_keeps, legal_links, prio_of, Passes, Passes-from_form, request_body, Follows, NamesNothing, one_part, made-append, made_by, IsReplied, AskRounds, most_rounds, IsAsk, CollectsNothing, NeverAnswers, AreQuiet}
 use Rattle.switch_core.specs.declared.endpoint.Collected.TheVariants as Collects
-use Rattle.link_wires.specs.declared.edits.Edit.{Edit}
-use Rattle.fabric_script.specs.declared.ports.PortRef.{PortRef}
-use Rattle.fabric_model.specs.Network.{IsEndpoint, port_of, room_out}
-use Rattle.fabric_model.specs.Steps.{Leave, AtNode, Take}
-use Rattle.fabric_model.proofs.Nodes.{few_prio}
-use Rattle.fabric_trace.specs.Blocks.{Asks}
-use Rattle.fabric_trace.specs.Fold.{seen, seen_line}
-use Rattle.fabric_trace.specs.Known.{Seen, UndetectedAt}
-use Rattle.trace_lines.specs.Lines.{TraceLine, Stepped, steps_of, Full, Lacked}
-use Rattle.fabric_trace.specs.Parts.{Made, PartSteps, PartLacks}
-use Rattle.fabric_trace.specs.Served.{collect_lines}
-use Rattle.fabric_trace.proofs.Parts.Folding.{seen-append}
-use Rattle.fabric_trace.proofs.Parts.Keeping.{IsGood, made_keeps, legal_links}
-use Rattle.rio_packets.specs.Fields.{prio_of}
-use Rattle.rio_packets.specs.LinkForm.{Passes}
-use Rattle.rio_packets.proofs.FormLaws.{Passes-from_form}
-use Rattle.maint_packets.specs.Requests.{request_body}
-use Rattle.fabric_trace.specs.Rounds.{Follows, NamesNothing}
-use Rattle.fabric_trace.proofs.Parts.Making.{one_part, made-append, made_by}
-use Rattle.fabric_ask.specs.Answered.{IsReplied}
-use Rattle.fabric_ask.specs.Asks.{AskRounds, most_rounds, IsAsk}
-use Rattle.fabric_ask.specs.Own.{CollectsNothing, NeverAnswers}
-use Rattle.fabric_ask.specs.Quiet.{AreQuiet}
 use Rattle.fabric_ask.proofs.Crossing.{Split, split}
 use Rattle.fabric_ask.proofs.Quieting.{OnlySteps, steps_same, all_same}
 use Rattle.fabric_ask.proofs.Uncollected.{CollectsLast, IsApart, made_endpoint, never-append, nothing_leaves, rounds_apart, nothing_answers, answers-append}
@@ -33,9 +8,7 @@ use Rattle.fabric_ask.proofs.Uncollected.{CollectsLast, IsApart, made_endpoint, 
 collect_steps : (node : ℕ) (made : Collected) → OnlySteps (collect_lines node made)
 unfolding OnlySteps
 collect_steps node (Collects.Left packet) = tt
-collect_steps node (Collects.Answered request response) = tt
-collect_steps node Collects.Empty = tt
-collect_steps node Collects.Full = tt
+collect_steps node _ = tt
 
 -- The request is taken, or has no room: the host collects nothing in it.
 pub record IsTaken (host : ℕ) (s : Seen) (first : List TraceLine) : Type 0 where

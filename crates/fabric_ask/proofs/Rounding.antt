@@ -1,22 +1,5 @@
 -- One round and the one packet.
-use Rattle.std.proofs.Common.{◌≡◌, ◌≢◌, ℕ, ◌==◌, Bool, true, false, List, [], ◌++◌, Option, Some, None, option_map, slice_get, refl, sym, ap, ◌∙◌, subst, arith, append-nil, eqb-true, eq-eqb}
-use Rattle.rio_packets.specs.LinkForm.{Passes}
-use Rattle.maint_registers.specs.Devices.{Registers, is_switch}
-use Rattle.link_wires.specs.declared.edits.Edit.{Edit}
-use Rattle.fabric_script.specs.declared.ports.PortRef.{PortRef}
-use Rattle.fabric_model.specs.Network.{Item, Network, peer_in}
-use Rattle.fabric_model.proofs.Nodes.{few_prio}
-use Rattle.fabric_trace.specs.Fold.{seen}
-use Rattle.fabric_trace.specs.Known.{Seen}
-use Rattle.trace_lines.specs.Lines.{TraceLine}
-use Rattle.fabric_trace.specs.Parts.{Made, Done}
-use Rattle.fabric_trace.specs.Rounds.{ServeNodes}
-use Rattle.fabric_trace.proofs.Parts.Keeping.{IsGood}
-use Rattle.fabric_trace.proofs.Parts.Making.{made-append, made_by}
-use Rattle.fabric_trace.proofs.Rounds.Blocks.{all_found}
-use Rattle.fabric_ask.specs.Only.{Held, Waits, IsOnly}
-use Rattle.fabric_ask.specs.Course.{IsDevicePort, HandledAs, IsEndpointIn, IsLaid, Handled, Home, Away, Rounded, Waited, Handed}
-use Rattle.fabric_ask.specs.Asks.{CarryAll, CollectNodes, Handles, AskRound}
+use Rattle.fabric_ask.proofs.Prelude.{◌≡◌, ◌≢◌, ℕ, ◌==◌, Bool, true, false, List, [], ◌++◌, Option, Some, None, option_map, slice_get, refl, sym, ap, ◌∙◌, subst, arith, append-nil, eqb-true, eq-eqb, Passes, Registers, is_switch, Edit, PortRef, Item, Network, peer_in, few_prio, seen, Seen, TraceLine, Made, Done, ServeNodes, IsGood, made-append, made_by, all_found, Held, Waits, IsOnly, IsDevicePort, HandledAs, IsEndpointIn, IsLaid, Handled, Home, Away, Rounded, Waited, Handed, CarryAll, CollectNodes, Handles, AskRound}
 use Rattle.fabric_ask.proofs.Crossing.{Split, split, HasRun, away_alone, Ran, Reached, Stuck, waits_run}
 use Rattle.fabric_ask.proofs.Handling.{NoneHeld, none_held, run_of, serve_switch, serve_endpoint, serve_nothing}
 use Rattle.fabric_ask.proofs.Collecting.{collects_none, collects_other, collect_quiet, collect_endpoint}

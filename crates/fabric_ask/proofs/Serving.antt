@@ -1,40 +1,9 @@
 -- A switch and the one packet.
-use Rattle.std.proofs.Common.{◌≡◌, ℕ, zero, suc, ◌+◌, ◌<◌, ◌==◌, ◌&&◌, nat_lt, Bool, true, false, List, [], ◌∷◌, ◌++◌, map, filter, length, Option, Some, None, slice_get, unwrap_or, refl, sym, ap, ◌∙◌, subst, arith, inl, inr, if◌then◌else◌}
-use Rattle.std.specs.Bool.{⊤}
-use Rattle.std.proofs.lemmas.Bool.{and_parts, cases_eq}
-use Rattle.rio_packets.specs.Fields.{prio_of, is_request, dest_of}
-use Rattle.rio_packets.specs.LinkForm.{Passes}
-use Rattle.maint_registers.specs.Devices.{Registers}
-use Rattle.maint_registers.specs.Routes.{next_port}
-use Rattle.maint_packets.specs.declared.next_hop.Next.{Next}
-use Rattle.maint_packets.specs.declared.next_hop.Next.TheVariants.{Nowhere, RegisterUnit, Port}
-use Rattle.maint_packets.specs.declared.request.Request.{Request}
-use Rattle.maint_packets.specs.NextHops.{is_foreign, is_at_end, to_port, next_of}
-use Rattle.maint_packets.specs.Requests.{request_of}
-use Rattle.maint_packets.specs.Responses.{response_bytes}
-use Rattle.maint_packets.specs.Answers.{request_answered}
+use Rattle.fabric_ask.proofs.Prelude.{◌≡◌, ℕ, zero, suc, ◌+◌, ◌<◌, ◌==◌, ◌&&◌, nat_lt, Bool, true, false, List, [], ◌∷◌, ◌++◌, map, filter, length, Option, Some, None, slice_get, unwrap_or, refl, sym, ap, ◌∙◌, subst, arith, inl, inr, if◌then◌else◌, ⊤, and_parts, cases_eq, prio_of, is_request, dest_of, Passes, Registers, next_port, Next, Nowhere, RegisterUnit, Port, Request, is_foreign, is_at_end, to_port, next_of, request_of, response_bytes, request_answered, Face, face_at, head_of, has_room, least_first, greatest_first, least_first-is, greatest_first-is, least_first-found, greatest_first-found, greatest_first-passed, PortRef, port_at, Item, Network, same_port, to_send, DeviceStep, Move, Drop, Answer, ByDevice, Needs, IsFirst, behind_first, only_first, moved_item, item_of, without_first, with_waiting, after, port_by, moves_on, named_goes, sent_by, port_is, Seen, NoStep, Stepped, Lacked, face_in, faces_in, step_lines, ResponseHasForm, IsMove, room_is, face_is, port_there, StepNeeds, step_needs, IsGood, good_by_priority, lane_at, option_and_then, Spot, Held, Waits, alone, IsOnly, IsClear}
 use Rattle.switch_core.specs.declared.switch.Step as switch
 use Rattle.switch_core.specs.declared.switch.Step.TheVariants.{Moved, Dropped, Answered, Nothing}
-use Rattle.switch_core.specs.Faces.{Face, face_at, head_of, has_room}
-use Rattle.switch_core.specs.Order.{least_first, greatest_first}
 use Rattle.switch_core.specs.SwitchSteps.{answer_step, step_to, step_of_head, step_at, first_step, step_of}
-use Rattle.switch_core.proofs.OrderLaws.{least_first-is, greatest_first-is, least_first-found, greatest_first-found, greatest_first-passed}
 use Rattle.switch_core.proofs.RequestLaws.{request_there, answer_prio}
-use Rattle.fabric_script.specs.declared.ports.PortRef.{PortRef}
-use Rattle.fabric_script.specs.Ports.{port_at}
-use Rattle.fabric_model.specs.Network.{Item, Network, same_port, to_send}
-use Rattle.fabric_model.specs.Steps.{DeviceStep, Move, Drop, Answer, ByDevice, Needs, IsFirst, behind_first, only_first, moved_item, item_of, without_first, with_waiting, after}
-use Rattle.fabric_model.proofs.Emptying.{port_by}
-use Rattle.fabric_model.proofs.Moving.{moves_on, named_goes, sent_by}
-use Rattle.fabric_model.proofs.Peers.{port_is}
-use Rattle.fabric_trace.specs.Known.{Seen}
-use Rattle.trace_lines.specs.Lines.{NoStep, Stepped, Lacked}
-use Rattle.fabric_trace.specs.Served.{face_in, faces_in, step_lines, ResponseHasForm, IsMove}
-use Rattle.fabric_trace.proofs.Network.Faces.{room_is, face_is, port_there, StepNeeds, step_needs}
-use Rattle.fabric_trace.proofs.Parts.Keeping.{IsGood, good_by_priority}
-use Rattle.fabric_trace.proofs.Network.Lanes.{lane_at}
-use Rattle.std.specs.Option.{option_and_then}
-use Rattle.fabric_ask.specs.Only.{Spot, Held, Waits, alone, IsOnly, IsClear}
 use Rattle.fabric_ask.specs.Course.{IsDevicePort, HandledAs, Moves, Falls, IsHeard}
 use Rattle.fabric_ask.proofs.Alone.{first_in, chosen, and_refl, gone}
 
@@ -116,8 +85,7 @@ becomes_answer net q item response only needs =
     IsHeard response needs.1 needs.2 (record {
       received = put.received;
       waiting = put.waiting;
-      lent =
-          put.lent;
+      lent = put.lent;
     }) refl
 
 -- what a step of a device makes of it

@@ -1,27 +1,6 @@
 -- In an ask without edits no event is undetected.
-use Rattle.std.proofs.Common.{◌≡◌, ℕ, Bool, true, false, List, [], ◌∷◌, Option, Some, None, refl, sym, ap, ◌∙◌, subst, if◌then◌else◌}
+use Rattle.fabric_ask.proofs.Prelude.{◌≡◌, ℕ, Bool, true, false, List, [], ◌∷◌, Option, Some, None, refl, sym, ap, ◌∙◌, subst, if◌then◌else◌, PortRef, same_port, port_of, peer_in, room_out, port_is, seen, UndetectedAt, Seen, link_at, Full, TraceLine, Stepped, Lacked, Made, PartSteps, PartLacks, Take, AtNode, few_prio, Follows, NamesNothing, seen-append, IsGood, made_keeps, made_by, one_part, IsQuiet, prio_of, Passes-from_form, request_body, Request, AreQuiet, AskRounds, most_rounds, IsAsk, quiet_calm}
 use Rattle.link_machine.specs.States.{LinkState, turned_round}
-use Rattle.fabric_script.specs.declared.ports.PortRef.{PortRef}
-use Rattle.fabric_model.specs.Network.{same_port, port_of, peer_in, room_out}
-use Rattle.fabric_model.proofs.Peers.{port_is}
-use Rattle.fabric_trace.specs.Fold.{seen}
-use Rattle.fabric_trace.specs.Known.{UndetectedAt, Seen, link_at}
-use Rattle.trace_lines.specs.Lines.{Full, TraceLine, Stepped, Lacked}
-use Rattle.fabric_trace.specs.Parts.{Made, PartSteps, PartLacks}
-use Rattle.fabric_model.specs.Steps.{Take, AtNode}
-use Rattle.fabric_model.proofs.Nodes.{few_prio}
-use Rattle.fabric_trace.specs.Rounds.{Follows, NamesNothing}
-use Rattle.fabric_trace.proofs.Parts.Folding.{seen-append}
-use Rattle.fabric_trace.proofs.Parts.Keeping.{IsGood, made_keeps}
-use Rattle.fabric_trace.proofs.Parts.Making.{made_by, one_part}
-use Rattle.link_machine.specs.Rest.{IsQuiet}
-use Rattle.rio_packets.specs.Fields.{prio_of}
-use Rattle.rio_packets.proofs.FormLaws.{Passes-from_form}
-use Rattle.maint_packets.specs.Requests.{request_body}
-use Rattle.maint_packets.specs.declared.request.Request.{Request}
-use Rattle.fabric_ask.specs.Quiet.{AreQuiet}
-use Rattle.fabric_ask.specs.Asks.{AskRounds, most_rounds, IsAsk}
-use Rattle.link_machine.proofs.Settling.Calming.{quiet_calm}
 use Rattle.fabric_ask.proofs.Calming.{AllCalm, rounds_still}
 
 -- ---- links at rest are calm

@@ -1,38 +1,7 @@
 -- A maintenance packet comes where its walk by the tables ends.
-use Rattle.std.proofs.Common.{◌≡◌, ◌≢◌, ℕ, zero, suc, ◌<◌, nat_lt, Bool, true, false, List, [], ◌∷◌, ◌++◌, length, Option, Some, None, option_map, slice_get, slice_index_or, refl, sym, ap, ◌∙◌, subst, arith, inl, inr, if◌then◌else◌, MatchBool, append_assoc}
-use Rattle.std.specs.Option.{option_and_then}
-use Rattle.std.proofs.lemmas.Bool.{ne_eqb}
-use Rattle.rio_packets.specs.Fields.{is_request}
-use Rattle.maint_registers.specs.Devices.{Registers, is_switch, new_endpoint}
-use Rattle.maint_registers.specs.Routes.{next_port}
-use Rattle.maint_packets.specs.declared.next_hop.Next.TheVariants.{Nowhere, RegisterUnit, Port}
-use Rattle.maint_packets.specs.NextHops.{to_port, moved, is_spent}
-use Rattle.link_wires.specs.declared.edits.Edit.{Edit}
-use Rattle.fabric_script.specs.declared.ports.PortRef.{PortRef}
-use Rattle.fabric_script.specs.Ports.{port_at}
-use Rattle.fabric_map.specs.Topology.{Topology}
-use Rattle.fabric_map.specs.Routes.{AllRegisters, walk}
-use Rattle.fabric_model.specs.Network.{Item, Network, port_of, peer_in, in_turn}
-use Rattle.fabric_model.specs.Steps.{moved_item}
-use Rattle.fabric_model.specs.Laws.Leaving.{IsAfterMoves, MovesTo}
-use Rattle.fabric_model.specs.Laws.Leaving.IsAfterMoves.{AsItWas, OnceMore}
-use Rattle.fabric_model.proofs.Moving.{moves_on, sent_by}
-use Rattle.fabric_model.proofs.Peers.{peer_back, some_is}
-use Rattle.fabric_trace.specs.Fold.{seen}
-use Rattle.fabric_trace.specs.Known.{Seen}
-use Rattle.trace_lines.specs.Lines.{TraceLine}
-use Rattle.fabric_trace.specs.Served.{IsCollect}
-use Rattle.fabric_trace.proofs.Parts.Folding.{seen-append}
-use Rattle.fabric_trace.proofs.Parts.Keeping.{IsGood}
-use Rattle.fabric_trace.proofs.Parts.Making.{made-append}
-use Rattle.fabric_ask.specs.Only.{Held, Waits, IsOnly, IsClear}
+use Rattle.fabric_ask.proofs.Prelude.{◌≡◌, ◌≢◌, ℕ, zero, suc, ◌<◌, nat_lt, Bool, true, false, List, [], ◌∷◌, ◌++◌, length, Option, Some, None, option_map, slice_get, slice_index_or, refl, sym, ap, ◌∙◌, subst, arith, inl, inr, if◌then◌else◌, MatchBool, append_assoc, option_and_then, ne_eqb, is_request, Registers, is_switch, new_endpoint, next_port, Nowhere, RegisterUnit, Port, to_port, moved, is_spent, Edit, PortRef, port_at, Topology, AllRegisters, walk, Item, Network, port_of, peer_in, in_turn, moved_item, IsAfterMoves, MovesTo, AsItWas, OnceMore, moves_on, sent_by, peer_back, some_is, seen, Seen, TraceLine, IsCollect, seen-append, IsGood, made-append, Held, Waits, IsOnly, IsClear, AskRound, holds_some, AskRounds, ports_of_switch, topology_of, registers_of, hops_left, CollectsNothing, IsOn, GoesOn, HasCome}
 use Rattle.fabric_ask.specs.Course.{HandledAs, Moves, Falls, IsHeard, GoesOut, IsEndpointIn, IsLaid, Handled, Home, Away, Rounded, Waited, Handed, Final, Fell, WasHeard, HasLeft, FinalAt, AtHost, NotHost}
-use Rattle.fabric_ask.specs.Asks.{AskRound, holds_some, AskRounds}
-use Rattle.fabric_map.specs.Plain.{ports_of_switch, topology_of, registers_of}
-use Rattle.fabric_ask.specs.Answered.{hops_left}
-use Rattle.fabric_ask.specs.Own.{CollectsNothing}
 use Rattle.fabric_ask.proofs.Uncollected.{never-append, round_apart}
-use Rattle.fabric_ask.specs.Travel.{IsOn, GoesOn, HasCome}
 use Rattle.fabric_ask.proofs.Crossing.{Split, split, HasRun}
 use Rattle.fabric_ask.proofs.Handling.{NoneHeld}
 use Rattle.fabric_ask.proofs.Rounding.{rounded}

@@ -1,32 +1,8 @@
 -- In the rounds of an ask the host collects nothing, but in the last of them.
-use Rattle.std.proofs.Common.{◌≡◌, ◌≢◌, ℕ, zero, suc, ◌||◌, ◌==◌, Bool, true, false, List, [], ◌∷◌, ◌++◌, Option, Some, None, refl, sym, ap, ◌∙◌, subst, MatchBool, eq-eqb, append_assoc, inl, inr, ◌⊎◌}
-use Rattle.maint_registers.specs.Devices.{Registers, is_switch}
-use Rattle.link_wires.specs.declared.edits.Edit.{Edit}
-use Rattle.fabric_script.specs.declared.ports.PortRef.{PortRef}
-use Rattle.fabric_model.specs.Network.{Network, IsEndpoint, IsSwitch, switch_at, link_in}
-use Rattle.fabric_model.specs.Steps.{Hold, Free, Leave, Move, Drop, Answer, DeviceStep, Step, Linked, AtNode, ByDevice, after, LegalFrom}
-use Rattle.fabric_model.proofs.Flows.{switches_stay, two_kinds}
-use Rattle.fabric_model.proofs.Peers.{link_peers}
-use Rattle.fabric_trace.specs.Fold.{seen}
-use Rattle.fabric_trace.specs.Known.{UndetectedAt, Seen}
-use Rattle.trace_lines.specs.Lines.{TraceLine, Begun, Stepped, Signed, Lacked, Ended, Undetected, steps_of}
-use Rattle.fabric_trace.specs.Parts.{Made, Done}
-use Rattle.fabric_trace.specs.Served.{IsCollect}
-use Rattle.fabric_trace.specs.Rounds.{Follows, NamesNothing, Joined, ServesAll, ServeRests, ServeGoes, ServeNodes}
-use Rattle.fabric_trace.proofs.Parts.Keeping.{IsGood, made_keeps, legal_links}
-use Rattle.fabric_trace.proofs.Parts.Folding.{seen-append}
-use Rattle.fabric_trace.proofs.Parts.Making.{made-append, made_by}
-use Rattle.fabric_trace.proofs.Rounds.Blocks.{AreFound, all_found, by_test, serves_made}
-use Rattle.fabric_trace.proofs.Rounds.Running.{move_made}
-use Rattle.fabric_ask.specs.Only.{AreAt}
-use Rattle.fabric_ask.specs.Noise.{IsCarry}
-use Rattle.fabric_ask.specs.Asks.{CarryAll, CollectsAll, CollectNodes, Handles, AskRound, holds_some, AskRounds, Unheld, CollectRests, CollectStops, CollectGoes}
-use Rattle.fabric_ask.specs.Travel.{GoesOn}
-use Rattle.fabric_ask.specs.Own.{NoAnswer, NeverAnswers, IsElsewhere, CollectsNothing}
+use Rattle.fabric_ask.proofs.Prelude.{◌≡◌, ◌≢◌, ℕ, zero, suc, ◌||◌, ◌==◌, Bool, true, false, List, [], ◌∷◌, ◌++◌, Option, Some, None, refl, sym, ap, ◌∙◌, subst, MatchBool, eq-eqb, append_assoc, inl, inr, ◌⊎◌, Registers, is_switch, Edit, PortRef, Network, IsEndpoint, IsSwitch, switch_at, link_in, Hold, Free, Leave, Move, Drop, Answer, DeviceStep, Step, Linked, AtNode, ByDevice, after, LegalFrom, switches_stay, two_kinds, link_peers, seen, UndetectedAt, Seen, TraceLine, Begun, Stepped, Signed, Lacked, Ended, Undetected, steps_of, Made, Done, IsCollect, Follows, NamesNothing, Joined, ServesAll, ServeRests, ServeGoes, ServeNodes, IsGood, made_keeps, legal_links, seen-append, made-append, made_by, AreFound, all_found, by_test, serves_made, move_made, AreAt, IsCarry, CarryAll, CollectsAll, CollectNodes, Handles, AskRound, holds_some, AskRounds, Unheld, CollectRests, CollectStops, CollectGoes, GoesOn, NoAnswer, NeverAnswers, IsElsewhere, CollectsNothing, AreQuiet}
 use Rattle.fabric_ask.proofs.Carrying.{has_carried}
 use Rattle.fabric_ask.proofs.Collecting.{Makes, Leaving, Answering, collect_makes, collect_lines_made}
 use Rattle.fabric_ask.proofs.Serving.{IsMade, move_is}
-use Rattle.fabric_ask.specs.Quiet.{AreQuiet}
 use Rattle.fabric_ask.proofs.Quieting.{round_quiet}
 use Rattle.fabric_ask.proofs.Calming.{collects_made, serve_made, handles_made}
 
@@ -173,8 +149,7 @@ module _ (host : ℕ) where
 
   collects_never : {s : Seen} {node : ℕ} {lines : List TraceLine} → IsGood s → s.undetected ≡ None
       → node ≢ host → CollectsAll s node lines → CollectsNothing host lines
-  collects_never {s} {node} {lines} good none away (CollectRests move at) =
-      never_none host lines at
+  collects_never {s} {node} {lines} good none away (CollectRests move at) = never_none host lines at
   collects_never {s} {node} {lines} good none away (CollectStops move at) =
       never_by host at (tt, tt)
   collects_never {s} {node} {lines} good none away (CollectGoes step rest move at more) =

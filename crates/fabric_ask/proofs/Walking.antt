@@ -1,24 +1,5 @@
 -- Where the walk of a packet goes, and how many hops it has left then.
-use Rattle.std.proofs.Common.{◌≡◌, ℕ, zero, suc, ◌==◌, ◌&&◌, not, true, false, List, Option, Some, None, refl, sym, ap, ◌∙◌, subst, arith, if◌then◌else◌, MatchBool}
-use Rattle.std.specs.Option.{option_and_then}
-use Rattle.std.proofs.lemmas.Bool.{ne_eqb, and_right}
-use Rattle.rio_packets.specs.Fields.{ftype_of, is_maintenance, is_request, Lowered, dest_of}
-use Rattle.maint_registers.specs.Devices.{Registers}
-use Rattle.maint_registers.specs.Routes.{next_port}
-use Rattle.maint_packets.specs.declared.next_hop.Next.TheVariants.{Nowhere, RegisterUnit}
-use Rattle.maint_packets.specs.NextHops.{is_foreign, is_at_end, to_port, next_of, moved, is_spent}
-use Rattle.fabric_script.specs.declared.ports.PortRef.{PortRef}
-use Rattle.fabric_script.specs.Ports.{port_at}
-use Rattle.fabric_map.specs.Topology.{Topology}
-use Rattle.fabric_map.specs.Routes.{AllRegisters, walk}
-use Rattle.fabric_model.specs.Network.{peer_in}
-use Rattle.fabric_model.specs.Laws.Leaving.{MovesTo}
-use Rattle.fabric_model.proofs.Moving.{moves_on}
-use Rattle.fabric_model.proofs.Peers.{peer_back}
-use Rattle.fabric_model.specs.Laws.Proper.{AreProper}
-use Rattle.fabric_map.specs.Plain.{topology_of, registers_of}
-use Rattle.fabric_ask.specs.Answered.{hops_left}
-use Rattle.fabric_ask.specs.Travel.{IsOn}
+use Rattle.fabric_ask.proofs.Prelude.{◌≡◌, ℕ, zero, suc, ◌==◌, ◌&&◌, not, true, false, List, Option, Some, None, refl, sym, ap, ◌∙◌, subst, arith, if◌then◌else◌, MatchBool, option_and_then, ne_eqb, and_right, ftype_of, is_maintenance, is_request, Lowered, dest_of, Registers, next_port, Nowhere, RegisterUnit, is_foreign, is_at_end, to_port, next_of, moved, is_spent, PortRef, port_at, Topology, AllRegisters, walk, peer_in, MovesTo, moves_on, peer_back, AreProper, topology_of, registers_of, hops_left, IsOn}
 use Rattle.fabric_ask.proofs.Lowering.{dest_same, hop_less}
 
 -- ---- the packet

@@ -2,22 +2,15 @@
 use Rattle.std.specs.Prelude.{◌≡◌, ◌==◌, ◌&&◌, ◌++◌, not, Bool, false, List, [], ◌∷◌, Option, Some, None, if◌then◌else◌}
 use Rattle.rio_chars.specs.declared.chars.Char.{Char}
 use Rattle.link_wires.specs.Wires.{fits}
-use Rattle.link_wires.specs.declared.edits.Edit.{Edit}
-use Rattle.link_wires.specs.declared.edits.Edit.TheVariants as Edits
+use Rattle.rio_chars.specs.declared.edit.Edit.{Edit}
+use Rattle.rio_chars.specs.declared.edit.Edit.TheVariants as Edits
 use Rattle.link_machine.specs.Calls.{has_none}
 use Rattle.fabric_script.specs.declared.ports.PortRef.{PortRef}
-use Rattle.fabric_script.specs.declared.lines.Line.{Line}
-use Rattle.fabric_script.specs.declared.lines.Line.TheVariants.{Alter, Erase, Insert}
+use Rattle.fabric_script.specs.Operations.{line_editing}
 use Rattle.fabric_trace.specs.Blocks.{pumps, IsSettle}
 use Rattle.fabric_trace.specs.Fold.{seen}
 use Rattle.fabric_trace.specs.Known.{Seen}
 use Rattle.trace_lines.specs.Lines.{TraceLine, Begun}
-
--- the line of an edit of a port's wire
-abbrev pub edit_line : PortRef → Edit → Line
-edit_line p (Edits.Alter place ch) = Alter p place ch
-edit_line p (Edits.Erase place n) = Erase p place n
-edit_line p (Edits.Insert place ch) = Insert p place ch
 
 -- no character is erased
 abbrev pub is_idle : Edit → Bool
@@ -28,7 +21,7 @@ is_idle (Edits.Insert place ch) = false
 -- an edit does something: then its line is written
 abbrev pub edit_lines : PortRef → Edit → List Char → List TraceLine
 edit_lines p edit chars =
-    if fits edit chars && not (is_idle edit) then Begun (edit_line p edit) ∷ [] else []
+    if fits edit chars && not (is_idle edit) then Begun (line_editing p edit) ∷ [] else []
 
 -- the next of some edits is given, or there is none
 abbrev pub Gives : List Edit → Option Edit → List Edit → Type 0

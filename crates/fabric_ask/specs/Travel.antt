@@ -2,7 +2,7 @@
 use Rattle.std.specs.Prelude.{◌≡◌, ℕ, suc, ◌+◌, ◌≤◌, true, List, ◌++◌, Some, None, MatchBool}
 use Rattle.rio_packets.specs.Fields.{is_maintenance, dest_of, hop_of}
 use Rattle.rio_packets.specs.LinkForm.{Passes}
-use Rattle.link_wires.specs.declared.edits.Edit.{Edit}
+use Rattle.rio_chars.specs.declared.edit.Edit.{Edit}
 use Rattle.fabric_script.specs.declared.ports.PortRef.{PortRef}
 use Rattle.fabric_model.specs.Network.{Item, Network}
 use Rattle.fabric_model.specs.Laws.Leaving.{IsAfterMoves}

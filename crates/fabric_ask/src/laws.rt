@@ -5,7 +5,7 @@ ghost use Rattle.maint_registers.specs.Devices.{Registers, is_switch};
 ghost use Rattle.maint_registers.specs.Within.{IsWithin};
 ghost use Rattle.maint_packets.specs.Requests.{request_of, request_body};
 ghost use Rattle.maint_packets.specs.declared.request.Request.{Request};
-ghost use Rattle.link_wires.specs.declared.edits.Edit.{Edit};
+ghost use Rattle.rio_chars.specs.declared.edit.Edit.{Edit};
 ghost use Rattle.fabric_script.specs.declared.ports.PortRef.{PortRef};
 ghost use Rattle.fabric_model.specs.Network.{IsEndpoint, Item};
 ghost use Rattle.fabric_model.specs.Steps.{AtNode, Leave};

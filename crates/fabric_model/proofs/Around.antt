@@ -1,21 +1,6 @@
 -- The lists of steps through switches.
-use Rattle.std.proofs.Common.{true, inr, ◌≡◌, [], ◌∷◌, Some, take, drop, refl, arith, map}
+use Rattle.fabric_model.proofs.Prelude.{true, inr, ◌≡◌, [], ◌∷◌, Some, take, drop, refl, arith, map, Passes, dest_of, passes, closed, fed, shifted, shifted_times, decides_passes, Nowhere, Port, Item, port_of, Take, Leave, AtNode, after, after_all, LegalFrom, response_at, gone, AreProper, SameCourse, SameFlow, RoutesStand, EarlierFirst, InOrder, ByTables, packet, other, first}
 use Rattle.fabric_script.specs.Ports.{port_at}
-use Rattle.rio_packets.specs.LinkForm.{Passes}
-use Rattle.rio_packets.specs.Fields.{dest_of}
-use Rattle.rio_packets.specs.Carries.{passes}
-use Rattle.rio_packets.specs.Hops.{closed}
-use Rattle.rio_packets.specs.Register.{fed, shifted, shifted_times}
-use Rattle.rio_packets.proofs.CarriesLaws.{decides_passes}
-use Rattle.maint_packets.specs.declared.next_hop.Next.TheVariants.{Nowhere, Port}
-use Rattle.fabric_model.specs.Network.{Item, port_of}
-use Rattle.fabric_model.specs.Steps.{Take, Leave, AtNode, after, after_all, LegalFrom}
-use Rattle.fabric_model.specs.Serving.{response_at}
-use Rattle.fabric_model.specs.Laws.History.{gone}
-use Rattle.fabric_model.specs.Laws.Proper.{AreProper}
-use Rattle.fabric_model.specs.Laws.Flows.{SameCourse, SameFlow, RoutesStand, EarlierFirst, InOrder}
-use Rattle.fabric_model.specs.Laws.Tables.{ByTables}
-use Rattle.fabric_model.specs.Laws.Examples.{packet, other, first}
 use Rattle.fabric_model.specs.Laws.Switches.{around, for_5, for_9, later_for_9, through, circle, parting, SamePriority, moved_elsewhere, dropped_on_its_way, for_7, later_for_7, request, response, changing, with_hop_0, with_hop_5, with_hop_3, hopping, large, of_both_sizes, taken_as}
 use Rattle.fabric_model.proofs.Worked.{packet_passes}
 

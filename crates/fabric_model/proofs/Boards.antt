@@ -1,18 +1,7 @@
 -- A step as what it does to the places where items stand: none moves, one comes to a place, one
 -- goes from a place to
 -- another, or one goes and then one comes.
-use Rattle.std.proofs.Common.{◌≡◌, ℕ, ◌+◌, Bool, true, false, eqb, List, [], ◌∷◌, ◌++◌, map, Some, sym, ap, ap₂, ◌∙◌, subst, refl, cond, append-nil}
-use Rattle.std.proofs.lemmas.Bool.{and_parts, eqb-true}
-use Rattle.rio_packets.specs.Fields.{prio_of, dest_of, is_request}
-use Rattle.rio_packets.specs.LinkForm.{Passes}
-use Rattle.maint_packets.specs.declared.next_hop.Next.TheVariants.{Nowhere, Port}
-use Rattle.maint_packets.specs.NextHops.{moved}
-use Rattle.fabric_script.specs.declared.ports.PortRef.{PortRef}
-use Rattle.fabric_model.specs.Network.{Item, Network, same_port, port_of, peer_in, first_packet, IsEndpoint}
-use Rattle.fabric_model.specs.Serving.{next_at}
-use Rattle.fabric_model.specs.Steps.{Hold, Free, Take, Leave, Move, Drop, Answer, Step, Linked, AtNode, ByDevice, Needs, IsForRegisters, only_first, behind_first, moved_item, without_first, item_of, after_hold, after}
-use Rattle.fabric_model.specs.Laws.History.{End, EndLeft, EndDropped, EndAnswered, same_end, taken_by, ended_by}
-use Rattle.fabric_model.specs.Laws.Holding.{ItemPlace, ReceivedAt, WaitingAt, Over, same_place, items_at}
+use Rattle.fabric_model.proofs.Prelude.{◌≡◌, ℕ, ◌+◌, Bool, true, false, eqb, List, [], ◌∷◌, ◌++◌, map, Some, sym, ap, ap₂, ◌∙◌, subst, refl, cond, append-nil, and_parts, eqb-true, prio_of, dest_of, is_request, Passes, Nowhere, Port, moved, PortRef, Item, Network, same_port, port_of, peer_in, first_packet, IsEndpoint, next_at, Hold, Free, Take, Leave, Move, Drop, Answer, Step, Linked, AtNode, ByDevice, Needs, IsForRegisters, only_first, behind_first, moved_item, without_first, item_of, after_hold, after, End, EndLeft, EndDropped, EndAnswered, same_end, taken_by, ended_by, ItemPlace, ReceivedAt, WaitingAt, Over, same_place, items_at}
 use Rattle.fabric_model.proofs.Peers.{port_is}
 use Rattle.fabric_model.proofs.Moving.{moves_on, named_goes, sent_by}
 
@@ -31,16 +20,13 @@ pub place_is : (a b : ItemPlace) → same_place a b ≡ true → a ≡ b
 place_is (ReceivedAt p r) (ReceivedAt q s) same =
     let parts = and_parts (same_port p q) (eqb r s) same in
     ap₂ ReceivedAt (port_is p q parts.0) (eqb-true r s parts.1)
-place_is (ReceivedAt p r) (WaitingAt q s) same = absurd (cc)
-place_is (ReceivedAt p r) (Over f) same = absurd (cc)
-place_is (WaitingAt p r) (ReceivedAt q s) same = absurd (cc)
 place_is (WaitingAt p r) (WaitingAt q s) same =
     let parts = and_parts (same_port p q) (eqb r s) same in
     ap₂ WaitingAt (port_is p q parts.0) (eqb-true r s parts.1)
-place_is (WaitingAt p r) (Over f) same = absurd (cc)
-place_is (Over e) (ReceivedAt q s) same = absurd (cc)
-place_is (Over e) (WaitingAt q s) same = absurd (cc)
+place_is _ (ReceivedAt q s) same = absurd (cc)
+place_is _ (WaitingAt q s) same = absurd (cc)
 place_is (Over e) (Over f) same = ap Over (end_is e f same)
+place_is _ (Over f) same = absurd (cc)
 
 -- what stands where
 abbrev pub Board : Type 0
@@ -72,18 +58,12 @@ pub data Allowed (net : Network) : ItemPlace → ItemPlace → Item → Item →
 pub allowed_open : (net : Network) (from to : ItemPlace) (item moved : Item)
     → Allowed net from to item moved → (e : End) → from ≡ Over e → ⊥
 allowed_open net from to item moved (Crosses p q r item2 peer) e is = absurd (cc)
-allowed_open net from to item moved (Turns p q item2 same named) e is = absurd (cc)
-allowed_open net from to item moved (Leaves n item2 endpoint other) e is = absurd (cc)
-allowed_open net from to item moved (Falls p item2 named) e is = absurd (cc)
-allowed_open net from to item moved (IsHeard p item2 heard) e is = absurd (cc)
+allowed_open net from to item moved _ e is = absurd (cc)
 
 pub moved_number : (net : Network) (from to : ItemPlace) (item moved : Item)
     → Allowed net from to item moved → moved.number ≡ item.number
-moved_number net from to item moved (Crosses p q r item2 peer) = refl
 moved_number net from to item moved2 (Turns p q item2 same named) = refl
-moved_number net from to item moved (Leaves n item2 endpoint other) = refl
-moved_number net from to item moved (Falls p item2 named) = refl
-moved_number net from to item moved (IsHeard p item2 heard) = refl
+moved_number net from to item moved _ = refl
 
 -- what stays of an item that goes
 pub record Along (item moved : Item) : Type 0 where
@@ -106,7 +86,6 @@ as_is item passes = record {
 
 pub allowed_along : (net : Network) (from to : ItemPlace) (item moved : Item)
     → Allowed net from to item moved → Passes item.now → Along item moved
-allowed_along net from to item moved (Crosses p q r item2 peer) passes = as_is item passes
 allowed_along net from to item moved2 (Turns p q item2 same named) passes =
     let s = sent_by net p.node item.now (Port q.port) named in
     let on = moves_on item.now passes (named_goes s.device item.now q.port s.sends) in
@@ -118,9 +97,7 @@ allowed_along net from to item moved2 (Turns p q item2 same named) passes =
       prio = on.prio;
       dest = on.dest;
     }
-allowed_along net from to item moved (Leaves n item2 endpoint other) passes = as_is item passes
-allowed_along net from to item moved (Falls p item2 named) passes = as_is item passes
-allowed_along net from to item moved (IsHeard p item2 heard) passes = as_is item passes
+allowed_along net from to item moved _ passes = as_is item passes
 
 -- the first item of a place goes to another
 pub record Goes (net : Network) (old new : Board) : Type 0 where
@@ -180,17 +157,15 @@ module _ (net : Network) (out : End → List Item) where
   pub frees_on : (p : PortRef) (packet : List ℕ) (place : ItemPlace)
       → items_at (after net (Linked (Free p packet))) (λ e. out e ++ []) place
       ≡ items_at net out place
-  frees_on p packet (ReceivedAt s t) = refl
-  frees_on p packet (WaitingAt s t) = refl
   frees_on p packet (Over e) = append-nil (out e)
+  frees_on p packet _ = refl
 
   pub takes_on : (n : ℕ) (packet : List ℕ) (place : ItemPlace)
       → items_at (after net (AtNode (Take n packet))) (λ e. out e ++ []) place
       ≡ put (items_at net out) (WaitingAt (port_of n) (prio_of packet))
       (item_of net (port_of n) packet) place
-  takes_on n packet (ReceivedAt s t) = refl
-  takes_on n packet (WaitingAt s t) = refl
   takes_on n packet (Over e) = append-nil (out e)
+  takes_on n packet _ = refl
 
   -- an item ends
   pub ends_on : (p : PortRef) (r : ℕ) (end : End) (item : Item) → only_first (net.received p r)
@@ -198,14 +173,13 @@ module _ (net : Network) (out : End → List Item) where
       (ending out end (only_first (net.received p r))) place
       ≡ put (cut (items_at net out) (ReceivedAt p r) (behind_first (net.received p r))) (Over end)
       item place
-  ends_on p r end item only (ReceivedAt s t) = refl
-  ends_on p r end item only (WaitingAt s t) = refl
   ends_on p r end item only (Over e) = rw only (go (same_end e end) refl)
     where
       go : (t : Bool) → same_end e end ≡ t → out e ++ cond t (item ∷ []) []
           ≡ cond t (out end ++ item ∷ []) (out e)
       go true same = ap (λ x. out x ++ item ∷ []) (end_is e end same)
       go false apart = append-nil (out e)
+  ends_on p r end item only _ = refl
 
   pub turns_on : (p q : PortRef) (packet : List ℕ) (item : Item)
       → only_first (map moved_item (net.received p (prio_of packet))) ≡ moved_item item ∷ []
@@ -225,8 +199,7 @@ module _ (net : Network) (out : End → List Item) where
       (ending out EndAnswered (only_first (net.received p (prio_of packet)))))
       (WaitingAt p (prio_of response)) (item_of net p response) place
   answers_on p packet response (ReceivedAt s t) = refl
-  answers_on p packet response (WaitingAt s t) = refl
-  answers_on p packet response (Over e) = refl
+  answers_on p packet response _ = refl
 
   -- the first item of what a port has received goes
   goes_from : (p : PortRef) (packet : List ℕ) (to : ItemPlace) (new : Board) (moves : Item → Item)

@@ -1,22 +1,9 @@
 -- The course of a flow: the places that its items pass, one after another, while the routes of its
 -- destination stand.
-use Rattle.std.proofs.Common.{◌≡◌, ◌⊎◌, inl, inr, ℕ, zero, suc, ◌+◌, ◌==◌, Bool, true, false, List, Option, Some, None, option_map, refl, sym, ap, ◌∙◌, subst, arith}
-use Rattle.std.specs.Option.{option_and_then}
-use Rattle.rio_packets.specs.Fields.{prio_of, ftype_of, dest_of, hop_of}
-use Rattle.rio_packets.specs.LinkForm.{Passes}
-use Rattle.maint_registers.specs.Devices.{is_switch}
-use Rattle.maint_registers.specs.Routes.{next_port}
-use Rattle.maint_packets.specs.declared.next_hop.Next.{Next}
-use Rattle.maint_packets.specs.declared.next_hop.Next.TheVariants.{Nowhere, RegisterUnit, Port}
-use Rattle.fabric_script.specs.declared.ports.PortRef.{PortRef}
-use Rattle.fabric_model.specs.Network.{Item, Network, port_of, peer_in, switch_at, route_at}
-use Rattle.fabric_model.specs.Laws.History.{End, EndLeft, EndDropped, EndAnswered}
-use Rattle.fabric_model.specs.Laws.Holding.{ItemPlace, ReceivedAt, WaitingAt, Over}
-use Rattle.fabric_model.specs.Laws.Proper.{AreProper}
+use Rattle.fabric_model.proofs.Prelude.{◌≡◌, ◌⊎◌, inl, inr, ℕ, zero, suc, ◌+◌, ◌==◌, Bool, true, false, List, Option, Some, None, option_map, refl, sym, ap, ◌∙◌, subst, arith, option_and_then, prio_of, ftype_of, dest_of, hop_of, Passes, is_switch, next_port, Next, Nowhere, RegisterUnit, Port, PortRef, Item, Network, port_of, peer_in, switch_at, route_at, End, EndLeft, EndDropped, EndAnswered, ItemPlace, ReceivedAt, WaitingAt, Over, AreProper, SameCourse}
 use Rattle.fabric_model.proofs.Peers.{peer_back}
 use Rattle.fabric_model.proofs.Boards.{Allowed, Crosses, Turns, Leaves, Falls, IsHeard, Along}
 use Rattle.fabric_model.proofs.Moving.{Key, key_of, moved_key, moves_on, named_goes, by_key, Agrees, next_agrees, SentBy, sent_by}
-use Rattle.fabric_model.specs.Laws.Flows.{SameCourse}
 
 -- What the way of a flow depends on: the links, which nodes are switches, and the route of the one
 -- destination.

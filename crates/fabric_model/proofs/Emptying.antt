@@ -1,12 +1,6 @@
 -- Each step of a device leaves one packet fewer in what the ports of its node have received: the
 -- steps end.
-use Rattle.std.proofs.Common.{◌≡◌, inl, inr, ℕ, zero, suc, ◌+◌, ◌<◌, ◌≤◌, ◌==◌, ◌&&◌, Bool, true, false, List, [], ◌∷◌, ◌++◌, length, Some, refl, sym, ap, ◌∙◌, subst, arith, if◌then◌else◌, length-append, eqb-true}
-use Rattle.std.proofs.lemmas.Bool.{cases_Bool, false_from_ne_true}
-use Rattle.std.proofs.lemmas.Bool.Decides.{nat_tests}
-use Rattle.rio_packets.specs.Fields.{prio_of}
-use Rattle.fabric_script.specs.declared.ports.PortRef.{PortRef}
-use Rattle.fabric_model.specs.Network.{Item, Lanes, Network, same_port, with_lane, first_packet, in_turn}
-use Rattle.fabric_model.specs.Steps.{DeviceStep, Move, Drop, Answer, ByDevice, Needs, IsFirst, behind_first, without_first, after}
+use Rattle.fabric_model.proofs.Prelude.{◌≡◌, inl, inr, ℕ, zero, suc, ◌+◌, ◌<◌, ◌≤◌, ◌==◌, ◌&&◌, Bool, true, false, List, [], ◌∷◌, ◌++◌, length, Some, refl, sym, ap, ◌∙◌, subst, arith, if◌then◌else◌, length-append, eqb-true, cases_Bool, false_from_ne_true, nat_tests, prio_of, PortRef, Item, Lanes, Network, same_port, with_lane, first_packet, in_turn, DeviceStep, Move, Drop, Answer, ByDevice, Needs, IsFirst, behind_first, without_first, after}
 use Rattle.fabric_model.proofs.Peers.{same_port-refl}
 
 -- the port whose packet a device takes, and the packet

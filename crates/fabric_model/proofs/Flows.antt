@@ -1,22 +1,6 @@
 -- In order per flow, over any list of legal steps.
-use Rattle.std.proofs.Common.{◌≡◌, ◌⊎◌, inl, inr, ℕ, suc, ◌+◌, ◌-◌, ◌≤◌, ◌<◌, Bool, true, false, eqb, leb, List, [], ◌∷◌, ◌++◌, Option, Some, None, option_map, slice_get, sym, ap, ◌∙◌, subst, refl, cond, arith, append_assoc, append-nil, le-leb}
-use Rattle.std.specs.List.{AllByRecursion}
-use Rattle.std.proofs.lemmas.Bool.{eq-eqb}
-use Rattle.rio_packets.specs.Fields.{prio_of, dest_of}
-use Rattle.maint_registers.specs.Devices.{Registers, is_switch}
+use Rattle.fabric_model.proofs.Prelude.{◌≡◌, ◌⊎◌, inl, inr, ℕ, suc, ◌+◌, ◌-◌, ◌≤◌, ◌<◌, Bool, true, false, eqb, leb, List, [], ◌∷◌, ◌++◌, Option, Some, None, option_map, slice_get, sym, ap, ◌∙◌, subst, refl, cond, arith, append_assoc, append-nil, le-leb, AllByRecursion, eq-eqb, prio_of, dest_of, Registers, is_switch, Request, request_of, request_answered, answered_same, PortRef, Item, Network, port_of, switch_at, route_at, device_after, Hold, Free, Take, Leave, Move, Drop, Answer, Step, Linked, AtNode, ByDevice, Needs, only_first, behind_first, item_of, after, after_all, LegalFrom, IsEmptyNetwork, End, EndLeft, EndDropped, EndAnswered, same_end, taken_by, ended_by, items_taken, items_ended, ItemPlace, ReceivedAt, WaitingAt, Over, same_place, items_at, how_often, SameCourse, RoutesStand, EarlierFirst, InOrder, AreProper}
 use Rattle.maint_registers.proofs.SameLaws.{same_kind}
-use Rattle.maint_packets.specs.declared.request.Request.{Request}
-use Rattle.maint_packets.specs.Requests.{request_of}
-use Rattle.maint_packets.specs.Answers.{request_answered}
-use Rattle.maint_packets.proofs.AnswerLaws.{answered_same}
-use Rattle.fabric_script.specs.declared.ports.PortRef.{PortRef}
-use Rattle.fabric_model.specs.Network.{Item, Network, port_of, switch_at, route_at}
-use Rattle.fabric_model.specs.Serving.{device_after}
-use Rattle.fabric_model.specs.Steps.{Hold, Free, Take, Leave, Move, Drop, Answer, Step, Linked, AtNode, ByDevice, Needs, only_first, behind_first, item_of, after, after_all, LegalFrom}
-use Rattle.fabric_model.specs.Laws.History.{IsEmptyNetwork, End, EndLeft, EndDropped, EndAnswered, same_end, taken_by, ended_by, items_taken, items_ended}
-use Rattle.fabric_model.specs.Laws.Holding.{ItemPlace, ReceivedAt, WaitingAt, Over, same_place, items_at, how_often}
-use Rattle.fabric_model.specs.Laws.Flows.{SameCourse, RoutesStand, EarlierFirst, InOrder}
-use Rattle.fabric_model.specs.Laws.Proper.{AreProper}
 use Rattle.fabric_model.proofs.Devices.{kinds_stay}
 use Rattle.fabric_model.proofs.Joining.{legal_parts, links_stay}
 use Rattle.fabric_model.proofs.Boards.{place_is, step_on}

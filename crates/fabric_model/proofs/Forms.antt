@@ -1,23 +1,7 @@
 -- All that a network holds stays in its link form, and the numbers of its registers go on to fit.
-use Rattle.std.proofs.Common.{◌≡◌, ℕ, zero, suc, ◌<◌, Bool, true, false, if◌then◌else◌, List, [], ◌∷◌, ◌++◌, Option, Some, None, option_map, slice_get, refl, sym, subst}
-use Rattle.std.specs.Option.{option_and_then}
-use Rattle.std.specs.List.{AllByRecursion}
-use Rattle.rio_packets.specs.Fields.{prio_of}
-use Rattle.rio_packets.specs.LinkForm.{Passes}
-use Rattle.maint_registers.specs.Devices.{Registers}
+use Rattle.fabric_model.proofs.Prelude.{◌≡◌, ℕ, zero, suc, ◌<◌, Bool, true, false, if◌then◌else◌, List, [], ◌∷◌, ◌++◌, Option, Some, None, option_map, slice_get, refl, sym, subst, option_and_then, AllByRecursion, prio_of, Passes, Registers, Request, request_of, request_answered, responses_pass, answered_within, PortRef, Item, Network, same_port, first_packet, with_lent, with_device, response_at, device_after, Hold, Free, Take, Leave, Move, Drop, Answer, Step, Linked, AtNode, ByDevice, Needs, only_first, behind_first, after_hold, after, LegalFrom, IsEmptyNetwork, taken_by, ended_by, ItemPlace, ReceivedAt, WaitingAt, Over, items_at, ItemsPass, IsFormed, AnswersPass}
 use Rattle.maint_registers.specs.Within.{IsWithin}
-use Rattle.maint_packets.specs.declared.request.Request.{Request}
-use Rattle.maint_packets.specs.Requests.{request_of}
 use Rattle.maint_packets.specs.Responses.{response_bytes}
-use Rattle.maint_packets.specs.Answers.{request_answered}
-use Rattle.maint_packets.proofs.AnswerLaws.{responses_pass, answered_within}
-use Rattle.fabric_script.specs.declared.ports.PortRef.{PortRef}
-use Rattle.fabric_model.specs.Network.{Item, Network, same_port, first_packet, with_lent, with_device}
-use Rattle.fabric_model.specs.Serving.{response_at, device_after}
-use Rattle.fabric_model.specs.Steps.{Hold, Free, Take, Leave, Move, Drop, Answer, Step, Linked, AtNode, ByDevice, Needs, only_first, behind_first, after_hold, after, LegalFrom}
-use Rattle.fabric_model.specs.Laws.History.{IsEmptyNetwork, taken_by, ended_by}
-use Rattle.fabric_model.specs.Laws.Holding.{ItemPlace, ReceivedAt, WaitingAt, Over, items_at}
-use Rattle.fabric_model.specs.Laws.Forms.{ItemsPass, IsFormed, AnswersPass}
 use Rattle.fabric_model.proofs.Boards.{allowed_along, step_on}
 use Rattle.fabric_model.proofs.Lists.{all-append}
 use Rattle.fabric_model.proofs.OnBoards.{AllOn, AllOn-step}

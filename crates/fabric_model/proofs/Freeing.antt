@@ -1,13 +1,5 @@
 -- No port frees a packet before the next hop holds it: what is lent is a queue.
-use Rattle.std.proofs.Common.{◌≡◌, ℕ, Bool, true, false, List, [], ◌∷◌, ◌++◌, map, Some, sym, ap, ◌∙◌, subst, refl, append-nil, cond}
-use Rattle.std.specs.Bool.{⊤}
-use Rattle.std.proofs.lemmas.List.{map-append}
-use Rattle.rio_packets.specs.Fields.{prio_of}
-use Rattle.fabric_script.specs.declared.ports.PortRef.{PortRef}
-use Rattle.fabric_model.specs.Network.{Item, Network, same_port, first_packet}
-use Rattle.fabric_model.specs.Steps.{Hold, Free, Take, Leave, Move, Drop, Answer, Step, Linked, AtNode, ByDevice, Needs, only_first, behind_first, after_hold, after, after_all, LegalFrom}
-use Rattle.fabric_model.specs.Laws.History.{IsEmptyNetwork, gathered}
-use Rattle.fabric_model.specs.Laws.Freeing.{is_port, held_from, freed_at, IsFront, FreedAfterHeld}
+use Rattle.fabric_model.proofs.Prelude.{◌≡◌, ℕ, Bool, true, false, List, [], ◌∷◌, ◌++◌, map, Some, sym, ap, ◌∙◌, subst, refl, append-nil, cond, ⊤, map-append, prio_of, PortRef, Item, Network, same_port, first_packet, Hold, Free, Take, Leave, Move, Drop, Answer, Step, Linked, AtNode, ByDevice, Needs, only_first, behind_first, after_hold, after, after_all, LegalFrom, IsEmptyNetwork, gathered, is_port, held_from, freed_at, IsFront, FreedAfterHeld}
 use Rattle.fabric_model.proofs.Joining.{legal_parts, queued}
 use Rattle.fabric_model.proofs.Peers.{port_is}
 

@@ -1,12 +1,5 @@
 -- A network holds exactly the packets taken.
-use Rattle.std.proofs.Common.{◌≡◌, ℕ, zero, suc, ◌+◌, ◌<◌, ◌≤◌, Bool, true, false, eqb, List, [], ◌∷◌, ◌++◌, length, Some, slice_get, sym, ap, ◌∙◌, subst, refl, cond, append-nil, arith, length-append, ◌⊎◌, inl, inr}
-use Rattle.std.proofs.lemmas.Bool.{ne_eqb, eq-eqb, cases_eq}
-use Rattle.rio_packets.specs.Fields.{prio_of}
-use Rattle.rio_packets.specs.LinkForm.{Passes}
-use Rattle.fabric_model.specs.Network.{Item, Network}
-use Rattle.fabric_model.specs.Steps.{Step, Needs, item_of, after, LegalFrom}
-use Rattle.fabric_model.specs.Laws.History.{IsEmptyNetwork, End, taken_by, ended_by, items_taken, items_ended, WasTaken}
-use Rattle.fabric_model.specs.Laws.Holding.{ItemPlace, WaitingAt, same_place, items_at, how_often, StandsAt, HoldingExactly}
+use Rattle.fabric_model.proofs.Prelude.{◌≡◌, ℕ, zero, suc, ◌+◌, ◌<◌, ◌≤◌, Bool, true, false, eqb, List, [], ◌∷◌, ◌++◌, length, Some, slice_get, sym, ap, ◌∙◌, subst, refl, cond, append-nil, arith, length-append, ◌⊎◌, inl, inr, ne_eqb, eq-eqb, cases_eq, prio_of, Passes, Item, Network, Step, Needs, item_of, after, LegalFrom, IsEmptyNetwork, End, taken_by, ended_by, items_taken, items_ended, WasTaken, ItemPlace, WaitingAt, same_place, items_at, how_often, StandsAt, HoldingExactly}
 use Rattle.fabric_model.proofs.Joining.{carried}
 use Rattle.fabric_model.proofs.Boards.{place_is, Board, put, cut, Allowed, allowed_along, Goes, Comes, StepOn, Stays, IsTaken, IsMoved, IsAnswered, step_on}
 use Rattle.fabric_model.proofs.OnBoards.{AllOn, AllOn-same, AllOn-put, AllOn-cut, AllOn-goes, nothing_at, AllOn-empty}

@@ -1,10 +1,5 @@
 -- Legal lists of steps, joined and taken apart.
-use Rattle.std.proofs.Common.{◌≡◌, List, [], ◌∷◌, ◌++◌, Option, Some, None, sym, ap, ◌∙◌, subst, refl, append_assoc, append-nil}
-use Rattle.rio_packets.specs.Fields.{prio_of}
-use Rattle.fabric_script.specs.declared.ports.PortRef.{PortRef}
-use Rattle.fabric_model.specs.Network.{Item, Network, peer_in}
-use Rattle.fabric_model.specs.Steps.{Hold, Free, Take, Leave, Move, Drop, Answer, Step, Linked, AtNode, ByDevice, Needs, after_hold, after, after_all, LegalFrom}
-use Rattle.fabric_model.specs.Laws.History.{End, gathered, taken_by, ended_by, items_taken, items_ended}
+use Rattle.fabric_model.proofs.Prelude.{◌≡◌, List, [], ◌∷◌, ◌++◌, Option, Some, None, sym, ap, ◌∙◌, subst, refl, append_assoc, append-nil, prio_of, PortRef, Item, Network, peer_in, Hold, Free, Take, Leave, Move, Drop, Answer, Step, Linked, AtNode, ByDevice, Needs, after_hold, after, after_all, LegalFrom, End, gathered, taken_by, ended_by, items_taken, items_ended}
 
 -- a legal list of steps ends in one network
 pub end_is : (net : Network) (steps : List Step) (end : Network) → LegalFrom net steps end → end

@@ -1,12 +1,7 @@
 -- All items since one was taken, in the order of their arrival: each list of the network is read
 -- from this one.
-use Rattle.std.proofs.Common.{◌≡◌, ℕ, Bool, true, false, leb, List, [], ◌∷◌, ◌++◌, filter, sym, ap, ◌∙◌, subst, refl, cond, append-nil, ◌<◌, arith, leb-true}
-use Rattle.std.specs.List.{AllByRecursion}
-use Rattle.std.proofs.lemmas.List.Elements.{filter-append}
-use Rattle.fabric_model.specs.Network.{Item}
-use Rattle.fabric_model.specs.Laws.Holding.{ItemPlace, same_place}
+use Rattle.fabric_model.proofs.Prelude.{◌≡◌, ℕ, Bool, true, false, leb, List, [], ◌∷◌, ◌++◌, filter, sym, ap, ◌∙◌, subst, refl, cond, append-nil, ◌<◌, arith, leb-true, AllByRecursion, filter-append, Item, ItemPlace, same_place, false_from_ne_true}
 use Rattle.fabric_model.proofs.Boards.{place_is, Board, put, cut}
-use Rattle.std.proofs.lemmas.Bool.{false_from_ne_true}
 
 -- an item, where it stands, and how many places of its course it has passed
 pub record Entry : Type 0 where

@@ -1,16 +1,6 @@
 -- Each list of a network holds packets of its own priority alone.
-use Rattle.std.proofs.Common.{◌≡◌, ℕ, List, [], ◌∷◌, ◌++◌, Some, refl, subst}
-use Rattle.std.specs.Bool.{⊤}
-use Rattle.std.specs.List.{AllByRecursion}
-use Rattle.rio_packets.specs.Fields.{prio_of}
-use Rattle.rio_packets.specs.LinkForm.{Passes}
-use Rattle.fabric_script.specs.declared.ports.PortRef.{PortRef}
-use Rattle.fabric_model.specs.Network.{Item, Network, first_packet}
-use Rattle.fabric_model.specs.Steps.{Step, after, LegalFrom}
-use Rattle.fabric_model.specs.Laws.History.{IsEmptyNetwork, End, taken_by, ended_by, items_ended}
-use Rattle.fabric_model.specs.Laws.Forms.{IsFormed}
+use Rattle.fabric_model.proofs.Prelude.{◌≡◌, ℕ, List, [], ◌∷◌, ◌++◌, Some, refl, subst, ⊤, AllByRecursion, prio_of, Passes, PortRef, Item, Network, first_packet, Step, after, LegalFrom, IsEmptyNetwork, End, taken_by, ended_by, items_ended, IsFormed, ItemPlace, ReceivedAt, WaitingAt, Over, items_at}
 use Rattle.fabric_model.specs.Laws.Priorities.{ByPriority}
-use Rattle.fabric_model.specs.Laws.Holding.{ItemPlace, ReceivedAt, WaitingAt, Over, items_at}
 use Rattle.fabric_model.proofs.Joining.{carried}
 use Rattle.fabric_model.proofs.Boards.{Allowed, Crosses, Turns, Leaves, Falls, IsHeard, Along, allowed_along, step_on}
 use Rattle.fabric_model.proofs.OnBoards.{AllOn, AllOn-step, AllOn-empty}

@@ -1,13 +1,5 @@
 -- What leaves: each item once, and as it was taken.
-use Rattle.std.proofs.Common.{◌≡◌, ℕ, ◌<◌, ◌≤◌, Bool, true, false, List, [], ◌∷◌, ◌++◌, length, sym, ap, ap₂, ◌∙◌, refl, cond, arith, ◌⊎◌, inl, inr}
-use Rattle.std.proofs.lemmas.Bool.{cases_lt}
-use Rattle.std.proofs.lemmas.List.{length-map}
-use Rattle.rio_packets.specs.Fields.{prio_of}
-use Rattle.fabric_model.specs.Network.{Network, port_of}
-use Rattle.fabric_model.specs.Steps.{Take, Leave, Move, Drop, Answer, Step, Linked, AtNode, ByDevice, Needs, after, LegalFrom}
-use Rattle.fabric_model.specs.Laws.History.{IsEmptyNetwork, EndLeft, ended_by, items_taken, items_ended, gone, WasTaken}
-use Rattle.fabric_model.specs.Laws.Holding.{Over, same_place, how_often}
-use Rattle.fabric_model.specs.Laws.Leaving.{packet_left, packets_left, moves, Once, Unchanged}
+use Rattle.fabric_model.proofs.Prelude.{◌≡◌, ℕ, ◌<◌, ◌≤◌, Bool, true, false, List, [], ◌∷◌, ◌++◌, length, sym, ap, ap₂, ◌∙◌, refl, cond, arith, ◌⊎◌, inl, inr, cases_lt, length-map, prio_of, Network, port_of, Take, Leave, Move, Drop, Answer, Step, Linked, AtNode, ByDevice, Needs, after, LegalFrom, IsEmptyNetwork, EndLeft, ended_by, items_taken, items_ended, gone, WasTaken, Over, same_place, how_often, packet_left, packets_left, moves, Once, Unchanged}
 use Rattle.fabric_model.proofs.Freeing.{packets, packets-append, packets-only_first}
 use Rattle.fabric_model.proofs.Lists.{all-both}
 use Rattle.fabric_model.proofs.Moves.{HasMoved, moved_along}

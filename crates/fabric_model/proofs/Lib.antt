@@ -1,3 +1,4 @@
+mod Prelude
 pub mod Devices
 pub mod Joining
 pub mod Peers

@@ -1,7 +1,5 @@
 -- What holds of each element of a list, of each two of them, or of some.
-use Rattle.std.proofs.Common.{List, [], ◌∷◌, ◌++◌, ◌⊎◌, inl, inr}
-use Rattle.std.specs.List.{AllByRecursion}
-use Rattle.std.specs.Bool.{⊤}
+use Rattle.fabric_model.proofs.Prelude.{List, [], ◌∷◌, ◌++◌, ◌⊎◌, inl, inr, AllByRecursion, ⊤}
 
 pub all-append : {X : Type 0} (P : X → Type 0) (xs ys : List X) → AllByRecursion P xs
     → AllByRecursion P ys → AllByRecursion P (xs ++ ys)

@@ -1,17 +1,5 @@
 -- Each item is what was taken, after as many moves as it has made.
-use Rattle.std.proofs.Common.{◌≡◌, ℕ, suc, ◌+◌, ◌<◌, Bool, true, false, eqb, List, [], ◌∷◌, ◌++◌, map, sym, ap, ◌∙◌, subst, refl, cond, append-nil, append_assoc, arith}
-use Rattle.std.specs.List.{AllByRecursion}
-use Rattle.std.proofs.lemmas.Bool.{eq-eqb, ne_eqb}
-use Rattle.rio_packets.specs.Fields.{prio_of}
-use Rattle.rio_packets.specs.LinkForm.{Passes}
-use Rattle.maint_packets.specs.declared.next_hop.Next.TheVariants.{Port}
-use Rattle.maint_packets.specs.NextHops.{moved as next_hop_moved}
-use Rattle.fabric_script.specs.declared.ports.PortRef.{PortRef}
-use Rattle.fabric_model.specs.Network.{Item, Network, port_of}
-use Rattle.fabric_model.specs.Steps.{Hold, Free, Take, Leave, Move, Drop, Answer, Step, Linked, AtNode, ByDevice, Needs, only_first, behind_first, moved_item, without_first, item_of, after_hold, after, LegalFrom}
-use Rattle.fabric_model.specs.Laws.History.{IsEmptyNetwork, End, EndLeft, EndDropped, EndAnswered, taken_by, ended_by, items_ended}
-use Rattle.fabric_model.specs.Laws.Holding.{ItemPlace, ReceivedAt, WaitingAt, Over, same_place, items_at, how_often, StandsAt}
-use Rattle.fabric_model.specs.Laws.Leaving.{IsAfterMoves, AsItWas, OnceMore, moved_by, moves}
+use Rattle.fabric_model.proofs.Prelude.{◌≡◌, ℕ, suc, ◌+◌, ◌<◌, Bool, true, false, eqb, List, [], ◌∷◌, ◌++◌, map, sym, ap, ◌∙◌, subst, refl, cond, append-nil, append_assoc, arith, AllByRecursion, eq-eqb, ne_eqb, prio_of, Passes, Port, next_hop_moved, PortRef, Item, Network, port_of, Hold, Free, Take, Leave, Move, Drop, Answer, Step, Linked, AtNode, ByDevice, Needs, only_first, behind_first, moved_item, without_first, item_of, after_hold, after, LegalFrom, IsEmptyNetwork, End, EndLeft, EndDropped, EndAnswered, taken_by, ended_by, items_ended, ItemPlace, ReceivedAt, WaitingAt, Over, same_place, items_at, how_often, StandsAt, IsAfterMoves, AsItWas, OnceMore, moved_by, moves}
 use Rattle.fabric_model.proofs.Moving.{MovesOn, moves_on, named_goes, sent_by}
 use Rattle.fabric_model.proofs.Boards.{place_is, Board, put, cut, ending, holds_on, frees_on, takes_on, turns_on, ends_on, answers_on, First, first_item}
 use Rattle.fabric_model.proofs.Lists.{all-append, all_weaker, all-both}

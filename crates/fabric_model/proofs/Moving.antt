@@ -1,21 +1,7 @@
 -- What a packet is as it moves on, and where a switch sends it by what its flow knows of it.
-use Rattle.std.proofs.Common.{◌≡◌, ℕ, zero, suc, ◌+◌, ◌-◌, ◌/◌, ◌%◌, ◌≤◌, ◌<◌, ◌==◌, ◌&&◌, Bool, true, false, not, nat_lt, List, get_or, Option, Some, None, option_map, slice_get, refl, sym, ap, ◌∙◌, subst, arith, cond, if◌then◌else◌}
-use Rattle.std.specs.Bool.{⊤}
-use Rattle.std.specs.Option.{option_and_then}
-use Rattle.std.proofs.lemmas.Bool.{false≢true, ne_eqb}
-use Rattle.rio_packets.specs.Fields.{prio_of, ftype_of, ttype_of, dest_of, hop_of, hop_place, is_maintenance, has_maintenance_form, is_request, Lowered}
-use Rattle.rio_packets.specs.LinkForm.{Passes}
-use Rattle.rio_packets.specs.Hops.{lowered}
+use Rattle.fabric_model.proofs.Prelude.{◌≡◌, ℕ, zero, suc, ◌+◌, ◌-◌, ◌/◌, ◌%◌, ◌≤◌, ◌<◌, ◌==◌, ◌&&◌, Bool, true, false, not, nat_lt, List, get_or, Option, Some, None, option_map, slice_get, refl, sym, ap, ◌∙◌, subst, arith, cond, if◌then◌else◌, ⊤, option_and_then, false≢true, ne_eqb, prio_of, ftype_of, ttype_of, dest_of, hop_of, hop_place, is_maintenance, has_maintenance_form, is_request, Lowered, Passes, lowered, Registers, is_switch, next_port, Next, Nowhere, RegisterUnit, Port, is_foreign, is_spent, is_at_end, to_port, next_of, moved, Network, next_at, MovesTo}
 use Rattle.rio_packets.proofs.PlaceLaws.{places}
 use Rattle.rio_packets.proofs.LowerLaws.{Passes-lowered, Lowered-lowered}
-use Rattle.maint_registers.specs.Devices.{Registers, is_switch}
-use Rattle.maint_registers.specs.Routes.{next_port}
-use Rattle.maint_packets.specs.declared.next_hop.Next.{Next}
-use Rattle.maint_packets.specs.declared.next_hop.Next.TheVariants.{Nowhere, RegisterUnit, Port}
-use Rattle.maint_packets.specs.NextHops.{is_foreign, is_spent, is_at_end, to_port, next_of, moved}
-use Rattle.fabric_model.specs.Network.{Network}
-use Rattle.fabric_model.specs.Serving.{next_at}
-use Rattle.fabric_model.specs.Laws.Leaving.{MovesTo}
 
 -- what a flow knows of a packet beside its destination: whether it is of format type 8, and the hop
 -- count of a maintenance

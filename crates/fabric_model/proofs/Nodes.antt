@@ -1,24 +1,7 @@
 -- Packets stand at ports of nodes, in the lists of the four priorities.
 use Rattle.std.proofs.Common.{◌≡◌, ℕ, ◌<◌, ◌&&◌, ◌==◌, nat_lt, Bool, true, false, List, [], ◌∷◌, map, Option, Some, None, option_map, option_and_then, slice_get, get_or, if◌then◌else◌, refl, sym, ap, ◌∙◌, subst, arith}
-use Rattle.std.specs.List.{AllByRecursion}
-use Rattle.std.proofs.lemmas.Bool.{eqb-true, ltb-true, and_parts}
+use Rattle.fabric_model.proofs.Prelude.{AllByRecursion, eqb-true, ltb-true, and_parts, prio_of, dest_of, is_request, Passes, Registers, is_switch, port_named, next_port, is_foreign, is_at_end, to_port, next_of, request_of, Next, Nowhere, RegisterUnit, Port, Request, answered_same, PortRef, Item, Lanes, Network, same_port, port_of, with_lane, peer_in, first_packet, next_at, device_after, Hold, Free, Take, Leave, Move, Drop, Answer, Step, Linked, AtNode, ByDevice, Needs, behind_first, after_hold, after, LegalFrom, IsEmptyNetwork, HasPort, IsPortOf, JoinsNodes, IsSpot, StandAtNodes}
 use Rattle.std.proofs.lemmas.Option.{slice_get-map}
-use Rattle.rio_packets.specs.Fields.{prio_of, dest_of, is_request}
-use Rattle.rio_packets.specs.LinkForm.{Passes}
-use Rattle.maint_registers.specs.Devices.{Registers, is_switch}
-use Rattle.maint_registers.specs.Routes.{port_named, next_port}
-use Rattle.maint_packets.specs.NextHops.{is_foreign, is_at_end, to_port, next_of}
-use Rattle.maint_packets.specs.Requests.{request_of}
-use Rattle.maint_packets.specs.declared.next_hop.Next.{Next}
-use Rattle.maint_packets.specs.declared.next_hop.Next.TheVariants.{Nowhere, RegisterUnit, Port}
-use Rattle.maint_packets.specs.declared.request.Request.{Request}
-use Rattle.maint_packets.proofs.AnswerLaws.{answered_same}
-use Rattle.fabric_script.specs.declared.ports.PortRef.{PortRef}
-use Rattle.fabric_model.specs.Network.{Item, Lanes, Network, same_port, port_of, with_lane, peer_in, first_packet}
-use Rattle.fabric_model.specs.Serving.{next_at, device_after}
-use Rattle.fabric_model.specs.Steps.{Hold, Free, Take, Leave, Move, Drop, Answer, Step, Linked, AtNode, ByDevice, Needs, behind_first, after_hold, after, LegalFrom}
-use Rattle.fabric_model.specs.Laws.History.{IsEmptyNetwork}
-use Rattle.fabric_model.specs.Laws.Nodes.{HasPort, IsPortOf, JoinsNodes, IsSpot, StandAtNodes}
 use Rattle.fabric_model.proofs.Devices.{map-with_device}
 use Rattle.fabric_model.proofs.Flows.{switches_stay}
 use Rattle.fabric_model.proofs.Joining.{links_stay}

@@ -1,13 +1,5 @@
 -- What holds of each item at each place, whatever step is made.
-use Rattle.std.proofs.Common.{◌≡◌, ℕ, Bool, true, false, List, [], ◌∷◌, ◌++◌, sym, subst, refl, cond}
-use Rattle.std.specs.List.{AllByRecursion}
-use Rattle.rio_packets.specs.Fields.{prio_of}
-use Rattle.rio_packets.specs.LinkForm.{Passes}
-use Rattle.fabric_script.specs.declared.ports.PortRef.{PortRef}
-use Rattle.fabric_model.specs.Network.{Item, Network}
-use Rattle.fabric_model.specs.Steps.{item_of}
-use Rattle.fabric_model.specs.Laws.History.{IsEmptyNetwork}
-use Rattle.fabric_model.specs.Laws.Holding.{ItemPlace, ReceivedAt, WaitingAt, Over, same_place, items_at}
+use Rattle.fabric_model.proofs.Prelude.{◌≡◌, ℕ, Bool, true, false, List, [], ◌∷◌, ◌++◌, sym, subst, refl, cond, AllByRecursion, prio_of, Passes, PortRef, Item, Network, item_of, IsEmptyNetwork, ItemPlace, ReceivedAt, WaitingAt, Over, same_place, items_at}
 use Rattle.fabric_model.proofs.Boards.{place_is, Board, put, cut, Allowed, Goes, Comes, StepOn, Stays, IsTaken, IsMoved, IsAnswered}
 use Rattle.fabric_model.proofs.Lists.{all-append}
 

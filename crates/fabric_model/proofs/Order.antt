@@ -1,17 +1,6 @@
 -- In order per flow: of two items of one course the older has passed no fewer places, wherever they
 -- stand.
-use Rattle.std.proofs.Common.{◌≡◌, ◌⊎◌, inl, inr, ℕ, zero, suc, ◌+◌, ◌≤◌, ◌<◌, Bool, true, false, leb, List, [], ◌∷◌, ◌++◌, sym, ap, ◌∙◌, subst, refl, arith, le-leb}
-use Rattle.std.specs.List.{AllByRecursion}
-use Rattle.std.proofs.lemmas.Bool.{cases_eq, false≢true}
-use Rattle.rio_packets.specs.Fields.{prio_of, dest_of}
-use Rattle.rio_packets.specs.LinkForm.{Passes}
-use Rattle.fabric_script.specs.declared.ports.PortRef.{PortRef}
-use Rattle.fabric_model.specs.Network.{Item, Network}
-use Rattle.fabric_model.specs.Steps.{item_of}
-use Rattle.fabric_model.specs.Laws.History.{End}
-use Rattle.fabric_model.specs.Laws.Holding.{ItemPlace, WaitingAt, Over, same_place}
-use Rattle.fabric_model.specs.Laws.Flows.{SameCourse}
-use Rattle.fabric_model.specs.Laws.Proper.{AreProper}
+use Rattle.fabric_model.proofs.Prelude.{◌≡◌, ◌⊎◌, inl, inr, ℕ, zero, suc, ◌+◌, ◌≤◌, ◌<◌, Bool, true, false, leb, List, [], ◌∷◌, ◌++◌, sym, ap, ◌∙◌, subst, refl, arith, le-leb, AllByRecursion, cases_eq, false≢true, prio_of, dest_of, Passes, PortRef, Item, Network, item_of, End, ItemPlace, WaitingAt, Over, same_place, SameCourse, AreProper}
 use Rattle.fabric_model.proofs.Boards.{place_is, Board, cut, Along, allowed_along, Goes, Comes, StepOn, Stays, IsTaken, IsMoved, IsAnswered, allowed_open, moved_number}
 use Rattle.fabric_model.proofs.Lists.{all-append, all_weaker, Pairs, pairs-without, pairs-append, all-without, all-both, all-parts, Some_of, some_left, some_right, some_without}
 use Rattle.fabric_model.proofs.OnBoards.{AllOn, AllOn-cut}

@@ -1,11 +1,7 @@
 -- In proper links the peer of a port's peer is the port. Links that join free ports one by one are
 -- proper.
-use Rattle.std.proofs.Common.{◌≡◌, Bool, true, false, List, [], ◌∷◌, ◌++◌, Option, Some, None, ap, subst, refl, cond}
-use Rattle.std.proofs.lemmas.Bool.{false_from_ne_true}
-use Rattle.fabric_script.specs.declared.ports.PortRef.{PortRef}
+use Rattle.fabric_model.proofs.Prelude.{◌≡◌, Bool, true, false, List, [], ◌∷◌, ◌++◌, Option, Some, None, ap, subst, refl, cond, false_from_ne_true, PortRef, same_port, peer_in, link_in, AreProper}
 pub use Rattle.fabric_script.proofs.PeerLaws.{port_is, same_port-refl}
-use Rattle.fabric_model.specs.Network.{same_port, peer_in, link_in}
-use Rattle.fabric_model.specs.Laws.Proper.{AreProper}
 
 pub apart_back : (p q : PortRef) → same_port p q ≡ false → same_port q p ≡ false
 apart_back p q apart = false_from_ne_true (same_port q p) (λ same.

@@ -1,12 +1,5 @@
 -- A port never has more packets to be sent than it has places.
-use Rattle.std.proofs.Common.{◌≡◌, ℕ, ◌+◌, ◌==◌, ◌&&◌, ◌≤◌, Bool, true, false, cond, List, [], ◌∷◌, ◌++◌, map, Some, Option, length, filter, inl, inr, refl, sym, ap, ◌∙◌, subst, arith, length-append, eqb-true, eq-eqb, ltb-true}
-use Rattle.std.proofs.lemmas.Bool.{and_parts, cases_Bool}
-use Rattle.std.proofs.lemmas.List.Elements.{filter-append}
-use Rattle.rio_packets.specs.Fields.{prio_of}
-use Rattle.fabric_script.specs.declared.ports.PortRef.{PortRef}
-use Rattle.fabric_model.specs.Network.{Item, Network, same_port, port_of, first_packet, with_lane, with_lent, to_send, places}
-use Rattle.fabric_model.specs.Steps.{Hold, Free, Take, Leave, Move, Drop, Answer, Step, Linked, AtNode, ByDevice, Needs, only_first, behind_first, moved_item, after_hold, after, LegalFrom}
-use Rattle.fabric_model.specs.Laws.History.{IsEmptyNetwork}
+use Rattle.fabric_model.proofs.Prelude.{◌≡◌, ℕ, ◌+◌, ◌==◌, ◌&&◌, ◌≤◌, Bool, true, false, cond, List, [], ◌∷◌, ◌++◌, map, Some, Option, length, filter, inl, inr, refl, sym, ap, ◌∙◌, subst, arith, length-append, eqb-true, eq-eqb, ltb-true, and_parts, cases_Bool, filter-append, prio_of, PortRef, Item, Network, same_port, port_of, first_packet, with_lane, with_lent, to_send, places, Hold, Free, Take, Leave, Move, Drop, Answer, Step, Linked, AtNode, ByDevice, Needs, only_first, behind_first, moved_item, after_hold, after, LegalFrom, IsEmptyNetwork}
 use Rattle.fabric_model.specs.Laws.Room.{HasPlaces}
 use Rattle.fabric_model.proofs.Peers.{port_is, same_port-refl}
 use Rattle.fabric_model.proofs.Boards.{First, first_item}

@@ -1,12 +1,5 @@
 -- Room at a port, and that no request leaves.
-use Rattle.std.proofs.Common.{◌≡◌, ◌↔◌, ℕ, ◌+◌, ◌-◌, ◌<◌, true, false, List, [], ◌∷◌, arith}
-use Rattle.std.specs.List.{AllByRecursion}
-use Rattle.std.proofs.lemmas.Bool.{ltb-true, lt-ltb}
-use Rattle.rio_packets.specs.Fields.{is_request}
-use Rattle.fabric_script.specs.declared.ports.PortRef.{PortRef}
-use Rattle.fabric_model.specs.Network.{Network, held, room_in, places, to_send, room_out}
-use Rattle.fabric_model.specs.Steps.{Take, Leave, Step, Linked, AtNode, ByDevice, after, LegalFrom}
-use Rattle.fabric_model.specs.Laws.Leaving.{packets_left}
+use Rattle.fabric_model.proofs.Prelude.{◌≡◌, ◌↔◌, ℕ, ◌+◌, ◌-◌, ◌<◌, true, false, List, [], ◌∷◌, arith, AllByRecursion, ltb-true, lt-ltb, is_request, PortRef, Network, held, room_in, places, to_send, room_out, Take, Leave, Step, Linked, AtNode, ByDevice, after, LegalFrom, packets_left}
 
 pub hold_room : (net : Network) (p : PortRef) (r free : ℕ) → held net p + free ≡ net.buffers p
     → (room_in net p r ≡ true) ↔ (3 - r < free)

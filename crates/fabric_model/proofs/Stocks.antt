@@ -1,15 +1,6 @@
 -- What was taken stands at a port, has left or was dropped: an answer ends one packet and gives
 -- one.
-use Rattle.std.proofs.Common.{◌≡◌, ℕ, zero, suc, ◌+◌, ◌<◌, ◌≤◌, inl, inr, slice_get, ◌∙◌, ◌==◌, ◌&&◌, Bool, true, false, List, [], ◌∷◌, ◌++◌, length, map, Option, Some, refl, sym, ap, subst, arith, if◌then◌else◌, length-append}
-use Rattle.std.proofs.lemmas.Bool.{eq-eqb, ne_eqb, cases_lt}
-use Rattle.std.proofs.lemmas.Bool.Decides.{eqb_tells}
-use Rattle.rio_packets.specs.Fields.{prio_of}
-use Rattle.maint_registers.specs.Devices.{Registers}
-use Rattle.fabric_script.specs.declared.ports.PortRef.{PortRef}
-use Rattle.fabric_model.specs.Network.{Item, Lanes, Network, same_port, port_of, with_lane, peer_in, first_packet, in_turn}
-use Rattle.fabric_model.specs.Steps.{Hold, Free, Take, Leave, Move, Drop, Answer, Step, Linked, AtNode, ByDevice, Needs, behind_first, only_first, after_hold, moved_item, without_first, item_of, after, LegalFrom}
-use Rattle.fabric_model.specs.Laws.History.{IsEmptyNetwork}
-use Rattle.fabric_model.specs.Laws.Nodes.{HasPort, IsPortOf, JoinsNodes, IsSpot, StandAtNodes, ports_of_node, ports_from, all_ports}
+use Rattle.fabric_model.proofs.Prelude.{◌≡◌, ℕ, zero, suc, ◌+◌, ◌<◌, ◌≤◌, inl, inr, slice_get, ◌∙◌, ◌==◌, ◌&&◌, Bool, true, false, List, [], ◌∷◌, ◌++◌, length, map, Option, Some, refl, sym, ap, subst, arith, if◌then◌else◌, length-append, eq-eqb, ne_eqb, cases_lt, eqb_tells, prio_of, Registers, PortRef, Item, Lanes, Network, same_port, port_of, with_lane, peer_in, first_packet, in_turn, Hold, Free, Take, Leave, Move, Drop, Answer, Step, Linked, AtNode, ByDevice, Needs, behind_first, only_first, after_hold, moved_item, without_first, item_of, after, LegalFrom, IsEmptyNetwork, HasPort, IsPortOf, JoinsNodes, IsSpot, StandAtNodes, ports_of_node, ports_from, all_ports}
 use Rattle.fabric_model.specs.Laws.Stock.{Balances, stands_in, stock, takes_by, leaves_by, drops_by, steps_in, how_often_port, IsOne, AreOnes, StandOnce}
 use Rattle.fabric_model.proofs.Nodes.{count_ports, counts_stay, port_before, joins_on, next_there, first_of_all, stands_on, empty_stands, few_prio}
 use Rattle.fabric_model.proofs.Peers.{port_is}

@@ -1,10 +1,5 @@
 -- Where packets go: each step needs it.
-use Rattle.std.proofs.Common.{◌≡◌, false, List, ◌∷◌, ◌++◌, Option, Some, None, subst, refl}
-use Rattle.rio_packets.specs.Fields.{prio_of}
-use Rattle.fabric_script.specs.declared.ports.PortRef.{PortRef}
-use Rattle.fabric_model.specs.Network.{Network, peer_in}
-use Rattle.fabric_model.specs.Steps.{Hold, Free, Take, Leave, Move, Drop, Answer, Step, Linked, AtNode, ByDevice, Needs, after_hold, after, after_all, LegalFrom}
-use Rattle.fabric_model.specs.Laws.Tables.{is_answer, ByTables}
+use Rattle.fabric_model.proofs.Prelude.{◌≡◌, false, List, ◌∷◌, ◌++◌, Option, Some, None, subst, refl, prio_of, PortRef, Network, peer_in, Hold, Free, Take, Leave, Move, Drop, Answer, Step, Linked, AtNode, ByDevice, Needs, after_hold, after, after_all, LegalFrom, is_answer, ByTables}
 use Rattle.fabric_model.proofs.Joining.{legal_parts}
 
 -- a step of a legal list has what it needs

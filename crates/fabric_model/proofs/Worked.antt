@@ -1,17 +1,5 @@
 -- A packet's way over a link, and lists of steps of which the laws do not hold.
-use Rattle.std.proofs.Common.{true, ◌≡◌, [], ◌∷◌, refl, arith}
-use Rattle.rio_packets.specs.LinkForm.{Passes}
-use Rattle.rio_packets.specs.Carries.{passes}
-use Rattle.rio_packets.specs.Register.{fed, shifted, shifted_times}
-use Rattle.rio_packets.proofs.CarriesLaws.{decides_passes}
-use Rattle.fabric_model.specs.Network.{Item, port_of}
-use Rattle.fabric_model.specs.Steps.{Hold, Free, Take, Leave, Linked, AtNode, after_all, LegalFrom}
-use Rattle.fabric_model.specs.Laws.History.{gone, items_ended}
-use Rattle.fabric_model.specs.Laws.Holding.{ItemPlace, ReceivedAt, WaitingAt, Over, HoldingExactly, StandsAt, items_at}
-use Rattle.fabric_model.specs.Laws.Leaving.{Once, Unchanged}
-use Rattle.fabric_model.specs.Laws.Freeing.{FreedAfterHeld}
-use Rattle.fabric_model.specs.Laws.Flows.{InOrder}
-use Rattle.fabric_model.specs.Laws.Examples.{packet, other, pair, pair_steps, first, held_once, kept_too, left_twice, twins, left_both, left_as_other, freed_too_early, fork, overtaking}
+use Rattle.fabric_model.proofs.Prelude.{true, ◌≡◌, [], ◌∷◌, refl, arith, Passes, passes, fed, shifted, shifted_times, decides_passes, Item, port_of, Hold, Free, Take, Leave, Linked, AtNode, after_all, LegalFrom, gone, items_ended, ItemPlace, ReceivedAt, WaitingAt, Over, HoldingExactly, StandsAt, items_at, Once, Unchanged, FreedAfterHeld, InOrder, packet, other, pair, pair_steps, first, held_once, kept_too, left_twice, twins, left_both, left_as_other, freed_too_early, fork, overtaking}
 
 -- the packets are in their link form
 test_packet : passes packet ≡ true

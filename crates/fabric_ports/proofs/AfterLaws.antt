@@ -38,17 +38,6 @@ module _ {old new : Fabric} (shows : (s : Seen) → ShowsFabric old s → ShowsF
     ends = (ran.ends.0, still_stands ran.ends.1);
   }
 
-  pub still_linked : {ends : PortRef × PortRef} → AreLinked old ends → AreLinked new ends
-  still_linked {ends} is =
-      let now = still_stands is.stands in
-      record {
-        from = is.from;
-        lines = is.lines;
-        stands = now;
-        found = ap (λ l. link_in l ends.0) (links_stand now ∙ sym (links_stand is.stands))
-            ∙ is.found;
-      }
-
 -- the lines by which two ports are known to be linked
 pub linked_lines : {fabric : Fabric} {ends : PortRef × PortRef} → AreLinked fabric ends
     → StandsForLines fabric

@@ -9,7 +9,7 @@ use Rattle.maint_packets.specs.declared.request.Request.{Request}
 use Rattle.switch_core.specs.EndpointSteps.{collected as collects}
 use Rattle.switch_core.specs.declared.endpoint.Collected.{Collected}
 use Rattle.switch_core.specs.declared.endpoint.Collected.TheVariants as Collects
-use Rattle.link_wires.specs.declared.edits.Edit.{Edit}
+use Rattle.rio_chars.specs.declared.edit.Edit.{Edit}
 use Rattle.fabric_model.specs.Network.{port_of, room_out, IsEndpoint}
 use Rattle.fabric_model.specs.Steps.{Take, Leave, AtNode}
 use Rattle.fabric_trace.specs.Blocks.{take_lines, Asks}

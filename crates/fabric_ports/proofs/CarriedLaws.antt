@@ -1,7 +1,7 @@
 -- What was written of a link that carried what it can, and of all links.
 use Rattle.std.proofs.Common.{◌≡◌, List, ◌++◌, Option, Some, IsSome, Result, Ok, Err, refl, sym, subst}
 use Rattle.trace_lines.specs.declared.writer.TraceWriter.{TraceWriter}
-use Rattle.link_wires.specs.declared.edits.Edit.{Edit}
+use Rattle.rio_chars.specs.declared.edit.Edit.{Edit}
 use Rattle.fabric_script.specs.declared.lines.Line.TheVariants.{Pump, Settle}
 use Rattle.fabric_script.specs.declared.ports.PortRef.{PortRef}
 use Rattle.fabric_model.specs.Network.{link_in}

@@ -1,13 +1,14 @@
 -- Links that carry what they can, one after another.
-use Rattle.std.proofs.Common.{◌≡◌, ◌+◌, ℕ, List, [], ◌∷◌, ◌++◌, take, drop, Option, Some, None, refl, sym, ap, ◌∙◌, subst, Ok, Err}
+use Rattle.std.proofs.Common.{◌≡◌, ◌+◌, ℕ, true, List, [], ◌∷◌, ◌++◌, take, drop, Option, Some, None, refl, sym, ap, ◌∙◌, subst, Ok, Err}
 use Rattle.trace_lines.specs.declared.writer.TraceWriter.{TraceWriter}
-use Rattle.link_wires.specs.declared.edits.Edit.{Edit}
+use Rattle.rio_chars.specs.declared.edit.Edit.{Edit}
+use Rattle.link_law.specs.Resting.{has_no_work}
 use Rattle.fabric_script.specs.declared.ports.PortRef.{PortRef}
 use Rattle.fabric_model.specs.Network.{link_in}
 use Rattle.fabric_model.proofs.Peers.{link_peers}
 use Rattle.fabric_trace.proofs.Shown.Wiring.{seen_links}
 use Rattle.fabric_trace.specs.Fold.{seen}
-use Rattle.fabric_trace.specs.Known.{UndetectedAt, Seen}
+use Rattle.fabric_trace.specs.Known.{UndetectedAt, Seen, link_at}
 use Rattle.trace_lines.specs.Lines.{TraceLine}
 use Rattle.fabric_trace.specs.Parts.{Made, Done}
 use Rattle.fabric_trace.specs.Ready.{IsReady}
@@ -24,6 +25,7 @@ use Rattle.fabric_ports.specs.Standing.{Stands}
 use Rattle.fabric_ports.specs.declared.answers.FabricEnd.{FabricEnd}
 use Rattle.fabric_ports.specs.declared.fabric.Fabric.{Fabric}
 use Rattle.fabric_ports.proofs.EndLaws.{links_stand}
+use Rattle.fabric_ports.proofs.IdleLinks.{idle_carries}
 use Rattle.fabric_ports.proofs.RanLaws.{Both, Nothing, both_as, both_nothing, nothing_both, both_assoc, GoesOn, IsMade, ran_nothing, ran_both, ran_as, ends_first}
 use Rattle.fabric_ports.proofs.SettlingLaws.{good_behind, found_drop, IsNext}
 use Rattle.fabric_ports.proofs.CarryLaws.{open_behind, left_first}
@@ -142,6 +144,20 @@ module _ {K : Type 0} where
       stands.sent both)) (ran_both {Q = CarryAll (link ∷ []) middle left} first (ran_as
       (λ block carries. carry_one link middle left (seen from (lines ++ first.block)) block carries)
       own))
+
+  -- one that has nothing to do carries nothing
+  pub carried_idle : {a b : TraceWriter K} {from : Seen} {lines : List TraceLine}
+      {old mid : Fabric} {k : ℕ} {link : PortRef × PortRef} (noise middle : List Edit)
+      → Stands from lines old → IsNext from k link
+      → (first : Ran (CarryAll (take k from.network.links) noise middle) a b from lines (Ok mid))
+      → has_no_work (link_at (seen from (lines ++ first.block)) link.0 link.1) ≡ true
+      → Ran (CarryAll (take (k + 1) from.network.links) noise middle) a b from lines (Ok mid)
+  carried_idle {b = b} {from = from} {lines = lines} {link = link} noise middle stands next first
+      idle =
+      let s = seen from (lines ++ first.block) in
+      carried_more noise middle middle stands next first (ran_as
+      (λ block none. subst (LinkCarries link middle middle s) (sym none)
+      (idle_carries middle s link.0 link.1 idle)) (ran_nothing b first.ends.1))
 
   -- a link did not come to its end
   pub carried_short : {a b c : TraceWriter K} {from : Seen} {lines : List TraceLine}

@@ -1,7 +1,7 @@
 -- Devices that were changed: they stay of their kinds, with their ports.
 use Rattle.std.proofs.Common.{◌≡◌, ℕ, zero, suc, ◌+◌, ◌<◌, true, false, List, [], ◌∷◌, Some, option_map, slice_get, slice_set, refl, sym, ap, ◌∙◌, subst, arith}
 use Rattle.maint_registers.specs.Devices.{Registers, IsSameDevice, is_switch}
-use Rattle.maint_registers.specs.declared.registers.Kind.{Kind}
+use Rattle.maint_registers.specs.declared.registers.DeviceKind.{DeviceKind}
 use Rattle.switch_core.specs.Faces.{AllAlike}
 use Rattle.fabric_ports.specs.Places.{AreFirsts, port_count, HasPort, IsEndpointAt, IsSwitchAt}
 
@@ -43,7 +43,7 @@ one_written devices n device next stands same =
     one_changed devices n device next stands (written_form same)
 
 kind_is : (d e : Registers) → HasForm d e → is_switch e ≡ is_switch d
-kind_is d e same = ap (λ (k : Kind). is_switch (record d { kind = k })) same.kind
+kind_is d e same = ap (λ (k : DeviceKind). is_switch (record d { kind = k })) same.kind
 
 pub kinds_stay : (old new : List Registers) (n : ℕ) → AreSameDevices old new
     → option_map is_switch (slice_get new n) ≡ option_map is_switch (slice_get old n)

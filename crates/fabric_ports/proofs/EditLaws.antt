@@ -9,13 +9,12 @@ use Rattle.link_port.specs.Ports.{PortState}
 use Rattle.link_watch.specs.declared.side.Side.{Side}
 use Rattle.link_watch.specs.declared.side.Side.TheVariants.{A, B}
 use Rattle.link_wires.specs.Wires.{fits, edited, after_edit, edit_answered}
-use Rattle.link_wires.specs.declared.edits.Edit.{Edit}
+use Rattle.rio_chars.specs.declared.edit.Edit.{Edit}
 use Rattle.link_wires.specs.declared.edits.Edited.{Edited}
 use Rattle.link_machine.specs.Calls.{edited_from}
 use Rattle.link_machine.specs.States.{Wires, LinkState, link, wire_at}
 use Rattle.fabric_script.specs.Operations.{line_editing}
-use Rattle.fabric_script.specs.declared.operations.WireEdit.{WireEdit}
-use Rattle.fabric_script.specs.declared.operations.WireEdit.TheVariants as Asked
+use Rattle.rio_chars.specs.declared.edit.Edit.TheVariants as Edits
 use Rattle.fabric_script.specs.declared.ports.PortRef.{PortRef}
 use Rattle.fabric_model.specs.Network.{same_port}
 use Rattle.fabric_model.proofs.Peers.{apart_back}
@@ -28,7 +27,7 @@ use Rattle.trace_lines.specs.Lines.{TraceLine, Lacked}
 use Rattle.fabric_trace.proofs.Parts.Folding.{wire_own, wire_other}
 use Rattle.fabric_trace.proofs.Parts.Making.{AreOthers}
 use Rattle.fabric_trace.proofs.Network.Walks.{elsewhere_here}
-use Rattle.fabric_ports.specs.Acting.{lack_lines, edit_acted, edit_asked}
+use Rattle.fabric_ports.specs.Acting.{lack_lines, edit_acted}
 use Rattle.fabric_ports.specs.Ends.{IsPlaceOf}
 use Rattle.fabric_ports.specs.Events.{Did}
 use Rattle.fabric_ports.specs.Places.{place_of}
@@ -47,18 +46,18 @@ use Rattle.fabric_ports.proofs.LinkLaws.{IsKnown, known}
 
 -- ---- the block
 
-pub edit_block : (s : Seen) (port : PortRef) (edit : WireEdit) (block : List TraceLine)
-    → block ≡ edits s (Some (port, edit_asked edit)) → IsBlock s (line_editing port edit) block
-edit_block s port (Asked.Alter place ch) block is = is
-edit_block s port (Asked.Insert place ch) block is = is
-edit_block s port (Asked.Erase place count) block is = is
+pub edit_block : (s : Seen) (port : PortRef) (edit : Edit) (block : List TraceLine)
+    → block ≡ edits s (Some (port, edit)) → IsBlock s (line_editing port edit) block
+edit_block s port (Edits.Alter place ch) block is = is
+edit_block s port (Edits.Insert place ch) block is = is
+edit_block s port (Edits.Erase place count) block is = is
 
 -- the line asks for this edit
-pub edit_of_line : (port : PortRef) (edit : WireEdit)
-    → edit_of (line_editing port edit) ≡ Some (port, edit_asked edit)
-edit_of_line port (Asked.Alter place ch) = refl
-edit_of_line port (Asked.Insert place ch) = refl
-edit_of_line port (Asked.Erase place count) = refl
+pub edit_of_line : (port : PortRef) (edit : Edit)
+    → edit_of (line_editing port edit) ≡ Some (port, edit)
+edit_of_line port (Edits.Alter place ch) = refl
+edit_of_line port (Edits.Insert place ch) = refl
+edit_of_line port (Edits.Erase place count) = refl
 
 lacks_is : (x : Bool)
     → lack_lines (edit_acted (edit_answered x)) ≡ (if x then [] else Lacked traced.Short ∷ [])
@@ -230,37 +229,35 @@ module _ (fabric : Fabric) (port : PortRef) (place : LinkPlace) (p : IsPlaceOf f
 -- the block is written, and the fabric shows what is known after it
 pub edit_did : {K : Type 0} {fabric : Fabric}
     {port : PortRef} {place : LinkPlace} (p : IsPlaceOf fabric port place) {cable : Cable}
-    → cable ≡ slice_index_or fabric.cables.items place.cable cable → (asked : WireEdit)
-    (edit : Edit) → edit ≡ edit_asked asked → (wires : Wires)
+    → cable ≡ slice_index_or fabric.cables.items place.cable cable → (edit : Edit) (wires : Wires)
     → ((x y : PortState) → link wires x y ≡ edited_from place.side edit (link cable.link x y))
     → {idle : Idle} → WokeLink fabric place.cable cable idle
     → (answer : Edited) → answer ≡ edit_answered (fits edit (wire_at place.side cable.link).chars)
     → (old new : TraceWriter K) → Adds old new (lack_lines (edit_acted answer))
     → (from : Seen) (lines : List TraceLine) → Stands from lines fabric
-    → Did (Blocks (line_editing port asked) (seen from lines)) old new
-    (edited_by (seen from lines) (Some (port, edit_asked asked)))
+    → Did (Blocks (line_editing port edit) (seen from lines)) old new
+    (edited_by (seen from lines) (Some (port, edit)))
     (fabric_edited fabric place.cable cable wires idle)
-edit_did {fabric = fabric} {port = port} {place = place} p {cable = cable} met asked edit same wires
+edit_did {fabric = fabric} {port = port} {place = place} p {cable = cable} met edit wires
     becomes {idle = idle} woke
     answer answers old new adds
     from lines stands =
     let s = seen from lines in
     let new_fabric = fabric_edited fabric place.cable cable wires idle in
-    let t = edited_by s (Some (port, edit_asked asked)) in
+    let t = edited_by s (Some (port, edit)) in
     let block = lack_lines (edit_acted answer) in
-    let block_is : block ≡ edits s (Some (port, edit_asked asked)) =
+    let block_is : block ≡ edits s (Some (port, edit)) =
     ap (λ z. lack_lines (edit_acted z)) answers
     ∙ lacks_is (fits edit (wire_at place.side cable.link).chars)
     ∙ ap (λ z. if fits edit z then [] else Lacked traced.Short ∷ [])
-    (edit_chars fabric port place p cable met stands) ∙ ap (λ e. edits s (Some (port, e))) same in
+    (edit_chars fabric port place p cable met stands) in
     let still = lack_same t (edit_acted answer) in
-    let shows : ShowsFabric new_fabric t = subst (λ e. ShowsFabric new_fabric
-    (edited_by s (Some (port, e)))) same
-    (edit_shows fabric port place p cable met edit wires idle woke becomes from lines stands) in
+    let shows : ShowsFabric new_fabric t =
+    edit_shows fabric port place p cable met edit wires idle woke becomes from lines stands in
     record {
       block = block;
       adds = adds;
-      is = edit_block s port asked block block_is;
+      is = edit_block s port edit block block_is;
       sent = ap (λ (z : Seen). z.undetected) still ∙ stands.sent;
       shows = subst (ShowsFabric new_fabric) (sym still) shows;
     }

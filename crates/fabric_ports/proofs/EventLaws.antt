@@ -17,8 +17,8 @@ use Rattle.fabric_script.specs.GivenPackets.{given_line, line_giving}
 use Rattle.fabric_script.specs.Operations.{line_for, line_editing}
 use Rattle.fabric_script.specs.declared.operations.Action.{Action}
 use Rattle.fabric_script.specs.declared.operations.Action.TheVariants.{Pump, Deliver, TimeOut, Settle}
-use Rattle.fabric_script.specs.declared.operations.WireEdit.{WireEdit}
-use Rattle.fabric_script.specs.declared.operations.WireEdit.TheVariants as Edit
+use Rattle.rio_chars.specs.declared.edit.Edit.{Edit}
+use Rattle.rio_chars.specs.declared.edit.Edit.TheVariants as Edits
 use Rattle.fabric_script.specs.declared.lines.Line.{Line}
 use Rattle.fabric_model.specs.Network.{Network, IsEndpoint, IsSwitch, sender_id, id_of, peer_in}
 use Rattle.fabric_trace.proofs.Shown.Wiring.{seen_links}
@@ -33,7 +33,7 @@ use Rattle.fabric_ports.specs.declared.answers.FabricEnd.{FabricEnd}
 use Rattle.fabric_ports.specs.declared.answers.FabricEnd.TheVariants.{NoMemory}
 use Rattle.fabric_ports.specs.declared.answers.Happened.{Happened}
 use Rattle.fabric_ports.specs.declared.answers.Happened.TheVariants.{Other}
-use Rattle.fabric_ports.specs.Acting.{AsksForSome, edit_asked}
+use Rattle.fabric_ports.specs.Acting.{AsksForSome}
 use Rattle.fabric_ports.specs.Ends.{PortIsLinked}
 use Rattle.fabric_ports.specs.declared.fabric.Fabric.{Fabric}
 use Rattle.fabric_trace.proofs.Traces.Unique.{block_one}
@@ -277,11 +277,11 @@ asks_some port (Deliver count) range = range.0
 asks_some port TimeOut range = tt
 asks_some port Settle range = tt
 
-pub edits_link : (net : Network) (port : PortRef) (edit : WireEdit)
+pub edits_link : (net : Network) (port : PortRef) (edit : Edit)
     → IsThere net (line_editing port edit) → HasLink net port
-edits_link net port (Edit.Alter place ch) is = is
-edits_link net port (Edit.Insert place ch) is = is
-edits_link net port (Edit.Erase place count) is = is
+edits_link net port (Edits.Alter place ch) is = is
+edits_link net port (Edits.Insert place ch) is = is
+edits_link net port (Edits.Erase place count) is = is
 
 -- they answer nothing
 pub action_answers : (port : PortRef) (action : Action) (block : List TraceLine)
@@ -291,14 +291,14 @@ action_answers port (Deliver count) block = refl
 action_answers port TimeOut block = refl
 action_answers port Settle block = refl
 
-pub edit_answers : (port : PortRef) (edit : WireEdit) (block : List TraceLine)
+pub edit_answers : (port : PortRef) (edit : Edit) (block : List TraceLine)
     → Other ≡ happened (line_editing port edit) block
-edit_answers port (Edit.Alter place ch) block = refl
-edit_answers port (Edit.Insert place ch) block = refl
-edit_answers port (Edit.Erase place count) block = refl
+edit_answers port (Edits.Alter place ch) block = refl
+edit_answers port (Edits.Insert place ch) block = refl
+edit_answers port (Edits.Erase place count) block = refl
 
 -- no line of an edit was written but that with which it begins
-pub edit_unmade : (line : Line) (port : PortRef) (edit : WireEdit) {K : Type 0}
+pub edit_unmade : (line : Line) (port : PortRef) (edit : Edit) {K : Type 0}
     {b b2 : TraceWriter K} (b3 : TraceWriter K) (from : Seen) (lines : List TraceLine)
     (end : FabricEnd)
     → line ≡ line_editing port edit
@@ -307,7 +307,7 @@ pub edit_unmade : (line : Line) (port : PortRef) (edit : WireEdit) {K : Type 0}
     → Evented line (IsOwnBlock line) b b3 from lines (Err end)
 edit_unmade line port edit {b = b} b3 from lines end is begun unmade =
     let s = seen from lines in
-    let block = edits s (Some (port, edit_asked edit)) in
+    let block = edits s (Some (port, edit)) in
     let own = subst (λ (l : Line). IsBlock s l block) (sym is) (edit_block s port edit block refl)
     in
     subst (λ e. Evented line (IsOwnBlock line) b b3 from lines (Err e))

@@ -91,6 +91,12 @@ nodes_differ p q apart =
     false_from_ne_true (same_port q p)
     (λ same. apart (ap (λ (c : PortRef). c.node) (port_is q p same)))
 
+pub ports_part : (p q : PortRef) → (q.node ≡ p.node → q.port ≢ p.port) → same_port q p ≡ false
+ports_part p q apart =
+    false_from_ne_true (same_port q p)
+    (λ same. apart (ap (λ (c : PortRef). c.node) (port_is q p same))
+    (ap (λ (c : PortRef). c.port) (port_is q p same)))
+
 ports_differ : (node j k : ℕ) → j ≢ k → same_port (port node j) (port node k) ≡ false
 ports_differ node j k apart =
     false_from_ne_true (same_port (port node j) (port node k))

@@ -2,7 +2,7 @@
 use Rattle.std.proofs.Common.{◌≡◌, inl, inr, ℕ, zero, suc, ◌+◌, ◌<◌, Bool, true, false, List, [], ◌++◌, Option, Some, None, MatchBool, refl, sym, ap, ◌∙◌, subst, arith, append-nil, append_assoc, Ok, Err}
 use Rattle.trace_lines.specs.AddsLaws.{Adds-then}
 use Rattle.trace_lines.specs.declared.writer.TraceWriter.{TraceWriter}
-use Rattle.link_wires.specs.declared.edits.Edit.{Edit}
+use Rattle.rio_chars.specs.declared.edit.Edit.{Edit}
 use Rattle.fabric_model.specs.Network.{IsEndpoint}
 use Rattle.fabric_trace.specs.Fold.{seen}
 use Rattle.fabric_trace.specs.Known.{UndetectedAt, Seen}

@@ -10,7 +10,7 @@ use Rattle.rio_packets.specs.LinkForm.{LinkForm}
 use Rattle.maint_packets.specs.Requests.{IsGoodOp, request_body}
 use Rattle.maint_packets.specs.declared.request.Request.{Request}
 use Rattle.maint_packets.specs.declared.response.Response.{Response}
-use Rattle.link_wires.specs.declared.edits.Edit.{Edit}
+use Rattle.rio_chars.specs.declared.edit.Edit.{Edit}
 use Rattle.fabric_trace.specs.Fold.{seen}
 use Rattle.fabric_trace.specs.Known.{Seen}
 use Rattle.trace_lines.specs.Lines.{TraceLine}

@@ -1,7 +1,7 @@
 -- Endpoints that collect one after another, and a round of an ask.
 use Rattle.std.proofs.Common.{◌≡◌, ◌+◌, ◌==◌, ◌||◌, ℕ, suc, true, false, List, [], ◌∷◌, ◌++◌, length, None, MatchBool, sym, subst, arith, Ok, Err}
 use Rattle.trace_lines.specs.declared.writer.TraceWriter.{TraceWriter}
-use Rattle.link_wires.specs.declared.edits.Edit.{Edit}
+use Rattle.rio_chars.specs.declared.edit.Edit.{Edit}
 use Rattle.maint_registers.specs.Devices.{Registers, is_switch}
 use Rattle.fabric_trace.specs.Fold.{seen}
 use Rattle.fabric_trace.specs.Known.{Seen}

@@ -1,7 +1,7 @@
 -- What is known to have nothing to do stays so, where nothing that matters to it has changed.
-use Rattle.std.proofs.Common.{◌≡◌, ◌≢◌, ◌⊎◌, ℕ, zero, suc, ◌+◌, ◌<◌, Bool, true, false, List, [], ◌∷◌, length, map, replicate, Option, Some, None, option_map, slice_get, slice_set, slice_index_or, inl, inr, refl, sym, ap, ◌∙◌, subst, arith}
+use Rattle.std.proofs.Common.{◌≡◌, ◌⊎◌, ℕ, zero, suc, ◌<◌, Bool, true, false, List, [], ◌∷◌, length, map, replicate, Option, Some, None, option_map, slice_get, slice_set, slice_index_or, inl, inr, refl, sym, ap, ◌∙◌, subst, arith}
 use Rattle.std.proofs.lemmas.List.{length-set, length-map, get_or_default}
-use Rattle.std.proofs.lemmas.Option.{same_Some, slice_get-map, slice_get_within, get_or_from_slice_get}
+use Rattle.std.proofs.lemmas.Option.{same_Some, slice_get-map}
 use Rattle.std.specs.Vec.{with_item}
 use Rattle.link_law.specs.Resting.{has_no_work}
 use Rattle.maint_registers.specs.Devices.{Registers, is_switch}
@@ -12,8 +12,8 @@ use Rattle.fabric_trace.specs.Known.{Wire, Seen, link_at, port_seen, wire_state}
 use Rattle.fabric_trace.specs.Served.{face_in, faces_from, step_lines, ResponseHasForm, IsMove}
 use Rattle.trace_lines.specs.Lines.{NoStep, Lacked}
 use Rattle.fabric_ports.specs.Idling.{IsMarkedAt, KnowsIdle, Wakes, HasNumber}
-use Rattle.fabric_ports.specs.Places.{IsPortOf, place_of}
-use Rattle.fabric_ports.specs.Showing.{ends_of, ShowsCable, ShowsFabric}
+use Rattle.fabric_ports.specs.Places.{place_of}
+use Rattle.fabric_ports.specs.Showing.{ends_of, ShowsFabric}
 use Rattle.fabric_ports.specs.declared.fabric.Cable.{Cable}
 use Rattle.fabric_ports.specs.declared.fabric.Fabric.{Fabric}
 use Rattle.fabric_ports.specs.declared.idle.Idle.{Idle}
@@ -243,43 +243,25 @@ link_stays s t a b first second wire_a wire_b = λ i. record {
   wire_b = wire_state (wire_b i);
 }
 
--- ---- ports that stand in a row have changed, and their links were woken
+-- ---- ports have changed, and their links were woken
 
--- it stands at none of so many places from this one on
-abbrev pub IsAway : ℕ → ℕ → ℕ → Type 0
-IsAway first count place = (j : ℕ) → j < count → place ≢ first + j
-
-pub idle_ports : (old : Fabric) (new : Idle) (s t : Seen) (first count : ℕ) → ShowsFabric old s
-    → Wakes (HasNumber old.cable_at.items first count) (λ n. ⊥) old.idle new
+pub idle_ports : (old : Fabric) (new : Idle) (s t : Seen) (Places : ℕ → Type 0)
+    → ShowsFabric old s → Wakes (HasNumber old.cable_at.items Places) (λ n. ⊥) old.idle new
     → t.wires ≡ s.wires → t.network.links ≡ s.network.links
     → length t.network.registers ≡ length s.network.registers
-    → ((q : PortRef) → IsPortOf old.devices.items q
-    → IsAway first count (place_of old.firsts.items q) → port_seen t q ≡ port_seen s q)
+    → ((q : PortRef) → ¬ Places (place_of old.firsts.items q) → port_seen t q ≡ port_seen s q)
     → ((n : ℕ) → IsMarkedAt old.idle.switches.items n → IsMove s.network n (Lacked NoStep ∷ [])
     → IsMove t.network n (Lacked NoStep ∷ []))
     → KnowsIdle new t
-idle_ports old new s t first count shows woke wires links many ports moves =
+idle_ports old new s t Places shows woke wires links many ports moves =
     idle_stays old.idle new s t shows.idle woke links many stays (λ n marked none. moves n marked)
   where
-    away : (k : ℕ) (q : PortRef) → ¬ HasNumber old.cable_at.items first count k
-        → slice_get old.cable_at.items (place_of old.firsts.items q) ≡ Some k
-        → IsAway first count (place_of old.firsts.items q)
-    away k q none leads j below same =
-        none (j, below, ap (slice_get old.cable_at.items) (sym same) ∙ leads)
-
     stays : (k : ℕ) (link : PortRef × PortRef) → slice_get s.network.links k ≡ Some link
-        → ¬ HasNumber old.cable_at.items first count k
+        → ¬ HasNumber old.cable_at.items Places k
         → link_at t link.0 link.1 ≡ link_at s link.0 link.1
     stays k link at none =
-        let own = cable_for old s k link shows at in
         let lead = shows.lead k link at in
-        let shown = subst (ShowsCable old.devices.items s)
-        (get_or_from_slice_get old.cables.items k own.cable own.cable own.at)
-        (shows.cables k own.cable (slice_get_within old.cables.items k own.cable own.at)) in
-        let port_a = subst (λ (l : PortRef × PortRef). IsPortOf old.devices.items l.0) own.ends
-        shown.port_a in
-        let port_b = subst (λ (l : PortRef × PortRef). IsPortOf old.devices.items l.1) own.ends
-        shown.port_b in
-        link_stays s t link.0 link.1 (ports link.0 port_a (away k link.0 none lead.0))
-        (ports link.1 port_b (away k link.1 none lead.1))
+        link_stays s t link.0 link.1
+        (ports link.0 (λ is. none (place_of old.firsts.items link.0, is, lead.0)))
+        (ports link.1 (λ is. none (place_of old.firsts.items link.1, is, lead.1)))
         (ap (λ (w : PortRef → Wire). w link.0) wires) (ap (λ (w : PortRef → Wire). w link.1) wires)

@@ -1,7 +1,7 @@
 -- A link that has nothing to do carries nothing, and settles by nothing.
 use Rattle.std.proofs.Common.{◌≡◌, true, List, [], ◌∷◌, if◌then◌else◌, refl, sym, ap}
 use Rattle.rio_chars.specs.declared.chars.Char.{Char}
-use Rattle.link_wires.specs.declared.edits.Edit.{Edit}
+use Rattle.rio_chars.specs.declared.edit.Edit.{Edit}
 use Rattle.link_watch.specs.declared.side.Side.TheVariants.{A}
 use Rattle.link_machine.specs.Calls.{has_none}
 use Rattle.link_machine.specs.Acts.{acts_notes}

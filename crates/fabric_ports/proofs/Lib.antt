@@ -44,6 +44,7 @@ pub mod ShowLaws
 pub mod StandardLaws
 pub mod StandLaws
 pub mod StepLaws
+pub mod StepNets
 pub mod StepEnds
 pub mod StirLaws
 pub mod OutsideLanes

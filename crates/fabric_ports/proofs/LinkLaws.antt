@@ -3,6 +3,7 @@ use Rattle.std.proofs.Common.{◌≡◌, List, [], ◌∷◌, ◌++◌, Some, Ok
 use Rattle.trace_lines.specs.Writing.{Adds}
 use Rattle.trace_lines.specs.declared.writer.TraceWriter.{TraceWriter}
 use Rattle.trace_lines.specs.AddsLaws.{Adds-nil, Adds-then}
+use Rattle.trace_lines.specs.WatchingLaws.{notes_uncounted}
 use Rattle.link_model.specs.declared.event.Event.{Event}
 use Rattle.link_port.specs.Ports.{PortState}
 use Rattle.link_watch.specs.Stops.{CutAtFirst}
@@ -195,11 +196,12 @@ told_as : {K : Type 0} {S : Ghosts K} {writer : TraceWriter K} {before after : L
     {a b : PortRef} {notes : List Note} → IsLent writer before a b
     → WritesNotes before notes after
     → Adds writer (back writer after.outbox.now) (lines_of a b notes)
-told_as lent told = record {
+told_as {writer = writer} {a = a} {b} {notes} lent told = record {
   same = refl;
   names = refl;
   writes = rw (sym lent.outbox, sym lent.names, sym lent.first_end, sym lent.second_end)
       told.lines.writes;
+  counts = sym (notes_uncounted writer.counts a b notes);
 }
 
 -- the whole block was written

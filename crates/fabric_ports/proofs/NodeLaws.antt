@@ -1,5 +1,5 @@
 -- What a fabric shows after a call that changed ports and registers of one node.
-use Rattle.std.proofs.Common.{◌≡◌, ◌≢◌, ℕ, zero, suc, true, false, arith, List, [], ◌∷◌, length, map, Some, slice_get, slice_set, get_or, option_map, refl, sym, ap, ◌∙◌, subst, length-set}
+use Rattle.std.proofs.Common.{◌≡◌, ◌≢◌, ℕ, zero, suc, true, false, List, [], ◌∷◌, length, map, Some, slice_get, slice_set, get_or, option_map, refl, sym, ap, ◌∙◌, subst, length-set}
 use Rattle.std.proofs.lemmas.Bool.{false_from_ne_true}
 use Rattle.std.proofs.lemmas.List.Elements.{All-weaker}
 use Rattle.std.proofs.lemmas.Option.{get_or_from_slice_get, slice_get_within, slice_get-get_or}
@@ -96,8 +96,8 @@ pub record HasBoth (old new : Fabric) (n : ℕ) (next : Registers) (p : PortRef)
   pub ports : new.ports.items ≡ slice_set old.ports.items (place_of old.firsts.items p) y
   pub cables : new.cables.items ≡ old.cables.items
   pub cable_at : new.cable_at.items ≡ old.cable_at.items
-  pub idle : Wakes (HasNumber old.cable_at.items (place_of old.firsts.items p) 1) (λ k. ⊥) old.idle
-      new.idle
+  pub idle : Wakes (HasNumber old.cable_at.items (λ i. i ≡ place_of old.firsts.items p)) (λ k. ⊥)
+      old.idle new.idle
 
 pub endpoint_port : (devices : List Registers) (n : ℕ) → IsEndpointAt devices n
     → IsPortOf devices (port_of n)
@@ -106,17 +106,18 @@ endpoint_port devices n at = rw at.stands at.has_port
 -- what is known to have nothing to do, but the link of the port
 one_idle : (old new : Fabric) (s t : Seen) (n : ℕ) (next : Registers) → ShowsFabric old s
     → IsEndpointAt old.devices.items n
-    → Wakes (HasNumber old.cable_at.items (place_of old.firsts.items (port_of n)) 1) (λ k. ⊥)
-    old.idle new.idle
+    → Wakes (HasNumber old.cable_at.items (λ i. i ≡ place_of old.firsts.items (port_of n)))
+    (λ k. ⊥) old.idle new.idle
     → ((q : PortRef) → same_port q (port_of n) ≡ false → port_seen t q ≡ port_seen s q)
     → t.wires ≡ s.wires → t.network.links ≡ s.network.links
     → t.network.registers ≡ slice_set s.network.registers n next → KnowsIdle new.idle t
 one_idle old new s t n next shows at woke others wires links registers =
-    idle_ports old new.idle s t (place_of old.firsts.items (port_of n)) 1 shows woke wires links
+    idle_ports old new.idle s t (λ i. i ≡ place_of old.firsts.items (port_of n)) shows woke wires
+    links
     (ap (λ (l : List Registers). length l) registers
     ∙ length-set s.network.registers n next)
-    (λ q has away. others q (false_from_ne_true (same_port q (port_of n)) (λ same. away 0
-    (omega arith) (ap (place_of old.firsts.items) (port_is q (port_of n) same) ∙ omega arith))))
+    (λ q away. others q (false_from_ne_true (same_port q (port_of n)) (λ same. away
+    (ap (place_of old.firsts.items) (port_is q (port_of n) same)))))
     (λ m marked rests. move_stays
     (ap (λ (l : List Registers). slice_get l m) registers
     ∙ get_other s.network.registers n m next (other m rests))
@@ -181,15 +182,15 @@ with_both fabric n device place port idle = record {
 abbrev pub WokeOne : Fabric → List ℕ → ℕ → Idle → Type 0
 WokeOne fabric numbers place idle =
     (numbers ≡ fabric.cable_at.items)
-    × Wakes (HasNumber numbers place 1) (λ k. ⊥) fabric.idle idle
+    × Wakes (HasNumber numbers (λ i. i ≡ place)) (λ k. ⊥) fabric.idle idle
 
 woke_one : (fabric : Fabric) (p : PortRef) {numbers : List ℕ} {place : ℕ} {idle : Idle}
     → place ≡ place_of fabric.firsts.items p → WokeOne fabric numbers place idle
-    → Wakes (HasNumber fabric.cable_at.items (place_of fabric.firsts.items p) 1) (λ k. ⊥)
+    → Wakes (HasNumber fabric.cable_at.items (λ i. i ≡ place_of fabric.firsts.items p)) (λ k. ⊥)
     fabric.idle idle
 woke_one fabric p {place = place} {idle = idle} is woke =
-    subst (λ i. Wakes (HasNumber fabric.cable_at.items i 1) (λ k. ⊥) fabric.idle idle) is
-    (subst (λ l. Wakes (HasNumber l place 1) (λ k. ⊥) fabric.idle idle) woke.0 woke.1)
+    subst (λ n. Wakes (HasNumber fabric.cable_at.items (λ i. i ≡ n)) (λ k. ⊥) fabric.idle idle) is
+    (subst (λ l. Wakes (HasNumber l (λ i. i ≡ place)) (λ k. ⊥) fabric.idle idle) woke.0 woke.1)
 
 pub has_both : (fabric : Fabric) (p : PortRef) {node n place : ℕ} (next : Registers) (y : PortState)
     {numbers : List ℕ} {idle : Idle} → place ≡ place_of fabric.firsts.items p → node ≡ n

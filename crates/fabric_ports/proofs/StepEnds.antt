@@ -1,11 +1,14 @@
 -- What a call did that makes a step of a switch, by what it wrote.
-use Rattle.std.proofs.Common.{◌≡◌, ℕ, ◌+◌, ◌≤◌, Bool, true, false, List, [], ◌∷◌, length, slice_get, slice_set, slice_index_or, Some, None, refl, sym, ap, ◌∙◌, subst, arith}
+use Rattle.std.proofs.Common.{◌≡◌, inl, inr, ℕ, ◌+◌, ◌<◌, ◌≤◌, Bool, true, false, List, [], ◌∷◌, length, slice_get, slice_set, slice_index_or, Option, Some, None, is_some, refl, sym, ap, ◌∙◌, subst, arith}
+use Rattle.std.proofs.lemmas.List.{length-map}
 use Rattle.std.proofs.lemmas.Option.{slice_get_within}
 use Rattle.trace_lines.specs.Writing.{Adds}
 use Rattle.trace_lines.specs.declared.writer.TraceWriter.{TraceWriter}
 use Rattle.trace_lines.specs.AddsLaws.{Adds-nil, Adds-then}
 use Rattle.link_port.specs.Ports.{PortState}
 use Rattle.maint_registers.specs.Devices.{Registers, is_switch}
+use Rattle.switch_core.specs.Goings.{going_of, Goes}
+use Rattle.switch_core.specs.declared.going.Going.{Going}
 use Rattle.switch_core.specs.SwitchSteps.{step_of}
 use Rattle.switch_core.specs.declared.switch.Step as switch
 use Rattle.switch_core.specs.declared.switch.Step.TheVariants.{Moved, Dropped, Answered, Nothing}
@@ -16,15 +19,17 @@ use Rattle.fabric_trace.specs.Known.{Seen}
 use Rattle.trace_lines.specs.Lines.{TraceLine, NoStep, Lacked}
 use Rattle.fabric_trace.specs.Served.{step_lines, IsMove}
 use Rattle.fabric_ports.specs.Events.{Did, IsSwitchStep}
-use Rattle.fabric_ports.specs.Idling.{IsMarkedAt, Wakes, HasNumber}
+use Rattle.fabric_ports.specs.Idling.{IsMarkedAt, Wakes, HasNumber, IsPassedAt}
 use Rattle.fabric_ports.specs.Showing.{ShowsFabric}
 use Rattle.fabric_ports.specs.Switching.{faces_at, own_ports, AreForms, MadeStep, Wrote, is_step, written_lines}
 use Rattle.fabric_ports.specs.declared.fabric.Fabric.{Fabric}
 use Rattle.fabric_ports.specs.declared.idle.Idle.{Idle}
+use Rattle.fabric_ports.proofs.FaceLaws.{face_of_port}
 use Rattle.fabric_ports.proofs.NodeLaws.{with_ports}
-use Rattle.fabric_ports.proofs.RowLaws.{first_read, row_within}
+use Rattle.fabric_ports.proofs.RowLaws.{first_read, row_within, own-length}
 use Rattle.fabric_ports.proofs.Rows.{as_many_firsts}
-use Rattle.fabric_ports.proofs.StepLaws.{seen_after, ports_are, IdleSteps, HasStepped, is_move, shows_later}
+use Rattle.fabric_ports.proofs.StepLaws.{ports_are, IdleSteps, HasStepped, is_move, shows_later}
+use Rattle.fabric_ports.proofs.StepNets.{seen_after}
 
 is_step_by : (net : Network) (node : ℕ) (step : switch.Step)
     → ((block : List TraceLine) → block ≡ step_lines node step → IsMove net node block)
@@ -98,37 +103,59 @@ row_read {fabric = fabric} {node = node} {first = first} {device = device} shows
     let count = shows.count in
     (is, omega (arith, is, row, count))
 
--- the links of a row of ports were woken, by numbers and by a count that were read
-pub woke_row : (fabric : Fabric) (first : ℕ) {count ports : ℕ} {numbers : List ℕ} (idle : Idle)
-    → numbers ≡ fabric.cable_at.items → count ≡ ports
-    → Wakes (HasNumber numbers first count) (λ n. ⊥) fabric.idle idle
-    → Wakes (HasNumber fabric.cable_at.items first ports) (λ n. ⊥) fabric.idle idle
-woke_row fabric first {count = count} {ports = ports} {numbers = numbers} idle same many woke =
-    subst (λ l. Wakes (HasNumber l first ports) (λ n. ⊥) fabric.idle idle) same
-    (subst (λ n. Wakes (HasNumber numbers first n) (λ k. ⊥) fabric.idle idle) many woke)
+-- the links of the ports that a packet passed were woken, by numbers that were read
+pub woke_passed : (fabric : Fabric) (first : ℕ) (going : Going) {numbers : List ℕ} (idle : Idle)
+    → numbers ≡ fabric.cable_at.items
+    → Wakes (HasNumber numbers (IsPassedAt first going)) (λ n. ⊥) fabric.idle idle
+    → Wakes (HasNumber fabric.cable_at.items (IsPassedAt first going)) (λ n. ⊥) fabric.idle idle
+woke_passed fabric first going idle same woke =
+    subst (λ l. Wakes (HasNumber l (IsPassedAt first going)) (λ n. ⊥) fabric.idle idle) same woke
+
+-- a port that a packet passes is one of its switch
+pub passed_within : (fabric : Fabric) (first : ℕ) {device : Registers} {lent : List PortState}
+    {going : Going} → first + device.ports ≤ length fabric.ports.items
+    → lent ≡ fabric.ports.items → Goes device (faces_at (own_ports lent first device.ports)) going
+    → (place : ℕ) → IsPassedAt first going place → place < first + device.ports
+passed_within fabric first {device = device} {lent = lent} {going = going} within same goes place
+    passed =
+    let own = own_ports lent first device.ports in
+    let long : length (faces_at own) ≡ device.ports =
+    length-map own face_of_port ∙ own-length lent first device.ports
+    (subst (λ (l : List PortState). first + device.ports ≤ length l) (sym same) within) in
+    let here = passed.2 in
+    elim passed.1 [
+      | inl from ↦ let below = goes.stands.port in omega (arith, long, here, from, below)
+      | inr to ↦ let below = goes.stands.to passed.0 to in omega (arith, long, here, below)
+    ]
 
 -- the ports of a switch were lent, and what was found to have nothing to do is noted
 pub did_switch : {K : Type 0} {a b : TraceWriter K} {s : Seen} {old : Fabric} (node : ℕ)
-    {place first : ℕ} {device next : Registers} {lent ports : List PortState} {result told : Bool}
+    {place first : ℕ} {device next : Registers} {lent ports : List PortState}
+    {result : Option Going} (told : Option Going)
     (idle : Idle) → ShowsFabric old s → s.undetected ≡ None → ByPriority s.network
     → is_switch device ≡ true → slice_get old.devices.items node ≡ Some device → place ≡ node
     → first ≡ slice_index_or old.firsts.items node 0
     → first + device.ports ≤ length old.ports.items → lent ≡ old.ports.items
     → MadeStep first device next lent ports
     (step_of device (faces_at (own_ports lent first device.ports)))
-    → Wrote node (step_of device (faces_at (own_ports lent first device.ports))) a b result
-    → result ≡ told → IdleSteps old node first device.ports idle told
-    → Did (IsSwitchStep s.network node told) a b s (with_ports old place next ports idle)
+    → result ≡ going_of (step_of device (faces_at (own_ports lent first device.ports)))
+    → Wrote node (step_of device (faces_at (own_ports lent first device.ports))) a b
+    (is_some result)
+    → result ≡ told → IdleSteps old node first idle told
+    → Did (IsSwitchStep s.network node (is_some told)) a b s (with_ports old place next ports idle)
 did_switch {a = a} {b = b} {s = s} {old = old} node {place = place} {first = first}
-    {device = device} {next = next} {ports = ports} {result = result} {told = told} idle shows sent
-    by switches stands here at within same lent_made lent_wrote answer marks =
+    {device = device} {next = next} {ports = ports} {result = result} told idle shows sent
+    by switches stands here at within same lent_made lent_going lent_wrote answer marks =
     let step = step_of device (faces_at (own_ports old.ports.items first device.ports)) in
     let made = subst
     (λ (l : List PortState). MadeStep first device next l ports
     (step_of device (faces_at (own_ports l first device.ports)))) same lent_made in
-    let wrote = subst (λ r. Wrote node step a b r) answer (subst
+    let going = subst (λ (l : List PortState). result ≡ going_of
+    (step_of device (faces_at (own_ports l first device.ports)))) same lent_going in
+    let wrote = subst (λ r. Wrote node step a b (is_some r)) answer (subst
     (λ (l : List PortState). Wrote node
-    (step_of device (faces_at (own_ports l first device.ports))) a b result) same lent_wrote) in
+    (step_of device (faces_at (own_ports l first device.ports))) a b (is_some result)) same
+    lent_wrote) in
     did_step (with_ports old place next ports idle) node first device next step shows sent by
     switches (record {
       stands = stands;
@@ -139,6 +166,6 @@ did_switch {a = a} {b = b} {s = s} {old = old} node {place = place} {first = fir
       firsts = refl;
       cables = refl;
       cable_at = refl;
-      idle = subst (IdleSteps old node first device.ports idle) wrote.is marks;
+      idle = subst (IdleSteps old node first idle) (sym answer ∙ going) marks;
     })
     wrote.forms wrote.is wrote.adds

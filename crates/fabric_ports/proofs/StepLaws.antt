@@ -1,166 +1,43 @@
 -- What a call did that makes a step of a switch.
-use Rattle.std.proofs.Common.{◌≡◌, ◌≢◌, ℕ, zero, suc, ◌+◌, ◌<◌, ◌≤◌, Bool, true, false, List, [], ◌∷◌, length, map, slice_get, slice_set, slice_index_or, Option, Some, None, option_map, refl, sym, ap, ◌∙◌, subst, arith}
+use Rattle.std.proofs.Common.{◌≡◌, ◌≢◌, ℕ, zero, suc, ◌+◌, ◌<◌, ◌≤◌, true, List, [], ◌∷◌, length, slice_get, slice_set, slice_index_or, Option, Some, None, option_map, refl, sym, ap, ◌∙◌, subst, arith}
 use Rattle.std.proofs.lemmas.List.{length-set, with_items_is}
+use Rattle.std.proofs.lemmas.Option.{same_Some}
 use Rattle.std.specs.Vec.{with_items}
-use Rattle.rio_packets.specs.Fields.{prio_of}
-use Rattle.rio_packets.specs.LinkForm.{Passes}
 use Rattle.link_port.specs.Ports.{PortState, AreAlike}
-use Rattle.maint_packets.specs.declared.next_hop.Next.TheVariants.{Port}
-use Rattle.maint_packets.specs.declared.request.Request.{Request}
-use Rattle.maint_packets.specs.NextHops.{moved}
-use Rattle.maint_packets.specs.Requests.{request_of}
-use Rattle.maint_registers.proofs.ChangeLaws.{set-change}
 use Rattle.maint_registers.specs.Devices.{Registers, is_switch}
 use Rattle.switch_core.specs.Faces as faces
-use Rattle.switch_core.specs.Faces.{Face, face_at, put_at, taken_at}
-use Rattle.switch_core.specs.SwitchSteps.{step_of, faces_after, answered_by, switch_after}
+use Rattle.switch_core.specs.Faces.{face_at}
+use Rattle.switch_core.specs.Goings.{going_of}
+use Rattle.switch_core.specs.declared.going.Going.{Going}
+use Rattle.switch_core.specs.SwitchSteps.{step_of, faces_after, switch_after}
 use Rattle.switch_core.specs.declared.switch.Step as switch
 use Rattle.switch_core.specs.declared.switch.Step.TheVariants.{Moved, Dropped, Answered, Nothing}
 use Rattle.fabric_script.specs.declared.ports.PortRef.{PortRef}
 use Rattle.fabric_model.specs.Laws.Priorities.{ByPriority}
 use Rattle.fabric_model.specs.Network.{Network, IsSwitch}
-use Rattle.fabric_model.specs.Serving.{device_after}
-use Rattle.fabric_model.specs.Steps.{Move, Drop, Answer, ByDevice, Needs, only_first, moved_item, without_first, with_waiting, item_of, after}
-use Rattle.fabric_model.proofs.Boards.{first_item}
-use Rattle.fabric_model.proofs.Moving.{moves_on, named_goes, sent_by}
-use Rattle.fabric_trace.specs.Fold.{seen}
 use Rattle.fabric_trace.specs.Known.{Seen, port_seen}
 use Rattle.trace_lines.specs.Lines.{TraceLine, NoStep, Lacked}
-use Rattle.fabric_trace.specs.Served.{face_in, faces_from, faces_in, step_lines, ResponseHasForm, IsMove}
+use Rattle.fabric_trace.specs.Served.{faces_from, faces_in, step_lines, ResponseHasForm, IsMove}
 use Rattle.fabric_trace.proofs.Network.Faces.{face_is, StepNeeds, step_needs}
-use Rattle.fabric_trace.proofs.Parts.Keeping.{few_prio}
 use Rattle.fabric_ports.specs.declared.fabric.Fabric.{Fabric}
 use Rattle.fabric_ports.specs.declared.idle.Idle.{Idle}
-use Rattle.fabric_ports.specs.Idling.{IsMarkedAt, KnowsIdle, Wakes, HasNumber}
-use Rattle.fabric_ports.specs.Places.{HasPort, IsPortOf, place_of}
+use Rattle.fabric_ports.specs.Idling.{IsMarkedAt, KnowsIdle, Wakes, HasNumber, IsPassed, IsPassedAt}
+use Rattle.fabric_ports.specs.Places.{place_of}
 use Rattle.fabric_ports.specs.Showing.{ShowsFabric}
-use Rattle.fabric_ports.specs.Switching.{faces_at, own_ports, AreForms, MadeStep, is_step, written_lines}
+use Rattle.fabric_ports.specs.Switching.{faces_at, own_ports, AreForms, MadeStep}
 use Rattle.fabric_ports.proofs.DeviceLaws.{one_written}
-use Rattle.fabric_ports.proofs.FaceLaws.{without_other, more_other, nodes_differ, port, AreFacesOf, taken_faces, put_faces, face_of_port, SamePlans, port_faced, port_stays}
-use Rattle.fabric_ports.proofs.IdleLaws.{with_switch_mark, switch_marked, move_stays, IsAway, idle_ports}
-use Rattle.fabric_ports.proofs.NodeLaws.{set_same, served_shows}
+use Rattle.fabric_ports.proofs.FaceLaws.{port, AreFacesOf, face_of_port, port_faced, port_stays}
+use Rattle.fabric_ports.proofs.IdleLaws.{with_switch_mark, switch_marked, move_stays, idle_ports}
+use Rattle.fabric_ports.proofs.NodeLaws.{served_shows}
 use Rattle.fabric_ports.proofs.RowLaws.{row_within, row_set, replaced, length-replaced, get-own, own-length}
 use Rattle.fabric_ports.proofs.ShowLaws.{get_other}
+use Rattle.fabric_ports.proofs.StepNets.{after_step, after_none, plans_stay, links_stay, step_faces, step_apart, step_others, step_registers}
 
 has_form : (step : switch.Step) → AreForms step → ResponseHasForm step
 has_form (Moved from to packet) forms = tt
 has_form (Dropped from packet) forms = tt
 has_form (Answered at request response) forms = forms.1
 has_form Nothing forms = tt
-
--- ---- the network afterwards
-
-pub after_step : Network → ℕ → switch.Step → Network
-after_step net node (Moved from to packet) =
-    after net (ByDevice (Move (port node from) (port node to) packet))
-after_step net node (Dropped from packet) = after net (ByDevice (Drop (port node from) packet))
-after_step net node (Answered at request response) =
-    after net (ByDevice (Answer (port node at) request response))
-after_step net node Nothing = net
-
-pub seen_after : (s : Seen) (node : ℕ) (step : switch.Step)
-    → seen s (written_lines node step) ≡ record s { network = after_step s.network node step }
-unfolding after_step
-seen_after s node (Moved from to packet) = refl
-seen_after s node (Dropped from packet) = refl
-seen_after s node (Answered at request response) = refl
-seen_after s node Nothing = refl
-
-plans_stay : (net : Network) (node : ℕ) (step : switch.Step)
-    → SamePlans (after_step net node step) net
-unfolding after_step
-plans_stay net node (Moved from to packet) = (refl, refl)
-plans_stay net node (Dropped from packet) = (refl, refl)
-plans_stay net node (Answered at request response) = (refl, refl)
-plans_stay net node Nothing = (refl, refl)
-
-links_stay : (net : Network) (node : ℕ) (step : switch.Step)
-    → (after_step net node step).links ≡ net.links
-unfolding after_step
-links_stay net node (Moved from to packet) = refl
-links_stay net node (Dropped from packet) = refl
-links_stay net node (Answered at request response) = refl
-links_stay net node Nothing = refl
-
--- the packet that was first moves to the port
-move_faces : (net : Network) (node n from to : ℕ) (packet : List ℕ) (lists : List Face)
-    → Passes packet → Needs net (ByDevice (Move (port node from) (port node to) packet))
-    → AreFacesOf net node n lists
-    → AreFacesOf (after net (ByDevice (Move (port node from) (port node to) packet))) node n
-    (put_at (taken_at lists from (prio_of packet)) to (moved packet))
-move_faces net node n from to packet lists passes needs are =
-    let p = port node from in
-    let q = port node to in
-    let r = prio_of packet in
-    let less = without_first net p r in
-    let first = first_item (net.received p r) packet needs.1 in
-    let sent = sent_by net p.node packet (Port q.port) needs.2 in
-    let on = moves_on packet passes (named_goes sent.device packet q.port sent.sends) in
-    let item = moved_item first.item in
-    let now : item.now ≡ moved packet = ap moved first.now in
-    let prio : prio_of item.now ≡ r = ap prio_of now ∙ on.prio in
-    let only : only_first (map moved_item (net.received p r)) ≡ item ∷ [] =
-    ap (λ xs. only_first (map moved_item xs)) first.whole in
-    let few : prio_of item.now < 4 = few_prio _ (subst Passes (sym now) on.passes) in
-    let taken = taken_faces net node n from r lists (few_prio packet passes) are in
-    let put = put_faces less node n to item (taken_at lists from r) few taken in
-    subst (λ (next : Network). AreFacesOf next node n
-    (put_at (taken_at lists from r) to (moved packet)))
-    (λ i. with_waiting less q (prio i) (sym only i))
-    (subst (λ (x : List ℕ). AreFacesOf (with_waiting less q (prio_of item.now) (item ∷ [])) node n
-    (put_at (taken_at lists from r) to x)) now put)
-
-step_faces : (net : Network) (node n : ℕ) (step : switch.Step) (lists : List Face)
-    → AreForms step → StepNeeds net node step → AreFacesOf net node n lists
-    → AreFacesOf (after_step net node step) node n (faces_after lists step)
-unfolding after_step
-step_faces net node n (Moved from to packet) lists forms needs are =
-    move_faces net node n from to packet lists forms needs are
-step_faces net node n (Dropped from packet) lists forms needs are =
-    taken_faces net node n from (prio_of packet) lists (few_prio packet forms) are
-step_faces net node n (Answered at request response) lists forms needs are =
-    let less = without_first net (port node at) (prio_of request) in
-    put_faces less node n at (item_of less (port node at) response)
-    (taken_at lists at (prio_of request)) (few_prio response forms.1)
-    (taken_faces net node n at (prio_of request) lists (few_prio request forms.0) are)
-step_faces net node n Nothing lists forms needs are = are
-
-step_others : (net : Network) (node : ℕ) (step : switch.Step) (q : PortRef) → q.node ≢ node
-    → face_in (after_step net node step) q ≡ face_in net q
-unfolding after_step
-step_others net node (Moved from to packet) q apart =
-    more_other (without_first net (port node from) (prio_of packet)) (port node to) (prio_of packet)
-    (only_first (map moved_item (net.received (port node from) (prio_of packet)))) q
-    (nodes_differ (port node to) q apart)
-    ∙ without_other net (port node from) (prio_of packet) q (nodes_differ (port node from) q apart)
-step_others net node (Dropped from packet) q apart =
-    without_other net (port node from) (prio_of packet) q (nodes_differ (port node from) q apart)
-step_others net node (Answered at request response) q apart =
-    let less = without_first net (port node at) (prio_of request) in
-    more_other less (port node at) (prio_of response)
-    (item_of less (port node at) response ∷ []) q (nodes_differ (port node at) q apart)
-    ∙ without_other net (port node at) (prio_of request) q (nodes_differ (port node at) q apart)
-step_others net node Nothing q apart = refl
-
-answered_is : (device : Registers) (at : ℕ) (request : Option Request)
-    → device_after at request device ≡ answered_by device at request
-answered_is device at None = refl
-answered_is device at (Some request) = refl
-
-step_registers : (net : Network) (node : ℕ) (device : Registers) (step : switch.Step)
-    → slice_get net.registers node ≡ Some device
-    → (after_step net node step).registers
-    ≡ slice_set net.registers node (switch_after device step)
-unfolding after_step
-step_registers net node device (Moved from to packet) stands =
-    sym (set_same net.registers node device stands)
-step_registers net node device (Dropped from packet) stands =
-    sym (set_same net.registers node device stands)
-step_registers net node device (Answered at request response) stands =
-    sym (set-change net.registers node device (device_after at (request_of request)) stands)
-    ∙ ap (slice_set net.registers node) (answered_is device at (request_of request))
-step_registers net node device Nothing stands =
-    sym (set_same net.registers node device stands)
 
 -- ---- the ports of the switch
 
@@ -222,13 +99,13 @@ ports_are fabric {first = first} {device = device} {ports = ports} within made =
     ∙ length-replaced fabric.ports.items made.own first device.ports within many
     ∙ sym fabric.ports.ok.0)
 
--- A switch that made a step was not marked, and the links of its ports were woken. One that had
--- none to make was marked.
-abbrev pub IdleSteps : Fabric → ℕ → ℕ → ℕ → Idle → Bool → Type 0
-IdleSteps old node first count idle true =
+-- A switch of which a packet went was not marked, and the links of the ports that it passed were
+-- woken. One of which none could go was marked.
+abbrev pub IdleSteps : Fabric → ℕ → ℕ → Idle → Option Going → Type 0
+IdleSteps old node first idle (Some going) =
     (¬ IsMarkedAt old.idle.switches.items node)
-    × Wakes (HasNumber old.cable_at.items first count) (λ n. ⊥) old.idle idle
-IdleSteps old node first count idle false = idle ≡ with_switch_mark old.idle node
+    × Wakes (HasNumber old.cable_at.items (IsPassedAt first going)) (λ n. ⊥) old.idle idle
+IdleSteps old node first idle None = idle ≡ with_switch_mark old.idle node
 
 -- the registers and the ports that a call returned
 pub record HasStepped (old new : Fabric) (node first : ℕ) (device next : Registers)
@@ -240,7 +117,7 @@ pub record HasStepped (old new : Fabric) (node first : ℕ) (device next : Regis
   pub firsts : new.firsts.items ≡ old.firsts.items
   pub cables : new.cables.items ≡ old.cables.items
   pub cable_at : new.cable_at.items ≡ old.cable_at.items
-  pub idle : IdleSteps old node first device.ports new.idle (is_step step)
+  pub idle : IdleSteps old node first new.idle (going_of step)
 
 module _ (s : Seen) (old new : Fabric) (node first : ℕ) (device next : Registers)
     (step : switch.Step)
@@ -311,32 +188,35 @@ module _ (s : Seen) (old new : Fabric) (node first : ℕ) (device next : Registe
     lines = is ∙ ap (step_lines node) step_is;
   }
 
-  -- a port that stands elsewhere is none of this switch
-  elsewhere : (q : PortRef) → IsPortOf old.devices.items q
-      → IsAway first device.ports (place_of old.firsts.items q) → q.node ≢ node
-  elsewhere q has_q away same =
-      let own : q.port < device.ports =
-      subst (λ o. HasPort o q.port)
-      (ap (slice_get old.devices.items) same ∙ has.stands) has_q in
-      away q.port own (ap (λ n. slice_index_or old.firsts.items n 0 + q.port) same
-      ∙ ap (λ n. n + q.port) (sym has.place))
+  -- a port that stands elsewhere is none that the packet passes
+  elsewhere : (going : Going) (q : PortRef) → ¬ IsPassedAt first going (place_of old.firsts.items q)
+      → q.node ≡ node → ¬ IsPassed going q.port
+  elsewhere going q away same passed =
+      away (
+        q.port,
+        passed,
+        ap (λ n. slice_index_or old.firsts.items n 0 + q.port) same
+            ∙ ap (λ n. n + q.port) (sym has.place),
+      )
 
   registers_later : (after_step s.network node step).registers ≡ slice_set s.network.registers node
       (switch_after device step)
   registers_later = step_registers s.network node device step known
 
-  -- what stays idle where a step is made
-  idle_goes : ¬ IsMarkedAt old.idle.switches.items node
-      → Wakes (HasNumber old.cable_at.items first device.ports) (λ n. ⊥) old.idle new.idle
+  -- what stays idle where a packet goes
+  idle_goes : (going : Going) → going_of step ≡ Some going
+      → ¬ IsMarkedAt old.idle.switches.items node
+      → Wakes (HasNumber old.cable_at.items (IsPassedAt first going)) (λ n. ⊥) old.idle new.idle
       → KnowsIdle new.idle (record s { network = after_step s.network node step })
-  idle_goes unmarked woke =
+  idle_goes going goes unmarked woke =
       let next = after_step s.network node step in
-      idle_ports old new.idle s (record s { network = next }) first device.ports shows woke refl
-      (links_stay s.network node step)
+      idle_ports old new.idle s (record s { network = next }) (IsPassedAt first going) shows woke
+      refl (links_stay s.network node step)
       (ap (λ (l : List Registers). length l) registers_later
       ∙ length-set s.network.registers node (switch_after device step))
-      (λ q has_q away. port_stays s next q (plans_stay s.network node step)
-      (step_others s.network node step q (elsewhere q has_q away)))
+      (λ q away. port_stays s next q (plans_stay s.network node step)
+      (step_apart s.network node step q (λ same other is. subst (λ g. ¬ IsPassed g q.port)
+      (same_Some going other (sym goes ∙ is)) (elsewhere going q away same))))
       (λ n marked rests.
       let other : n ≢ node = λ same. unmarked
       (subst (IsMarkedAt old.idle.switches.items) same marked) in
@@ -344,29 +224,28 @@ module _ (s : Seen) (old new : Fabric) (node first : ℕ) (device next : Registe
       ∙ get_other s.network.registers node n (switch_after device step) other)
       (λ j. step_others s.network node step (port n j) other) rests)
 
-  -- and where none is made
-  idle_rests : (other : switch.Step) → is_step other ≡ false → other ≡ step
+  -- and where none goes
+  idle_rests : (other : switch.Step) → going_of other ≡ None → other ≡ step
       → new.idle ≡ with_switch_mark old.idle node
       → KnowsIdle new.idle (record s { network = after_step s.network node step })
-  unfolding after_step
   idle_rests (Moved from to packet) none same idle = absurd (cc none)
   idle_rests (Dropped from packet) none same idle = absurd (cc none)
   idle_rests (Answered at request response) none same idle = absurd (cc none)
   idle_rests Nothing none same idle =
       subst (λ (x : switch.Step). KnowsIdle new.idle
       (record s { network = after_step s.network node x })) same
-      (subst (λ i. KnowsIdle i s) (sym idle)
+      (subst (λ (n : Network). KnowsIdle new.idle (record s { network = n }))
+      (sym (after_none s.network node)) (subst (λ i. KnowsIdle i s) (sym idle)
       (switch_marked old.idle node s shows.idle
-      (is_move (Lacked NoStep ∷ []) (ap (step_lines node) same))))
+      (is_move (Lacked NoStep ∷ []) (ap (step_lines node) same)))))
 
   idle_later : KnowsIdle new.idle (record s { network = after_step s.network node step })
-  idle_later = by_step (is_step step) refl has.idle
+  idle_later = by_going (going_of step) refl has.idle
     where
-      by_step : (told : Bool) → is_step step ≡ told
-          → IdleSteps old node first device.ports new.idle told
+      by_going : (o : Option Going) → going_of step ≡ o → IdleSteps old node first new.idle o
           → KnowsIdle new.idle (record s { network = after_step s.network node step })
-      by_step true is idle = idle_goes idle.0 idle.1
-      by_step false is idle = idle_rests step is refl idle
+      by_going (Some going) is idle = idle_goes going is idle.0 idle.1
+      by_going None is idle = idle_rests step is refl idle
 
   pub shows_later : ShowsFabric new (record s { network = after_step s.network node step })
   shows_later =

@@ -8,7 +8,7 @@ use Rattle.rio_chars.specs.declared.chars.Char.{Char}
 use Rattle.trace_lines.specs.declared.writer.TraceWriter.{TraceWriter}
 use Rattle.link_port.specs.Ports.{PortState}
 use Rattle.link_wires.specs.Wires.{fits, edited}
-use Rattle.link_wires.specs.declared.edits.Edit.{Edit}
+use Rattle.rio_chars.specs.declared.edit.Edit.{Edit}
 use Rattle.link_machine.specs.Calls.{edited_from}
 use Rattle.link_machine.specs.States.{Wires, link, wire_at}
 use Rattle.fabric_script.specs.declared.ports.PortRef.{PortRef}
@@ -20,7 +20,8 @@ use Rattle.trace_lines.specs.Lines.{TraceLine, Begun}
 use Rattle.fabric_trace.specs.Parts.{Done}
 use Rattle.fabric_trace.specs.Parts.Part.{PartBegins}
 use Rattle.fabric_trace.proofs.Parts.Making.{one_part}
-use Rattle.fabric_ask.specs.Noise.{Gives, edit_line, is_idle, edit_lines, stirred}
+use Rattle.fabric_script.specs.Operations.{line_editing}
+use Rattle.fabric_ask.specs.Noise.{Gives, is_idle, edit_lines, stirred}
 use Rattle.fabric_ask.proofs.Carrying.{edit_is}
 use Rattle.fabric_ports.specs.Carrying.{Edits as EditsWire, Stirs}
 use Rattle.fabric_ports.specs.Ends.{IsPlaceOf}
@@ -85,10 +86,10 @@ edit_stands : (p : PortRef) (edit : Edit) {from : Seen} {lines : List TraceLine}
     {old new : Fabric} (does : Bool)
     → (fits edit ((seen from lines).wires p).chars && not (is_idle edit)) ≡ does
     → Stands from lines old → ShowsFabric new (edited_by (seen from lines) (Some (p, edit)))
-    → Stands from (lines ++ (if does then Begun (edit_line p edit) ∷ [] else [])) new
+    → Stands from (lines ++ (if does then Begun (line_editing p edit) ∷ [] else [])) new
 edit_stands p edit {from = from} {lines = lines} {new = new} true is stands shows =
     let begun = ap (edited_by (seen from lines)) (edit_is p edit) in
-    stands_with stands (one_part (PartBegins (edit_line p edit) refl))
+    stands_with stands (one_part (PartBegins (line_editing p edit) refl))
     (ap (λ (t : Seen). t.undetected) begun ∙ stands.sent)
     (subst (ShowsFabric new) (sym begun) shows)
 edit_stands p edit {from = from} {lines = lines} {new = new} false is stands shows =

@@ -2,7 +2,6 @@
 use Rattle.std.specs.Prelude.{◌≡◌, ◌≤◌, ℕ, List, [], ◌∷◌, Result, Ok, Err, if◌then◌else◌, slice_get, slice_set, Some}
 use Rattle.link_watch.specs.declared.note.Note.{Note}
 use Rattle.link_watch.specs.declared.side.Side.{Side}
-use Rattle.link_wires.specs.declared.edits.Edit.{Edit}
 use Rattle.link_wires.specs.declared.edits.Edited.{Edited}
 use Rattle.link_wires.specs.declared.edits.Edited.TheVariants as Edits
 use Rattle.link_machine.specs.Calls.{has_chars, is_silent}
@@ -17,8 +16,6 @@ use Rattle.link_law.specs.declared.answers.LinkEnd.TheVariants.{Undetected, Fail
 use Rattle.trace_lines.specs.Notes.{port_at_side}
 use Rattle.trace_lines.specs.Lines as traced
 use Rattle.trace_lines.specs.Lines.{TraceLine, Lacked}
-use Rattle.fabric_script.specs.declared.operations.WireEdit.{WireEdit}
-use Rattle.fabric_script.specs.declared.operations.WireEdit.TheVariants as Asked
 use Rattle.fabric_script.specs.declared.ports.PortRef.{PortRef}
 use Rattle.fabric_ports.specs.declared.actions.Acted.{Acted}
 use Rattle.fabric_ports.specs.declared.actions.Acted.TheVariants.{Done, Short, Early}
@@ -53,12 +50,6 @@ abbrev pub lack_lines : Acted → List TraceLine
 lack_lines Done = []
 lack_lines Short = Lacked traced.Short ∷ []
 lack_lines Early = Lacked traced.Early ∷ []
-
--- the edit of a wire that a line asks for
-abbrev pub edit_asked : WireEdit → Edit
-edit_asked (Asked.Alter place ch) = Edit.Alter place ch
-edit_asked (Asked.Insert place ch) = Edit.Insert place ch
-edit_asked (Asked.Erase place count) = Edit.Erase place count
 
 -- the answer of an edit, as that of an action
 abbrev pub edit_acted : Edited → Acted

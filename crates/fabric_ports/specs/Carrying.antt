@@ -1,6 +1,6 @@
 -- What the links of a fabric do in a round of an ask.
 use Rattle.std.specs.Prelude.{◌≡◌, List, Some, Result, Ok, Err, map}
-use Rattle.link_wires.specs.declared.edits.Edit.{Edit}
+use Rattle.rio_chars.specs.declared.edit.Edit.{Edit}
 use Rattle.fabric_script.specs.declared.ports.PortRef.{PortRef}
 use Rattle.fabric_model.specs.Network.{link_in}
 use Rattle.fabric_trace.specs.Blocks.{pumps}

@@ -3,7 +3,7 @@ use Rattle.std.specs.Prelude.{◌≡◌, ◌≢◌, ℕ, List, [], ◌∷◌, �
 use Rattle.maint_packets.specs.Responses.{response_of}
 use Rattle.maint_packets.specs.declared.request.Request.{Request}
 use Rattle.maint_packets.specs.declared.response.Response.{Response}
-use Rattle.link_wires.specs.declared.edits.Edit.{Edit}
+use Rattle.rio_chars.specs.declared.edit.Edit.{Edit}
 use Rattle.fabric_model.specs.Steps.{Leave, AtNode}
 use Rattle.trace_lines.specs.Lines.{TraceLine, Stepped}
 use Rattle.fabric_ask.specs.Asks.{AskRounds, IsAsk}

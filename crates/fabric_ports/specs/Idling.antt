@@ -1,6 +1,8 @@
 -- What a fabric knows to have nothing to do.
-use Rattle.std.specs.Prelude.{◌≡◌, ℕ, ◌+◌, ◌<◌, Bool, true, false, List, [], ◌∷◌, length, Some, slice_get, slice_index_or}
+use Rattle.std.specs.Prelude.{◌≡◌, ◌⊎◌, ℕ, ◌+◌, Bool, true, false, List, [], ◌∷◌, length, Some, slice_get, slice_index_or}
 use Rattle.link_law.specs.Resting.{has_no_work}
+use Rattle.maint_packets.specs.declared.next_hop.Next.TheVariants.{Port}
+use Rattle.switch_core.specs.declared.going.Going.{Going}
 use Rattle.fabric_script.specs.declared.ports.PortRef.{PortRef}
 use Rattle.fabric_trace.specs.Known.{Seen, link_at}
 use Rattle.fabric_trace.specs.Served.{IsMove}
@@ -30,7 +32,15 @@ pub record Wakes (Links Switches : ℕ → Type 0) (old new : Idle) : Type 0 whe
   pub as_many_links : length new.links.items ≡ length old.links.items
   pub as_many_devices : length new.switches.items ≡ length old.switches.items
 
--- at one of so many places from this one on the number of this link stands
-abbrev pub HasNumber : List ℕ → ℕ → ℕ → ℕ → Type 0
-HasNumber numbers first count k =
-    (j : ℕ) × (j < count) × (slice_get numbers (first + j) ≡ Some k)
+-- at one of these places the number of this link stands
+abbrev pub HasNumber : List ℕ → (ℕ → Type 0) → ℕ → Type 0
+HasNumber numbers Places k =
+    (place : ℕ) × Places place × (slice_get numbers place ≡ Some k)
+
+-- a packet that goes leaves this port of its switch, or moves to it
+abbrev pub IsPassed : Going → ℕ → Type 0
+IsPassed going n = (n ≡ going.port) ⊎ (going.next ≡ Port n)
+
+-- at this place stands such a port, where the ports of the switch stand in a row from a place on
+abbrev pub IsPassedAt : ℕ → Going → ℕ → Type 0
+IsPassedAt first going place = (n : ℕ) × IsPassed going n × (place ≡ first + n)

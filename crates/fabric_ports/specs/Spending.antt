@@ -1,7 +1,7 @@
 -- Which edits of a noise an ask leaves.
 use Rattle.std.specs.Prelude.{◌≡◌, ℕ, ◌<◌, ◌⊎◌, true, List}
 use Rattle.maint_packets.specs.declared.request.Request.{Request}
-use Rattle.link_wires.specs.declared.edits.Edit.{Edit}
+use Rattle.rio_chars.specs.declared.edit.Edit.{Edit}
 use Rattle.fabric_trace.specs.Blocks.{Asks}
 use Rattle.fabric_trace.specs.Rounds.{Joined}
 use Rattle.fabric_trace.specs.Served.{IsCollect}

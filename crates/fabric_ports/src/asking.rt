@@ -21,7 +21,7 @@ use maint_packets::{Request, Response, read_response, write_request};
 use rio_chars::{Outbox, Sink, TextBuffer};
 use rio_packets::Packet;
 use std::alloc::Global;
-use trace_lines::TraceWriter;
+use trace_lines::{PacketCounts, TraceWriter};
 
 /// The most rounds that an ask makes: 256 for a request, which has a hop count below 256, as many
 /// for its response, and some to spare.
@@ -139,7 +139,11 @@ impl Fabric {
             → outbox.new.faults ≡ outbox.old.faults }
         ensures never_falls { outbox.old.faults ≤ outbox.new.faults }
     {
-        let mut writer = TraceWriter { outbox, names };
+        let mut writer = TraceWriter {
+            outbox,
+            names,
+            counts: PacketCounts::new(),
+        };
         let told = self.tell_ask(alloc, host, request, noise, &mut writer);
         outbox.flush();
         if outbox.failed() {

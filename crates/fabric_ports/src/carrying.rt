@@ -1,29 +1,29 @@
 //! What the links do in a round of an ask.
-ghost use Rattle.std.specs.Prelude.{◌≡◌, ◌≤◌, ◌<◌, List, length, map, slice_get, Some, Ok, Err};
+ghost use Rattle.std.specs.Prelude.{◌≡◌, ◌≤◌, ◌<◌, List, length, Ok, Err};
 ghost use Rattle.rio_chars.specs.declared.chars.Char.{Char};
 ghost use Rattle.link_wires.specs.Wires.{fits, edit_answered};
 ghost use Rattle.fabric_trace.specs.Fold.{seen};
 ghost use Rattle.fabric_trace.specs.Known.{Seen};
 ghost use Rattle.trace_lines.specs.Lines.{TraceLine};
 ghost use Rattle.trace_lines.specs.Writing.{Adds};
-ghost use Rattle.fabric_ask.specs.Noise.{edit_line, edit_lines, is_idle};
+ghost use Rattle.fabric_ask.specs.Noise.{edit_lines, is_idle};
 ghost use Rattle.fabric_ports.specs.Carrying.{AreLinked, LeftBy, BothTurn, Stirs, Edits, BothStir, LinkCarries, LinksCarry};
 ghost use Rattle.fabric_ports.specs.Ends.{PortIsLinked};
 ghost use Rattle.fabric_ports.specs.Ran.{FabricRan, end_with};
-ghost use Rattle.fabric_ports.specs.Showing.{ends_of};
 ghost use Rattle.fabric_ports.specs.Standing.{Stands, StandsForLines};
 
 use crate::answers::FabricEnd;
 use crate::fabric::Fabric;
 use crate::noise::Noise;
 use fabric_script::{Action, Line, PortRef};
-use link_wires::{Edit, Edited};
-use rio_chars::Sink;
+use link_wires::Edited;
+use rio_chars::{Edit, Sink};
 use std::alloc::Global;
 use trace_lines::TraceWriter;
 
 impl Fabric {
-    /// Every link carries what it can, in the order of the links.
+    /// Every link carries what it can, in the order of the links. One that has nothing to do is
+    /// passed by: most are.
     pub(crate) fn carry_all<N: Noise, K: Sink>(
         &mut self,
         alloc: Global,
@@ -36,33 +36,14 @@ impl Fabric {
             self.old writer.old writer.new (end_with self.new result) }
     {
         for place in 0..self.cables.len() {
+            if self.is_still(place) {
+                continue;
+            }
             let cable = &self.cables[place];
             let (a, b) = (cable.a, cable.b);
-            self.carry_at(alloc, place, (a, b), noise, writer)?;
+            self.carry(alloc, (a, b), noise, writer)?;
         }
         Ok(())
-    }
-
-    /// The link at a place carries what it can, if it has anything to do. Most links have not.
-    fn carry_at<N: Noise, K: Sink>(
-        &mut self,
-        alloc: Global,
-        place: usize,
-        ends: (PortRef, PortRef),
-        noise: &mut N,
-        writer: &mut TraceWriter<K>,
-    ) -> Result<(), FabricEnd>
-        requires at { slice_get (map ends_of self.old.cables.items) place ≡ Some ends }
-        requires linked { AreLinked self.old ends }
-        requires named { length self.old.devices.items ≤ length writer.old.names.now }
-        ensures { FabricRan
-            (LeftBy result (LinkCarries ends (N.edits noise.old)) (N.edits noise.new))
-            self.old writer.old writer.new (end_with self.new result) }
-    {
-        if self.is_still(place) {
-            return Ok(());
-        }
-        self.carry(alloc, ends, noise, writer)
     }
 
     /// Both ports of a link take a turn, each wire that has characters gets the next edit, and the
@@ -187,7 +168,7 @@ fn write_edit<K: Sink>(writer: &mut TraceWriter<K>, port: PortRef, edit: &Edit, 
     match edited {
         Edited::Done => {
             if !is_idle(edit) {
-                writer.write_begun(&line_of(port, edit));
+                writer.write_begun(&Line::editing(port, edit));
             }
         }
         Edited::Short => {}
@@ -201,28 +182,5 @@ fn is_idle(edit: &Edit) -> bool
     match edit {
         Edit::Erase { count, .. } => *count == 0,
         Edit::Alter { .. } | Edit::Insert { .. } => false,
-    }
-}
-
-/// The line of an edit of a port's wire.
-fn line_of(port: PortRef, edit: &Edit) -> Line
-    ensures { result ≡ edit_line port edit.now }
-{
-    match edit {
-        Edit::Alter { place, ch } => Line::Alter {
-            port,
-            place: *place,
-            ch: *ch,
-        },
-        Edit::Erase { place, count } => Line::Erase {
-            port,
-            place: *place,
-            n: *count,
-        },
-        Edit::Insert { place, ch } => Line::Insert {
-            port,
-            place: *place,
-            ch: *ch,
-        },
     }
 }

@@ -5,7 +5,7 @@ ghost use Rattle.fabric_script.specs.Operations.{line_editing};
 ghost use Rattle.fabric_trace.specs.Fold.{edited_by, seen};
 ghost use Rattle.fabric_trace.specs.Known.{Seen};
 ghost use Rattle.trace_lines.specs.Lines.{TraceLine};
-ghost use Rattle.fabric_ports.specs.Acting.{edit_acted, edit_asked};
+ghost use Rattle.fabric_ports.specs.Acting.{edit_acted};
 ghost use Rattle.fabric_ports.specs.Ends.{PortIsLinked};
 ghost use Rattle.fabric_ports.specs.Events.{Did};
 ghost use Rattle.fabric_ports.specs.Ran.{Blocks};
@@ -15,9 +15,9 @@ ghost use Rattle.fabric_ports.specs.declared.answers.FabricEnd.TheVariants.{NoMe
 use crate::actions::{Acted, write_lack};
 use crate::answers::FabricEnd;
 use crate::fabric::Fabric;
-use fabric_script::{PortRef, WireEdit};
-use link_wires::{Edit, Edited};
-use rio_chars::Sink;
+use fabric_script::PortRef;
+use link_wires::Edited;
+use rio_chars::{Edit, Sink};
 use std::alloc::Global;
 use trace_lines::TraceWriter;
 
@@ -28,37 +28,26 @@ impl Fabric {
         &mut self,
         alloc: Global,
         port: PortRef,
-        edit: WireEdit,
+        edit: &Edit,
         writer: &mut TraceWriter<K>,
     ) -> Result<(), FabricEnd>
         requires { PortIsLinked self.old port }
         ensures done { OnOk result ((from : Seen) (lines : List TraceLine)
             → Stands from lines self.old
-            → Did (Blocks (line_editing port edit) (seen from lines)) writer.old writer.new
-            (edited_by (seen from lines) (Some (port, edit_asked edit))) self.new) }
+            → Did (Blocks (line_editing port edit.now) (seen from lines)) writer.old writer.new
+            (edited_by (seen from lines) (Some (port, edit.now))) self.new) }
         ensures ended { IfErr result (λ end. (end ≡ NoMemory) × (writer.new ≡ writer.old)) }
     {
         let place = self.link_of(port);
         let cable = &mut self.cables[place.cable];
         self.idle.wake_link(place.cable, cable.a.node, cable.b.node);
-        match cable.link.edit(alloc, place.side, &edit_asked(edit)) {
+        match cable.link.edit(alloc, place.side, edit) {
             Ok(edited) => {
                 write_lack(writer, as_acted(edited));
                 Ok(())
             }
             Err(_) => Err(FabricEnd::NoMemory),
         }
-    }
-}
-
-/// The edit of a wire that a line asks for.
-fn edit_asked(edit: WireEdit) -> Edit
-    ensures { result ≡ edit_asked edit }
-{
-    match edit {
-        WireEdit::Alter { place, ch } => Edit::Alter { place, ch },
-        WireEdit::Insert { place, ch } => Edit::Insert { place, ch },
-        WireEdit::Erase { place, count } => Edit::Erase { place, count },
     }
 }
 

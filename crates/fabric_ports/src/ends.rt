@@ -40,6 +40,7 @@ impl Fabric {
 
     /// Whether the link at a place has nothing to do. If so, it is marked, and is not looked at
     /// again until something is done at it.
+    #[inline(always)]
     pub(crate) fn is_still(&mut self, place: usize) -> bool
         requires shown { (s : Seen) × ShowsFabric self.old s }
         requires within { place < length self.old.cables.items }
@@ -52,6 +53,21 @@ impl Fabric {
         if self.idle.links[place] {
             return true;
         }
+        self.mark_if_idle(place)
+    }
+
+    /// Looks at the ports and wires of the link at a place, whether it has nothing to do. If so, it
+    /// is marked.
+    #[inline(never)]
+    fn mark_if_idle(&mut self, place: usize) -> bool
+        requires shown { (s : Seen) × ShowsFabric self.old s }
+        requires within { place < length self.old.cables.items }
+        ensures shows { (s : Seen) → ShowsFabric self.old s → ShowsFabric self.new s }
+        ensures still { (s : Seen) (a b : PortRef) → ShowsFabric self.old s
+            → slice_get (map ends_of self.old.cables.items) place ≡ Some (a, b)
+            → result ≡ has_no_work (link_at s a b) }
+        ensures rest { self.new ≡ record self.old { idle = self.new.idle } }
+    {
         let idle = self.is_idle(place);
         self.idle.links[place] = idle;
         idle

@@ -53,7 +53,7 @@ impl Fabric {
                 Ok(Happened::Other)
             }
             Operation::Edit(port, edit) => {
-                self.edit(alloc, port, edit, writer)?;
+                self.edit(alloc, port, &edit, writer)?;
                 Ok(Happened::Other)
             }
             Operation::Move(node) => {

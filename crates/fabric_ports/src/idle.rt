@@ -1,8 +1,10 @@
 //! What a fabric knows to have nothing to do, so that a round costs what it moves.
 ghost use Rattle.std.specs.Prelude.{◌≡◌, ◌≢◌, ◌⊎◌, ◌+◌, ◌<◌, ℕ, false, length, replicate, IfOk};
-ghost use Rattle.fabric_ports.specs.Idling.{IsMarkedAt, HasNumber, Wakes};
+ghost use Rattle.fabric_ports.specs.Idling.{IsMarkedAt, HasNumber, IsPassedAt, Wakes};
 
+use maint_packets::Next;
 use std::alloc::{AllocError, Global};
+use switch_core::Going;
 
 /// The links and the switches of which it is known that they have nothing to do. Each that is
 /// marked has nothing to do; one that is not marked may have.
@@ -43,16 +45,26 @@ impl Idle {
         clear(&mut self.switches, usize::from(node));
     }
 
-    /// The packets of ports that stand in a row have changed: the links of these ports may have
-    /// work. The numbers of links stand by the places of ports.
-    pub(crate) fn wake_ports(&mut self, numbers: &[usize], first: usize, count: usize)
-        requires { first + count < 0x10000000000000000 }
-        ensures { Wakes (HasNumber numbers.now first count) (λ _. ⊥) self.old self.new }
+    /// The packets of a port have changed: its link may have work. The numbers of links stand by
+    /// the places of ports.
+    pub(crate) fn wake_port(&mut self, numbers: &[usize], place: usize)
+        ensures { Wakes (HasNumber numbers.now (λ n. n ≡ place)) (λ _. ⊥) self.old self.new }
     {
-        for place in first..first + count {
-            if let Some(number) = numbers.get(place) {
-                clear(&mut self.links, *number);
-            }
+        if let Some(number) = numbers.get(place) {
+            clear(&mut self.links, *number);
+        }
+    }
+
+    /// A packet of a switch has gone, whose ports stand in a row from a place on: the links of the
+    /// port that it left and of the one to which it went may have work.
+    pub(crate) fn wake_going(&mut self, numbers: &[usize], first: usize, going: Going)
+        requires { (place : ℕ) → IsPassedAt first going place → place < 0x10000000000000000 }
+        ensures { Wakes (HasNumber numbers.now (IsPassedAt first going)) (λ _. ⊥)
+            self.old self.new }
+    {
+        self.wake_port(numbers, first + usize::from(going.port));
+        if let Next::Port(to) = going.next {
+            self.wake_port(numbers, first + usize::from(to));
         }
     }
 }

@@ -40,7 +40,7 @@ impl Fabric {
         }
         writer.write_take(node, &packet);
         self.ports[place].out_put(packet);
-        self.idle.wake_ports(&self.cable_at, place, 1);
+        self.idle.wake_port(&self.cable_at, place);
         Happened::Took
     }
 
@@ -55,7 +55,7 @@ impl Fabric {
     {
         let port = PortRef { node, port: 0 };
         let place = self.place(port);
-        self.idle.wake_ports(&self.cable_at, place, 1);
+        self.idle.wake_port(&self.cable_at, place);
         let registers = &mut self.devices[usize::from(node)];
         match endpoint_collect(&mut self.ports[place], registers) {
             Collected::Left(packet) => {

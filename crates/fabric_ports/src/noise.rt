@@ -1,9 +1,9 @@
 //! `Noise`: who changes what is on the wires while a host asks.
 ghost use Rattle.std.specs.Prelude.{List, []};
 ghost use Rattle.fabric_ask.specs.Noise.{Gives};
-ghost use Rattle.link_wires.specs.declared.edits.Edit.{Edit};
+ghost use Rattle.rio_chars.specs.declared.edit.Edit.{Edit};
 
-use link_wires::Edit;
+use rio_chars::Edit;
 
 /// Whoever changes what is on the wires while a host asks.
 pub trait Noise {

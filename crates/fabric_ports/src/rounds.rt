@@ -49,10 +49,10 @@ impl Fabric {
         ensures { FabricRan LinksSettle self.old writer.old writer.new (end_with self.new result) }
     {
         for place in 0..self.cables.len() {
-            let port = self.cables[place].a;
             if self.is_still(place) {
                 continue;
             }
+            let port = self.cables[place].a;
             self.settle_link(alloc, port, writer)?;
         }
         Ok(())

@@ -1,9 +1,9 @@
 //! The step of a switch.
-ghost use Rattle.std.specs.Prelude.{◌≡◌, ◌<◌, ◌+◌, ◌≤◌, length, true, None};
+ghost use Rattle.std.specs.Prelude.{◌≡◌, ◌<◌, ◌+◌, ◌≤◌, length, true, None, IfSome, is_some};
 ghost use Rattle.link_port.specs.Ports.{AreAlike};
 ghost use Rattle.maint_registers.specs.Devices.{IsSameDevice};
 ghost use Rattle.switch_core.specs.Faces.{AllAlike};
-ghost use Rattle.switch_core.specs.Goings.{Goes};
+ghost use Rattle.switch_core.specs.Goings.{going_of, Goes};
 ghost use Rattle.switch_core.specs.SwitchSteps.{step_of, faces_after, switch_after};
 ghost use Rattle.fabric_model.specs.Laws.Priorities.{ByPriority};
 ghost use Rattle.fabric_trace.specs.Known.{Seen};
@@ -52,33 +52,36 @@ impl Fabric {
         }
         let first = self.firsts[usize::from(node)];
         let registers = &mut self.devices[usize::from(node)];
-        let count = usize::from(registers.ports());
         prove!(self.ports.len() <= usize::MAX);
-        if !step_from(&mut self.ports, first, registers, node, writer) {
+        let Some(going) = step_from(&mut self.ports, first, registers, node, writer) else {
             self.idle.switches[usize::from(node)] = true;
             return false;
-        }
-        self.idle.wake_ports(&self.cable_at, first, count);
+        };
+        self.idle.wake_going(&self.cable_at, first, going);
         true
     }
 }
 
 /// The step of a switch whose ports stand in a list from this place on, which is written. Returns
-/// whether there is one.
+/// the packet that went, if there is one.
 fn step_from<K: Sink>(
     ports: &mut [Port],
     first: usize,
     registers: &mut Registers,
     node: u8,
     writer: &mut TraceWriter<K>,
-) -> bool
+) -> Option<Going>
     requires within { first + registers.old.ports ≤ length ports.old }
     requires named { node < length writer.old.names.now }
     ensures made { MadeStep first registers.old registers.new ports.old ports.new
         (step_of registers.old (faces_at (own_ports ports.old first registers.old.ports))) }
+    ensures going { result ≡ going_of
+        (step_of registers.old (faces_at (own_ports ports.old first registers.old.ports))) }
+    ensures goes { IfSome result
+        (Goes registers.old (faces_at (own_ports ports.old first registers.old.ports))) }
     ensures wrote { Wrote node
         (step_of registers.old (faces_at (own_ports ports.old first registers.old.ports)))
-        writer.old writer.new result }
+        writer.old writer.new (is_some result) }
 {
     let count = usize::from(registers.ports());
     let (_, rest) = ports.split_at_mut(first);
@@ -86,13 +89,14 @@ fn step_from<K: Sink>(
     step_own(own, registers, node, writer)
 }
 
-/// The step of a switch with these ports, which is written. Returns whether there is one.
+/// The step of a switch with these ports, which is written. Returns the packet that went, if there
+/// is one.
 fn step_own<K: Sink>(
     own: &mut [Port],
     registers: &mut Registers,
     node: u8,
     writer: &mut TraceWriter<K>,
-) -> bool
+) -> Option<Going>
     requires ports { length own.old ≡ registers.old.ports }
     requires named { node < length writer.old.names.now }
     ensures lists { faces_at own.new
@@ -101,14 +105,16 @@ fn step_own<K: Sink>(
         ≡ switch_after registers.old (step_of registers.old (faces_at own.old)) }
     ensures same { IsSameDevice registers.old registers.new }
     ensures alike { AllAlike AreAlike own.old own.new }
+    ensures going { result ≡ going_of (step_of registers.old (faces_at own.old)) }
+    ensures goes { IfSome result (Goes registers.old (faces_at own.old)) }
     ensures wrote { Wrote node (step_of registers.old (faces_at own.old))
-        writer.old writer.new result }
+        writer.old writer.new (is_some result) }
 {
     let Some(going) = first_going(own, registers) else {
-        return false;
+        return None;
     };
     make_step(own, registers, going, node, writer);
-    true
+    Some(going)
 }
 
 /// The step of the packet that goes. It is written of the packet as it stands at its port.

@@ -5,7 +5,7 @@ use Rattle.link_watch.specs.declared.note.Note.TheVariants as Notes
 use Rattle.link_machine.specs.Calls.{has_chars, pump_notes, delivery_notes, is_silent, time_out_notes}
 use Rattle.link_machine.specs.Acts.{At, acts_notes}
 use Rattle.link_wires.specs.Wires.{fits}
-use Rattle.link_wires.specs.declared.edits.Edit.{Edit}
+use Rattle.rio_chars.specs.declared.edit.Edit.{Edit}
 use Rattle.link_watch.specs.declared.side.Side.TheVariants.{A}
 use Rattle.switch_core.specs.declared.endpoint.Collected.{Collected}
 use Rattle.switch_core.specs.declared.endpoint.Collected.TheVariants as Collects

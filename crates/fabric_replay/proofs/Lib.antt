@@ -4,8 +4,6 @@ pub mod Naming
 pub mod Telling
 pub mod Writing
 pub mod EarlyEnds
-pub mod TallyLaws
-pub mod LineFeeds
-pub mod Letters
+pub mod CountLaws
 pub mod FewTakes
 pub mod SummingLaws

@@ -1,5 +1,5 @@
--- The tally of the text of a trace counts its lines.
-use Rattle.std.proofs.Common.{◌≡◌, ℕ, ◌+◌, ◌-◌, ◌≤◌, true, List, [], ◌++◌, Option, Some, inl, inr, Err, IsErrOf, sym, ap, ◌∙◌, subst, arith}
+-- The counts of the writer of a trace are those of a summary.
+use Rattle.std.proofs.Common.{◌≡◌, ◌≢◌, ◌⊎◌, ℕ, ◌+◌, ◌-◌, ◌≤◌, true, List, None, Some, inl, inr, Err, IsErrOf, sym, ap, ◌∙◌, subst, arith}
 use Rattle.rio_chars.specs.Faults.{Rose}
 use Rattle.link_model.specs.declared.event.Event.{Event}
 use Rattle.fabric_script.specs.Scripts.{ScriptPasses}
@@ -8,118 +8,119 @@ use Rattle.fabric_script.specs.declared.lines.Numbered.{Numbered}
 use Rattle.fabric_model.specs.Laws.Nodes.{all_ports}
 use Rattle.fabric_model.specs.Laws.Stock.{stock, takes_by, leaves_by, drops_by, steps_in}
 use Rattle.fabric_trace.specs.Fold.{seen}
-use Rattle.trace_lines.specs.Lines.{TraceLine, steps_of}
 use Rattle.fabric_trace.specs.Runs.{start, Runs}
-use Rattle.trace_lines.specs.Text.{trace_text}
 use Rattle.fabric_trace.proofs.SetUps.Balancing.{runs_stand, runs_balance}
-use Rattle.fabric_replay.specs.Replaying.{ReplayedWhole, ReplayedUndetected}
+use Rattle.fabric_trace.proofs.SetUps.Happening.{may_set_up}
+use Rattle.fabric_trace.proofs.Shown.Shows.{runs_shown}
+use Rattle.fabric_trace.proofs.Traces.Unique.{runs_one}
+use Rattle.trace_lines.specs.Counts.{nothing_counted, with_lines_counted}
+use Rattle.trace_lines.specs.Lines.{TraceLine, Ended, Undetected, steps_of}
+use Rattle.trace_lines.specs.declared.counts.PacketCounts.{PacketCounts}
+use Rattle.trace_lines.specs.declared.writer.TraceWriter.{TraceWriter}
+use Rattle.fabric_replay.specs.Going.{ToldUntil, ToldWhole}
 use Rattle.fabric_replay.specs.Summing.{CountsLines, Summed, SummedUndetected, EndsLike}
-use Rattle.fabric_replay.specs.Tallies.{IsCount, begun_with, Tallied}
 use Rattle.fabric_replay.specs.declared.replaying.ReplayEnd.{ReplayEnd}
 use Rattle.fabric_replay.specs.declared.replaying.ReplayEnd.TheVariants as Replays
 use Rattle.fabric_replay.specs.declared.summing.Counts.{Counts}
 use Rattle.fabric_replay.specs.declared.summing.SummaryEnd.{SummaryEnd}
 use Rattle.fabric_replay.specs.declared.summing.SummaryEnd.TheVariants as Ends
-use Rattle.fabric_replay.specs.declared.tally.Tally.{Tally}
+use Rattle.fabric_replay.proofs.CountLaws.{taken_counted, left_counted, dropped_counted}
 use Rattle.fabric_replay.proofs.FewTakes.{few_takes}
-use Rattle.fabric_replay.proofs.Letters.{takes_told, leaves_told, drops_told}
-use Rattle.fabric_replay.proofs.LineFeeds.{names_feedless}
 
--- a count that has room is that of the steps
-exact : (told steps count : ℕ) → IsCount told count → told ≡ steps → steps ≤ 100000 → count ≡ steps
-exact told steps count is same few = is (omega (arith, same, few)) ∙ same
+-- what the counts of a whole trace say
+record CountsTrace (script : List Numbered) (lines : List TraceLine) (counts : PacketCounts)
+    : Type 0 where
+  taken : counts.taken ≡ steps_in takes_by (steps_of lines)
+  left : counts.left ≡ steps_in leaves_by (steps_of lines)
+  dropped : counts.dropped ≡ steps_in drops_by (steps_of lines)
+  sum : counts.taken ≡ counts.left + counts.dropped + stock (seen (start script) lines).network
+      (all_ports (seen (start script) lines).network.registers)
 
--- what a tally of a whole trace says
-pub record TalliesTrace (script : List Numbered) (lines : List TraceLine) (tally : Tally) : Type 0
-  where
-    pub taken : tally.taken ≡ steps_in takes_by (steps_of lines)
-    pub left : tally.left ≡ steps_in leaves_by (steps_of lines)
-    pub dropped : tally.dropped ≡ steps_in drops_by (steps_of lines)
-    pub sum : tally.taken ≡ tally.left + tally.dropped + stock (seen (start script) lines).network
-        (all_ports (seen (start script) lines).network.registers)
+module _ (names : List (List ℕ)) (script : List Numbered) (passes : ScriptPasses names script) where
+  trace_counted : (lines : List TraceLine) → Runs script lines
+      → CountsTrace script lines (with_lines_counted nothing_counted lines)
+  trace_counted lines runs =
+      let few = few_takes names script lines passes runs in
+      let balance = runs_balance names script lines passes runs in
+      let all = with_lines_counted nothing_counted lines in
+      let taken : all.taken ≡ steps_in takes_by (steps_of lines) =
+      omega (arith, taken_counted nothing_counted lines (omega arith)) in
+      let left : all.left ≡ steps_in leaves_by (steps_of lines) =
+      omega (arith, left_counted nothing_counted lines (omega (arith, few, balance))) in
+      let dropped : all.dropped ≡ steps_in drops_by (steps_of lines) =
+      omega (arith, dropped_counted nothing_counted lines (omega (arith, few, balance))) in
+      record {
+        taken = taken;
+        left = left;
+        dropped = dropped;
+        sum = omega (arith, taken, left, dropped, balance);
+      }
 
-tallies : (names : List (List ℕ)) (script : List Numbered) (lines : List TraceLine) (text : List ℕ)
-    (tally : Tally) → ScriptPasses names script → Runs script lines → text ≡ trace_text names lines
-    → Tallied text tally → TalliesTrace script lines tally
-tallies names script lines text tally passes runs is counted =
-    let named = names_feedless names script passes in
-    let few = few_takes names script lines passes runs in
-    let balance = runs_balance names script lines passes runs in
-    let taken = exact _ _ tally.taken counted.taken (ap (begun_with 116 true) is
-    ∙ takes_told names lines named) few in
-    let left = exact _ _ tally.left counted.left (ap (begun_with 108 true) is
-    ∙ leaves_told names lines named) (omega (arith, few, balance)) in
-    let dropped = exact _ _ tally.dropped counted.dropped (ap (begun_with 100 true) is
-    ∙ drops_told names lines named) (omega (arith, few, balance)) in
-    record {
-      taken = taken;
-      left = left;
-      dropped = dropped;
-      sum =
-          omega (arith, taken, left, dropped, balance);
-    }
+  module _ {K : Type 0} {begun out : TraceWriter K} (none : begun.counts ≡ nothing_counted) where
+    counted : (whole : ToldWhole begun out script Ended None)
+        → CountsTrace script whole.lines out.counts
+    counted whole = subst (CountsTrace script whole.lines)
+        (sym (whole.adds.counts ∙ ap (λ counts. with_lines_counted counts whole.lines) none))
+        (trace_counted whole.lines whole.runs)
 
-pub whole_tally : (names : List (List ℕ)) (script : List Numbered) (begun text : List ℕ)
-    (tally : Tally) → ScriptPasses names script → begun ≡ []
-    → (whole : ReplayedWhole names script (Some begun) (Some text)) → Tallied text tally
-    → TalliesTrace script whole.replayed.lines tally
-whole_tally names script begun text tally passes none whole counted =
-    tallies names script whole.replayed.lines text tally passes whole.replayed.runs
-    (whole.replayed.told ∙ ap (λ (l : List ℕ). l ++ trace_text names whole.replayed.lines) none)
-    counted
+    -- what has left and what was dropped was taken
+    pub fits : ToldWhole begun out script Ended None
+        → out.counts.left + out.counts.dropped ≤ out.counts.taken
+    fits whole = let sum = (counted whole).sum in omega arith
 
-pub fits : (script : List Numbered) (lines : List TraceLine) (tally : Tally)
-    → TalliesTrace script lines tally → tally.left + tally.dropped ≤ tally.taken
-fits script lines tally is = let sum = is.sum in omega arith
+    pub summed : (counts : Counts) → ToldWhole begun out script Ended None
+        → counts ≡ record {
+          taken = out.counts.taken;
+          left = out.counts.left;
+          dropped = out.counts.dropped;
+          held = out.counts.taken - out.counts.left - out.counts.dropped;
+        }
+        → Summed script counts
+    summed counts whole same =
+        let is = counted whole in
+        let sum = is.sum in
+        record {
+          lines = whole.lines;
+          runs = whole.runs;
+          only = λ other runs. runs_one script other whole.lines runs whole.runs;
+          ends = whole.ends;
+          counted = subst (CountsLines whole.lines (seen (start script) whole.lines).network)
+              (sym same) (record {
+                taken = is.taken;
+                left = is.left;
+                dropped = is.dropped;
+                held = omega arith;
+                sum = omega arith;
+              });
+          stand = runs_stand names script whole.lines passes whole.runs;
+          shown = runs_shown script whole.lines (may_set_up names script passes) whole.runs;
+        }
 
-pub summed : (names : List (List ℕ)) (script : List Numbered) (written written_after : Option
-    (List ℕ)) (tally : Tally) (counts : Counts) → ScriptPasses names script
-    → (whole : ReplayedWhole names script written written_after)
-    → TalliesTrace script whole.replayed.lines tally
-    → counts ≡ record {
-      taken = tally.taken;
-      left = tally.left;
-      dropped =
-          tally.dropped;
-      held = tally.taken - tally.left - tally.dropped;
-    }
-    → Summed script counts
-summed names script written written_after tally counts passes whole is same =
-    let sum = is.sum in
-    record {
-      lines = whole.replayed.lines;
-      runs = whole.replayed.runs;
-      only = whole.replayed.only;
-      ends = whole.ends;
-      counted = subst (CountsLines whole.replayed.lines (seen (start script)
-          whole.replayed.lines).network) (sym same) (record {
-            taken = is.taken;
-            left = is.left;
-            dropped = is.dropped;
-            held = omega arith;
-            sum = omega arith;
-          });
-      stand = runs_stand names script whole.replayed.lines passes whole.replayed.runs;
-      shown = whole.replayed.shown;
-    }
-
-pub summed_undetected : (names : List (List ℕ)) (script : List Numbered) (line : ℕ) (port : PortRef)
-    (event : Event) (written written_after : Option (List ℕ))
-    → ReplayedUndetected names script line port event written written_after
-    → SummedUndetected script line port event
-summed_undetected names script line port event written written_after is = record {
-  lines = is.replayed.lines;
-  runs = is.replayed.runs;
-  only = is.replayed.only;
-  ends = is.ends;
-  shown = is.replayed.shown;
-}
+  pub summed_undetected : {K : Type 0} {begun out : TraceWriter K} (line : ℕ) (port : PortRef)
+      (event : Event)
+      → ToldWhole begun out script (Undetected line port event)
+      (Some (record { port = port; event = event }))
+      → SummedUndetected script line port event
+  summed_undetected line port event whole = record {
+    lines = whole.lines;
+    runs = whole.runs;
+    only = λ other runs. runs_one script other whole.lines runs whole.runs;
+    ends = whole.ends;
+    shown = runs_shown script whole.lines (may_set_up names script passes) whole.runs;
+  }
 
 -- ---- how it ends
 
-pub no_fault : ¬ Rose 0 0
-no_fault (inl less) = omega arith
-no_fault (inr most) = omega arith
+-- no write fails, if the count of faults is 0 in the end
+pub no_fault : {K : Type 0} {begun out : TraceWriter K} {script : List Numbered}
+    → ToldUntil begun out script → out.outbox.now.faults ≢ 0
+no_fault {out = out} until none = never (until.adds.writes.cause until.failed)
+  where
+    never : ¬ ((until.mid.outbox.now.failed ≡ true)
+        ⊎ Rose until.mid.outbox.now.faults out.outbox.now.faults)
+    never (inl was) = cc (until.fine, was)
+    never (inr (inl less)) = omega arith
+    never (inr (inr most)) = omega arith
 
 pub replay_undetected : (end : ReplayEnd) (result : SummaryEnd) (line : ℕ) (port : PortRef)
     (event : Event) → EndsLike end result → IsErrOf {T = Counts} (Err result) (Ends.Undetected line

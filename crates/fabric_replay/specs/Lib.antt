@@ -1,5 +1,4 @@
 pub mod Replaying
 pub mod Going
 pub mod Ending
-pub mod Tallies
 pub mod Summing

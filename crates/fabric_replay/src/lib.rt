@@ -11,9 +11,6 @@
 
 mod replaying;
 mod summing;
-mod tally;
-mod tally_sink;
-mod transcript;
 
 pub use replaying::{ReplayEnd, replay};
 pub use summing::{Counts, SummaryEnd, summary};

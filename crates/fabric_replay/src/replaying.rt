@@ -17,7 +17,7 @@ use fabric_script::{PortRef, Script};
 use link_model::Event;
 use rio_chars::{Outbox, Sink, TextBuffer};
 use std::alloc::Global;
-use trace_lines::TraceWriter;
+use trace_lines::{PacketCounts, TraceWriter};
 
 /// Why a replay ended early.
 #[derive(Debug, Drop)]
@@ -139,6 +139,7 @@ fn write_trace<K: Sink>(
     let mut writer = TraceWriter {
         outbox,
         names: &script.names,
+        counts: PacketCounts::new(),
     };
     let end = tell_trace(alloc, script, fabric, &mut writer);
     outbox.flush();
@@ -150,7 +151,7 @@ fn write_trace<K: Sink>(
 
 /// Carries out the events and tells their lines, up to the event in which a write failed: no event
 /// behind that one is carried out.
-fn tell_trace<K: Sink>(
+pub(crate) fn tell_trace<K: Sink>(
     alloc: Global,
     script: &Script,
     fabric: &mut Fabric,

@@ -1,16 +1,20 @@
 //! A script is carried out and the lines of its trace are counted.
-ghost use Rattle.std.specs.Prelude.{◌≡◌, ◌≢◌, ◌-◌, ◌≤◌, ◌+◌, ℕ, IfOk, IsErrOf};
+ghost use Rattle.std.specs.Prelude.{◌≡◌, ◌≢◌, ◌-◌, ◌≤◌, ◌+◌, ℕ, [], IfOk, IsErrOf};
 ghost use Rattle.link_model.specs.declared.event.Event.{Event as LinkEvent};
 ghost use Rattle.fabric_script.specs.Scripts.{ScriptPasses};
 ghost use Rattle.fabric_script.specs.declared.ports.PortRef.{PortRef as Port};
+ghost use Rattle.fabric_trace.specs.Runs.{start};
+ghost use Rattle.fabric_ports.specs.Standing.{Stands};
 ghost use Rattle.fabric_replay.specs.Summing.{EndsLike, Summed, SummedUndetected};
+ghost use Rattle.fabric_replay.specs.declared.summing.SummaryEnd.TheVariants.{NoMemory};
 
-use crate::replaying::{ReplayEnd, replay};
-use crate::tally::Tally;
-use crate::tally_sink::TallySink;
+use crate::replaying::{ReplayEnd, tell_trace};
+use fabric_ports::Fabric;
 use fabric_script::{PortRef, Script};
 use link_model::Event;
+use rio_chars::{Outbox, PlainSink, TextBuffer};
 use std::alloc::Global;
+use trace_lines::{PacketCounts, TraceWriter};
 
 /// How many packets a script takes, and what has become of them when it ends.
 #[derive(Clone, Copy, Debug, PartialEq, Eq)]
@@ -40,9 +44,16 @@ pub enum SummaryEnd {
     NoMemory,
 }
 
-/// Carries out the events of a script as `replay` does, and counts the lines of its trace as they
-/// arise: neither the trace nor a line of it is kept. The script passes, as each that `parse` of
-/// `fabric_script` answers does.
+impl From<rio_chars::NoMemory> for SummaryEnd {
+    ghost from_gives = { λ _ end. end ≡ NoMemory };
+
+    fn from(_: rio_chars::NoMemory) -> Self {
+        SummaryEnd::NoMemory
+    }
+}
+
+/// Carries out the events of a script as `replay` does, and counts the lines of its trace: none of
+/// its text is made. The script passes, as each that `parse` of `fabric_script` answers does.
 ///
 /// There are counts exactly if every event that a port acted on was sent, and what was taken is the
 /// sum of the others then. Otherwise the answer is Undetected, with the first event that was not
@@ -54,9 +65,32 @@ pub fn summary(alloc: Global, script: &Script) -> Result<Counts, SummaryEnd>
         → IsErrOf result (SummaryEnd.Undetected line port event)
         → SummedUndetected script.now.lines.items line port event }
 {
-    let mut sink = TallySink::new();
-    match replay(alloc, script, &mut sink) {
-        Ok(()) => Ok(counts_of(sink.tally())),
+    let mut fabric = Fabric::new(alloc, script)?;
+    summary_on(alloc, script, &mut fabric)
+}
+
+/// The same on the fabric of the script.
+fn summary_on(alloc: Global, script: &Script, fabric: &mut Fabric) -> Result<Counts, SummaryEnd>
+    requires passes { ScriptPasses script.now.names.items script.now.lines.items }
+    requires stands { Stands (start script.now.lines.items) [] fabric.old }
+    ensures done { IfOk result (λ counts. Summed script.now.lines.items counts) }
+    ensures undetected { (line : ℕ) (port : Port) (event : LinkEvent)
+        → IsErrOf result (SummaryEnd.Undetected line port event)
+        → SummedUndetected script.now.lines.items line port event }
+{
+    let mut buffer = TextBuffer::new(alloc)?;
+    let mut sink = PlainSink::new();
+    let mut outbox = Outbox::new(&mut buffer, &mut sink);
+    let mut writer = TraceWriter {
+        outbox: &mut outbox,
+        names: &script.names,
+        counts: PacketCounts::new(),
+    };
+    let told = tell_trace(alloc, script, fabric, &mut writer);
+    let counts = writer.counts;
+    outbox.into_sink();
+    match told {
+        Ok(()) => Ok(counts_of(counts)),
         Err(end) => Err(end_of(end)),
     }
 }
@@ -74,20 +108,25 @@ fn end_of(end: ReplayEnd) -> SummaryEnd
 }
 
 /// The counts of a whole trace: what was taken and has neither left nor been dropped is held.
-fn counts_of(tally: Tally) -> Counts
-    requires { tally.left + tally.dropped ≤ tally.taken }
+fn counts_of(counts: PacketCounts) -> Counts
+    requires { counts.left + counts.dropped ≤ counts.taken }
     ensures { result
         ≡ record {
-          taken = tally.taken;
-          left = tally.left;
-          dropped = tally.dropped;
-          held = tally.taken - tally.left - tally.dropped;
+          taken = counts.taken;
+          left = counts.left;
+          dropped = counts.dropped;
+          held = counts.taken - counts.left - counts.dropped;
         } }
 {
+    let PacketCounts {
+        taken,
+        left,
+        dropped,
+    } = counts;
     Counts {
-        taken: tally.taken,
-        left: tally.left,
-        dropped: tally.dropped,
-        held: tally.taken - tally.left - tally.dropped,
+        taken,
+        left,
+        dropped,
+        held: taken - left - dropped,
     }
 }

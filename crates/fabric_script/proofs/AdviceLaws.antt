@@ -1,14 +1,12 @@
 -- The words that are left of a text behind so many that were taken.
-use Rattle.std.proofs.Common.{◌<◌, map, get_or, slice_index_or, Bool, true, false, not, IsTrue, ◌↔◌, ◌==◌, None, is_some, Bor, ◌≡◌, ◌≢◌, ℕ, ◌+◌, List, [], ◌∷◌, ◌++◌, Option, Some, length, length-append, slice_get, Contains, refl, sym, ap, ◌∙◌, subst, arith, append_assoc}
+use Rattle.std.proofs.Common.{◌<◌, get_or, slice_index_or, Bool, true, false, not, IsTrue, ◌↔◌, ◌==◌, None, is_some, Bor, ◌≡◌, ◌≢◌, ℕ, ◌+◌, List, [], ◌∷◌, ◌++◌, Option, Some, length, length-append, slice_get, Contains, refl, sym, ap, ◌∙◌, subst, arith, append_assoc}
 use Rattle.std.proofs.lemmas.List.Elements.{Contains-append_right}
 use Rattle.std.proofs.lemmas.List.Splits.{length-slice_split}
-use Rattle.std.proofs.lemmas.List.{get_or-map, length-map}
 use Rattle.std.proofs.lemmas.Option.{slice_get-get_or}
 use Rattle.fabric_script.specs.declared.advice.WordKind.{WordKind}
-use Rattle.fabric_script.specs.declared.advice.WordKind.TheVariants.{Name}
 use Rattle.fabric_script.specs.declared.forms.Form.{Form}
 use Rattle.fabric_script.specs.Advice.{kind_of_field, IsSpelled, IsMisspelled}
-use Rattle.fabric_script.specs.Forms.{NewName, keyword_of, fields_of}
+use Rattle.fabric_script.specs.Forms.{Field, NewName, keyword_of, fields_of}
 use Rattle.fabric_script.specs.Lines.{words_of}
 use Rattle.fabric_script.specs.Words.{Left, first_word, after_word, words_left}
 
@@ -83,30 +81,29 @@ pub empty_is : (word : List ℕ) → length word ≡ 0 → word ≡ []
 empty_is [] none = refl
 empty_is (byte ∷ word) none = absurd (omega (arith, none))
 
-pub some_left : (text : List ℕ) (form : Form) (kinds : List WordKind) (i : ℕ)
+pub some_left : (text : List ℕ) (form : Form) (fields : List Field) (i : ℕ)
     (left : List (List ℕ)) → length (words_of text) ≡ length (fields_of form) + 1
-    → kinds ≡ map kind_of_field (fields_of form) → i < length kinds
-    → IsBehind (words_of text) (i + 1) left → left ≢ []
-some_left text form kinds i left count kinds_are within behind = λ none.
-    let long : length kinds ≡ length (fields_of form) =
-    ap length kinds_are ∙ length-map (fields_of form) kind_of_field in
+    → fields ≡ fields_of form → i < length fields → IsBehind (words_of text) (i + 1) left
+    → left ≢ []
+some_left text form fields i left count fields_are within behind = λ none.
+    let long : length fields ≡ length (fields_of form) = ap length fields_are in
     let rest = behind_length (words_of text) (i + 1) left behind in
     let zero : length left ≡ 0 = ap length none in
     omega (arith, zero, rest, count, long, within)
 
 -- the word at a place where one is left, of as many words as there are fields behind the first, is
 -- not of the kind of its field
-pub misspelled_at : (text : List ℕ) (form : Form) (kinds : List WordKind) (i : ℕ)
-    (left : List (List ℕ)) (word : List ℕ) → keyword_of form ≡ first_word (words_of text)
-    → length (words_of text) ≡ length (fields_of form) + 1
-    → kinds ≡ map kind_of_field (fields_of form) → i < length kinds
-    → IsBehind (words_of text) (i + 1) left → word ≡ first_word left
-    → ¬ IsSpelled (slice_index_or kinds i Name) word
-    → IsMisspelled text (i + 2) (slice_index_or kinds i Name)
-misspelled_at text form kinds i left word named count kinds_are within behind word_is bad =
-    let long : length kinds ≡ length (fields_of form) =
-    ap length kinds_are ∙ length-map (fields_of form) kind_of_field in
-    let some = some_left text form kinds i left count kinds_are within behind in
+pub misspelled_at : (text : List ℕ) (form : Form) (fields : List Field) (i : ℕ)
+    (left : List (List ℕ)) (word : List ℕ) (kind : WordKind)
+    → keyword_of form ≡ first_word (words_of text)
+    → length (words_of text) ≡ length (fields_of form) + 1 → fields ≡ fields_of form
+    → i < length fields → IsBehind (words_of text) (i + 1) left → word ≡ first_word left
+    → kind ≡ kind_of_field (slice_index_or fields i NewName) → ¬ IsSpelled kind word
+    → IsMisspelled text (i + 2) kind
+misspelled_at text form fields i left word kind named count fields_are within behind word_is kind_is
+    bad =
+    let long : length fields ≡ length (fields_of form) = ap length fields_are in
+    let some = some_left text form fields i left count fields_are within behind in
     let less : i < length (fields_of form) = omega (arith, long, within) in
     record {
       fields = fields_of form;
@@ -114,8 +111,7 @@ misspelled_at text form kinds i left word named count kinds_are within behind wo
       field = get_or (fields_of form) i NewName;
       wanted = subst (λ n. slice_get (fields_of form) n ≡ Some (get_or (fields_of form) i NewName))
           (omega arith) (slice_get-get_or (fields_of form) i NewName less);
-      kind_is = ap (λ ks. slice_index_or ks i Name) kinds_are
-          ∙ get_or-map kind_of_field (fields_of form) i NewName Name less;
+      kind_is = kind_is ∙ ap (λ fs. kind_of_field (slice_index_or fs i NewName)) fields_are;
       word = word;
       there = subst (λ n. slice_get (words_of text) n ≡ Some word) (omega arith)
           (behind_there (words_of text) (i + 1) left some behind ∙ ap (λ w. Some w) (sym word_is));

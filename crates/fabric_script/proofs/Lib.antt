@@ -6,6 +6,7 @@ pub mod Points
 pub mod Taking
 pub mod Exclusion
 pub mod Outcomes
+pub mod ValueLaws
 pub mod LineLaws
 pub mod ReadLaws
 pub mod KnownLaws

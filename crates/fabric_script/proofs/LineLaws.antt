@@ -1,5 +1,5 @@
 -- A text says one line at most.
-use Rattle.std.proofs.Common.{◌≡◌, ℕ, ◌+◌, ◌<◌, ◌^◌, ◌==◌, ◌/◌, ◌%◌, suc, cond, List, [], ◌∷◌, map, sum, length, Option, Some, slice_get, get_or, refl, sym, ap, ap₂, ◌∙◌, subst, inl, inr, arith}
+use Rattle.std.proofs.Common.{◌≡◌, ℕ, ◌+◌, ◌<◌, ◌^◌, ◌==◌, ◌/◌, ◌%◌, suc, cond, List, [], ◌∷◌, map, sum, length, get_or, refl, sym, ap, ap₂, ◌∙◌, subst, inl, inr, arith, rules}
 use Rattle.std.proofs.lemmas.Fmt.{decimal_injective}
 use Rattle.rio_chars.specs.declared.chars.Char.{Char}
 use Rattle.rio_chars.specs.declared.chars.Char.TheVariants.{Data, Special, Invalid}
@@ -10,14 +10,14 @@ use Rattle.fabric_script.specs.declared.forms.Form.{Form}
 use Rattle.fabric_script.specs.declared.forms.Form.TheVariants as F
 use Rattle.fabric_script.specs.declared.reasons.Reason.{Reason}
 use Rattle.fabric_script.specs.declared.lines.Line.{Line}
-use Rattle.fabric_script.specs.declared.lines.Line.TheVariants.{Endpoint, Switch, Link, Buffers, Route, Default, Lock, Large, Credits, Send, Read, Write, Send16, Read16, Write16, Pump, Deliver, Alter, Insert, Erase, Timeout, Settle, Move, Collect, Run}
+use Rattle.fabric_script.specs.declared.lines.Line.TheVariants.{Endpoint, Switch}
 use Rattle.fabric_script.specs.Names.{name_of}
 use Rattle.fabric_script.specs.Forms.{Field, NewName, Node, Port, Number, Hex, Digits, Character, keyword_of, fields_of}
 use Rattle.fabric_script.specs.Texts.{Value, Named, NodeValue, PortValue, Counted, Bytes, InDigits, Code, value_text, digits_text}
 use Rattle.fabric_script.specs.Lines.{form_of, values_of, line_words}
 use Rattle.fabric_script.specs.Known.{Known, IsOrderly}
 use Rattle.fabric_script.specs.Hits.{FitsField, FitAll, HitsOne}
-use Rattle.fabric_script.specs.LineWords.{NodeIsNext}
+use Rattle.fabric_script.specs.LineWords.{NodeIsNext, line_saying}
 use Rattle.fabric_script.specs.Reading.{Says, MayBe}
 use Rattle.rio_chars.proofs.HexLaws.{hex_digit-injective}
 use Rattle.fabric_script.proofs.HexWords.{hex_text-injective}
@@ -27,7 +27,7 @@ use Rattle.fabric_script.proofs.Exclusion.{no_hit}
 
 -- ---- a keyword has one form
 
-all_forms : List Form
+abbrev pub all_forms : List Form
 all_forms = F.Endpoint ∷ F.Switch ∷ F.Link ∷ F.Buffers ∷ F.Route ∷ F.Default ∷ F.Lock ∷ F.Large
     ∷ F.Credits ∷ F.Send ∷ F.Read ∷ F.Write ∷ F.Send16 ∷ F.Read16 ∷ F.Write16 ∷ F.Pump ∷ F.Deliver
     ∷ F.Alter ∷ F.Insert ∷ F.Erase ∷ F.Timeout ∷ F.Settle ∷ F.Move ∷ F.Collect ∷ F.Run ∷ []
@@ -41,32 +41,9 @@ form_with_sum n [] = F.Run
 form_with_sum n (form ∷ forms) = cond (sum_of (keyword_of form) == n) form (form_with_sum n forms)
 
 form_with_sum-keyword : (form : Form) → form_with_sum (sum_of (keyword_of form)) all_forms ≡ form
-unfolding form_with_sum all_forms
-form_with_sum-keyword F.Endpoint = refl
-form_with_sum-keyword F.Switch = refl
-form_with_sum-keyword F.Link = refl
-form_with_sum-keyword F.Buffers = refl
-form_with_sum-keyword F.Route = refl
-form_with_sum-keyword F.Default = refl
-form_with_sum-keyword F.Lock = refl
-form_with_sum-keyword F.Large = refl
-form_with_sum-keyword F.Credits = refl
-form_with_sum-keyword F.Send = refl
-form_with_sum-keyword F.Read = refl
-form_with_sum-keyword F.Write = refl
-form_with_sum-keyword F.Send16 = refl
-form_with_sum-keyword F.Read16 = refl
-form_with_sum-keyword F.Write16 = refl
-form_with_sum-keyword F.Pump = refl
-form_with_sum-keyword F.Deliver = refl
-form_with_sum-keyword F.Alter = refl
-form_with_sum-keyword F.Insert = refl
-form_with_sum-keyword F.Erase = refl
-form_with_sum-keyword F.Timeout = refl
-form_with_sum-keyword F.Settle = refl
-form_with_sum-keyword F.Move = refl
-form_with_sum-keyword F.Collect = refl
+unfolding form_with_sum
 form_with_sum-keyword F.Run = refl
+form_with_sum-keyword _ = refl
 
 pub keyword-injective : (a b : Form) → keyword_of a ≡ keyword_of b → a ≡ b
 keyword-injective a b e = sym (form_with_sum-keyword a)
@@ -126,33 +103,8 @@ AreSmall [] = Unit {0}
 AreSmall (field ∷ fields) = IsSmall field × AreSmall fields
 
 pub small_fields : (form : Form) → AreSmall (fields_of form)
-small_fields F.Endpoint = (tt, (omega arith, tt))
-small_fields F.Switch = (tt, (omega arith, tt))
-small_fields F.Link = (tt, (tt, tt))
-small_fields F.Buffers = (tt, (omega arith, tt))
-small_fields F.Route = (tt, (omega arith, (omega arith, tt)))
-small_fields F.Default = (tt, (omega arith, tt))
-small_fields F.Lock = (tt, (omega arith, tt))
-small_fields F.Large = (tt, (omega arith, tt))
-small_fields F.Credits = (tt, tt)
-small_fields F.Send = (tt, (omega arith, (omega arith, (omega arith, (tt, tt)))))
-small_fields F.Read = (tt, (omega arith, (omega arith, (omega arith, (omega arith, (tt, tt))))))
-small_fields F.Write =
-    (tt, (omega arith, (omega arith, (omega arith, (omega arith, (tt, (tt, tt)))))))
-small_fields F.Send16 = (tt, (omega arith, (omega arith, (omega arith, (tt, tt)))))
-small_fields F.Read16 = (tt, (omega arith, (omega arith, (omega arith, (omega arith, (tt, tt))))))
-small_fields F.Write16 =
-    (tt, (omega arith, (omega arith, (omega arith, (omega arith, (tt, (tt, tt)))))))
-small_fields F.Pump = (tt, (omega arith, tt))
-small_fields F.Deliver = (tt, (omega arith, tt))
-small_fields F.Alter = (tt, (omega arith, (tt, tt)))
-small_fields F.Insert = (tt, (omega arith, (tt, tt)))
-small_fields F.Erase = (tt, (omega arith, (omega arith, tt)))
-small_fields F.Timeout = (tt, tt)
-small_fields F.Settle = (tt, tt)
-small_fields F.Move = (tt, tt)
-small_fields F.Collect = (tt, tt)
-small_fields F.Run = (omega arith, tt)
+small_fields F.Run = search rules
+small_fields _ = search rules
 
 pub same_value : (known : Known) (field : Field) (v w : Value) → IsOrderly known → IsSmall field
     → FitsField known field v → FitsField known field w
@@ -180,20 +132,7 @@ same_value known (Digits count) (InDigits k m) (InDigits l n) orderly small f g 
     ap₂ (λ k n. InDigits k n) count_too same
 same_value known Character (Code c) (Code d) orderly small f g e =
     ap (λ n. Code n) (char_text-injective c d f g e)
-same_value known NewName (Named a) _ orderly small f g e = absurd g
-same_value known Node (NodeValue m) _ orderly small f g e = absurd g
-same_value known Port (PortValue p) _ orderly small f g e = absurd g
-same_value known (Number least most) (Counted m) _ orderly small f g e = absurd g
-same_value known Hex (Bytes a) _ orderly small f g e = absurd g
-same_value known (Digits count) (InDigits k m) _ orderly small f g e = absurd g
-same_value known Character (Code c) _ orderly small f g e = absurd g
-same_value known NewName _ _ orderly small f g e = absurd f
-same_value known Node _ _ orderly small f g e = absurd f
-same_value known Port _ _ orderly small f g e = absurd f
-same_value known (Number least most) _ _ orderly small f g e = absurd f
-same_value known Hex _ _ orderly small f g e = absurd f
-same_value known (Digits count) _ _ orderly small f g e = absurd f
-same_value known Character _ _ orderly small f g e = absurd f
+same_value known _ _ _ orderly small f g e = grind arith
 
 pub same_values : (known : Known) (fields : List Field) (vs ws : List Value) → IsOrderly known
     → AreSmall fields → FitAll known fields vs → FitAll known fields ws
@@ -231,96 +170,11 @@ no_hit_one known (field ∷ fields) [] reason orderly f h = absurd f
 
 -- ---- values and a form make one line
 
-abbrev node_in : Option Value → ℕ
-node_in (Some (NodeValue n)) = n
-node_in _ = 0
-
-abbrev port_in : Option Value → PortRef
-port_in (Some (PortValue p)) = p
-port_in _ = record { node = 0; port = 0 }
-
-abbrev number_in : Option Value → ℕ
-number_in (Some (Counted n)) = n
-number_in (Some (InDigits count n)) = n
-number_in _ = 0
-
-abbrev bytes_in : Option Value → List ℕ
-bytes_in (Some (Bytes bytes)) = bytes
-bytes_in _ = []
-
-abbrev char_in : Option Value → Char
-char_in (Some (Code c)) = c
-char_in _ = Invalid
-
-line_of : Form → ℕ → List Value → Line
-line_of F.Endpoint n vs = Endpoint n (number_in (slice_get vs 1))
-line_of F.Switch n vs = Switch n (number_in (slice_get vs 1))
-line_of F.Link n vs = Link (port_in (slice_get vs 0)) (port_in (slice_get vs 1))
-line_of F.Buffers n vs = Buffers (port_in (slice_get vs 0)) (number_in (slice_get vs 1))
-line_of F.Route n vs = Route (node_in (slice_get vs 0)) (number_in (slice_get vs 1))
-    (number_in (slice_get vs 2))
-line_of F.Default n vs = Default (node_in (slice_get vs 0)) (number_in (slice_get vs 1))
-line_of F.Lock n vs = Lock (node_in (slice_get vs 0)) (number_in (slice_get vs 1))
-line_of F.Large n vs = Large (node_in (slice_get vs 0)) (number_in (slice_get vs 1))
-line_of F.Credits n vs = Credits (port_in (slice_get vs 0))
-line_of F.Send n vs = Send (node_in (slice_get vs 0)) (number_in (slice_get vs 1))
-    (number_in (slice_get vs 2)) (number_in (slice_get vs 3)) (bytes_in (slice_get vs 4))
-line_of F.Read n vs = Read (node_in (slice_get vs 0)) (number_in (slice_get vs 1))
-    (number_in (slice_get vs 2)) (number_in (slice_get vs 3)) (number_in (slice_get vs 4))
-    (number_in (slice_get vs 5))
-line_of F.Write n vs = Write (node_in (slice_get vs 0)) (number_in (slice_get vs 1))
-    (number_in (slice_get vs 2)) (number_in (slice_get vs 3)) (number_in (slice_get vs 4))
-    (number_in (slice_get vs 5)) (number_in (slice_get vs 6))
-line_of F.Send16 n vs = Send16 (node_in (slice_get vs 0)) (number_in (slice_get vs 1))
-    (number_in (slice_get vs 2)) (number_in (slice_get vs 3)) (bytes_in (slice_get vs 4))
-line_of F.Read16 n vs = Read16 (node_in (slice_get vs 0)) (number_in (slice_get vs 1))
-    (number_in (slice_get vs 2)) (number_in (slice_get vs 3)) (number_in (slice_get vs 4))
-    (number_in (slice_get vs 5))
-line_of F.Write16 n vs = Write16 (node_in (slice_get vs 0)) (number_in (slice_get vs 1))
-    (number_in (slice_get vs 2)) (number_in (slice_get vs 3)) (number_in (slice_get vs 4))
-    (number_in (slice_get vs 5)) (number_in (slice_get vs 6))
-line_of F.Pump n vs = Pump (port_in (slice_get vs 0)) (number_in (slice_get vs 1))
-line_of F.Deliver n vs = Deliver (port_in (slice_get vs 0)) (number_in (slice_get vs 1))
-line_of F.Alter n vs = Alter (port_in (slice_get vs 0)) (number_in (slice_get vs 1))
-    (char_in (slice_get vs 2))
-line_of F.Insert n vs = Insert (port_in (slice_get vs 0)) (number_in (slice_get vs 1))
-    (char_in (slice_get vs 2))
-line_of F.Erase n vs = Erase (port_in (slice_get vs 0)) (number_in (slice_get vs 1))
-    (number_in (slice_get vs 2))
-line_of F.Timeout n vs = Timeout (port_in (slice_get vs 0))
-line_of F.Settle n vs = Settle (port_in (slice_get vs 0))
-line_of F.Move n vs = Move (node_in (slice_get vs 0))
-line_of F.Collect n vs = Collect (node_in (slice_get vs 0))
-line_of F.Run n vs = Run (number_in (slice_get vs 0))
-
-line_of-line : (known : Known) (new : List ℕ) (line : Line) → NodeIsNext known line
-    → line_of (form_of line) (length known.names) (values_of new line) ≡ line
-unfolding line_of
-line_of-line known new (Endpoint name id) next = ap (λ n. Endpoint n id) (sym next)
-line_of-line known new (Switch name ports) next = ap (λ n. Switch n ports) (sym next)
-line_of-line known new (Link a b) next = refl
-line_of-line known new (Buffers port n) next = refl
-line_of-line known new (Route node id p) next = refl
-line_of-line known new (Default node p) next = refl
-line_of-line known new (Lock node id) next = refl
-line_of-line known new (Large node id) next = refl
-line_of-line known new (Credits port) next = refl
-line_of-line known new (Send node prio ftype dest hex) next = refl
-line_of-line known new (Read node prio dest hop tid offset) next = refl
-line_of-line known new (Write node prio dest hop tid offset value) next = refl
-line_of-line known new (Send16 node prio ftype dest hex) next = refl
-line_of-line known new (Read16 node prio dest hop tid offset) next = refl
-line_of-line known new (Write16 node prio dest hop tid offset value) next = refl
-line_of-line known new (Pump port n) next = refl
-line_of-line known new (Deliver port n) next = refl
-line_of-line known new (Alter port place ch) next = refl
-line_of-line known new (Insert port place ch) next = refl
-line_of-line known new (Erase port place n) next = refl
-line_of-line known new (Timeout port) next = refl
-line_of-line known new (Settle port) next = refl
-line_of-line known new (Move node) next = refl
-line_of-line known new (Collect node) next = refl
-line_of-line known new (Run n) next = refl
+line_saying-line : (known : Known) (new : List ℕ) (line : Line) → NodeIsNext known line
+    → line_saying (form_of line) (length known.names) (values_of new line) ≡ line
+line_saying-line known new (Endpoint name id) next = ap (λ n. Endpoint n id) (sym next)
+line_saying-line known new (Switch name ports) next = ap (λ n. Switch n ports) (sym next)
+line_saying-line known new _ next = refl
 
 -- lines of one form and with the same words are one
 pub same_said : (known : Known) (a b : Line) (new new' : List ℕ) → IsOrderly known
@@ -334,8 +188,8 @@ same_said known a b new new' orderly may_a may_b e =
     subst (λ f. FitAll known (fields_of f) (values_of new' b)) (sym form) may_b.fit in
     let values = same_values known (fields_of (form_of a)) (values_of new a) (values_of new' b)
     orderly (small_fields (form_of a)) may_a.fit fit texts in
-    sym (line_of-line known new a may_a.next) ∙ ap₂ (λ f vs. line_of f (length known.names) vs) form
-    values ∙ line_of-line known new' b may_b.next
+    sym (line_saying-line known new a may_a.next) ∙ ap₂ (λ f vs. line_saying f (length known.names) vs) form
+    values ∙ line_saying-line known new' b may_b.next
 
 pub same_line : (known : Known) (text : List ℕ) (a b : Line) → IsOrderly known → Says known text a
     → Says known text b → a ≡ b

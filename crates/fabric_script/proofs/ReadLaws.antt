@@ -1,5 +1,5 @@
 -- What the reading of a text finds.
-use Rattle.std.proofs.Common.{◌≡◌, ◌≢◌, ℕ, ◌<◌, ◌≤◌, ◌==◌, true, List, [], ◌∷◌, ◌++◌, map, length, Some, None, ◌⊎◌, inl, inr, refl, sym, ap, ◌∙◌, subst, arith}
+use Rattle.std.proofs.Common.{◌≡◌, ◌≢◌, ℕ, ◌<◌, ◌≤◌, ◌==◌, true, List, [], ◌∷◌, ◌++◌, map, length, slice_get, Some, None, ◌⊎◌, inl, inr, refl, sym, ap, ◌∙◌, subst, arith}
 use Rattle.std.proofs.lemmas.List.{append-nil, length-map}
 use Rattle.std.proofs.lemmas.Bool.{cases_lt}
 use Rattle.std.proofs.lemmas.List.Splits.{length-slice_split}
@@ -7,50 +7,31 @@ use Rattle.fabric_script.specs.declared.forms.Form.{Form}
 use Rattle.fabric_script.specs.declared.reasons.Reason.{Reason}
 use Rattle.fabric_script.specs.declared.reasons.Reason.TheVariants.{UnknownLine}
 use Rattle.fabric_script.specs.declared.lines.Line.{Line}
-use Rattle.fabric_script.specs.declared.lines.Line.TheVariants.{Endpoint, Switch, Link, Buffers, Route, Default, Lock, Large, Credits, Send, Read, Write, Send16, Read16, Write16, Pump, Deliver, Alter, Insert, Erase, Timeout, Settle, Move, Collect, Run}
+use Rattle.fabric_script.specs.declared.lines.Line.TheVariants.{Endpoint, Switch}
 use Rattle.fabric_script.specs.Forms.{keyword_of, fields_of}
-use Rattle.fabric_script.specs.Texts.{value_text}
+use Rattle.fabric_script.specs.Texts.{Value, value_text}
 use Rattle.fabric_script.specs.Lines.{form_of, values_of, line_words, words_of}
 use Rattle.fabric_script.specs.Known.{Known, IsOrderly}
 use Rattle.fabric_script.specs.Reasons.{reason_number}
 use Rattle.fabric_script.specs.Hits.{FitAll, HitsOne}
-use Rattle.fabric_script.specs.Words.{Left, reason_at_end, first_word, after_word}
-use Rattle.fabric_script.specs.LineWords.{TakesLine}
+use Rattle.fabric_script.specs.Words.{Left, TakesAll, reason_at_end, first_word, after_word}
+use Rattle.fabric_script.specs.LineWords.{line_saying}
+use Rattle.fabric_script.specs.Values.{AreWithin}
 use Rattle.fabric_script.specs.Refusals.{refuses}
 use Rattle.fabric_script.specs.Reading.{HasForm, Says, HitsText, NoForm, AWord, TheLine, Spells, LeastHit, new_name_in, second_word}
 use Rattle.fabric_script.proofs.Outcomes.{Outcome, outcome, number_in_range, rank}
+use Rattle.fabric_script.proofs.ValueLaws.{name_in, within, form_of-line_saying, values_of-line_saying, line_saying-next}
 use Rattle.fabric_script.proofs.LineLaws.{keyword-injective, same_line, length-fit, no_hit_one}
 
 -- a new node's name is the first word behind the keyword; other lines have none
-own_values : (text : List ℕ) (keyword : List ℕ) (rest : List (List ℕ)) (line : Line) → words_of text
-    ≡ keyword ∷ rest → values_of (first_word rest) line ≡ values_of (new_name_in text line) line
-own_values text keyword rest (Endpoint name id) e =
+own_values : (names : List (List ℕ)) (text : List ℕ) (keyword : List ℕ) (new : List ℕ)
+    (line : Line) → words_of text ≡ keyword ∷ map (value_text names) (values_of new line)
+    → values_of new line ≡ values_of (new_name_in text line) line
+own_values names text keyword new (Endpoint name id) e =
     ap (λ ws. values_of (second_word ws) (Endpoint name id)) (sym e)
-own_values text keyword rest (Switch name ports) e =
+own_values names text keyword new (Switch name ports) e =
     ap (λ ws. values_of (second_word ws) (Switch name ports)) (sym e)
-own_values text keyword rest (Link a b) e = refl
-own_values text keyword rest (Buffers port n) e = refl
-own_values text keyword rest (Route node id p) e = refl
-own_values text keyword rest (Default node p) e = refl
-own_values text keyword rest (Lock node id) e = refl
-own_values text keyword rest (Large node id) e = refl
-own_values text keyword rest (Credits port) e = refl
-own_values text keyword rest (Send node prio ftype dest hex) e = refl
-own_values text keyword rest (Read node prio dest hop tid offset) e = refl
-own_values text keyword rest (Write node prio dest hop tid offset value) e = refl
-own_values text keyword rest (Send16 node prio ftype dest hex) e = refl
-own_values text keyword rest (Read16 node prio dest hop tid offset) e = refl
-own_values text keyword rest (Write16 node prio dest hop tid offset value) e = refl
-own_values text keyword rest (Pump port n) e = refl
-own_values text keyword rest (Deliver port n) e = refl
-own_values text keyword rest (Alter port place ch) e = refl
-own_values text keyword rest (Insert port place ch) e = refl
-own_values text keyword rest (Erase port place n) e = refl
-own_values text keyword rest (Timeout port) e = refl
-own_values text keyword rest (Settle port) e = refl
-own_values text keyword rest (Move node) e = refl
-own_values text keyword rest (Collect node) e = refl
-own_values text keyword rest (Run n) e = refl
+own_values names text keyword new _ e = refl
 
 -- ---- a text that says a line is hit by none but those of the line
 
@@ -190,17 +171,17 @@ behind_first text form word all left begin first rest is =
           ∙ cut.1,
     )
 
-pub reads_hit : (known : Known) (text : List ℕ) (form : Form) (left left_after : Left) (line : Line)
-    (reason : Reason) → IsOrderly known → Behind text form left
-    → TakesLine known form left line left_after → reason_at_end left_after ≡ Some reason
-    → LeastHit known text reason
-reads_hit known text form left left_after line reason orderly behind takes ended =
+pub reads_hit : (known : Known) (text : List ℕ) (form : Form) (left left_after : Left)
+    (values : List Value) (reason : Reason) → IsOrderly known → Behind text form left
+    → TakesAll known (fields_of form) values left left_after
+    → reason_at_end left_after ≡ Some reason → LeastHit known text reason
+reads_hit known text form left left_after values reason orderly behind takes ended =
     by_count (cases_lt (length left.words) (length (fields_of form)))
   where
-    o : Outcome known (fields_of form) (values_of (first_word left.words) line) left.words left.hit
+    o : Outcome known (fields_of form) values left.words left.hit
         left_after.words left_after.hit
-    o = outcome known (fields_of form) (values_of (first_word left.words) line) left left_after
-        orderly takes.takes
+    o = outcome known (fields_of form) values left left_after
+        orderly takes
 
     unknown : reason_at_end left_after ≡ Some UnknownLine
         → length left.words ≢ length (fields_of form)
@@ -244,41 +225,79 @@ reads_hit known text form left left_after line reason orderly behind takes ended
         unknown noted (λ same. omega arith)
     by_count (inr enough) = by_rest enough left_after.words refl
 
+-- the words of a form that no reason hits: the values fit, and the words spell them
+pub record AreSaid (known : Known) (form : Form) (left : Left) (values : List Value) : Type 0 where
+  pub fit : FitAll known (fields_of form) values
+  pub words : left.words ≡ map (value_text known.names) values
+
 pub reads_none : (known : Known) (text : List ℕ) (form : Form) (left left_after : Left)
-    (line : Line) → IsOrderly known → Behind text form left
-    → TakesLine known form left line left_after → reason_at_end left_after ≡ None
-    → Says known text line
-reads_none known text form left left_after line orderly behind takes ended =
+    (values : List Value) → IsOrderly known → Behind text form left
+    → TakesAll known (fields_of form) values left left_after → reason_at_end left_after ≡ None
+    → AreSaid known form left values
+reads_none known text form left left_after values orderly behind takes ended =
     by_rest left_after.words refl
   where
-    o : Outcome known (fields_of form) (values_of (first_word left.words) line) left.words left.hit
-        left_after.words left_after.hit
-    o = outcome known (fields_of form) (values_of (first_word left.words) line) left left_after
-        orderly takes.takes
+    o : Outcome known (fields_of form) values left.words left.hit left_after.words left_after.hit
+    o = outcome known (fields_of form) values left left_after orderly takes
 
-    by_rest : (rest : List (List ℕ)) → left_after.words ≡ rest → Says known text line
+    by_rest : (rest : List (List ℕ)) → left_after.words ≡ rest → AreSaid known form left values
     by_rest (word ∷ words) more =
         let e = sym (end_of-more left_after word words more) ∙ ended in
         absurd cc
     by_rest [] none =
         let f = o.fits (sym (end_of-none left_after none) ∙ ended) in
-        let own = own_values text (keyword_of form) left.words line behind.0 in
-        let rest =
-        f.2 ∙ ap (λ r. map (value_text known.names) (values_of (first_word left.words) line)
-        ++ r) none
-        ∙ append-nil (map (value_text known.names) (values_of (first_word left.words) line))
-        in
         record {
-          words = behind.0 ∙ ap (λ k. keyword_of k ∷ left.words) (sym takes.is)
-              ∙ ap (λ ws. keyword_of (form_of line) ∷ ws)
-              (rest ∙ ap (λ vs. map (value_text known.names) vs) own);
-          may = record {
-            fit = subst (λ vs. FitAll known (fields_of (form_of line)) vs) own
-                (subst (λ k. FitAll known (fields_of k) (values_of (first_word left.words) line))
-                (sym takes.is) f.1);
-            next = takes.next;
-          };
+          fit = f.1;
+          words = f.2 ∙ ap (λ r. map (value_text known.names) values ++ r) none
+              ∙ append-nil (map (value_text known.names) values);
         }
+
+-- the line of such values is said
+pub says_line : (known : Known) (text : List ℕ) (form : Form) (left : Left) (values : List Value)
+    → Behind text form left → AreSaid known form left values
+    → Says known text (line_saying form (length known.names) values)
+says_line known text form left values behind said = record {
+  words = words ∙ ap (λ vs. keyword_of (form_of line) ∷ map (value_text known.names) vs) own;
+  may = record {
+    fit = subst (λ vs. FitAll known (fields_of (form_of line)) vs) own
+        (subst (λ vs. FitAll known (fields_of (form_of line)) vs) (sym is)
+        (subst (λ f. FitAll known (fields_of f) values) (sym form_is) said.fit));
+    next = line_saying-next known form values;
+  };
+}
+  where
+    line : Line
+    line = line_saying form (length known.names) values
+
+    new : List ℕ
+    new = name_in (slice_get values 0)
+
+    form_is : form_of line ≡ form
+    form_is = form_of-line_saying form (length known.names) values
+
+    is : values_of new line ≡ values
+    is = values_of-line_saying known form (length known.names) values said.fit
+
+    words : words_of text
+        ≡ keyword_of (form_of line) ∷ map (value_text known.names) (values_of new line)
+    words = behind.0 ∙ ap (λ ws. keyword_of form ∷ ws) said.words
+        ∙ ap (λ vs. keyword_of form ∷ map (value_text known.names) vs) (sym is)
+        ∙ ap (λ f. keyword_of f ∷ map (value_text known.names) (values_of new line)) (sym form_is)
+
+    own : values_of new line ≡ values_of (new_name_in text line) line
+    own = own_values known.names text (keyword_of (form_of line)) new line words
+
+-- the line that is made of values that no reason hits, and their numbers
+pub says_made : (known : Known) (text : List ℕ) (form : Form) (left left_after : Left)
+    (values given : List Value) (line : Line) → IsOrderly known → Behind text form left
+    → TakesAll known (fields_of form) values left left_after → reason_at_end left_after ≡ None
+    → given ≡ values → line ≡ line_saying form (length known.names) given
+    → AreWithin (fields_of form) (slice_get given) × Says known text line
+says_made known text form left left_after values given line orderly behind takes ended same made =
+    let said = reads_none known text form left left_after values orderly behind takes ended in (
+      rw same (within known (fields_of form) values said.fit),
+      rw (made, same) (says_line known text form left values behind said),
+    )
 
 -- a line that a reason hits, where none hits it that is less
 pub reads_refused : (known : Known) (text : List ℕ) (line : Line) (reason : Reason)

@@ -1,18 +1,14 @@
 -- The forms of a line: a keyword, and the kinds of the words behind it.
-use Rattle.std.specs.Prelude.{ℕ, List, [], ◌∷◌, codes}
+use Rattle.std.specs.Prelude.{ℕ, ◌≤◌, List, [], ◌∷◌, codes}
+pub use Rattle.fabric_script.specs.declared.fields.Field.{Field}
+pub use Rattle.fabric_script.specs.declared.fields.Field.TheVariants.{NewName, Node, Port, Number, Hex, Digits, Character}
 use Rattle.fabric_script.specs.declared.forms.Form.{Form}
 use Rattle.fabric_script.specs.declared.forms.Form.TheVariants.{Endpoint, Switch, Link, Buffers, Route, Default, Lock, Large, Credits, Send, Read, Write, Send16, Read16, Write16, Pump, Deliver, Alter, Insert, Erase, Timeout, Settle, Move, Collect, Run}
 
--- The kinds of words: the name of a new node, of a node, a port, a number of a range with both its
--- ends, bytes in hexadecimal digits, so many hexadecimal digits, a character.
-pub data Field : Type 0 where
-  NewName : Field
-  Node : Field
-  Port : Field
-  Number : ℕ → ℕ → Field
-  Hex : Field
-  Digits : ℕ → Field
-  Character : Field
+-- so many hexadecimal digits are read as a number of 32 bits
+abbrev pub IsShort : Field → Type 0
+IsShort (Digits count) = count ≤ 8
+IsShort _ = Unit {0}
 
 abbrev pub keyword_of : Form → List ℕ
 keyword_of Endpoint = codes "endpoint"

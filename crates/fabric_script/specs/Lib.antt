@@ -11,6 +11,7 @@ pub mod Links
 pub mod Peers
 pub mod Hits
 pub mod Words
+pub mod Values
 pub mod LineWords
 pub mod Refusals
 pub mod LargeIds

@@ -1,13 +1,13 @@
 -- What a line asks of a fabric.
-use Rattle.std.specs.Prelude.{◌≡◌, ◌<◌, Bool, true, false}
+use Rattle.std.specs.Prelude.{◌≡◌, ◌<◌, Bool, true, false, Option, None, Some}
+use Rattle.rio_chars.specs.declared.edit.Edit.{Edit}
+use Rattle.rio_chars.specs.declared.edit.Edit.TheVariants as Edits
 use Rattle.fabric_script.specs.declared.lines.Line.{Line}
 use Rattle.fabric_script.specs.declared.lines.Line.TheVariants.{Pump, Deliver, Alter, Insert, Erase, Timeout, Settle, Move, Collect, Run}
 use Rattle.fabric_script.specs.declared.operations.Action.{Action}
 use Rattle.fabric_script.specs.declared.operations.Action.TheVariants as Does
 use Rattle.fabric_script.specs.declared.operations.Operation.{Operation}
 use Rattle.fabric_script.specs.declared.operations.Operation.TheVariants as Asks
-use Rattle.fabric_script.specs.declared.operations.WireEdit.{WireEdit}
-use Rattle.fabric_script.specs.declared.operations.WireEdit.TheVariants as Edits
 use Rattle.fabric_script.specs.declared.ports.PortRef.{PortRef}
 use Rattle.fabric_script.specs.GivenPackets.{line_giving}
 use Rattle.fabric_script.specs.Lines.{is_event}
@@ -20,7 +20,7 @@ line_for port Does.TimeOut = Timeout port
 line_for port Does.Settle = Settle port
 
 -- the line that changes what a port has sent in this way
-abbrev pub line_editing : PortRef → WireEdit → Line
+abbrev pub line_editing : PortRef → Edit → Line
 line_editing port (Edits.Alter place ch) = Alter port place ch
 line_editing port (Edits.Insert place ch) = Insert port place ch
 line_editing port (Edits.Erase place count) = Erase port place count
@@ -44,6 +44,13 @@ acts_at_link (Deliver port n) = true
 acts_at_link (Timeout port) = true
 acts_at_link (Settle port) = true
 acts_at_link _ = false
+
+-- the change that a line makes of the wire of a port
+abbrev pub edit_of : Line → Option (PortRef × Edit)
+edit_of (Alter port place ch) = Some (port, Edits.Alter place ch)
+edit_of (Erase port place n) = Some (port, Edits.Erase place n)
+edit_of (Insert port place ch) = Some (port, Edits.Insert place ch)
+edit_of _ = None
 
 -- whether a line changes what a port has sent
 abbrev pub edits_wire : Line → Bool

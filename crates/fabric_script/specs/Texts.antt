@@ -3,9 +3,10 @@ use Rattle.std.specs.Prelude.{ℕ, ◌/◌, ◌%◌, zero, suc, List, [], ◌∷
 use Rattle.std.specs.Fmt.{decimal}
 use Rattle.rio_chars.specs.HexText.{hex_digit, hex_of}
 use Rattle.rio_chars.specs.CharText.{char_text_of}
-use Rattle.rio_chars.specs.declared.chars.Char.{Char}
 use Rattle.fabric_script.specs.declared.ports.PortRef.{PortRef}
 use Rattle.fabric_script.specs.Names.{name_of}
+pub use Rattle.fabric_script.specs.declared.values.Value.{Value}
+pub use Rattle.fabric_script.specs.declared.values.Value.TheVariants.{Named, Node as NodeValue, Port as PortValue, Counted, Bytes, InDigits, Code}
 
 -- a node's name, a point and the port's number
 abbrev pub port_text : List (List ℕ) → PortRef → List ℕ
@@ -20,17 +21,6 @@ hex_text (byte ∷ bytes) = hex_of (byte ∷ bytes)
 abbrev pub digits_text : ℕ → ℕ → List ℕ
 digits_text zero n = []
 digits_text (suc count) n = digits_text count (n / 16) ++ hex_digit (n % 16) ∷ []
-
--- What a word says: a name, a node, a port, a number, bytes, a number in so many hexadecimal
--- digits, a character.
-pub data Value : Type 0 where
-  Named : List ℕ → Value
-  NodeValue : ℕ → Value
-  PortValue : PortRef → Value
-  Counted : ℕ → Value
-  Bytes : List ℕ → Value
-  InDigits : ℕ → ℕ → Value
-  Code : Char → Value
 
 abbrev pub value_text : List (List ℕ) → Value → List ℕ
 value_text names (Named name) = name

@@ -82,6 +82,12 @@ pub data TakesAll (known : Known) : List Field → List Value → Left → Left 
       → TakesAll known fields values next last
       → TakesAll known (field ∷ fields) (value ∷ values) left last
 
+-- a word was read as one of a kind: what it says, or the reason that hits it
+abbrev pub ReadsValue : Known → Field → List ℕ → Result Value Reason → Type 0
+ReadsValue known field word read = MatchResult read
+    (λ value. FitsField known field value × (word ≡ value_text known.names value))
+    (λ reason. Hits known reason field word)
+
 -- a word was read as a number of a range, or is none
 abbrev pub ReadsNumber : List ℕ → ℕ → ℕ → Result ℕ Reason → Type 0
 ReadsNumber word least most read = MatchResult read

@@ -1,12 +1,13 @@
 //! What in the text of a refused line is to blame, for whoever mends it.
 
-ghost use Rattle.std.specs.Prelude.{◌≡◌, ◌≢◌, ◌+◌, ◌≤◌, ◌<◌, [], ◌∷◌, IsTrue, IsFalse, ◌↔◌, Contains, length, map};
+ghost use Rattle.std.specs.Prelude.{◌≡◌, ◌≢◌, ◌+◌, ◌≤◌, ◌<◌, [], ◌∷◌, IsTrue, IsFalse, ◌↔◌, Contains, length};
 ghost use Rattle.fabric_script.specs.declared.forms.Form.{Form as AForm};
 ghost use Rattle.fabric_script.specs.Advice.{kind_of_field, IsSpelled, HasShape, IsTrueOf};
 ghost use Rattle.fabric_script.specs.Forms.{keyword_of, fields_of};
 ghost use Rattle.fabric_script.specs.Lines.{words_of};
 ghost use Rattle.fabric_script.specs.Words.{first_word};
 
+use crate::fields::Field;
 use crate::forms::{Form, form_named};
 use crate::hex::{read_digits, read_hex};
 use crate::names::is_name;
@@ -84,9 +85,9 @@ fn advise_words(alloc: Global, text: &[u8]) -> Advice
     if has_empty_word(text) {
         return Advice::EmptyWord;
     }
-    let kinds = form.kinds();
-    if !has_words(text, kinds.len()) {
-        return Advice::WordCount(kinds.len() as u8);
+    let count = form.fields().len();
+    if !has_words(text, count) {
+        return Advice::WordCount(count as u8);
     }
     advise_word(alloc, text, form)
 }
@@ -129,11 +130,12 @@ fn advise_word(alloc: Global, text: &[u8], form: Form) -> Advice
 {
     let mut words = Words::new(text);
     words.word();
-    for (i, kind) in form.kinds().iter().enumerate() {
-        if !is_spelled(alloc, *kind, words.word()) {
+    for (i, field) in form.fields().iter().enumerate() {
+        let kind = field.kind();
+        if !is_spelled(alloc, kind, words.word()) {
             return Advice::Word {
                 place: i as u8 + 2,
-                kind: *kind,
+                kind,
             };
         }
     }
@@ -157,74 +159,18 @@ fn is_spelled(alloc: Global, kind: WordKind, word: &[u8]) -> bool
     }
 }
 
-/// Any number of a byte.
-const BYTE: WordKind = WordKind::Number {
-    least: 0,
-    most: 255,
-};
-
-/// Any number of 16 bits.
-const HALF: WordKind = WordKind::Number {
-    least: 0,
-    most: 65_535,
-};
-
-/// A destination ID of a switch's table.
-const ENTRY: WordKind = WordKind::Number {
-    least: 0,
-    most: 1023,
-};
-
-/// A priority.
-const PRIO: WordKind = WordKind::Number { least: 0, most: 3 };
-
-/// A format type.
-const FTYPE: WordKind = WordKind::Number { least: 0, most: 15 };
-
-/// The offset of a register.
-const OFFSET: WordKind = WordKind::Digits(6);
-
-/// What a register is to hold.
-const VALUE: WordKind = WordKind::Digits(8);
-
-/// A count of turns, characters or rounds.
-const COUNT: WordKind = WordKind::Number {
-    least: 1,
-    most: 100_000,
-};
-
-/// A place on a wire.
-const PLACE: WordKind = WordKind::Number {
-    least: 0,
-    most: 100_000,
-};
-
-impl Form {
-    /// The kinds of the words behind the keyword.
-    fn kinds(self) -> &'static [WordKind]
-        ensures kinds { result.now ≡ map kind_of_field (fields_of self) }
-        ensures few { length result.now ≤ 7 }
+impl Field {
+    /// How a word of this kind is spelled.
+    fn kind(self) -> WordKind
+        ensures { result ≡ kind_of_field self }
     {
         match self {
-            Form::Endpoint => &[WordKind::Name, BYTE],
-            Form::Switch => &[WordKind::Name, WordKind::Number { least: 2, most: 16 }],
-            Form::Link => &[WordKind::Port, WordKind::Port],
-            Form::Buffers => &[WordKind::Port, WordKind::Number { least: 4, most: 30 }],
-            Form::Route => &[WordKind::Name, ENTRY, BYTE],
-            Form::Default => &[WordKind::Name, BYTE],
-            Form::Lock | Form::Large => &[WordKind::Name, HALF],
-            Form::Send => &[WordKind::Name, PRIO, FTYPE, BYTE, WordKind::Bytes],
-            Form::Read => &[WordKind::Name, PRIO, BYTE, BYTE, BYTE, OFFSET],
-            Form::Write => &[WordKind::Name, PRIO, BYTE, BYTE, BYTE, OFFSET, VALUE],
-            Form::Send16 => &[WordKind::Name, PRIO, FTYPE, HALF, WordKind::Bytes],
-            Form::Read16 => &[WordKind::Name, PRIO, HALF, BYTE, BYTE, OFFSET],
-            Form::Write16 => &[WordKind::Name, PRIO, HALF, BYTE, BYTE, OFFSET, VALUE],
-            Form::Pump | Form::Deliver => &[WordKind::Port, COUNT],
-            Form::Alter | Form::Insert => &[WordKind::Port, PLACE, WordKind::Character],
-            Form::Erase => &[WordKind::Port, PLACE, COUNT],
-            Form::Credits | Form::Timeout | Form::Settle => &[WordKind::Port],
-            Form::Move | Form::Collect => &[WordKind::Name],
-            Form::Run => &[COUNT],
+            Field::NewName | Field::Node => WordKind::Name,
+            Field::Port => WordKind::Port,
+            Field::Number(least, most) => WordKind::Number { least, most },
+            Field::Hex => WordKind::Bytes,
+            Field::Digits(count) => WordKind::Digits(count),
+            Field::Character => WordKind::Character,
         }
     }
 }

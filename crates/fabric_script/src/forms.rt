@@ -6,7 +6,7 @@ ghost use Rattle.fabric_script.specs.declared.forms.Form.{Form as AForm};
 
 /// What a line is about, apart from its words.
 #[derive(Clone, Copy, Debug, PartialEq, Eq)]
-pub(crate) enum Form {
+pub enum Form {
     Endpoint,
     Switch,
     Link,

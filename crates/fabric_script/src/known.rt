@@ -167,10 +167,11 @@ impl Known {
         self.names.len() as u8
     }
 
-    /// Whether a word may name a new node.
-    pub(crate) fn read_new_name(&self, word: &[u8]) -> Result<(), Reason>
+    /// The name that a word gives a new node.
+    pub(crate) fn read_new_name(&self, word: &[u8]) -> Result<Name, Reason>
         ensures { MatchResult result
-            (λ _. FitsField self.now ANewName (Named word.now))
+            (λ name. FitsField self.now ANewName (Named name)
+            × (word.now ≡ value_text self.now.names (Named name)))
             (λ reason. Hits self.now reason ANewName word.now) }
     {
         if !is_name(word) {
@@ -178,7 +179,7 @@ impl Known {
         }
         match find(self.names.as_slice(), &self.hints, word) {
             Some(_) => Err(Reason::NameTaken),
-            None => Ok(()),
+            None => Ok(Name::of_word(word)),
         }
     }
 

@@ -6,6 +6,7 @@
 //!
 //! - `Forms`: the keyword and the kinds of words of each kind of line;
 //! - `Names`, `Texts`, `Lines`: the text of each word, and the words of a line;
+//! - `Values`, `LineWords`: what the words of a line say, and the line that a form makes of it;
 //! - `Hits`: which words each kind may be, and which reason hits the others;
 //! - `Refusals`: the reasons that look at a whole line, after what `Known` says of earlier ones;
 //! - `LargeIds`: which 16-bit device IDs the lines give nodes;
@@ -19,9 +20,10 @@
 //! `SetUp::take_line` takes a line of set-up more.
 //!
 //! The types are `Script`, its `Numbered` lines, `Line` and their parts `Name`, `Hex` and
-//! `PortRef`; `Operation` is what a line asks of a fabric, and its `GivenPacket` what it says of a
-//! packet that it gives to an endpoint; `Reason`, `Refusal` and `ScriptEnd` say why there is no
-//! script. The module `laws` has each law as the contract of a function with an empty body: a text
+//! `PortRef`; `Form`, `Field` and `Value` are what a line is about, what each of its words is to be
+//! and what a word says; `Operation` is what a line asks of a fabric, and its `GivenPacket` what it
+//! says of a packet that it gives to an endpoint; `Reason`, `Refusal` and `ScriptEnd` say why there
+//! is no script. The module `laws` has each law as the contract of a function with an empty body: a text
 //! is one line at most, and no reason hits it then; bytes spell one script at most, or are refused
 //! once; a script that passes is spelled by its text; its 16-bit device IDs differ.
 //!
@@ -32,9 +34,9 @@
 #![tactic(auto)]
 
 mod advice;
+mod fields;
 mod forms;
 mod given_packets;
-mod growing_sink;
 mod hex;
 mod known;
 mod laws;
@@ -52,10 +54,13 @@ mod scripts;
 mod set_ups;
 mod soak;
 mod spaced;
+mod values;
 mod words;
 mod writing;
 
 pub use advice::{Advice, WordKind, advise};
+pub use fields::Field;
+pub use forms::Form;
 pub use given_packets::{Contents, GivenPacket, RequestHead};
 pub use hex::{Hex, read_bytes, read_digits};
 pub use laws::{
@@ -66,12 +71,13 @@ pub use line_texts::{line_text, print};
 pub use lines::{Line, Numbered, Script};
 pub use names::{Name, find_name, read_name};
 pub use numbers::read_number;
-pub use operations::{Action, Operation, WireEdit};
+pub use operations::{Action, Operation};
 pub use ports::PortRef;
 pub use reasons::Reason;
 pub use scripts::{Refusal, ScriptEnd, is_skipped, parse, parse_set_up};
 pub use set_ups::{EventEnd, SetUp, read_set_up};
 pub use soak::soak_script;
 pub use spaced::{put_bytes, put_node, put_number, put_value, write_name, write_port};
+pub use values::Value;
 pub use words::split_word;
 pub use writing::write_line;

@@ -6,11 +6,10 @@ ghost use Rattle.fabric_script.specs.Lines.{line_text};
 ghost use Rattle.fabric_script.specs.LineTexts.{AreNamed, script_text};
 ghost use Rattle.fabric_script.specs.Scripts.{ScriptPasses, IsScript, renumbered};
 
-use crate::growing_sink::GrowingSink;
 use crate::lines::{Line, Script};
 use crate::names::Name;
 use crate::writing::write_line;
-use rio_chars::{NoMemory, Outbox, Sink, TextBuffer};
+use rio_chars::{NoMemory, Outbox, Sink, TextBuffer, TextSink};
 use std::alloc::Global;
 
 /// The text of a line, without its line feed. Its nodes have names.
@@ -19,7 +18,7 @@ pub fn line_text(alloc: Global, names: &[Name], line: &Line) -> Result<Vec<u8>, 
     ensures { IfOk result (λ text. text.items ≡ line_text names.now line.now) }
 {
     let mut buffer = TextBuffer::new(alloc)?;
-    let mut sink = GrowingSink::new(alloc);
+    let mut sink = TextSink::new(alloc);
     let mut outbox = Outbox::new(&mut buffer, &mut sink);
     write_line(&mut outbox, names, line);
     finish(&mut outbox)?;
@@ -37,7 +36,7 @@ pub fn print(alloc: Global, script: &Script) -> Result<Vec<u8>, NoMemory>
         script.now.names.items (renumbered 1 script.now.lines.items)) }
 {
     let mut buffer = TextBuffer::new(alloc)?;
-    let mut sink = GrowingSink::new(alloc);
+    let mut sink = TextSink::new(alloc);
     let mut outbox = Outbox::new(&mut buffer, &mut sink);
     write_lines(&mut outbox, script);
     finish(&mut outbox)?;

@@ -1,359 +1,174 @@
-//! Each form of a line, word by word.
+//! A line from the words behind its keyword.
 
-ghost use Rattle.std.specs.Prelude.{IfOk, ◌≤◌};
-ghost use Rattle.fabric_script.specs.declared.forms.Form.{Form as AForm};
-ghost use Rattle.fabric_script.specs.Known.{Known as AKnown};
-ghost use Rattle.fabric_script.specs.LineWords.{TakesLine, TakesRequest};
+ghost use Rattle.std.specs.Prelude.{◌≡◌, ℕ, true, IfOk, length, slice_get};
+ghost use Rattle.fabric_script.specs.Forms.{fields_of};
+ghost use Rattle.fabric_script.specs.LineWords.{line_saying, gives_small, gives_large, gives_none};
+ghost use Rattle.fabric_script.specs.Values.{AreWithin};
+ghost use Rattle.fabric_script.specs.Words.{TakesAll};
 
 use crate::forms::Form;
 use crate::known::Known;
 use crate::lines::Line;
+use crate::values::{Value, Values, char_said, node_said, number_said, port_said, take_bytes};
 use crate::words::Words;
 use std::alloc::{AllocError, Global};
 
-/// The greatest 16-bit number.
-const MOST_ID: u32 = 65_535;
-
-/// The most turns, characters or rounds of one event, and the greatest place.
-const MOST_COUNT: u32 = 100_000;
-
-/// The line of a form whose words are these. Where a reason hits one of them, the least is noted.
-pub(crate) fn take_line(
+/// What the words of a form say. Where a reason hits one of them, the least is noted.
+pub(crate) fn take_words(
     alloc: Global,
     form: Form,
     words: &mut Words,
     known: &Known,
-) -> Result<Line, AllocError>
-    ensures { IfOk result (λ line. TakesLine known.now form words.old line words.new) }
+) -> Result<Values, AllocError>
+    ensures { IfOk result (λ values.
+        TakesAll known.now (fields_of form) values.items words.old words.new) }
 {
+    let mut values = Values::new();
+    for field in form.fields() {
+        values.push(words.take(alloc, *field, known)?);
+    }
+    Ok(values)
+}
+
+/// The line of a form whose words say this.
+pub(crate) fn line_saying(alloc: Global, form: Form, values: &mut [Value], known: &Known) -> Line
+    requires { AreWithin (fields_of form) (slice_get values.old) }
+    ensures { result ≡ line_saying form (length known.now.names) values.old }
+{
+    let name = known.next_node();
+    let node = node_said(values, 0);
+    let port = port_said(values, 0);
+    let n = number_said(values, 1);
     match form {
-        Form::Endpoint => Ok(endpoint(words, known)),
-        Form::Switch => Ok(switch(words, known)),
-        Form::Link => Ok(link(words, known)),
-        Form::Buffers => Ok(buffers(words, known)),
-        Form::Route => Ok(route(words, known)),
-        Form::Default => Ok(default(words, known)),
-        Form::Lock => Ok(lock(words, known)),
-        Form::Large => Ok(large(words, known)),
-        Form::Credits => Ok(credits(words, known)),
-        Form::Send => send(alloc, words, known),
-        Form::Read => Ok(read(words, known)),
-        Form::Write => Ok(write(words, known)),
-        Form::Send16 => send16(alloc, words, known),
-        Form::Read16 => Ok(read16(words, known)),
-        Form::Write16 => Ok(write16(words, known)),
-        Form::Pump => Ok(pump(words, known)),
-        Form::Deliver => Ok(deliver(words, known)),
-        Form::Alter => Ok(alter(words, known)),
-        Form::Insert => Ok(insert(words, known)),
-        Form::Erase => Ok(erase(words, known)),
-        Form::Timeout => Ok(timeout(words, known)),
-        Form::Settle => Ok(settle(words, known)),
-        Form::Move => Ok(move_step(words, known)),
-        Form::Collect => Ok(collect(words, known)),
-        Form::Run => Ok(run(words)),
+        Form::Endpoint => Line::Endpoint { name, id: n as u8 },
+        Form::Switch => Line::Switch {
+            name,
+            ports: n as u8,
+        },
+        Form::Link => Line::Link {
+            a: port,
+            b: port_said(values, 1),
+        },
+        Form::Buffers => Line::Buffers { port, n: n as u8 },
+        Form::Route => Line::Route {
+            node,
+            id: n as u16,
+            p: number_said(values, 2) as u8,
+        },
+        Form::Default => Line::Default { node, p: n as u8 },
+        Form::Lock => Line::Lock { node, id: n as u16 },
+        Form::Large => Line::Large { node, id: n as u16 },
+        Form::Credits => Line::Credits { port },
+        Form::Send | Form::Read | Form::Write => packet_line(alloc, form, values),
+        Form::Send16 | Form::Read16 | Form::Write16 => large_packet_line(alloc, form, values),
+        _ => event_line(form, values),
     }
 }
 
-/// Takes the words of an `endpoint` line.
-fn endpoint(words: &mut Words, known: &Known) -> Line
-    ensures { TakesLine known.now AForm.Endpoint words.old result words.new }
+/// The line of a form of an event that gives no packet.
+fn event_line(form: Form, values: &[Value]) -> Line
+    requires { gives_none form ≡ true }
+    ensures { (new : ℕ) → result ≡ line_saying form new values.now }
 {
-    words.new_name(known);
-    let id = words.byte(0, 255);
-    let name = known.next_node();
-    Line::Endpoint { name, id }
-}
-
-/// Takes the words of a `switch` line.
-fn switch(words: &mut Words, known: &Known) -> Line
-    ensures { TakesLine known.now AForm.Switch words.old result words.new }
-{
-    words.new_name(known);
-    let ports = words.byte(2, 16);
-    let name = known.next_node();
-    Line::Switch { name, ports }
-}
-
-/// Takes the words of a `link` line.
-fn link(words: &mut Words, known: &Known) -> Line
-    ensures { TakesLine known.now AForm.Link words.old result words.new }
-{
-    let a = words.port(known);
-    let b = words.port(known);
-    Line::Link { a, b }
-}
-
-/// Takes the words of a `buffers` line.
-fn buffers(words: &mut Words, known: &Known) -> Line
-    ensures { TakesLine known.now AForm.Buffers words.old result words.new }
-{
-    let port = words.port(known);
-    let n = words.byte(4, 30);
-    Line::Buffers { port, n }
-}
-
-/// Takes the words of a `route` line.
-fn route(words: &mut Words, known: &Known) -> Line
-    ensures { TakesLine known.now AForm.Route words.old result words.new }
-{
-    let node = words.node(known);
-    let id = words.number(0, 1023) as u16;
-    let p = words.byte(0, 255);
-    Line::Route { node, id, p }
-}
-
-/// Takes the words of a `default` line.
-fn default(words: &mut Words, known: &Known) -> Line
-    ensures { TakesLine known.now AForm.Default words.old result words.new }
-{
-    let node = words.node(known);
-    let p = words.byte(0, 255);
-    Line::Default { node, p }
-}
-
-/// Takes the words of a `lock` line.
-fn lock(words: &mut Words, known: &Known) -> Line
-    ensures { TakesLine known.now AForm.Lock words.old result words.new }
-{
-    let node = words.node(known);
-    let id = words.number(0, MOST_ID) as u16;
-    Line::Lock { node, id }
-}
-
-/// Takes the words of a `large` line.
-fn large(words: &mut Words, known: &Known) -> Line
-    ensures { TakesLine known.now AForm.Large words.old result words.new }
-{
-    let node = words.node(known);
-    let id = words.number(0, MOST_ID) as u16;
-    Line::Large { node, id }
-}
-
-/// Takes the word of a `credits` line.
-fn credits(words: &mut Words, known: &Known) -> Line
-    ensures { TakesLine known.now AForm.Credits words.old result words.new }
-{
-    let port = words.port(known);
-    Line::Credits { port }
-}
-
-/// Takes the words of a `send` line.
-fn send(alloc: Global, words: &mut Words, known: &Known) -> Result<Line, AllocError>
-    ensures { IfOk result (λ line. TakesLine known.now AForm.Send words.old line words.new) }
-{
-    let node = words.node(known);
-    let prio = words.byte(0, 3);
-    let ftype = words.byte(0, 15);
-    let dest = words.byte(0, 255);
-    let hex = words.hex(alloc)?;
-    Ok(Line::Send {
-        node,
-        prio,
-        ftype,
-        dest,
-        hex,
-    })
-}
-
-/// What the words of a request to read or write a register say.
-#[derive(Clone, Copy)]
-struct Asked {
-    node: u8,
-    prio: u8,
-    dest: u32,
-    hop: u8,
-    tid: u8,
-    offset: u32,
-}
-
-/// Takes the words of a request to read or write a register, with an ID of at most this number.
-fn request(words: &mut Words, known: &Known, most: u32) -> Asked
-    ensures takes { TakesRequest known.now most result words.old words.new }
-    ensures range { result.dest ≤ most }
-{
-    let node = words.node(known);
-    let prio = words.byte(0, 3);
-    let dest = words.number(0, most);
-    let hop = words.byte(0, 255);
-    let tid = words.byte(0, 255);
-    let offset = words.digits(6);
-    Asked {
-        node,
-        prio,
-        dest,
-        hop,
-        tid,
-        offset,
+    let node = node_said(values, 0);
+    let port = port_said(values, 0);
+    let n = number_said(values, 1);
+    match form {
+        Form::Pump => Line::Pump { port, n },
+        Form::Deliver => Line::Deliver { port, n },
+        Form::Alter => Line::Alter {
+            port,
+            place: n,
+            ch: char_said(values, 2),
+        },
+        Form::Insert => Line::Insert {
+            port,
+            place: n,
+            ch: char_said(values, 2),
+        },
+        Form::Erase => Line::Erase {
+            port,
+            place: n,
+            n: number_said(values, 2),
+        },
+        Form::Timeout => Line::Timeout { port },
+        Form::Settle => Line::Settle { port },
+        Form::Move => Line::Move { node },
+        Form::Collect => Line::Collect { node },
+        _ => Line::Run {
+            n: number_said(values, 0),
+        },
     }
 }
 
-/// Takes the words of a `read` line.
-fn read(words: &mut Words, known: &Known) -> Line
-    ensures { TakesLine known.now AForm.Read words.old result words.new }
+/// The line of a form that gives an endpoint a packet with 8-bit IDs.
+fn packet_line(alloc: Global, form: Form, values: &mut [Value]) -> Line
+    requires within { AreWithin (fields_of form) (slice_get values.old) }
+    requires packet { gives_small form ≡ true }
+    ensures { (new : ℕ) → result ≡ line_saying form new values.old }
 {
-    let asked = request(words, known, 255);
-    Line::Read {
-        node: asked.node,
-        prio: asked.prio,
-        dest: asked.dest as u8,
-        hop: asked.hop,
-        tid: asked.tid,
-        offset: asked.offset,
+    let node = node_said(values, 0);
+    let prio = number_said(values, 1) as u8;
+    match form {
+        Form::Send => Line::Send {
+            node,
+            prio,
+            ftype: number_said(values, 2) as u8,
+            dest: number_said(values, 3) as u8,
+            hex: take_bytes(alloc, values, 4),
+        },
+        Form::Read => Line::Read {
+            node,
+            prio,
+            dest: number_said(values, 2) as u8,
+            hop: number_said(values, 3) as u8,
+            tid: number_said(values, 4) as u8,
+            offset: number_said(values, 5),
+        },
+        _ => Line::Write {
+            node,
+            prio,
+            dest: number_said(values, 2) as u8,
+            hop: number_said(values, 3) as u8,
+            tid: number_said(values, 4) as u8,
+            offset: number_said(values, 5),
+            value: number_said(values, 6),
+        },
     }
 }
 
-/// Takes the words of a `write` line.
-fn write(words: &mut Words, known: &Known) -> Line
-    ensures { TakesLine known.now AForm.Write words.old result words.new }
+/// The line of a form that gives an endpoint a packet with 16-bit IDs.
+fn large_packet_line(alloc: Global, form: Form, values: &mut [Value]) -> Line
+    requires within { AreWithin (fields_of form) (slice_get values.old) }
+    requires packet { gives_large form ≡ true }
+    ensures { (new : ℕ) → result ≡ line_saying form new values.old }
 {
-    let asked = request(words, known, 255);
-    let value = words.digits(8);
-    Line::Write {
-        node: asked.node,
-        prio: asked.prio,
-        dest: asked.dest as u8,
-        hop: asked.hop,
-        tid: asked.tid,
-        offset: asked.offset,
-        value,
+    let node = node_said(values, 0);
+    let prio = number_said(values, 1) as u8;
+    match form {
+        Form::Send16 => Line::Send16 {
+            node,
+            prio,
+            ftype: number_said(values, 2) as u8,
+            dest: number_said(values, 3) as u16,
+            hex: take_bytes(alloc, values, 4),
+        },
+        Form::Read16 => Line::Read16 {
+            node,
+            prio,
+            dest: number_said(values, 2) as u16,
+            hop: number_said(values, 3) as u8,
+            tid: number_said(values, 4) as u8,
+            offset: number_said(values, 5),
+        },
+        _ => Line::Write16 {
+            node,
+            prio,
+            dest: number_said(values, 2) as u16,
+            hop: number_said(values, 3) as u8,
+            tid: number_said(values, 4) as u8,
+            offset: number_said(values, 5),
+            value: number_said(values, 6),
+        },
     }
-}
-
-/// Takes the words of a `send16` line.
-fn send16(alloc: Global, words: &mut Words, known: &Known) -> Result<Line, AllocError>
-    ensures { IfOk result (λ line. TakesLine known.now AForm.Send16 words.old line words.new) }
-{
-    let node = words.node(known);
-    let prio = words.byte(0, 3);
-    let ftype = words.byte(0, 15);
-    let dest = words.number(0, MOST_ID) as u16;
-    let hex = words.hex(alloc)?;
-    Ok(Line::Send16 {
-        node,
-        prio,
-        ftype,
-        dest,
-        hex,
-    })
-}
-
-/// Takes the words of a `read16` line.
-fn read16(words: &mut Words, known: &Known) -> Line
-    ensures { TakesLine known.now AForm.Read16 words.old result words.new }
-{
-    let asked = request(words, known, MOST_ID);
-    Line::Read16 {
-        node: asked.node,
-        prio: asked.prio,
-        dest: asked.dest as u16,
-        hop: asked.hop,
-        tid: asked.tid,
-        offset: asked.offset,
-    }
-}
-
-/// Takes the words of a `write16` line.
-fn write16(words: &mut Words, known: &Known) -> Line
-    ensures { TakesLine known.now AForm.Write16 words.old result words.new }
-{
-    let asked = request(words, known, MOST_ID);
-    let value = words.digits(8);
-    Line::Write16 {
-        node: asked.node,
-        prio: asked.prio,
-        dest: asked.dest as u16,
-        hop: asked.hop,
-        tid: asked.tid,
-        offset: asked.offset,
-        value,
-    }
-}
-
-/// Takes the words of a `pump` line.
-fn pump(words: &mut Words, known: &Known) -> Line
-    ensures { TakesLine known.now AForm.Pump words.old result words.new }
-{
-    let port = words.port(known);
-    let n = words.number(1, MOST_COUNT);
-    Line::Pump { port, n }
-}
-
-/// Takes the words of a `deliver` line.
-fn deliver(words: &mut Words, known: &Known) -> Line
-    ensures { TakesLine known.now AForm.Deliver words.old result words.new }
-{
-    let port = words.port(known);
-    let n = words.number(1, MOST_COUNT);
-    Line::Deliver { port, n }
-}
-
-/// Takes the words of an `alter` line.
-fn alter(words: &mut Words, known: &Known) -> Line
-    ensures { TakesLine known.now AForm.Alter words.old result words.new }
-{
-    let port = words.port(known);
-    let place = words.number(0, MOST_COUNT);
-    let ch = words.character();
-    Line::Alter { port, place, ch }
-}
-
-/// Takes the words of an `insert` line.
-fn insert(words: &mut Words, known: &Known) -> Line
-    ensures { TakesLine known.now AForm.Insert words.old result words.new }
-{
-    let port = words.port(known);
-    let place = words.number(0, MOST_COUNT);
-    let ch = words.character();
-    Line::Insert { port, place, ch }
-}
-
-/// Takes the words of an `erase` line.
-fn erase(words: &mut Words, known: &Known) -> Line
-    ensures { TakesLine known.now AForm.Erase words.old result words.new }
-{
-    let port = words.port(known);
-    let place = words.number(0, MOST_COUNT);
-    let n = words.number(1, MOST_COUNT);
-    Line::Erase { port, place, n }
-}
-
-/// Takes the words of a `timeout` line.
-fn timeout(words: &mut Words, known: &Known) -> Line
-    ensures { TakesLine known.now AForm.Timeout words.old result words.new }
-{
-    let port = words.port(known);
-    Line::Timeout { port }
-}
-
-/// Takes the words of a `settle` line.
-fn settle(words: &mut Words, known: &Known) -> Line
-    ensures { TakesLine known.now AForm.Settle words.old result words.new }
-{
-    let port = words.port(known);
-    Line::Settle { port }
-}
-
-/// Takes the words of a `move` line.
-fn move_step(words: &mut Words, known: &Known) -> Line
-    ensures { TakesLine known.now AForm.Move words.old result words.new }
-{
-    let node = words.node(known);
-    Line::Move { node }
-}
-
-/// Takes the words of a `collect` line.
-fn collect(words: &mut Words, known: &Known) -> Line
-    ensures { TakesLine known.now AForm.Collect words.old result words.new }
-{
-    let node = words.node(known);
-    Line::Collect { node }
-}
-
-/// Takes the words of a `run` line.
-fn run(words: &mut Words) -> Line
-    ensures { (known : AKnown) → TakesLine known AForm.Run words.old result words.new }
-{
-    let n = words.number(1, MOST_COUNT);
-    Line::Run { n }
 }

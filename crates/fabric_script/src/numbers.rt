@@ -50,13 +50,6 @@ fn read_digits(word: &[u8]) -> Option<u32>
     Some(value as u32)
 }
 
-/// The number of a byte that a word spells, in a range.
-pub(crate) fn read_byte(word: &[u8], least: u8, most: u8) -> Result<u8, Reason>
-    ensures { ReadsNumber word.now least most result }
-{
-    Ok(read_count(word, u32::from(least), u32::from(most))? as u8)
-}
-
 /// The number that a word spells, in a range.
 pub(crate) fn read_count(word: &[u8], least: u32, most: u32) -> Result<u32, Reason>
     ensures { ReadsNumber word.now least most result }

@@ -1,12 +1,12 @@
 //! What a line asks of a fabric.
 
 ghost use Rattle.std.specs.Prelude.{◌≡◌, false, MatchOption};
-ghost use Rattle.fabric_script.specs.Operations.{IsOperation, line_for, line_editing, acts_at_link, edits_wire};
+ghost use Rattle.fabric_script.specs.Operations.{IsOperation, line_for, line_editing, acts_at_link, edit_of, edits_wire};
 
 use crate::given_packets::GivenPacket;
 use crate::lines::Line;
 use crate::ports::PortRef;
-use rio_chars::Char;
+use rio_chars::Edit;
 
 /// What a line asks of a fabric.
 #[derive(Clone, Copy, Debug)]
@@ -18,7 +18,7 @@ pub enum Operation<'a> {
     /// The link of a port does something.
     AtLink(PortRef, Action),
     /// What a port has sent is changed.
-    Edit(PortRef, WireEdit),
+    Edit(PortRef, Edit),
     /// A switch makes one step.
     Move(u8),
     /// An endpoint gives out the packet that is next.
@@ -40,17 +40,6 @@ pub enum Action {
     Settle,
 }
 
-/// A change of what a port has sent.
-#[derive(Clone, Copy, Debug)]
-pub enum WireEdit {
-    /// The character at a place becomes another.
-    Alter { place: u32, ch: Char },
-    /// A character comes in before a place.
-    Insert { place: u32, ch: Char },
-    /// So many characters are lost, from a place on.
-    Erase { place: u32, count: u32 },
-}
-
 impl Line {
     /// What the line asks of a fabric.
     pub fn operation(&self) -> Operation<'_>
@@ -62,7 +51,7 @@ impl Line {
         if let Some((port, action)) = self.at_link() {
             return Operation::AtLink(port, action);
         }
-        if let Some((port, edit)) = self.edit() {
+        if let Some((port, edit)) = self.wire_edit() {
             return Operation::Edit(port, edit);
         }
         match self {
@@ -89,17 +78,33 @@ impl Line {
     }
 
     /// The change of what a port has sent that the line asks for, if it asks for one.
-    fn edit(&self) -> Option<(PortRef, WireEdit)>
-        ensures { MatchOption result
+    pub fn wire_edit(&self) -> Option<(PortRef, Edit)>
+        ensures edit { result ≡ edit_of self.now }
+        ensures asked { MatchOption result
             (edits_wire self.now ≡ false)
             (λ asked. self.now ≡ line_editing asked.0 asked.1) }
     {
         let (port, edit) = match *self {
-            Line::Alter { port, place, ch } => (port, WireEdit::Alter { place, ch }),
-            Line::Insert { port, place, ch } => (port, WireEdit::Insert { place, ch }),
-            Line::Erase { port, place, n } => (port, WireEdit::Erase { place, count: n }),
+            Line::Alter { port, place, ch } => (port, Edit::Alter { place, ch }),
+            Line::Insert { port, place, ch } => (port, Edit::Insert { place, ch }),
+            Line::Erase { port, place, n } => (port, Edit::Erase { place, count: n }),
             _ => return None,
         };
         Some((port, edit))
+    }
+
+    /// The line that changes what a port has sent in this way.
+    pub fn editing(port: PortRef, edit: &Edit) -> Line
+        ensures { result ≡ line_editing port edit.now }
+    {
+        match *edit {
+            Edit::Alter { place, ch } => Line::Alter { port, place, ch },
+            Edit::Insert { place, ch } => Line::Insert { port, place, ch },
+            Edit::Erase { place, count } => Line::Erase {
+                port,
+                place,
+                n: count,
+            },
+        }
     }
 }

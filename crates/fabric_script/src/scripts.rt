@@ -11,7 +11,7 @@ ghost use Rattle.fabric_script.specs.declared.scripts.ScriptEnd.TheVariants.{NoM
 
 use crate::forms::form_named;
 use crate::known::{Known, Mode};
-use crate::line_words::take_line;
+use crate::line_words::{line_saying, take_words};
 use crate::lines::{Line, Numbered, Script};
 use crate::reasons::Reason;
 use crate::refusals::refusal;
@@ -187,10 +187,11 @@ pub(crate) fn read_line(
     let Some(form) = form_named(words.word()) else {
         return Ok(Err(Reason::UnknownLine));
     };
-    let line = take_line(alloc, form, &mut words, known)?;
+    let mut values = take_words(alloc, form, &mut words, known)?;
     if let Some(reason) = words.end() {
         return Ok(Err(reason));
     }
+    let line = line_saying(alloc, form, values.as_mut_slice(), known);
     match refusal(known, &line) {
         Some(reason) => Ok(Err(reason)),
         None => Ok(Ok(line)),

@@ -3,19 +3,18 @@
 //! A word that a reason hits is answered by a stand-in, and the least reason is noted. So a form
 //! reads all its words in one go, and asks at their end.
 
-ghost use Rattle.std.specs.Prelude.{◌≡◌, ◌∷◌, ◌≤◌, [], Some, IfOk, IsTrue, ◌↔◌};
+ghost use Rattle.std.specs.Prelude.{◌≡◌, ◌≢◌, ◌∷◌, [], Some, None, IfOk, IsTrue, ◌↔◌};
 ghost use Rattle.fabric_script.specs.Lines.{words_of};
-ghost use Rattle.fabric_script.specs.Forms.{NewName, Node, Port, Number, Hex as AHex, Digits, Character};
-ghost use Rattle.fabric_script.specs.Texts.{Named, NodeValue, PortValue, Counted, Bytes, InDigits, Code};
-ghost use Rattle.fabric_script.specs.Known.{Known as AKnown};
-ghost use Rattle.fabric_script.specs.Words.{words_left, with_reason, ok_of, noted_by, reason_at_end, first_word, after_word, Takes};
+ghost use Rattle.fabric_script.specs.Forms.{IsShort, Hex as AHex};
+ghost use Rattle.fabric_script.specs.Words.{words_left, with_reason, ok_of, noted_by, reason_at_end, first_word, after_word, Takes, ReadsValue};
 
-use crate::hex::{Hex, read_digits, read_hex};
+use crate::fields::Field;
+use crate::hex::{read_digits, read_hex};
 use crate::known::Known;
-use crate::numbers::{read_byte, read_count};
-use crate::ports::PortRef;
+use crate::numbers::read_count;
 use crate::reasons::Reason;
-use rio_chars::{Char, read_char};
+use crate::values::Value;
+use rio_chars::read_char;
 use std::alloc::{AllocError, Global};
 use std::marker::Model;
 
@@ -74,79 +73,20 @@ impl<'a> Words<'a> {
         }
     }
 
-    /// The name of a new node.
-    pub(crate) fn new_name(&mut self, known: &Known)
-        ensures { Takes known.now NewName (Named (first_word self.old.words)) self.old self.new }
+    /// What the next word says, if it is one of this kind; else the reason that hits it is noted, and
+    /// a stand-in is answered.
+    pub(crate) fn take(
+        &mut self,
+        alloc: Global,
+        field: Field,
+        known: &Known,
+    ) -> Result<Value, AllocError>
+        requires { IsShort field }
+        ensures { IfOk result (λ value. Takes known.now field value self.old self.new) }
     {
         let word = self.word();
-        self.note(known.read_new_name(word)).unwrap_or(());
-    }
-
-    /// The name of a node.
-    pub(crate) fn node(&mut self, known: &Known) -> u8
-        ensures { Takes known.now Node (NodeValue result) self.old self.new }
-    {
-        let word = self.word();
-        self.note(known.read_node(word)).unwrap_or(0)
-    }
-
-    /// A port.
-    pub(crate) fn port(&mut self, known: &Known) -> PortRef
-        ensures { Takes known.now Port (PortValue result) self.old self.new }
-    {
-        let word = self.word();
-        self.note(known.read_port(word))
-            .unwrap_or(PortRef { node: 0, port: 0 })
-    }
-
-    /// A number of a byte, in a range.
-    pub(crate) fn byte(&mut self, least: u8, most: u8) -> u8
-        ensures { (known : AKnown)
-            → Takes known (Number least most) (Counted result) self.old self.new }
-    {
-        let word = self.word();
-        self.note(read_byte(word, least, most)).unwrap_or(least)
-    }
-
-    /// A number in a range.
-    pub(crate) fn number(&mut self, least: u32, most: u32) -> u32
-        requires { least ≤ most }
-        ensures takes { (known : AKnown)
-            → Takes known (Number least most) (Counted result) self.old self.new }
-        ensures range { result ≤ most }
-    {
-        let word = self.word();
-        self.note(read_count(word, least, most)).unwrap_or(least)
-    }
-
-    /// Bytes in hexadecimal digits.
-    pub(crate) fn hex(&mut self, alloc: Global) -> Result<Hex, AllocError>
-        ensures { IfOk result (λ hex. (known : AKnown)
-            → Takes known AHex (Bytes hex) self.old self.new) }
-    {
-        let word = self.word();
-        let read = read_hex(alloc, word)?.ok_or(Reason::BadHex);
-        Ok(self.note(read).unwrap_or(Hex::new(Vec::new(alloc))))
-    }
-
-    /// A number in so many hexadecimal digits, at most eight.
-    pub(crate) fn digits(&mut self, count: usize) -> u32
-        requires { count ≤ 8 }
-        ensures { (known : AKnown)
-            → Takes known (Digits count) (InDigits count result) self.old self.new }
-    {
-        let word = self.word();
-        self.note(read_digits(word, count).ok_or(Reason::BadHex))
-            .unwrap_or(0)
-    }
-
-    /// A character.
-    pub(crate) fn character(&mut self) -> Char
-        ensures { (known : AKnown) → Takes known Character (Code result) self.old self.new }
-    {
-        let word = self.word();
-        self.note(read_char(word).ok_or(Reason::BadHex))
-            .unwrap_or(Char::Invalid)
+        let read = read_value(alloc, field, word, known)?;
+        Ok(self.note(read).unwrap_or(Value::Counted(0)))
     }
 
     /// Whether no word is left.
@@ -164,6 +104,52 @@ impl<'a> Words<'a> {
             Some(_) => Some(Reason::UnknownLine),
             None => self.hit,
         }
+    }
+}
+
+/// What a word of this kind says, or the reason that hits it.
+#[tactic(auto, using(crate::proofs::Taking::hits_hex))]
+fn read_value(
+    alloc: Global,
+    field: Field,
+    word: &[u8],
+    known: &Known,
+) -> Result<Result<Value, Reason>, AllocError>
+    requires { IsShort field }
+    ensures { IfOk result (λ read. ReadsValue known.now field word.now read) }
+{
+    match field {
+        Field::Hex => match read_hex(alloc, word)? {
+            Some(bytes) => Ok(Ok(Value::Bytes(bytes))),
+            None => Ok(Err(Reason::BadHex)),
+        },
+        _ => Ok(read_plain(field, word, known)),
+    }
+}
+
+/// The same of a word that takes no memory.
+fn read_plain(field: Field, word: &[u8], known: &Known) -> Result<Value, Reason>
+    requires short { IsShort field }
+    requires plain { field ≢ AHex }
+    ensures { ReadsValue known.now field word.now result }
+{
+    match field {
+        Field::NewName => Ok(Value::Named(known.read_new_name(word)?)),
+        Field::Node => Ok(Value::Node(known.read_node(word)?)),
+        Field::Port => Ok(Value::Port(known.read_port(word)?)),
+        Field::Number(least, most) => match read_count(word, least, most) {
+            Ok(n) => Ok(Value::Counted(n)),
+            Err(_) => Err(Reason::BadNumber),
+        },
+        Field::Hex => unreachable!(),
+        Field::Digits(count) => match read_digits(word, usize::from(count)) {
+            Some(n) => Ok(Value::InDigits(count, n)),
+            None => Err(Reason::BadHex),
+        },
+        Field::Character => match read_char(word) {
+            Some(ch) => Ok(Value::Code(ch)),
+            None => Err(Reason::BadHex),
+        },
     }
 }
 

@@ -12,13 +12,13 @@ ghost use Rattle.fabric_script.specs.LineTexts.{AreNamed, after_words, value_tex
 use crate::given_packets::{Contents, GivenPacket, RequestHead};
 use crate::lines::Line;
 use crate::names::Name;
-use crate::operations::{Action, Operation, WireEdit};
+use crate::operations::{Action, Operation};
 use crate::ports::PortRef;
 use crate::spaced::{
     put_bytes, put_char, put_node, put_node_number, put_number, put_numbers, put_offset, put_port,
     put_port_number, put_value,
 };
-use rio_chars::{Outbox, Sink};
+use rio_chars::{Edit, Outbox, Sink};
 
 /// Writes a line, without its line feed. Its nodes have names.
 pub fn write_line<K: Sink>(outbox: &mut Outbox<K>, names: &[Name], line: &Line)
@@ -116,17 +116,17 @@ fn put_action<K: Sink>(outbox: &mut Outbox<K>, names: &[Name], port: PortRef, ac
 }
 
 /// Puts the words of a change of what a port has sent.
-fn put_edit<K: Sink>(outbox: &mut Outbox<K>, names: &[Name], port: PortRef, edit: WireEdit)
+fn put_edit<K: Sink>(outbox: &mut Outbox<K>, names: &[Name], port: PortRef, edit: Edit)
     requires { port.node < length names.now }
     ensures { Writes outbox.old outbox.new
         (after_words [] (value_texts names.now (line_editing port edit))) }
 {
     match edit {
-        WireEdit::Alter { place, ch } | WireEdit::Insert { place, ch } => {
+        Edit::Alter { place, ch } | Edit::Insert { place, ch } => {
             put_port_number(outbox, names, port, place);
             put_char(outbox, ch);
         }
-        WireEdit::Erase { place, count } => {
+        Edit::Erase { place, count } => {
             put_port(outbox, names, port);
             put_numbers(outbox, place, count);
         }

@@ -1,3 +1,4 @@
+mod Prelude
 pub mod Network
 pub mod Links
 pub mod Parts

@@ -8,7 +8,7 @@ use Rattle.maint_packets.specs.declared.request.Op.TheVariants as Ops
 use Rattle.maint_packets.specs.declared.request.Request.{Request}
 use Rattle.link_watch.specs.declared.side.Side.TheVariants.{A}
 use Rattle.link_wires.specs.Wires.{fits}
-use Rattle.link_wires.specs.declared.edits.Edit.{Edit}
+use Rattle.rio_chars.specs.declared.edit.Edit.{Edit}
 use Rattle.link_machine.specs.Calls.{has_chars, pump_notes, delivery_notes, is_silent, time_out_notes}
 use Rattle.link_machine.specs.Acts.{Act, At, acts_notes}
 use Rattle.link_machine.specs.Settling.{Settles}

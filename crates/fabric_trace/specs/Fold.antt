@@ -12,24 +12,15 @@ use Rattle.link_model.specs.Said.{said}
 use Rattle.link_port.specs.Turns.{timed_out}
 use Rattle.link_wires.specs.Deliveries.{Delivered, Through, WentUndetected, delivered, told_of, undetected}
 use Rattle.link_wires.specs.Wires.{fits, edited}
-use Rattle.link_wires.specs.declared.edits.Edit.{Edit}
-use Rattle.link_wires.specs.declared.edits.Edit.TheVariants as Edits
+use Rattle.rio_chars.specs.declared.edit.Edit.{Edit}
 use Rattle.fabric_script.specs.declared.ports.PortRef.{PortRef}
-use Rattle.fabric_script.specs.declared.lines.Line.{Line}
-use Rattle.fabric_script.specs.declared.lines.Line.TheVariants.{Alter, Erase, Insert}
+pub use Rattle.fabric_script.specs.Operations.{edit_of}
 use Rattle.fabric_model.specs.Steps.{after}
 use Rattle.trace_lines.specs.Lines.{Sign, Sent, Got, Fired, TraceLine, Begun, Stepped, Signed, Lacked, Ended, Undetected}
 use Rattle.fabric_trace.specs.Views.{Half, half_of}
 use Rattle.fabric_trace.specs.Known.{Wire, UndetectedAt, Seen, with_wire, with_half, peer_of, port_seen, kept_of}
 
 -- ---- edits
-
--- the change that a line makes of the wire of a port
-abbrev pub edit_of : Line → Option (PortRef × Edit)
-edit_of (Alter port place ch) = Some (port, Edits.Alter place ch)
-edit_of (Erase port place n) = Some (port, Edits.Erase place n)
-edit_of (Insert port place ch) = Some (port, Edits.Insert place ch)
-edit_of _ = None
 
 -- the characters after it: where it does not fit, nothing changes
 abbrev pub changed : Edit → List Char → List Char

@@ -1,7 +1,7 @@
 -- What is on the wires, by the lines alone, and that what a port got stood there.
 use Rattle.std.specs.Prelude.{◌≡◌, List, [], ◌∷◌, ◌++◌, length, drop, Option, Some, None, if◌then◌else◌}
 use Rattle.rio_chars.specs.declared.chars.Char.{Char}
-use Rattle.link_wires.specs.declared.edits.Edit.{Edit}
+use Rattle.rio_chars.specs.declared.edit.Edit.{Edit}
 use Rattle.fabric_script.specs.declared.ports.PortRef.{PortRef}
 use Rattle.fabric_model.specs.Network.{same_port, peer_in}
 use Rattle.trace_lines.specs.Lines.{Sign, Sent, Got, Fired, TraceLine, Begun, Signed}

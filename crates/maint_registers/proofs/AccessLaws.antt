@@ -1,8 +1,8 @@
 -- What a device answers at the offsets that a host asks for, and what a write makes of it.
 use Rattle.std.proofs.Common.{◌≡◌, ℕ, ◌+◌, ◌*◌, ◌/◌, ◌%◌, ◌<◌, ◌≤◌, ◌&&◌, nat_lt, Bool, true, false, List, [], ◌∷◌, ◌++◌, Option, Some, None, option_map, unwrap_or, slice_set, arith, refl, ap, sym, ◌∙◌, ◌==◌, if◌then◌else◌, ne_eqb, ltb-true}
 use Rattle.std.specs.Option.{option_and_then, option_or}
-use Rattle.maint_registers.specs.declared.registers.Kind.{Kind}
-use Rattle.maint_registers.specs.declared.registers.Kind.TheVariants.{Endpoint, Switch}
+use Rattle.maint_registers.specs.declared.registers.DeviceKind.{DeviceKind}
+use Rattle.maint_registers.specs.declared.registers.DeviceKind.TheVariants.{Endpoint, Switch}
 use Rattle.maint_registers.specs.declared.table.Register.{Register}
 use Rattle.maint_registers.specs.declared.table.Register.TheVariants.{Fixed, PortInformation, BaseId, HostLock, ComponentTag, RouteSelect, RouteEntry, DefaultPort}
 use Rattle.maint_registers.specs.Devices.{Registers, is_switch}
@@ -12,7 +12,7 @@ use Rattle.maint_registers.specs.Changes.{standard_shown}
 use Rattle.maint_registers.proofs.StatusLaws.{status_port-none, status_port-found}
 
 -- what stands in the rows of a device's kind stands at the offset
-in_its_rows : (device : Registers) (offset : ℕ) (kind : Kind) (register : Register)
+in_its_rows : (device : Registers) (offset : ℕ) (kind : DeviceKind) (register : Register)
     → device.kind ≡ kind → in_rows kind (rows device.standard) offset ≡ Some register
     → register_at device offset ≡ Some register
 in_its_rows device offset kind register is stands =
@@ -23,7 +23,7 @@ in_its_rows device offset kind register is stands =
 pub kind-switch : (device : Registers) → is_switch device ≡ true → device.kind ≡ Switch
 kind-switch device is = go device.kind refl is
   where
-    go : (kind : Kind) → device.kind ≡ kind
+    go : (kind : DeviceKind) → device.kind ≡ kind
         → is_switch (record device { kind = kind }) ≡ true → kind ≡ Switch
     go Switch same is = refl
     go Endpoint same is = absurd (cc)
@@ -31,7 +31,7 @@ kind-switch device is = go device.kind refl is
 pub kind-endpoint : (device : Registers) → is_switch device ≡ false → device.kind ≡ Endpoint
 kind-endpoint device is = go device.kind is
   where
-    go : (kind : Kind) → is_switch (record device { kind = kind }) ≡ false → kind ≡ Endpoint
+    go : (kind : DeviceKind) → is_switch (record device { kind = kind }) ≡ false → kind ≡ Endpoint
     go Endpoint is = refl
     go Switch is = absurd (cc)
 
@@ -42,7 +42,7 @@ in_both : (device : Registers) (offset : ℕ) (register : Register)
     → register_at device offset ≡ Some register
 in_both device offset register endpoint switch = go device.kind refl
   where
-    go : (kind : Kind) → device.kind ≡ kind → register_at device offset ≡ Some register
+    go : (kind : DeviceKind) → device.kind ≡ kind → register_at device offset ≡ Some register
     go Endpoint is = in_its_rows device offset Endpoint register is endpoint
     go Switch is = in_its_rows device offset Switch register is switch
 
@@ -140,7 +140,7 @@ default_port-written device value is =
     (in_its_rows device 0x78 Switch DefaultPort (kind-switch device is) refl)
 
 -- Rows that do not have an offset change nothing there behind others.
-in_more_rows : (kind : Kind) (first second : List Row) (offset : ℕ)
+in_more_rows : (kind : DeviceKind) (first second : List Row) (offset : ℕ)
     → in_rows kind second offset ≡ None
     → in_rows kind (first ++ second) offset ≡ in_rows kind first offset
 in_more_rows kind [] second offset none = none
@@ -168,7 +168,7 @@ are_less [] limit = true
 are_less (row ∷ rows) limit = nat_lt row.0 limit && are_less rows limit
 
 -- at an offset that is greater than those of all rows, none stands
-past_rows : (kind : Kind) (rows : List Row) (limit offset : ℕ) → are_less rows limit ≡ true
+past_rows : (kind : DeviceKind) (rows : List Row) (limit offset : ℕ) → are_less rows limit ≡ true
     → limit ≤ offset → in_rows kind rows offset ≡ None
 past_rows kind [] limit offset less past = refl
 past_rows kind (row ∷ rows) limit offset less past =
@@ -186,7 +186,7 @@ past_rows kind (row ∷ rows) limit offset less past =
     go false b first rest both on = absurd (cc)
 
 -- where the error and status registers are, no row stands
-past_table : (kind : Kind) (standard : Bool) (n : ℕ)
+past_table : (kind : DeviceKind) (standard : Bool) (n : ℕ)
     → in_rows kind (rows standard) (status_offset n) ≡ None
 past_table kind true n = past_rows kind (rows true) 0x101 (status_offset n) refl (omega arith)
 past_table kind false n = past_rows kind (rows false) 0x101 (status_offset n) refl (omega arith)

@@ -3,8 +3,8 @@ use Rattle.std.proofs.Common.{◌≡◌, ◌≢◌, ℕ, ◌%◌, ◌==◌, ◌&
 use Rattle.std.specs.Option.{option_or}
 use Rattle.std.proofs.lemmas.Bool.{eqb-true, and_parts}
 use Rattle.std.proofs.lemmas.Option.{same_Some}
-use Rattle.maint_registers.specs.declared.registers.Kind.{Kind}
-use Rattle.maint_registers.specs.declared.registers.Kind.TheVariants.{Endpoint, Switch}
+use Rattle.maint_registers.specs.declared.registers.DeviceKind.{DeviceKind}
+use Rattle.maint_registers.specs.declared.registers.DeviceKind.TheVariants.{Endpoint, Switch}
 use Rattle.maint_registers.specs.declared.table.Register.{Register}
 use Rattle.maint_registers.specs.declared.table.Register.TheVariants.{Fixed, PortInformation, BaseId, HostLock, ComponentTag, RouteSelect, RouteEntry, DefaultPort}
 use Rattle.maint_registers.specs.Devices.{Registers, is_switch}
@@ -35,7 +35,7 @@ abbrev has_offset : (Register → Bool) → ℕ → Option Register → ℕ → 
 has_offset test n None offset = true
 has_offset test n (Some register) offset = not (test register) || (offset == n)
 
-abbrev have_offset : (Register → Bool) → ℕ → Kind → List Row → Bool
+abbrev have_offset : (Register → Bool) → ℕ → DeviceKind → List Row → Bool
 have_offset test n kind [] = true
 have_offset test n kind (row ∷ rows) =
     has_offset test n (column kind row) row.0 && have_offset test n kind rows
@@ -51,7 +51,8 @@ module _ (test : Register → Bool) (n : ℕ) (register : Register) (such : test
       go true so has = eqb-true offset n has
       go false so has = absurd (cc)
 
-  in_table : (kind : Kind) (rows : List Row) (offset : ℕ) → have_offset test n kind rows ≡ true
+  in_table : (kind : DeviceKind) (rows : List Row) (offset : ℕ)
+      → have_offset test n kind rows ≡ true
       → in_rows kind rows offset ≡ Some register → offset ≡ n
   in_table kind [] offset all is = absurd (cc)
   in_table kind (row ∷ rows) offset all is =
@@ -86,14 +87,14 @@ module _ (test : Register → Bool) (n : ℕ) (register : Register) (such : test
           let found = same_Some (Fixed (status_of device n)) register is in
           absurd (let e = sym (free (status_of device n)) ∙ ap test found ∙ such in cc)
 
-lock_offset : (kind : Kind) (standard : Bool)
+lock_offset : (kind : DeviceKind) (standard : Bool)
     → have_offset is_lock 0x68 kind (rows standard) ≡ true
 lock_offset Endpoint true = refl
 lock_offset Endpoint false = refl
 lock_offset Switch true = refl
 lock_offset Switch false = refl
 
-tag_offset : (kind : Kind) (standard : Bool)
+tag_offset : (kind : DeviceKind) (standard : Bool)
     → have_offset is_tag 0x6c kind (rows standard) ≡ true
 tag_offset Endpoint true = refl
 tag_offset Endpoint false = refl
@@ -111,7 +112,7 @@ in_none test register such free device offset all at =
     there : (n : ℕ) → offset ≡ n
     there n = in_device test n register such device offset free (all n) at
 
-entry_offset : (kind : Kind) (standard : Bool)
+entry_offset : (kind : DeviceKind) (standard : Bool)
     → have_offset is_entry 0x74 kind (rows standard) ≡ true
 entry_offset Endpoint true = refl
 entry_offset Endpoint false = refl
@@ -119,13 +120,13 @@ entry_offset Switch true = refl
 entry_offset Switch false = refl
 
 -- a switch has no ID, and an endpoint no entry, at whatever offset
-no_id : (kind : Kind) (standard : Bool) (n : ℕ) → kind ≡ Switch
+no_id : (kind : DeviceKind) (standard : Bool) (n : ℕ) → kind ≡ Switch
     → have_offset is_id n kind (rows standard) ≡ true
 no_id Switch true n is = refl
 no_id Switch false n is = refl
 no_id Endpoint standard n is = absurd (cc)
 
-no_entry : (kind : Kind) (standard : Bool) (n : ℕ) → kind ≡ Endpoint
+no_entry : (kind : DeviceKind) (standard : Bool) (n : ℕ) → kind ≡ Endpoint
     → have_offset is_entry n kind (rows standard) ≡ true
 no_entry Endpoint true n is = refl
 no_entry Endpoint false n is = refl

@@ -7,7 +7,8 @@ use Rattle.maint_registers.specs.Access.{written_to, write_into}
 use Rattle.maint_registers.proofs.AccessLaws.{by_register}
 
 pub same_device : (device : Registers) → IsSameDevice device device
-same_device device = record { kind = refl; ports = refl; linked = refl; large_id = refl; standard = refl }
+same_device device =
+    record { kind = refl; ports = refl; linked = refl; large_id = refl; standard = refl }
 
 -- what is a switch stays one
 pub same_kind : (before after : Registers) → IsSameDevice before after

@@ -3,8 +3,8 @@ use Rattle.std.proofs.Common.{◌≡◌, ℕ, ◌/◌, ◌%◌, ◌^◌, ◌<◌
 use Rattle.std.specs.Option.{option_or}
 use Rattle.std.proofs.lemmas.Bool.{and_parts}
 use Rattle.std.proofs.lemmas.List.Elements.{All-set, All-replicate, All-get_or}
-use Rattle.maint_registers.specs.declared.registers.Kind.{Kind}
-use Rattle.maint_registers.specs.declared.registers.Kind.TheVariants.{Endpoint, Switch}
+use Rattle.maint_registers.specs.declared.registers.DeviceKind.{DeviceKind}
+use Rattle.maint_registers.specs.declared.registers.DeviceKind.TheVariants.{Endpoint, Switch}
 use Rattle.maint_registers.specs.declared.table.Register.{Register}
 use Rattle.maint_registers.specs.declared.table.Register.TheVariants.{Fixed, PortInformation, BaseId, HostLock, ComponentTag, RouteSelect, RouteEntry, DefaultPort}
 use Rattle.maint_registers.specs.Devices.{Registers, no_routes, new_endpoint, new_switch}
@@ -166,7 +166,7 @@ abbrev all_fit : List Row → Bool
 all_fit [] = true
 all_fit (row ∷ rows) = fit row.1 && (fit row.2 && all_fit rows)
 
-rows_fit : (kind : Kind) (rows : List Row) (offset : ℕ) → all_fit rows ≡ true
+rows_fit : (kind : DeviceKind) (rows : List Row) (offset : ℕ) → all_fit rows ≡ true
     → fit (in_rows kind rows offset) ≡ true
 rows_fit kind [] offset all = refl
 rows_fit kind (row ∷ rows) offset all =
@@ -174,7 +174,7 @@ rows_fit kind (row ∷ rows) offset all =
     let second = and_parts (fit row.2) (all_fit rows) first.1 in
     go kind (row.0 == offset) first.0 second.0 (rows_fit kind rows offset second.1)
   where
-    go : (k : Kind) (here : Bool) → fit row.1 ≡ true → fit row.2 ≡ true
+    go : (k : DeviceKind) (here : Bool) → fit row.1 ≡ true → fit row.2 ≡ true
         → fit (in_rows kind rows offset) ≡ true
         → fit (if here then column k row else in_rows kind rows offset) ≡ true
     go Endpoint true endpoint switch rest = endpoint

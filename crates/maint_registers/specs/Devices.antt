@@ -1,7 +1,7 @@
 -- What the registers of a device hold, as contracts see them.
 use Rattle.std.specs.Prelude.{◌≡◌, ℕ, ◌+◌, ◌/◌, ◌%◌, ◌^◌, ◌==◌, ◌<◌, ◌≤◌, Bool, true, false, List, length, replicate, if◌then◌else◌}
-use Rattle.maint_registers.specs.declared.registers.Kind.{Kind}
-use Rattle.maint_registers.specs.declared.registers.Kind.TheVariants.{Endpoint, Switch}
+use Rattle.maint_registers.specs.declared.registers.DeviceKind.{DeviceKind}
+use Rattle.maint_registers.specs.declared.registers.DeviceKind.TheVariants.{Endpoint, Switch}
 
 -- `ports` is how many ports there are, 1 for an endpoint. Bit n of `linked`, from the lowest, tells
 -- whether port n has a link. `base_id` is an endpoint's own ID of 8 bits, and `large_id` that of 16
@@ -10,7 +10,7 @@ use Rattle.maint_registers.specs.declared.registers.Kind.TheVariants.{Endpoint, 
 -- `routes` has the entry of each destination from 0 to 1023, of either size; entry and default port
 -- count for a switch alone, and `select` is the destination whose entry can be read and written.
 pub record Registers : Type 0 where
-  pub kind : Kind
+  pub kind : DeviceKind
   pub ports : ℕ
   pub linked : ℕ
   pub base_id : ℕ
@@ -34,7 +34,7 @@ pub record IsSameDevice (before after : Registers) : Type 0 where
 abbrev pub is_switch : Registers → Bool
 is_switch device = is_kind device.kind
   where
-    is_kind : Kind → Bool
+    is_kind : DeviceKind → Bool
     is_kind Endpoint = false
     is_kind Switch = true
 

@@ -3,8 +3,8 @@
 -- public source of each row and what is this project's own.
 use Rattle.std.specs.Prelude.{ℕ, zero, suc, ◌+◌, ◌*◌, ◌/◌, ◌%◌, ◌^◌, ◌==◌, Bool, List, [], ◌∷◌, ◌++◌, Option, Some, None, option_map, if◌then◌else◌}
 use Rattle.std.specs.Option.{option_or}
-use Rattle.maint_registers.specs.declared.registers.Kind.{Kind}
-use Rattle.maint_registers.specs.declared.registers.Kind.TheVariants.{Endpoint, Switch}
+use Rattle.maint_registers.specs.declared.registers.DeviceKind.{DeviceKind}
+use Rattle.maint_registers.specs.declared.registers.DeviceKind.TheVariants.{Endpoint, Switch}
 use Rattle.maint_registers.specs.declared.table.Register.{Register}
 use Rattle.maint_registers.specs.declared.table.Register.TheVariants.{Fixed, PortInformation, BaseId, HostLock, ComponentTag, RouteSelect, RouteEntry, DefaultPort}
 use Rattle.maint_registers.specs.Devices.{Registers}
@@ -41,12 +41,12 @@ abbrev pub rows : Bool → List Row
 rows standard = table ++ (if standard then standard_table else [])
 
 -- the column of a kind of device
-abbrev pub column : Kind → Row → Option Register
+abbrev pub column : DeviceKind → Row → Option Register
 column Endpoint row = row.1
 column Switch row = row.2
 
 -- the register at an offset in these rows
-abbrev pub in_rows : Kind → List Row → ℕ → Option Register
+abbrev pub in_rows : DeviceKind → List Row → ℕ → Option Register
 in_rows kind [] offset = None
 in_rows kind (row ∷ rows) offset =
     if row.0 == offset then column kind row else in_rows kind rows offset

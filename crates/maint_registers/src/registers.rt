@@ -22,7 +22,7 @@ const NO_ENTRY: u8 = 255;
 
 /// What a device is.
 #[derive(Clone, Copy, Debug, PartialEq, Eq)]
-pub(crate) enum Kind {
+pub(crate) enum DeviceKind {
     Endpoint,
     Switch,
 }
@@ -30,7 +30,7 @@ pub(crate) enum Kind {
 /// The registers of one device. Contracts see their values.
 #[derive(Debug, PartialEq, Eq, Drop)]
 pub struct Registers {
-    pub(crate) kind: Kind,
+    pub(crate) kind: DeviceKind,
     pub(crate) ports: u8,
     pub(crate) linked: u16,
     pub(crate) base_id: u8,
@@ -72,7 +72,7 @@ impl Registers {
         ensures { result ≡ new_endpoint id linked }
     {
         Registers {
-            kind: Kind::Endpoint,
+            kind: DeviceKind::Endpoint,
             ports: 1,
             linked: u16::from(linked),
             base_id: id,
@@ -94,7 +94,7 @@ impl Registers {
         ensures { result ≡ new_switch ports linked }
     {
         Registers {
-            kind: Kind::Switch,
+            kind: DeviceKind::Switch,
             ports,
             linked,
             base_id: 0,
@@ -121,7 +121,7 @@ impl Registers {
     pub fn is_switch(&self) -> bool
         ensures { result ≡ is_switch self.now }
     {
-        self.kind == Kind::Switch
+        self.kind == DeviceKind::Switch
     }
 
     /// Returns how many ports the device has, 1 if it is an endpoint.
@@ -188,7 +188,7 @@ impl Registers {
             NO_ENTRY => self.default_port,
             entry => entry,
         };
-        let is_port = self.kind == Kind::Switch && port < self.ports;
+        let is_port = self.kind == DeviceKind::Switch && port < self.ports;
         is_port.then_some(port)
     }
 

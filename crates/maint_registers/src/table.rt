@@ -4,7 +4,7 @@ ghost use Rattle.maint_registers.specs.Devices.{IsSameDevice, is_switch};
 ghost use Rattle.maint_registers.specs.Table.{rows, in_rows, status_port, status_of, register_at};
 ghost use Rattle.maint_registers.specs.Access.{value_of, value_at, locked, written_to, written_at};
 
-use crate::registers::{FREE, Kind, Registers};
+use crate::registers::{DeviceKind, FREE, Registers};
 
 /// What stands at an offset.
 #[derive(Clone, Copy, Debug, PartialEq, Eq)]
@@ -100,8 +100,8 @@ impl Registers {
         ensures { result ≡ register_at self.now offset }
     {
         let register = match self.kind {
-            Kind::Endpoint => endpoint_register(offset, self.standard),
-            Kind::Switch => switch_register(offset, self.standard),
+            DeviceKind::Endpoint => endpoint_register(offset, self.standard),
+            DeviceKind::Switch => switch_register(offset, self.standard),
         };
         register.or(self.status_register(offset))
     }
@@ -121,7 +121,7 @@ impl Registers {
 
 /// The registers that only an endpoint has, and those of both kinds as an endpoint shows them.
 fn endpoint_register(offset: u32, standard: bool) -> Option<Register>
-    ensures { result ≡ in_rows Kind.Endpoint (rows standard) offset }
+    ensures { result ≡ in_rows DeviceKind.Endpoint (rows standard) offset }
 {
     Some(match offset {
         0x00_0000 => Register::Fixed(0x0001_ffff),
@@ -138,7 +138,7 @@ fn endpoint_register(offset: u32, standard: bool) -> Option<Register>
 
 /// The registers that only a switch has, and those of both kinds as a switch shows them.
 fn switch_register(offset: u32, standard: bool) -> Option<Register>
-    ensures { result ≡ in_rows Kind.Switch (rows standard) offset }
+    ensures { result ≡ in_rows DeviceKind.Switch (rows standard) offset }
 {
     Some(match offset {
         0x00_0000 => Register::Fixed(0x0002_ffff),

@@ -7,8 +7,9 @@ use Rattle.rio_chars.specs.CharText.{char_text_of, HasByte}
 use Rattle.rio_chars.specs.declared.chars.Char.{Char}
 use Rattle.rio_chars.specs.declared.chars.Char.TheVariants.{Data, Special, Invalid}
 use Rattle.fabric_script.specs.declared.reasons.Reason.TheVariants.{BadHex}
-use Rattle.fabric_script.specs.Forms.{Hex, Character}
-use Rattle.fabric_script.specs.Texts.{Bytes, Code, hex_text}
+use Rattle.fabric_script.specs.declared.fields.Field.TheVariants.{Hex, Character}
+use Rattle.fabric_script.specs.declared.values.Value.TheVariants.{Bytes, Code}
+use Rattle.fabric_script.specs.Texts.{hex_text}
 use Rattle.fabric_script.specs.Known.{Known}
 use Rattle.fabric_script.specs.Hits.{HexIsBad, CharacterIsBad}
 use Rattle.fabric_script.proofs.HexWords.{IsBytes, no_hex}

@@ -4,7 +4,6 @@ pub mod NodeWords
 pub mod PortWords
 pub mod HexWords
 pub mod TakingWords
-pub mod TakingLines
 pub mod FormChoice
 pub mod ReasonChoice
 pub mod LineChoice

@@ -4,8 +4,8 @@ use Rattle.std.proofs.lemmas.Bool.{cases_Bool}
 use Rattle.fabric_script.specs.declared.reasons.Reason.{Reason}
 use Rattle.fabric_script.specs.declared.reasons.Reason.TheVariants.{BadName, NameTaken, UnknownNode}
 use Rattle.fabric_script.specs.Names.{is_name, name_of}
-use Rattle.fabric_script.specs.Forms.{NewName, Node}
-use Rattle.fabric_script.specs.Texts.{Named, NodeValue}
+use Rattle.fabric_script.specs.declared.fields.Field.TheVariants.{NewName, Node}
+use Rattle.fabric_script.specs.declared.values.Value.TheVariants.{Named, Node as NodeValue}
 use Rattle.fabric_script.specs.Known.{Known}
 use Rattle.fabric_script.specs.Hits.{FitsField, Hits, NewNameIsBad, NodeIsBad, NameIsTaken, NodeIsUnknown}
 use Rattle.fabric_script.proofs.Exclusion.{named_is_there, there_is_named}

@@ -4,8 +4,11 @@ use Rattle.std.specs.Fmt.{decimal}
 use Rattle.std.proofs.lemmas.Bool.{cases_lt}
 use Rattle.fabric_script.specs.declared.reasons.Reason.{Reason}
 use Rattle.fabric_script.specs.declared.reasons.Reason.TheVariants.{BadNumber, BadHex}
-use Rattle.fabric_script.specs.Forms.{Field, Number, Digits}
-use Rattle.fabric_script.specs.Texts.{Value, Counted, InDigits, value_text, digits_text}
+use Rattle.fabric_script.specs.declared.fields.Field.{Field}
+use Rattle.fabric_script.specs.declared.fields.Field.TheVariants.{Number, Digits}
+use Rattle.fabric_script.specs.declared.values.Value.{Value}
+use Rattle.fabric_script.specs.declared.values.Value.TheVariants.{Counted, InDigits}
+use Rattle.fabric_script.specs.Texts.{value_text, digits_text}
 use Rattle.fabric_script.specs.Known.{Known}
 use Rattle.fabric_script.specs.Hits.{FitsField, Hits, NumberIsBad, DigitsAreBad}
 use Rattle.script_law.proofs.Choosing.{Decided, both_or_not, same_or_not, first_or_none}

@@ -6,8 +6,9 @@ use Rattle.std.proofs.lemmas.Bool.{cases_lt, cases_Bool}
 use Rattle.fabric_script.specs.declared.ports.PortRef.{PortRef}
 use Rattle.fabric_script.specs.declared.reasons.Reason.TheVariants.{BadName, UnknownNode, PortOutside}
 use Rattle.fabric_script.specs.Names.{is_name}
-use Rattle.fabric_script.specs.Forms.{Port}
-use Rattle.fabric_script.specs.Texts.{PortValue, port_text}
+use Rattle.fabric_script.specs.declared.fields.Field.TheVariants.{Port}
+use Rattle.fabric_script.specs.declared.values.Value.TheVariants.{Port as PortValue}
+use Rattle.fabric_script.specs.Texts.{port_text}
 use Rattle.fabric_script.specs.Known.{Known, ports_of}
 use Rattle.fabric_script.specs.Hits.{PortIsBad, PortIsUnknown, PortIsOutside, point_text}
 use Rattle.fabric_script.proofs.Points.{point_text-parts}

@@ -1,8 +1,8 @@
 //! The lines with which events begin, and the line of an event that was not sent.
-use crate::lines::{FAR, NEAR, a_packet, two_names};
+use crate::lines::{FAR, NEAR, Page, a_packet, two_names};
 use fabric_script::{Hex, Line, PortRef};
 use link_model::Event;
-use rio_chars::{Char, MemSink, Outbox, TextBuffer};
+use rio_chars::{Char, Outbox};
 use rio_symbols::Symbol;
 use std::test::Fail;
 use trace_lines::*;
@@ -30,12 +30,12 @@ fn lines_of_set_up_are_their_words(rt: HostRuntime) -> Result<(), Fail> {
     let alloc = rt.alloc();
     let names = two_names(&rt, alloc)?;
     let last = PortRef { node: 1, port: 15 };
-    let mut sink = MemSink::new(alloc, 512, 64, Vec::new(alloc))?;
-    let mut buffer = TextBuffer::new(alloc)?;
-    let mut outbox = Outbox::new(&mut buffer, &mut sink);
+    let mut page = Page::new(alloc, Vec::new(alloc))?;
+    let mut outbox = Outbox::new(&mut page.buffer, &mut page.sink);
     let mut writer = TraceWriter {
         outbox: &mut outbox,
         names: &names,
+        counts: PacketCounts::new(),
     };
     writer.write_begun(&Line::Endpoint { name: 0, id: 255 });
     writer.write_begun(&Line::Switch { name: 1, ports: 16 });
@@ -51,7 +51,7 @@ fn lines_of_set_up_are_their_words(rt: HostRuntime) -> Result<(), Fail> {
     writer.write_begun(&Line::Large { node: 0, id: 4097 });
     writer.write_begun(&Line::Credits { port: last });
     outbox.flush();
-    assert_eq!(rt; sink.written(), SET_UPS);
+    assert_eq!(rt; page.sink.written(), SET_UPS);
     Ok(())
 }
 
@@ -59,12 +59,12 @@ fn lines_of_set_up_are_their_words(rt: HostRuntime) -> Result<(), Fail> {
 fn lines_of_sends_are_their_words(rt: HostRuntime) -> Result<(), Fail> {
     let alloc = rt.alloc();
     let names = two_names(&rt, alloc)?;
-    let mut sink = MemSink::new(alloc, 512, 64, Vec::new(alloc))?;
-    let mut buffer = TextBuffer::new(alloc)?;
-    let mut outbox = Outbox::new(&mut buffer, &mut sink);
+    let mut page = Page::new(alloc, Vec::new(alloc))?;
+    let mut outbox = Outbox::new(&mut page.buffer, &mut page.sink);
     let mut writer = TraceWriter {
         outbox: &mut outbox,
         names: &names,
+        counts: PacketCounts::new(),
     };
     writer.write_begun(&Line::Send {
         node: 0,
@@ -81,7 +81,7 @@ fn lines_of_sends_are_their_words(rt: HostRuntime) -> Result<(), Fail> {
         hex: Hex::new(Vec::new(alloc)),
     });
     outbox.flush();
-    assert_eq!(rt; sink.written(), SENDS);
+    assert_eq!(rt; page.sink.written(), SENDS);
     Ok(())
 }
 
@@ -89,12 +89,12 @@ fn lines_of_sends_are_their_words(rt: HostRuntime) -> Result<(), Fail> {
 fn lines_of_accesses_are_their_words(rt: HostRuntime) -> Result<(), Fail> {
     let alloc = rt.alloc();
     let names = two_names(&rt, alloc)?;
-    let mut sink = MemSink::new(alloc, 512, 64, Vec::new(alloc))?;
-    let mut buffer = TextBuffer::new(alloc)?;
-    let mut outbox = Outbox::new(&mut buffer, &mut sink);
+    let mut page = Page::new(alloc, Vec::new(alloc))?;
+    let mut outbox = Outbox::new(&mut page.buffer, &mut page.sink);
     let mut writer = TraceWriter {
         outbox: &mut outbox,
         names: &names,
+        counts: PacketCounts::new(),
     };
     writer.write_begun(&Line::Read {
         node: 0,
@@ -114,7 +114,7 @@ fn lines_of_accesses_are_their_words(rt: HostRuntime) -> Result<(), Fail> {
         value: 0x0123abcd,
     });
     outbox.flush();
-    assert_eq!(rt; sink.written(), ACCESSES);
+    assert_eq!(rt; page.sink.written(), ACCESSES);
     Ok(())
 }
 
@@ -122,12 +122,12 @@ fn lines_of_accesses_are_their_words(rt: HostRuntime) -> Result<(), Fail> {
 fn lines_of_large_packets_are_their_words(rt: HostRuntime) -> Result<(), Fail> {
     let alloc = rt.alloc();
     let names = two_names(&rt, alloc)?;
-    let mut sink = MemSink::new(alloc, 512, 64, Vec::new(alloc))?;
-    let mut buffer = TextBuffer::new(alloc)?;
-    let mut outbox = Outbox::new(&mut buffer, &mut sink);
+    let mut page = Page::new(alloc, Vec::new(alloc))?;
+    let mut outbox = Outbox::new(&mut page.buffer, &mut page.sink);
     let mut writer = TraceWriter {
         outbox: &mut outbox,
         names: &names,
+        counts: PacketCounts::new(),
     };
     writer.write_begun(&Line::Send16 {
         node: 0,
@@ -154,7 +154,7 @@ fn lines_of_large_packets_are_their_words(rt: HostRuntime) -> Result<(), Fail> {
         value: 0x0123abcd,
     });
     outbox.flush();
-    assert_eq!(rt; sink.written(), LARGE_PACKETS);
+    assert_eq!(rt; page.sink.written(), LARGE_PACKETS);
     Ok(())
 }
 
@@ -163,12 +163,12 @@ fn lines_at_ports_are_their_words(rt: HostRuntime) -> Result<(), Fail> {
     let alloc = rt.alloc();
     let names = two_names(&rt, alloc)?;
     let start = Char::Special(0x1c);
-    let mut sink = MemSink::new(alloc, 512, 64, Vec::new(alloc))?;
-    let mut buffer = TextBuffer::new(alloc)?;
-    let mut outbox = Outbox::new(&mut buffer, &mut sink);
+    let mut page = Page::new(alloc, Vec::new(alloc))?;
+    let mut outbox = Outbox::new(&mut page.buffer, &mut page.sink);
     let mut writer = TraceWriter {
         outbox: &mut outbox,
         names: &names,
+        counts: PacketCounts::new(),
     };
     writer.write_begun(&Line::Pump { port: NEAR, n: 31 });
     writer.write_begun(&Line::Deliver { port: FAR, n: 20 });
@@ -195,7 +195,7 @@ fn lines_at_ports_are_their_words(rt: HostRuntime) -> Result<(), Fail> {
     writer.write_begun(&Line::Timeout { port: NEAR });
     writer.write_begun(&Line::Settle { port: FAR });
     outbox.flush();
-    assert_eq!(rt; sink.written(), AT_PORTS);
+    assert_eq!(rt; page.sink.written(), AT_PORTS);
     Ok(())
 }
 
@@ -203,18 +203,18 @@ fn lines_at_ports_are_their_words(rt: HostRuntime) -> Result<(), Fail> {
 fn lines_at_nodes_are_their_words(rt: HostRuntime) -> Result<(), Fail> {
     let alloc = rt.alloc();
     let names = two_names(&rt, alloc)?;
-    let mut sink = MemSink::new(alloc, 512, 64, Vec::new(alloc))?;
-    let mut buffer = TextBuffer::new(alloc)?;
-    let mut outbox = Outbox::new(&mut buffer, &mut sink);
+    let mut page = Page::new(alloc, Vec::new(alloc))?;
+    let mut outbox = Outbox::new(&mut page.buffer, &mut page.sink);
     let mut writer = TraceWriter {
         outbox: &mut outbox,
         names: &names,
+        counts: PacketCounts::new(),
     };
     writer.write_begun(&Line::Move { node: 1 });
     writer.write_begun(&Line::Collect { node: 0 });
     writer.write_begun(&Line::Run { n: 100000 });
     outbox.flush();
-    assert_eq!(rt; sink.written(), AT_NODES);
+    assert_eq!(rt; page.sink.written(), AT_NODES);
     Ok(())
 }
 
@@ -229,16 +229,16 @@ fn event_that_was_not_sent_is_named(rt: HostRuntime) -> Result<(), Fail> {
         s1: 7,
         cmd: 0,
     };
-    let mut sink = MemSink::new(alloc, 512, 64, Vec::new(alloc))?;
-    let mut buffer = TextBuffer::new(alloc)?;
-    let mut outbox = Outbox::new(&mut buffer, &mut sink);
+    let mut page = Page::new(alloc, Vec::new(alloc))?;
+    let mut outbox = Outbox::new(&mut page.buffer, &mut page.sink);
     let mut writer = TraceWriter {
         outbox: &mut outbox,
         names: &names,
+        counts: PacketCounts::new(),
     };
     writer.write_undetected(8, NEAR, &Event::Ctl(symbol));
     writer.write_undetected(u32::MAX, FAR, &Event::Pkt(31, a_packet(&rt)));
     outbox.flush();
-    assert_eq!(rt; sink.written(), NOT_SENT);
+    assert_eq!(rt; page.sink.written(), NOT_SENT);
     Ok(())
 }

@@ -43,6 +43,23 @@ const NOTES: &[u8] = b"fire A.0\nsent A.0 k1c d00 dff d16\ngot B.0 k1c d00 dff d
 hold B.0 000f0201cafe0001a9bb0000\nsent B.0 k1c d00 dff d16\ngot A.0 k1c d00 dff d16\n\
 free A.0 000f0201cafe0001a9bb0000\n";
 
+/// What an outbox writes to: a sink in memory, and the text before it.
+#[derive(Drop)]
+pub(crate) struct Page {
+    pub(crate) sink: MemSink,
+    pub(crate) buffer: TextBuffer,
+}
+
+impl Page {
+    /// An empty page, with room for the lines of a test. The writes of this list fail.
+    pub(crate) fn new(alloc: Global, failing: Vec<u32>) -> Result<Page, Fail> {
+        Ok(Page {
+            sink: MemSink::new(alloc, 512, 64, failing)?,
+            buffer: TextBuffer::new(alloc)?,
+        })
+    }
+}
+
 /// The names of the two endpoints.
 pub(crate) fn two_names(rt: &impl Abort, alloc: Global) -> Result<Vec<Name>, Fail>
     ensures two { IfOk result (λ names. length names.items ≡ 2) }
@@ -150,12 +167,12 @@ fn lines_are_those_of_a_trace(rt: HostRuntime) -> Result<(), Fail> {
     let names = two_names(&rt, alloc)?;
     let packet = a_packet(&rt);
     let response = read_packet(&rt, &SHORT_FORM);
-    let mut sink = MemSink::new(alloc, 512, 64, Vec::new(alloc))?;
-    let mut buffer = TextBuffer::new(alloc)?;
-    let mut outbox = Outbox::new(&mut buffer, &mut sink);
+    let mut page = Page::new(alloc, Vec::new(alloc))?;
+    let mut outbox = Outbox::new(&mut page.buffer, &mut page.sink);
     let mut writer = TraceWriter {
         outbox: &mut outbox,
         names: &names,
+        counts: PacketCounts::new(),
     };
     writer.write_take(0, &packet);
     writer.write_fire(NEAR);
@@ -175,7 +192,7 @@ fn lines_are_those_of_a_trace(rt: HostRuntime) -> Result<(), Fail> {
     writer.write_end();
     outbox.flush();
     assert!(rt; !outbox.failed());
-    assert_eq!(rt; sink.written(), LINES);
+    assert_eq!(rt; page.sink.written(), LINES);
     Ok(())
 }
 
@@ -184,16 +201,15 @@ fn notes_are_written_in_order(rt: HostRuntime) -> Result<(), Fail> {
     let alloc = rt.alloc();
     let names = two_names(&rt, alloc)?;
     let notes = notes_of_a_packet(&rt, alloc)?;
-    let mut sink = MemSink::new(alloc, 512, 64, Vec::new(alloc))?;
-    let mut buffer = TextBuffer::new(alloc)?;
-    let mut outbox = Outbox::new(&mut buffer, &mut sink);
+    let mut page = Page::new(alloc, Vec::new(alloc))?;
+    let mut outbox = Outbox::new(&mut page.buffer, &mut page.sink);
     assert_eq!(rt;
         write_notes(&mut outbox, alloc, &names, NEAR, FAR, &notes),
         Ok(())
     );
     outbox.flush();
     assert!(rt; !outbox.failed());
-    assert_eq!(rt; sink.written(), NOTES);
+    assert_eq!(rt; page.sink.written(), NOTES);
     Ok(())
 }
 
@@ -202,12 +218,12 @@ fn notes_behind_a_failed_write_are_dropped(rt: HostRuntime) -> Result<(), Fail> 
     let alloc = rt.alloc();
     let names = two_names(&rt, alloc)?;
     let notes = notes_of_a_packet(&rt, alloc)?;
-    let mut sink = MemSink::new(alloc, 512, 64, vec![in alloc; 0]?)?;
-    let mut buffer = TextBuffer::new(alloc)?;
-    let mut outbox = Outbox::new(&mut buffer, &mut sink);
+    let mut page = Page::new(alloc, vec![in alloc; 0]?)?;
+    let mut outbox = Outbox::new(&mut page.buffer, &mut page.sink);
     let mut writer = TraceWriter {
         outbox: &mut outbox,
         names: &names,
+        counts: PacketCounts::new(),
     };
     writer.write_lack(Lack::Full);
     outbox.flush();
@@ -216,6 +232,6 @@ fn notes_behind_a_failed_write_are_dropped(rt: HostRuntime) -> Result<(), Fail> 
     assert_eq!(rt; told, Ok(()));
     outbox.flush();
     assert!(rt; outbox.failed());
-    assert!(rt; sink.written().is_empty());
+    assert!(rt; page.sink.written().is_empty());
     Ok(())
 }

@@ -1,17 +1,8 @@
 -- Lines by which nothing was found act on what was sent, at each delivery.
-use Rattle.std.proofs.Common.{◌≡◌, List, [], ◌∷◌, Option, Some, None, refl, sym, ap, ◌∙◌}
-use Rattle.link_wires.specs.Deliveries.{undetected}
-use Rattle.fabric_script.specs.declared.ports.PortRef.{PortRef}
-use Rattle.trace_lines.specs.Lines.{Sent, Got, Fired, TraceLine, Begun, Stepped, Signed, Lacked, Ended, Undetected}
+use Rattle.trace_laws.proofs.Prelude.{◌≡◌, List, [], ◌∷◌, Option, Some, None, refl, sym, ap, ◌∙◌, undetected, PortRef, Sent, Got, Fired, TraceLine, Begun, Stepped, Signed, Lacked, Ended, Undetected, Seen, UndetectedAt, peer_of, edit_of, taken_from, got_from, seen_line, seen, begins, edited_found, fired_found, good_start, IsSentActing, AreSentActing, UnfoundIsSent}
 use Rattle.fabric_trace.specs.Firsts.{FindsFirst}
-use Rattle.fabric_trace.specs.Known.{Seen, UndetectedAt, peer_of}
-use Rattle.fabric_trace.specs.Fold.{edit_of, taken_from, got_from, seen_line, seen}
-use Rattle.fabric_trace.specs.Runs.{begins}
-use Rattle.fabric_trace.proofs.Parts.Folding.{edited_found, fired_found}
-use Rattle.fabric_trace.proofs.SetUps.Starting.{good_start}
 use Rattle.fabric_trace.proofs.Shown.Failing.{made_works}
 use Rattle.fabric_trace.proofs.Shown.Faith.{AreKept, begins_kept, lines_keep, sent_exactly}
-use Rattle.trace_laws.specs.ActedSent.{IsSentActing, AreSentActing, UnfoundIsSent}
 use Rattle.trace_laws.proofs.Running.{all_sent}
 
 -- what was found stays found, since no port gets anything behind it
@@ -32,8 +23,7 @@ stays_found s (Signed (Fired p) ∷ lines) found first is =
     (fired_found s (peer_of s p) p ∙ is)
 stays_found s (Lacked lack ∷ lines) found first is = stays_found s lines found first.1 is
 stays_found s (Ended ∷ lines) found first is = stays_found s lines found first.1 is
-stays_found s (Undetected number q e ∷ lines) found first is =
-    stays_found s lines found first.1 is
+stays_found s (Undetected number q e ∷ lines) found first is = stays_found s lines found first.1 is
 
 -- so nothing was found at any line, if nothing is at the end
 none_yet : (s : Seen) (lines : List TraceLine) → FindsFirst s lines

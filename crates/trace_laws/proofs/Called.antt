@@ -1,25 +1,7 @@
 -- Calls at a link and edits of a wire are those of the machine of the link, and leave others alone.
-use Rattle.std.proofs.Common.{◌≡◌, Bool, true, false, List, Option, Some, None, refl, sym, ap, ◌∙◌, subst, if◌then◌else◌}
-use Rattle.link_watch.specs.declared.note.Note.{Note}
-use Rattle.link_watch.specs.declared.side.Side.TheVariants.{A, B}
-use Rattle.link_wires.specs.Wires.{fits, edited, after_edit}
-use Rattle.link_wires.specs.declared.edits.Edit.{Edit}
-use Rattle.link_machine.specs.Calls.{edited_from}
-use Rattle.link_machine.specs.Runs.{IsRun}
-use Rattle.link_machine.specs.Runs.IsRun.{RunRests, RunEdits}
-use Rattle.link_machine.specs.States.{LinkState}
+use Rattle.trace_laws.proofs.Prelude.{◌≡◌, Bool, true, false, List, Option, Some, None, refl, sym, ap, ◌∙◌, subst, if◌then◌else◌, Note, A, B, fits, edited, after_edit, edited_from, IsRun, RunRests, RunEdits, LinkState, PortRef, same_port, peer_in, Step, ArePeers, port_is, apart_back, peer_back, same_port-refl, some_is, Wire, Seen, UndetectedAt, with_wire, peer_of, port_seen, wire_state, link_at, changed, edited_by, IsCall, Untouched, wire_other, IsGood, RunsBetween}
+use Rattle.rio_chars.specs.declared.edit.Edit.{Edit}
 use Rattle.link_machine.proofs.Reversed.{run_round}
-use Rattle.fabric_script.specs.declared.ports.PortRef.{PortRef}
-use Rattle.fabric_model.specs.Network.{same_port, peer_in}
-use Rattle.fabric_model.specs.Steps.{Step}
-use Rattle.fabric_model.proofs.Peers.{ArePeers, port_is, apart_back, peer_back, same_port-refl, some_is}
-use Rattle.fabric_trace.specs.Known.{Wire, Seen, UndetectedAt, with_wire, peer_of, port_seen, wire_state, link_at}
-use Rattle.fabric_trace.specs.Fold.{changed, edited_by}
-use Rattle.fabric_trace.proofs.Links.Calling.{IsCall}
-use Rattle.fabric_trace.proofs.Links.Serving.{Untouched}
-use Rattle.fabric_trace.proofs.Parts.Folding.{wire_other}
-use Rattle.fabric_trace.proofs.Parts.Keeping.{IsGood}
-use Rattle.trace_laws.specs.LinksRun.{RunsBetween}
 use Rattle.trace_laws.proofs.Served.{run_to}
 use Rattle.trace_laws.proofs.Views.{same_link_at}
 

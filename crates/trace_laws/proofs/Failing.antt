@@ -1,14 +1,8 @@
 -- Lines of which the laws do not hold.
-use Rattle.std.proofs.Common.{refl, subst, arith}
-use Rattle.std.specs.List.{AllByRecursion}
-use Rattle.link_machine.specs.Led.{AreAnswers}
+use Rattle.trace_laws.proofs.Prelude.{refl, subst, arith, AllByRecursion, AreAnswers, begins, answers_say, AreSentActing, IsNoRetry, AsksNoneAgain}
 use Rattle.fabric_trace.specs.Examples.{near, pair_network, acted_from_nowhere}
-use Rattle.fabric_trace.specs.Runs.{begins}
-use Rattle.fabric_trace.proofs.Links.Bursts.{answers_say}
 use Rattle.fabric_trace.proofs.Worked.WorkedRuns.{acted_breaks}
-use Rattle.trace_laws.specs.ActedSent.{AreSentActing}
 use Rattle.trace_laws.specs.Examples.{one_retry, retry_sent}
-use Rattle.trace_laws.specs.Retries.{IsNoRetry, AsksNoneAgain}
 
 retry_is_answer : AreAnswers one_retry
 unfolding AreAnswers

@@ -1,8 +1,8 @@
+mod Prelude
 pub mod Views
 pub mod Served
 pub mod Called
 pub mod Running
-pub mod Answered
 pub mod Retries
 pub mod ActedSent
 pub mod Failing

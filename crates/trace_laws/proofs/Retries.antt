@@ -1,48 +1,24 @@
 -- A port that was heard in time asks for no packet again.
-use Rattle.std.proofs.Common.{◌≡◌, ◌≢◌, ℕ, zero, suc, ◌++◌, Bool, true, false, List, [], ◌∷◌, map, take, Option, Some, None, refl, sym, ap, ◌∙◌, subst, arith, if◌then◌else◌}
+use Rattle.trace_laws.proofs.Prelude.{◌≡◌, ◌≢◌, ℕ, zero, suc, Bool, true, false, List, [], ◌∷◌, map, take, Option, Some, None, refl, sym, ap, ◌∙◌, subst, arith, if◌then◌else◌, AllByRecursion, Char, Fields, list_at, PortState, IsPort, A, B, told_of, bursts, answers, sent_notes, has_chars, delivery_from, move_note, delivery_notes, pump_notes, tell_notes, is_silent, port_narrow, PortRef, peer_in, peer_back, some_is, TraceLine, port_at_side, lines_of, Seen, UndetectedAt, peer_of, port_seen, kept_of, link_at, edit_of, says, seen, Part, PartBegins, PartLacks, PartEnds, PartNames, PartSteps, PartServes, PartTurns, PartTells, PartDelivers, PartFires, Made, Done, Then, begins, answers_say, edited_found, IsGood, part_keeps, made_keeps, good_start, seen_links, IsNoRetry, AsksNoneAgain, ToldInTimeAsksNoneAgain}
 use Rattle.std.specs.Prelude.{slice_get}
-use Rattle.std.specs.List.{AllByRecursion}
 use Rattle.std.proofs.lemmas.List.Elements.{All-head, All-tail}
-use Rattle.rio_chars.specs.declared.chars.Char.{Char}
-use Rattle.rio_symbols.specs.Fields.{Fields}
 use Rattle.rio_symbols.specs.declared.stype0.TheConstants.{PACKET_RETRY}
-use Rattle.link_buffers.specs.Queues.{list_at}
 use Rattle.link_model.specs.declared.event.Event.TheVariants.{Ctl}
 use Rattle.link_model.specs.Prelude.{Sends}
 use Rattle.link_model.specs.Symbols.{status}
-use Rattle.link_port.specs.Ports.{PortState, IsPort}
 use Rattle.link_port.specs.Turns.{standing, no_burst, symbol_burst, packet_burst, burst_of, port_turn, turn_sends, turns_to, waiting_in, tell_sends}
 use Rattle.link_sound.proofs.CreditHistory.{room_in_time}
 use Rattle.link_watch.specs.declared.note.Note.TheVariants.{Fire}
 use Rattle.link_watch.specs.declared.side.Side.{Side}
-use Rattle.link_watch.specs.declared.side.Side.TheVariants.{A, B}
-use Rattle.link_wires.specs.Deliveries.{told_of}
-use Rattle.link_wires.specs.Wires.{bursts, answers}
 use Rattle.link_wires.specs.declared.moves.Move.{Move}
 use Rattle.link_wires.specs.declared.moves.Move.TheVariants.{Held, Freed}
-use Rattle.link_machine.specs.Calls.{sent_notes, has_chars, delivery_from, move_note, told_notes, delivery_notes, pump_notes, tell_notes, is_silent}
 use Rattle.link_machine.specs.InTime.{ends_of_link, RoomAhead, NoRetries}
 use Rattle.link_machine.proofs.InTime.{runs_find_room, deliveries_ask_none}
-use Rattle.link_machine.proofs.Settling.AnswerLaws.{port_narrow}
 use Rattle.link_machine.proofs.Settling.Bursting.{turns_read, tell_read}
-use Rattle.fabric_script.specs.declared.ports.PortRef.{PortRef}
-use Rattle.fabric_model.specs.Network.{peer_in}
 use Rattle.fabric_model.proofs.Lists.{all-append}
-use Rattle.fabric_model.proofs.Peers.{peer_back, some_is}
-use Rattle.trace_lines.specs.Lines.{Got, TraceLine, Signed}
-use Rattle.trace_lines.specs.Notes.{port_at_side, lines_of}
-use Rattle.fabric_trace.specs.Known.{Seen, UndetectedAt, peer_of, port_seen, kept_of, link_at}
-use Rattle.fabric_trace.specs.Fold.{edit_of, says, seen}
-use Rattle.fabric_trace.specs.Parts.{Part, PartBegins, PartLacks, PartEnds, PartNames, PartSteps, PartServes, PartTurns, PartTells, PartDelivers, PartFires, Made, Done, Then}
-use Rattle.fabric_trace.specs.Runs.{begins}
-use Rattle.fabric_trace.proofs.Links.Bursts.{answers_say}
-use Rattle.fabric_trace.proofs.Parts.Folding.{lines-append, edited_found}
-use Rattle.fabric_trace.proofs.Parts.Keeping.{IsGood, part_keeps, made_keeps}
-use Rattle.fabric_trace.proofs.SetUps.Starting.{good_start}
-use Rattle.fabric_trace.proofs.Shown.Wiring.{seen_links}
-use Rattle.trace_laws.specs.Retries.{IsNoRetry, AsksNoneAgain, ToldInTimeAsksNoneAgain}
-use Rattle.trace_laws.proofs.Answered.{replies_are}
+use Rattle.link_machine.proofs.Settling.Replies.{delivered_answers}
 use Rattle.trace_laws.proofs.Running.{part_runs}
+use Rattle.fabric_trace.proofs.Parts.Carrying.{delivery_lines}
 
 -- ---- what a turn or a status sends
 
@@ -122,26 +98,19 @@ module _ (q : PortRef) where
     replies_ask_none replies (All-tail (λ (x : Fields). x.s0 ≢ PACKET_RETRY) symbol replies all),
   )
 
-  delivery_lines : (s : Seen) (x y : PortRef) (n : ℕ) → IsPort (port_seen s y)
+  delivery_asks : (s : Seen) (x y : PortRef) (n : ℕ) → IsPort (port_seen s y)
       → has_chars A n (link_at s x y) ≡ true
       → (y ≡ q → NoRetries (told_of (delivery_from A n (link_at s x y))).replies)
       → AskNone (lines_of x y (delivery_notes A n (link_at s x y)))
-  delivery_lines s x y n is has own =
+  delivery_asks s x y n is has own =
       let l = link_at s x y in
       let chars = take n (s.wires x).chars in
       let told = told_of (delivery_from A n l) in
       let sent = (answers told.replies).chars in
-      let notes : delivery_notes A n l ≡ told_notes B chars told =
-      ap (λ b. if b then told_notes B chars told else []) has in
       let moves = lines_of x y (map (move_note B) told.moves) in
-      let lines : lines_of x y (delivery_notes A n l)
-      ≡ Signed (Got y (take told.count chars)) ∷ (moves ++ lines_of x y (sent_notes B sent)) =
-      ap (lines_of x y) notes
-      ∙ ap (λ (r : List TraceLine). Signed (Got y (take told.count chars)) ∷ r)
-      (lines-append x y (map (move_note B) told.moves) (sent_notes B sent)) in
-      let are = replies_are (port_seen s y) (kept_of (s.wires x)) chars
+      let are = delivered_answers (port_seen s y) (kept_of (s.wires x)) chars
       (port_narrow (port_seen s y) is) in
-      subst AskNone (sym lines) (
+      subst AskNone (sym (delivery_lines x y n l has)) (
         tt,
         all-append (AsksNoneAgain q) moves (lines_of x y (sent_notes B sent))
             (move_lines x y B told.moves)
@@ -167,7 +136,7 @@ module _ (s : Seen) (good : IsGood s) (p q : PortRef) (peer : peer_of s p ≡ So
       → AskNone q (lines_of x y (delivery_notes A n (link_at s x y)))
   delivers_lines x y n own none has =
       let link = good.links none x y own in
-      delivery_lines q s x y n link.sound.port_b has
+      delivery_asks q s x y n link.sound.port_b has
       (λ same.
       let ahead = subst (λ r. RoomAhead (link_at s r y)) (sym (from_peer x y own same))
       (subst (λ r. RoomAhead (link_at s p r)) (sym same) room) in

@@ -1,25 +1,6 @@
 -- What a trace does at a link is a run of that link.
-use Rattle.std.proofs.Common.{◌≡◌, ℕ, true, false, List, Option, Some, None, refl, sym, ap, ◌∙◌, subst}
-use Rattle.link_model.specs.declared.event.Event.{Event}
-use Rattle.link_watch.specs.declared.side.Side.TheVariants.{A}
-use Rattle.link_wires.specs.Deliveries.{undetected}
-use Rattle.link_machine.specs.Calls.{has_chars, pump_notes, tell_notes, delivery_notes, delivery_from, is_silent, time_out_notes}
-use Rattle.link_machine.specs.Runs.IsRun.{RunRests, RunPumps, RunTells, RunDelivers, RunTimesOut}
-use Rattle.fabric_script.specs.declared.ports.PortRef.{PortRef}
-use Rattle.fabric_model.specs.Network.{same_port, peer_in}
-use Rattle.trace_lines.specs.Lines.{TraceLine}
-use Rattle.trace_lines.specs.Notes.{lines_of}
-use Rattle.fabric_trace.specs.Known.{Seen, peer_of, link_at}
-use Rattle.fabric_trace.specs.Fold.{edit_of, undetected_at, seen}
-use Rattle.fabric_trace.specs.Parts.{Part, PartBegins, PartLacks, PartEnds, PartNames, PartSteps, PartServes, PartTurns, PartTells, PartDelivers, PartFires, Made, Done, Then}
-use Rattle.fabric_trace.specs.Runs.{begins}
-use Rattle.fabric_trace.proofs.Links.Calling.{turns_call, tells_call, fires_call}
+use Rattle.trace_laws.proofs.Prelude.{◌≡◌, ℕ, true, false, List, Option, Some, None, refl, sym, ap, ◌∙◌, subst, Event, A, undetected, has_chars, pump_notes, tell_notes, delivery_notes, delivery_from, is_silent, time_out_notes, RunRests, RunPumps, RunTells, RunDelivers, RunTimesOut, PortRef, same_port, peer_in, TraceLine, lines_of, Seen, peer_of, link_at, edit_of, undetected_at, seen, Part, PartBegins, PartLacks, PartEnds, PartNames, PartSteps, PartServes, PartTurns, PartTells, PartDelivers, PartFires, Made, Done, Then, begins, turns_call, tells_call, fires_call, seen-append, edited_found, IsGood, good_peers, part_keeps, made_keeps, good_start, seen_links, RunsBetween, LinksOfTracesRun}
 use Rattle.fabric_trace.proofs.Links.Delivering.{delivers_call}
-use Rattle.fabric_trace.proofs.Parts.Folding.{seen-append, edited_found}
-use Rattle.fabric_trace.proofs.Parts.Keeping.{IsGood, good_peers, part_keeps, made_keeps}
-use Rattle.fabric_trace.proofs.SetUps.Starting.{good_start}
-use Rattle.fabric_trace.proofs.Shown.Wiring.{seen_links}
-use Rattle.trace_laws.specs.LinksRun.{RunsBetween, LinksOfTracesRun}
 use Rattle.trace_laws.proofs.Called.{call_runs, edits_run}
 use Rattle.trace_laws.proofs.Served.{run_join, run_to, node_runs, device_runs}
 
@@ -36,8 +17,7 @@ none_before {s} (PartNames number q e found is) none =
     subst (λ l. (seen s l).undetected ≡ None) is none
 none_before {s} (PartSteps step needs few is) none =
     subst (λ l. (seen s l).undetected ≡ None) is none
-none_before {s} (PartServes step needs is) none =
-    subst (λ l. (seen s l).undetected ≡ None) is none
+none_before {s} (PartServes step needs is) none = subst (λ l. (seen s l).undetected ≡ None) is none
 none_before (PartTurns p q n peer none is) after = none
 none_before (PartTells p q peer none is) after = none
 none_before (PartDelivers p q n peer none has is) after = none
@@ -111,8 +91,7 @@ module _ (s : Seen) (good : IsGood s) (a b : PortRef) (peer : peer_of s a ≡ So
   part_runs (PartTells p q own none is) = subst Goes (sym is) (tells_run p q own none)
   part_runs (PartDelivers p q n own none has is) =
       subst Goes (sym is) (delivers_run p q n own none has)
-  part_runs (PartFires p q own none silent is) =
-      subst Goes (sym is) (fires_run p q own none silent)
+  part_runs (PartFires p q own none silent is) = subst Goes (sym is) (fires_run p q own none silent)
 
 -- ---- all parts
 

@@ -1,42 +1,21 @@
 -- Steps at nodes and of devices are what the layer above does to the links of their ports.
-use Rattle.std.proofs.Common.{◌≡◌, ℕ, ◌+◌, ◌<◌, ◌==◌, Bool, true, false, List, [], ◌∷◌, filter, length, map, Some, None, IsTrue, refl, sym, ap, ◌∙◌, subst, arith, length-append}
+use Rattle.trace_laws.proofs.Prelude.{◌≡◌, ℕ, ◌+◌, ◌<◌, Bool, true, false, List, [], ◌∷◌, length, map, Some, None, IsTrue, refl, sym, ap, ◌∙◌, subst, arith, prio_of, Registers, Buffered, list_at, appended, popped, PortState, IsPort, Note, A, B, LinkState, IsRun, RunRests, RunPumps, RunTells, RunDelivers, RunEdits, RunTimesOut, RunServes, PortRef, Item, Network, same_port, port_of, first_packet, to_send, room_out, with_device, port_is, apart_back, Stepped, packets_in, view, Seen, peer_of, port_seen, wire_state, link_at, seen_line, packet_of, lane_at, lane_other, Untouched, link_round, with_more, fewer_links, IsGood, passes_first, few_prio, RunsBetween}
 use Rattle.std.proofs.lemmas.Bool.{ltb-true}
-use Rattle.std.proofs.lemmas.List.{length-map}
-use Rattle.rio_packets.specs.Fields.{prio_of}
 use Rattle.rio_packets.specs.LinkForm.{Passes}
 use Rattle.maint_packets.specs.declared.next_hop.Next.TheVariants.{Port}
 use Rattle.maint_packets.specs.NextHops.{moved}
 use Rattle.maint_packets.specs.Requests.{request_of}
-use Rattle.maint_registers.specs.Devices.{Registers}
-use Rattle.link_buffers.specs.Queues.{Buffered, list_at, appended, popped}
 use Rattle.link_buffers.proofs.StoreLemmas.{IsInStore-popped}
-use Rattle.link_port.specs.Ports.{PortState, IsPort}
 use Rattle.link_sound.proofs.PortBounds.{put_port, read_port}
-use Rattle.link_watch.specs.declared.note.Note.{Note}
-use Rattle.link_watch.specs.declared.side.Side.TheVariants.{A, B}
-use Rattle.link_machine.specs.States.{LinkState}
 use Rattle.link_machine.specs.Layer.{IsServed, with_port}
-use Rattle.link_machine.specs.Runs.{IsRun}
-use Rattle.link_machine.specs.Runs.IsRun.{RunRests, RunPumps, RunTells, RunDelivers, RunEdits, RunTimesOut, RunServes}
 use Rattle.link_machine.proofs.Serving.{put_serves, take_serves}
-use Rattle.fabric_script.specs.declared.ports.PortRef.{PortRef}
-use Rattle.fabric_model.specs.Network.{Item, Network, same_port, port_of, first_packet, to_send, room_out, with_device}
 use Rattle.fabric_model.specs.Serving.{device_after}
 use Rattle.fabric_model.specs.Steps.{Take, Leave, NodeStep, Move, Drop, Answer, DeviceStep, AtNode, ByDevice, Needs, only_first, moved_item, item_of, without_first, with_waiting, after}
 use Rattle.fabric_model.proofs.Moving.{moves_on, named_goes, sent_by}
 use Rattle.fabric_model.proofs.Boards.{first_item}
-use Rattle.fabric_model.proofs.Peers.{port_is, apart_back}
-use Rattle.trace_lines.specs.Lines.{Stepped}
-use Rattle.fabric_trace.specs.Views.{packets_in, lists_in, queue, view}
-use Rattle.fabric_trace.specs.Known.{Seen, peer_of, port_seen, wire_state, link_at}
-use Rattle.fabric_trace.specs.Fold.{seen_line}
 use Rattle.fabric_trace.specs.Links.{IsLink}
-use Rattle.fabric_trace.specs.Parts.{packet_of}
-use Rattle.fabric_trace.proofs.Network.Lanes.{lane_at, lane_other}
-use Rattle.fabric_trace.proofs.Links.Serving.{Untouched, link_round, with_more, fewer_links}
-use Rattle.fabric_trace.proofs.Parts.Keeping.{IsGood, passes_first, few_prio}
-use Rattle.trace_laws.specs.LinksRun.{RunsBetween}
 use Rattle.trace_laws.proofs.Views.{same_seen, same_link_at, more_queued, fewer_received}
+use Rattle.fabric_trace.proofs.Links.Serving.{queue_length}
 
 -- ---- runs, one after another
 
@@ -113,16 +92,6 @@ module _ (s : Seen) (net : Network) (c : PortRef) (next : PortState)
           run_to (same_link_at s t a b (others a first) (others b second)) RunRests
 
 -- ---- a packet more to be sent, and one fewer received
-
-queue_length : (net : Network) (p : PortRef) (r : ℕ) → r < 4
-    → length (list_at (lists_in (queue net p)) r) ≡ to_send net p r
-queue_length net p r few =
-    let at = ap length (lane_at (queue net p) r few) in
-    let packets = length-map (queue net p r) (λ (item : Item). item.now) in
-    let both =
-    length-append (filter (λ (item : Item). prio_of item.now == r) (net.lent p))
-    (net.waiting p r) in
-    omega (arith, at, packets, both)
 
 pub more_runs : (s : Seen) (c : PortRef) (item : Item) (given : ℕ) (devices : List Registers)
     → prio_of item.now < 4 → Passes item.now → IsTrue (room_out s.network c (prio_of item.now))
@@ -240,8 +209,7 @@ module _ (s : Seen) (good : IsGood s) (none : s.undetected ≡ None) (a b : Port
   node_runs (Take n packet) needs few =
       more_runs s (port_of n) (item_of s.network (port_of n) packet) (s.network.given + 1)
       s.network.registers few needs.1 needs.2 a b apart is
-  node_runs (Leave n packet) needs few =
-      fewer_runs s (port_of n) packet few needs.1 a b apart is
+  node_runs (Leave n packet) needs few = fewer_runs s (port_of n) packet few needs.1 a b apart is
 
   -- without the first packet that a port has received, and then with another to be sent
   left_and_more : (p q : PortRef) (packet : List ℕ) (item : Item) (given : ℕ)

@@ -1,17 +1,6 @@
 -- A port as the network shows it, if the network has the same of it, one packet more to be sent, or
 -- one fewer received.
-use Rattle.std.proofs.Common.{◌≡◌, ℕ, zero, suc, ◌<◌, ◌==◌, ◌&&◌, true, List, [], ◌∷◌, ◌++◌, filter, drop, slice_set, sym, ap, ◌∙◌, arith, append_assoc, if◌then◌else◌}
-use Rattle.rio_packets.specs.Fields.{prio_of}
-use Rattle.link_buffers.specs.Queues.{appended, popped}
-use Rattle.maint_registers.specs.Devices.{Registers}
-use Rattle.fabric_script.specs.declared.ports.PortRef.{PortRef}
-use Rattle.fabric_model.specs.Network.{Item, Network, with_lane}
-use Rattle.fabric_model.specs.Steps.{behind_first}
-use Rattle.fabric_model.proofs.Peers.{same_port-refl}
-use Rattle.fabric_trace.specs.Views.{packets_in, lists_in, queue}
-use Rattle.fabric_trace.specs.Known.{Seen, port_seen, wire_state, link_at}
-use Rattle.fabric_trace.proofs.Network.Lanes.{packets-append, behind_is, lane_at, lists_set}
-use Rattle.fabric_trace.proofs.Links.Serving.{Untouched, with_more}
+use Rattle.trace_laws.proofs.Prelude.{◌≡◌, ℕ, zero, suc, ◌<◌, ◌==◌, ◌&&◌, true, List, [], ◌∷◌, ◌++◌, filter, drop, slice_set, sym, ap, ◌∙◌, arith, append_assoc, if◌then◌else◌, prio_of, appended, popped, Registers, PortRef, Item, Network, with_lane, behind_first, same_port-refl, packets_in, lists_in, queue, Seen, port_seen, wire_state, link_at, packets-append, behind_is, lane_at, lists_set, Untouched, with_more}
 
 -- ---- nothing of it changes
 

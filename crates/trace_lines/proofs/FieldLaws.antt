@@ -11,10 +11,11 @@ use Rattle.rio_packets.specs.Carries.{at_origin, carried}
 use Rattle.rio_packets.specs.LinkForm.{Passes}
 use Rattle.rio_packets.proofs.CarriesLaws.{carries_from_Passes, carried-from_Carries}
 use Rattle.fabric_script.specs.declared.ports.PortRef.{PortRef}
-use Rattle.fabric_script.specs.Forms.{Port}
+use Rattle.fabric_script.specs.declared.fields.Field.TheVariants.{Port}
 use Rattle.fabric_script.specs.Known.{IsOrderly, Known, is_linked}
 use Rattle.fabric_script.specs.Lines.{words_of}
-use Rattle.fabric_script.specs.Texts.{PortValue, port_text}
+use Rattle.fabric_script.specs.declared.values.Value.TheVariants.{Port as PortValue}
+use Rattle.fabric_script.specs.Texts.{port_text}
 use Rattle.fabric_script.proofs.LineLaws.{same_value}
 use Rattle.trace_lines.specs.Words.{IsEnd, IsScriptPort}
 use Rattle.trace_lines.proofs.OneLine.{one_number}

@@ -2,7 +2,7 @@
 use Rattle.std.proofs.Common.{◌≡◌, ℕ, true, List, [], ◌∷◌, length, sym, ap, ◌∙◌, arith}
 use Rattle.fabric_script.specs.Known.{Known}
 use Rattle.fabric_script.specs.Lines.{words_of}
-use Rattle.fabric_script.specs.Texts.{Value}
+use Rattle.fabric_script.specs.declared.values.Value.{Value}
 use Rattle.trace_lines.specs.Lines.{TraceLine}
 use Rattle.trace_lines.specs.declared.keywords.Keyword.{Keyword}
 use Rattle.trace_lines.specs.Keywords.{trace_keyword_of, words_behind, keyword_text, NoneBehind}

@@ -7,8 +7,10 @@ use Rattle.link_model.specs.declared.event.Event.{Event}
 use Rattle.link_model.specs.declared.event.Event.TheVariants.{Ctl, Pkt, Bad}
 use Rattle.fabric_script.specs.declared.ports.PortRef.{PortRef}
 use Rattle.fabric_script.specs.declared.lines.Line.{Line}
-use Rattle.fabric_script.specs.Forms.{Port}
-use Rattle.fabric_script.specs.Texts.{Value, PortValue, port_text}
+use Rattle.fabric_script.specs.declared.fields.Field.TheVariants.{Port}
+use Rattle.fabric_script.specs.declared.values.Value.{Value}
+use Rattle.fabric_script.specs.declared.values.Value.TheVariants.{Port as PortValue}
+use Rattle.fabric_script.specs.Texts.{port_text}
 use Rattle.fabric_script.specs.Lines.{new_name}
 use Rattle.fabric_script.specs.Known.{Known, IsOrderly}
 use Rattle.fabric_script.proofs.HexWords.{hex_text-injective}

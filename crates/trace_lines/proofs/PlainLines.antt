@@ -9,8 +9,11 @@ use Rattle.rio_chars.specs.CharText.{char_text_of, HasByte}
 use Rattle.rio_packets.specs.LinkForm.{Passes}
 use Rattle.fabric_script.specs.declared.ports.PortRef.{PortRef}
 use Rattle.fabric_script.specs.Names.{name_of}
-use Rattle.fabric_script.specs.Forms.{Field, Node, Port, Hex, Character}
-use Rattle.fabric_script.specs.Texts.{Value, NodeValue, PortValue, Bytes, Code, value_text, hex_text, port_text}
+use Rattle.fabric_script.specs.declared.fields.Field.{Field}
+use Rattle.fabric_script.specs.declared.fields.Field.TheVariants.{Node, Port, Hex, Character}
+use Rattle.fabric_script.specs.declared.values.Value.{Value}
+use Rattle.fabric_script.specs.declared.values.Value.TheVariants.{Node as NodeValue, Port as PortValue, Bytes, Code}
+use Rattle.fabric_script.specs.Texts.{value_text, hex_text, port_text}
 use Rattle.fabric_script.specs.Known.{Known, IsOrderly}
 use Rattle.fabric_script.specs.Hits.{FitsField, FitAll}
 use Rattle.fabric_script.proofs.LineLaws.{AreSmall, same_values}

@@ -4,8 +4,9 @@ use Rattle.std.specs.List.{join_with_byte}
 use Rattle.std.specs.Fmt.{decimal}
 use Rattle.link_model.specs.declared.event.Event.{Event}
 use Rattle.link_model.specs.declared.event.Event.TheVariants.{Ctl, Pkt, Bad}
-use Rattle.fabric_script.specs.Forms.{fields_of, Port, Number, Hex}
-use Rattle.fabric_script.specs.Texts.{PortValue, Counted, Bytes}
+use Rattle.fabric_script.specs.declared.fields.Field.TheVariants.{Port, Number, Hex}
+use Rattle.fabric_script.specs.Forms.{fields_of}
+use Rattle.fabric_script.specs.declared.values.Value.TheVariants.{Port as PortValue, Counted, Bytes}
 use Rattle.fabric_script.specs.Lines.{new_name, words_of, form_of, values_of as script_values}
 use Rattle.fabric_script.specs.Known.{Known, IsOrderly}
 use Rattle.fabric_script.proofs.LineLaws.{small_fields}

@@ -1,6 +1,7 @@
 pub mod Lines
 pub mod Text
 pub mod Notes
+pub mod Counts
 pub mod Writing
 pub mod AddsLaws
 pub mod Watching

@@ -1,11 +1,15 @@
 -- The laws of a watch that writes its notes.
-use Rattle.std.proofs.Common.{List, [], ◌++◌, refl, sym, ◌∙◌, subst}
+use Rattle.std.proofs.Common.{◌≡◌, List, [], ◌∷◌, ◌++◌, refl, sym, ◌∙◌, subst}
 use Rattle.std.proofs.lemmas.List.{map-append}
 use Rattle.rio_chars.specs.declared.sink.Sink.{Ghosts}
 use Rattle.link_watch.specs.declared.note.Note.{Note}
-use Rattle.trace_lines.specs.Notes.{line_of}
+use Rattle.link_watch.specs.declared.note.Note.TheVariants as Notes
+use Rattle.fabric_script.specs.declared.ports.PortRef.{PortRef}
+use Rattle.trace_lines.specs.Counts.{with_lines_counted}
+use Rattle.trace_lines.specs.Notes.{line_of, lines_of}
 use Rattle.trace_lines.specs.Watching.{writer_of, WritesNotes}
 use Rattle.trace_lines.specs.Writing.{Adds}
+use Rattle.trace_lines.specs.declared.counts.PacketCounts.{PacketCounts}
 use Rattle.trace_lines.specs.declared.watching.LinkLines.{LinkLines}
 use Rattle.trace_lines.specs.AddsLaws.{Adds-nil, Adds-then}
 
@@ -30,3 +34,13 @@ writes_more_notes watch next last first rest once more = record {
       (sym (map-append (line_of watch.a watch.b) first rest))
       (Adds-then once.lines (rw (sym once.first_end, sym once.second_end) more.lines));
 }
+
+-- the lines of notes are not counted
+pub notes_uncounted : (counts : PacketCounts) (a b : PortRef) (notes : List Note)
+    → with_lines_counted counts (lines_of a b notes) ≡ counts
+notes_uncounted counts a b [] = refl
+notes_uncounted counts a b (Notes.Sent side chars ∷ notes) = notes_uncounted counts a b notes
+notes_uncounted counts a b (Notes.Got side chars ∷ notes) = notes_uncounted counts a b notes
+notes_uncounted counts a b (Notes.Hold side packet ∷ notes) = notes_uncounted counts a b notes
+notes_uncounted counts a b (Notes.Free side packet ∷ notes) = notes_uncounted counts a b notes
+notes_uncounted counts a b (Notes.Fire side ∷ notes) = notes_uncounted counts a b notes

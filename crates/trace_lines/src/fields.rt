@@ -16,7 +16,7 @@ ghost use Rattle.trace_lines.specs.Words.{IsScriptPort, IsEnd, IsNode};
 ghost use Rattle.trace_lines.specs.declared.fields.TraceLineEnd.TheVariants.{NoForm, NoMemory as OutOfMemory};
 
 use fabric_script::{PortRef, SetUp, read_number, split_word};
-use rio_chars::{Char, read_char, read_hex};
+use rio_chars::{Char, NoMemory, read_char, read_hex};
 use rio_packets::{Packet, check};
 use std::alloc::{AllocError, AllocFailed, Global};
 
@@ -27,6 +27,14 @@ pub enum TraceLineEnd {
     NoForm,
     /// Memory ran out.
     NoMemory,
+}
+
+impl From<NoMemory> for TraceLineEnd {
+    ghost from_gives = { λ _ end. end ≡ OutOfMemory };
+
+    fn from(_: NoMemory) -> Self {
+        TraceLineEnd::NoMemory
+    }
 }
 
 impl From<AllocError> for TraceLineEnd {

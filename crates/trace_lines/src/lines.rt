@@ -1,5 +1,6 @@
 //! The lines of a trace as values.
 
+use crate::boxed::Boxed;
 use fabric_script::{Line, PortRef};
 use link_model::Event;
 use rio_chars::Char;
@@ -45,7 +46,7 @@ pub enum TraceLine {
     /// An event of the script begins.
     Begun(Line),
     /// A step of the network.
-    Stepped(NetworkStep),
+    Stepped(Boxed<NetworkStep>),
     /// A port put characters on its wire.
     Sent(PortRef, Vec<Char>),
     /// A port took characters from its peer's wire.
@@ -57,5 +58,5 @@ pub enum TraceLine {
     /// The trace ends.
     Ended,
     /// The trace ends with the script's line, the port and the event that was not sent.
-    Undetected(u32, PortRef, Event),
+    Undetected(u32, PortRef, Boxed<Event>),
 }

@@ -12,13 +12,14 @@ ghost use Rattle.fabric_script.specs.Lines.{words_of};
 ghost use Rattle.fabric_script.specs.Names.{name_of};
 ghost use Rattle.fabric_script.specs.SetUps.{KnownIsReady};
 ghost use Rattle.fabric_script.specs.Texts.{port_text};
-ghost use Rattle.trace_lines.specs.Lines.{TraceLine as ALine};
+ghost use Rattle.trace_lines.specs.Lines.{Stepped, TraceLine as ALine};
 ghost use Rattle.trace_lines.specs.Keywords.{SpellsBehind, NoneBehind};
-ghost use Rattle.trace_lines.specs.Reads.{line_read};
+ghost use Rattle.trace_lines.specs.Reads.{line_read, step_read};
 ghost use Rattle.trace_lines.specs.Words.{IsEnd, IsNode, SpellsLine};
 ghost use Rattle.trace_lines.specs.declared.fields.TraceLineEnd.TheVariants.{NoForm};
 ghost use Rattle.trace_lines.specs.declared.keywords.Keyword.{Keyword as AKeyword};
 
+use crate::boxed::Boxed;
 use crate::fields::{
     TraceLineEnd, any_node, any_port, first_word, last_word, linked_port, read_chars, read_form,
 };
@@ -130,6 +131,14 @@ fn read_begun(alloc: Global, set_up: &SetUp, text: &[u8]) -> Result<TraceLine, T
     }
 }
 
+/// The line of a step.
+fn stepped(alloc: Global, step: NetworkStep) -> Result<TraceLine, TraceLineEnd>
+    ensures line { IfOk result (λ line. line_read line ≡ Stepped (step_read step)) }
+    ensures no_form { ¬ IsErrOf result NoForm }
+{
+    Ok(TraceLine::Stepped(Boxed::new(alloc, step)?))
+}
+
 /// A port holds a packet.
 fn read_hold(alloc: Global, set_up: &SetUp, text: &[u8]) -> Result<TraceLine, TraceLineEnd>
     requires { KnownIsReady set_up.now.known }
@@ -139,7 +148,7 @@ fn read_hold(alloc: Global, set_up: &SetUp, text: &[u8]) -> Result<TraceLine, Tr
         → NoneBehind set_up.now.known AKeyword.Hold (words_of text.now) }
 {
     let (port, packet) = link_step(alloc, set_up, text)?;
-    Ok(TraceLine::Stepped(NetworkStep::Hold(port, packet)))
+    stepped(alloc, NetworkStep::Hold(port, packet))
 }
 
 /// A port frees a packet.
@@ -151,7 +160,7 @@ fn read_free(alloc: Global, set_up: &SetUp, text: &[u8]) -> Result<TraceLine, Tr
         → NoneBehind set_up.now.known AKeyword.Free (words_of text.now) }
 {
     let (port, packet) = link_step(alloc, set_up, text)?;
-    Ok(TraceLine::Stepped(NetworkStep::Free(port, packet)))
+    stepped(alloc, NetworkStep::Free(port, packet))
 }
 
 /// An endpoint takes a packet.
@@ -163,7 +172,7 @@ fn read_take(alloc: Global, set_up: &SetUp, text: &[u8]) -> Result<TraceLine, Tr
         → NoneBehind set_up.now.known AKeyword.Take (words_of text.now) }
 {
     let (node, packet) = node_step(alloc, set_up, text)?;
-    Ok(TraceLine::Stepped(NetworkStep::Take(node, packet)))
+    stepped(alloc, NetworkStep::Take(node, packet))
 }
 
 /// A packet leaves at an endpoint.
@@ -175,7 +184,7 @@ fn read_leave(alloc: Global, set_up: &SetUp, text: &[u8]) -> Result<TraceLine, T
         → NoneBehind set_up.now.known AKeyword.Leave (words_of text.now) }
 {
     let (node, packet) = node_step(alloc, set_up, text)?;
-    Ok(TraceLine::Stepped(NetworkStep::Leave(node, packet)))
+    stepped(alloc, NetworkStep::Leave(node, packet))
 }
 
 /// A switch moves a packet.
@@ -191,7 +200,7 @@ fn read_move(alloc: Global, set_up: &SetUp, text: &[u8]) -> Result<TraceLine, Tr
     let from = any_port(set_up, from)?;
     let to = any_port(set_up, to)?;
     let packet = read_form(alloc, last_word(text)?)?;
-    Ok(TraceLine::Stepped(NetworkStep::Move(from, to, packet)))
+    stepped(alloc, NetworkStep::Move(from, to, packet))
 }
 
 /// A switch drops a packet.
@@ -205,7 +214,7 @@ fn read_drop(alloc: Global, set_up: &SetUp, text: &[u8]) -> Result<TraceLine, Tr
     let (port, text) = first_word(text)?;
     let port = any_port(set_up, port)?;
     let packet = read_form(alloc, last_word(text)?)?;
-    Ok(TraceLine::Stepped(NetworkStep::Drop(port, packet)))
+    stepped(alloc, NetworkStep::Drop(port, packet))
 }
 
 /// Registers answer a packet with another.
@@ -221,7 +230,7 @@ fn read_answer(alloc: Global, set_up: &SetUp, text: &[u8]) -> Result<TraceLine, 
     let port = any_port(set_up, port)?;
     let packet = read_form(alloc, packet)?;
     let response = read_form(alloc, last_word(text)?)?;
-    Ok(TraceLine::Stepped(NetworkStep::Answer(port, packet, response)))
+    stepped(alloc, NetworkStep::Answer(port, packet, response))
 }
 
 /// A port put characters on its wire.

@@ -14,6 +14,7 @@ ghost use Rattle.trace_lines.specs.Words.{event_words, symbol_words, EventFits};
 ghost use Rattle.trace_lines.specs.declared.fields.TraceLineEnd.TheVariants.{NoForm};
 ghost use Rattle.trace_lines.specs.declared.keywords.Keyword.{Keyword as AKeyword};
 
+use crate::boxed::Boxed;
 use crate::fields::{TraceLineEnd, any_number, any_port, below, first_word, last_word, read_form};
 use crate::lines::TraceLine;
 use fabric_script::SetUp;
@@ -39,7 +40,7 @@ pub(crate) fn read_undetected(
     let number = any_number(number)?;
     let port = any_port(set_up, port)?;
     let event = read_event(alloc, text)?;
-    Ok(TraceLine::Undetected(number, port, event))
+    Ok(TraceLine::Undetected(number, port, Boxed::new(alloc, event)?))
 }
 
 /// The event that was not sent.

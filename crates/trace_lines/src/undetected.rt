@@ -23,6 +23,9 @@ impl<'o, 's, 'n, K: Sink> TraceWriter<'o, 's, 'n, K> {
         requires { port.node < length self.old.names.now }
         ensures { Adds self.old self.new (Undetected number port event.now ∷ []) }
     {
+        if self.outbox.is_unseen() {
+            return;
+        }
         self.outbox.write(b"undetected ");
         self.outbox.write_decimal(number);
         self.outbox.write(b" ");

@@ -4,6 +4,7 @@ ghost use Rattle.rio_chars.specs.Faults.{Rose};
 ghost use Rattle.trace_lines.specs.Notes.{port_at_side};
 ghost use Rattle.link_watch.specs.declared.note.Note.TheVariants.{Sent, Got, Hold, Free, Fire};
 
+use crate::counts::PacketCounts;
 use crate::writer::TraceWriter;
 use fabric_script::{Name, PortRef};
 use link_watch::{Note, NoteEnd, Side, Watch};
@@ -26,6 +27,38 @@ pub struct LinkLines<'o, 's, 'n, K: Sink> {
     pub b: PortRef,
     ghost first_named: { a.node < length names.now },
     ghost second_named: { b.node < length names.now },
+}
+
+/// What a note has, as it is lent.
+enum Lent<'a> {
+    Sent(&'a [Char]),
+    Got(&'a [Char]),
+    Hold(&'a Packet),
+    Free(&'a Packet),
+    Fire,
+}
+
+impl<'o, 's, 'n, K: Sink> LinkLines<'o, 's, 'n, K> {
+    ghost use Rattle.trace_lines.specs.Watching.{note_lent, WritesNotes};
+
+    /// Writes the line of a note.
+    fn write(&mut self, side: Side, lent: Lent)
+        ensures { WritesNotes self.old (note_lent side lent.entry ∷ []) self.new }
+    {
+        let port = port_at_side(self.a, self.b, side);
+        let mut writer = TraceWriter {
+            outbox: self.outbox,
+            names: self.names,
+            counts: PacketCounts::new(),
+        };
+        match lent {
+            Lent::Sent(chars) => writer.write_sent(port, chars),
+            Lent::Got(chars) => writer.write_got(port, chars),
+            Lent::Hold(packet) => writer.write_hold(port, packet),
+            Lent::Free(packet) => writer.write_free(port, packet),
+            Lent::Fire => writer.write_fire(port),
+        }
+    }
 }
 
 impl<'o, 's, 'n, K: Sink> Watch for LinkLines<'o, 's, 'n, K> {
@@ -72,12 +105,7 @@ impl<'o, 's, 'n, K: Sink> Watch for LinkLines<'o, 's, 'n, K> {
         ensures never_falls { 0 ≤ 0 }
         ensures always { IsOk result }
     {
-        let port = port_at_side(self.a, self.b, side);
-        let mut writer = TraceWriter {
-            outbox: self.outbox,
-            names: self.names,
-        };
-        writer.write_sent(port, chars);
+        self.write(side, Lent::Sent(chars));
         Ok(())
     }
 
@@ -90,12 +118,7 @@ impl<'o, 's, 'n, K: Sink> Watch for LinkLines<'o, 's, 'n, K> {
         ensures never_falls { 0 ≤ 0 }
         ensures always { IsOk result }
     {
-        let port = port_at_side(self.a, self.b, side);
-        let mut writer = TraceWriter {
-            outbox: self.outbox,
-            names: self.names,
-        };
-        writer.write_got(port, chars);
+        self.write(side, Lent::Got(chars));
         Ok(())
     }
 
@@ -108,12 +131,7 @@ impl<'o, 's, 'n, K: Sink> Watch for LinkLines<'o, 's, 'n, K> {
         ensures never_falls { 0 ≤ 0 }
         ensures always { IsOk result }
     {
-        let port = port_at_side(self.a, self.b, side);
-        let mut writer = TraceWriter {
-            outbox: self.outbox,
-            names: self.names,
-        };
-        writer.write_hold(port, packet);
+        self.write(side, Lent::Hold(packet));
         Ok(())
     }
 
@@ -126,12 +144,7 @@ impl<'o, 's, 'n, K: Sink> Watch for LinkLines<'o, 's, 'n, K> {
         ensures never_falls { 0 ≤ 0 }
         ensures always { IsOk result }
     {
-        let port = port_at_side(self.a, self.b, side);
-        let mut writer = TraceWriter {
-            outbox: self.outbox,
-            names: self.names,
-        };
-        writer.write_free(port, packet);
+        self.write(side, Lent::Free(packet));
         Ok(())
     }
 
@@ -144,12 +157,7 @@ impl<'o, 's, 'n, K: Sink> Watch for LinkLines<'o, 's, 'n, K> {
         ensures never_falls { 0 ≤ 0 }
         ensures always { IsOk result }
     {
-        let port = port_at_side(self.a, self.b, side);
-        let mut writer = TraceWriter {
-            outbox: self.outbox,
-            names: self.names,
-        };
-        writer.write_fire(port);
+        self.write(side, Lent::Fire);
         Ok(())
     }
 }

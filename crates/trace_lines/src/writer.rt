@@ -8,20 +8,23 @@ ghost use Rattle.trace_lines.specs.Lines.{Begun, Sent, Got, Fired, Stepped, Sign
 ghost use Rattle.trace_lines.specs.Reads.{lack_of};
 ghost use Rattle.trace_lines.specs.Text.{lack_text};
 
+use crate::counts::{PacketCounts, one_more};
 use crate::lines::Lack;
 use fabric_script::{Line, Name, PortRef, write_line, write_name, write_port};
 use rio_chars::{Char, Outbox, Sink};
 use rio_packets::Packet;
 
 /// A trace on its way to a sink. It knows the names of the nodes, and each method writes one line
-/// of it. After a write that fails the outbox drops what it is told: ask `failed` behind the last
-/// line.
+/// of it: no text is made where nobody can see it. The lines of packets are counted. After a write
+/// that fails the outbox drops what it is told: ask `failed` behind the last line.
 #[derive(Drop)]
 pub struct TraceWriter<'o, 's, 'n, K: Sink> {
     /// Where the lines go.
     pub outbox: &'o mut Outbox<'s, K>,
     /// The names of the nodes.
     pub names: &'n [Name],
+    /// How many lines of packets were written.
+    pub counts: PacketCounts,
 }
 
 impl<'o, 's, 'n, K: Sink> TraceWriter<'o, 's, 'n, K> {
@@ -40,6 +43,9 @@ impl<'o, 's, 'n, K: Sink> TraceWriter<'o, 's, 'n, K> {
         requires { AreNamed self.old.names.now line.now }
         ensures { Adds self.old self.new (Begun line.now ∷ []) }
     {
+        if self.outbox.is_unseen() {
+            return;
+        }
         self.outbox.write(b"> ");
         write_line(self.outbox, self.names, line);
         self.outbox.write(b"\n");
@@ -50,6 +56,9 @@ impl<'o, 's, 'n, K: Sink> TraceWriter<'o, 's, 'n, K> {
         requires { port.node < length self.old.names.now }
         ensures { Adds self.old self.new (Stepped (Linked (Hold port packet.now)) ∷ []) }
     {
+        if self.outbox.is_unseen() {
+            return;
+        }
         self.outbox.write(b"hold ");
         write_port(self.outbox, self.names, port);
         write_packet(self.outbox, packet);
@@ -60,6 +69,9 @@ impl<'o, 's, 'n, K: Sink> TraceWriter<'o, 's, 'n, K> {
         requires { port.node < length self.old.names.now }
         ensures { Adds self.old self.new (Stepped (Linked (Free port packet.now)) ∷ []) }
     {
+        if self.outbox.is_unseen() {
+            return;
+        }
         self.outbox.write(b"free ");
         write_port(self.outbox, self.names, port);
         write_packet(self.outbox, packet);
@@ -70,6 +82,10 @@ impl<'o, 's, 'n, K: Sink> TraceWriter<'o, 's, 'n, K> {
         requires { node < length self.old.names.now }
         ensures { Adds self.old self.new (Stepped (AtNode (Take node packet.now)) ∷ []) }
     {
+        self.counts.taken = one_more(self.counts.taken);
+        if self.outbox.is_unseen() {
+            return;
+        }
         self.outbox.write(b"take ");
         write_name(self.outbox, self.names, node);
         write_packet(self.outbox, packet);
@@ -80,6 +96,10 @@ impl<'o, 's, 'n, K: Sink> TraceWriter<'o, 's, 'n, K> {
         requires { node < length self.old.names.now }
         ensures { Adds self.old self.new (Stepped (AtNode (Leave node packet.now)) ∷ []) }
     {
+        self.counts.left = one_more(self.counts.left);
+        if self.outbox.is_unseen() {
+            return;
+        }
         self.outbox.write(b"leave ");
         write_name(self.outbox, self.names, node);
         write_packet(self.outbox, packet);
@@ -91,6 +111,9 @@ impl<'o, 's, 'n, K: Sink> TraceWriter<'o, 's, 'n, K> {
         requires to { to.node < length self.old.names.now }
         ensures { Adds self.old self.new (Stepped (ByDevice (Move from to packet.now)) ∷ []) }
     {
+        if self.outbox.is_unseen() {
+            return;
+        }
         self.outbox.write(b"move ");
         write_port(self.outbox, self.names, from);
         self.outbox.write(b" ");
@@ -103,6 +126,10 @@ impl<'o, 's, 'n, K: Sink> TraceWriter<'o, 's, 'n, K> {
         requires { port.node < length self.old.names.now }
         ensures { Adds self.old self.new (Stepped (ByDevice (Drop port packet.now)) ∷ []) }
     {
+        self.counts.dropped = one_more(self.counts.dropped);
+        if self.outbox.is_unseen() {
+            return;
+        }
         self.outbox.write(b"drop ");
         write_port(self.outbox, self.names, port);
         write_packet(self.outbox, packet);
@@ -114,6 +141,9 @@ impl<'o, 's, 'n, K: Sink> TraceWriter<'o, 's, 'n, K> {
         ensures { Adds self.old self.new
             (Stepped (ByDevice (Answer port packet.now response.now)) ∷ []) }
     {
+        if self.outbox.is_unseen() {
+            return;
+        }
         self.outbox.write(b"answer ");
         write_port(self.outbox, self.names, port);
         self.outbox.write(b" ");
@@ -126,6 +156,9 @@ impl<'o, 's, 'n, K: Sink> TraceWriter<'o, 's, 'n, K> {
         requires { port.node < length self.old.names.now }
         ensures { Adds self.old self.new (Signed (Sent port chars.now) ∷ []) }
     {
+        if self.outbox.is_unseen() {
+            return;
+        }
         self.outbox.write(b"sent ");
         write_port(self.outbox, self.names, port);
         self.outbox.write_chars(chars);
@@ -137,6 +170,9 @@ impl<'o, 's, 'n, K: Sink> TraceWriter<'o, 's, 'n, K> {
         requires { port.node < length self.old.names.now }
         ensures { Adds self.old self.new (Signed (Got port chars.now) ∷ []) }
     {
+        if self.outbox.is_unseen() {
+            return;
+        }
         self.outbox.write(b"got ");
         write_port(self.outbox, self.names, port);
         self.outbox.write_chars(chars);
@@ -148,6 +184,9 @@ impl<'o, 's, 'n, K: Sink> TraceWriter<'o, 's, 'n, K> {
         requires { port.node < length self.old.names.now }
         ensures { Adds self.old self.new (Signed (Fired port) ∷ []) }
     {
+        if self.outbox.is_unseen() {
+            return;
+        }
         self.outbox.write(b"fire ");
         write_port(self.outbox, self.names, port);
         self.outbox.write(b"\n");
@@ -157,6 +196,9 @@ impl<'o, 's, 'n, K: Sink> TraceWriter<'o, 's, 'n, K> {
     pub fn write_lack(&mut self, lack: Lack)
         ensures { Adds self.old self.new (Lacked (lack_of lack) ∷ []) }
     {
+        if self.outbox.is_unseen() {
+            return;
+        }
         self.outbox.write(lack_text(lack));
         self.outbox.write(b"\n");
     }
@@ -165,6 +207,9 @@ impl<'o, 's, 'n, K: Sink> TraceWriter<'o, 's, 'n, K> {
     pub fn write_end(&mut self)
         ensures { Adds self.old self.new (Ended ∷ []) }
     {
+        if self.outbox.is_unseen() {
+            return;
+        }
         self.outbox.write(b"end\n");
     }
 }

@@ -1,18 +1,6 @@
 -- What a port got and freed along lines, and its allowance after more characters.
-use Rattle.std.proofs.Common.{◌≡◌, ℕ, suc, ◌+◌, ◌≤◌, ◌++◌, Bool, true, false, List, [], ◌∷◌, refl, sym, ap, ◌∙◌, arith, append_assoc, if◌then◌else◌}
-use Rattle.std.proofs.lemmas.List.{append-nil}
-use Rattle.rio_chars.specs.declared.chars.Char.{Char}
-use Rattle.link_model.specs.Places.{place_start, place_after}
-use Rattle.link_model.specs.Said.{said}
-use Rattle.link_machine.proofs.Settling.SaidLaws.{said-append}
-use Rattle.fabric_script.specs.declared.ports.PortRef.{PortRef}
-use Rattle.fabric_model.specs.Network.{same_port}
-use Rattle.fabric_model.specs.Steps.{Hold, Free, Linked, AtNode, ByDevice}
-use Rattle.trace_lines.specs.Lines.{Sent, Got, Fired, TraceLine, Begun, Stepped, Signed, Lacked, Ended, Undetected}
-use Rattle.fabric_trace.specs.Fold.{says}
-use Rattle.fabric_trace.specs.Holds.{got}
+use Rattle.fabric_trace.proofs.Prelude.{◌≡◌, ℕ, suc, ◌+◌, ◌≤◌, ◌++◌, Bool, true, false, List, [], ◌∷◌, refl, sym, ap, ◌∙◌, arith, append_assoc, if◌then◌else◌, append-nil, Char, place_start, place_after, said, said-append, PortRef, same_port, Hold, Free, Linked, AtNode, ByDevice, Sent, Got, Fired, TraceLine, Begun, Stepped, Signed, Lacked, Ended, Undetected, says, got, raised_all, got_with, freed_with, FreesAllowed}
 use Rattle.fabric_trace.proofs.Frees.FreesStill.{frees_all}
-use Rattle.fabric_trace.specs.Allowance.{raised_all, got_with, freed_with, FreesAllowed}
 use Rattle.fabric_trace.proofs.Allowance.RaisedRows.{raised_all_more, raised-append}
 
 -- ---- folds

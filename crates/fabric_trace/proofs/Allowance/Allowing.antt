@@ -1,26 +1,6 @@
 -- At each free of a trace, the port's allowance is above the number of the packets that it freed
 -- before.
-use Rattle.std.proofs.Common.{◌≡◌, ℕ, suc, ◌+◌, ◌%◌, ◌<◌, ◌≤◌, ◌++◌, List, [], ◌∷◌, map, None, refl, sym, ap, ◌∙◌, subst, arith, if◌then◌else◌}
-use Rattle.rio_chars.specs.declared.chars.Char.{Char}
-use Rattle.link_model.specs.declared.event.Event.{Event}
-use Rattle.link_model.specs.Places.{Place, place_start, place_after}
-use Rattle.link_model.specs.Said.{said}
-use Rattle.link_watch.specs.declared.side.Side.{Side}
-use Rattle.link_watch.specs.declared.side.Side.TheVariants.{B}
-use Rattle.link_wires.specs.Deliveries.{Delivered, Through, WentUndetected, told_of}
-use Rattle.link_wires.specs.declared.moves.Move.{Move}
-use Rattle.link_wires.specs.declared.moves.Move.TheVariants.{Held, Freed}
-use Rattle.link_machine.specs.Calls.{move_note}
-use Rattle.fabric_script.specs.declared.ports.PortRef.{PortRef}
-use Rattle.fabric_model.specs.Network.{same_port}
-use Rattle.fabric_model.specs.Steps.{Hold, Free, Linked, AtNode, ByDevice}
-use Rattle.fabric_model.proofs.Peers.{same_port-refl}
-use Rattle.trace_lines.specs.Lines.{Sent, Got, Fired, TraceLine, Begun, Stepped, Signed, Lacked, Ended, Undetected}
-use Rattle.fabric_trace.specs.Known.{Seen}
-use Rattle.fabric_trace.specs.Fold.{says, taken_from}
-use Rattle.trace_lines.specs.Notes.{port_at_side, lines_of}
-use Rattle.fabric_trace.specs.Holds.{got}
-use Rattle.fabric_trace.specs.Links.{IsLink}
+use Rattle.fabric_trace.proofs.Prelude.{◌≡◌, ℕ, suc, ◌+◌, ◌%◌, ◌<◌, ◌≤◌, ◌++◌, List, [], ◌∷◌, map, None, refl, sym, ap, ◌∙◌, subst, arith, if◌then◌else◌, Char, Event, Place, place_start, place_after, said, Side, B, Delivered, Through, WentUndetected, told_of, Move, Held, Freed, move_note, PortRef, same_port, Hold, Free, Linked, AtNode, ByDevice, same_port-refl, Sent, Got, Fired, TraceLine, Begun, Stepped, Signed, Lacked, Ended, Undetected, Seen, says, taken_from, port_at_side, lines_of, got, IsLink, raised_all, got_with, freed_with, FreeAllowed, FreesAllowed}
 use Rattle.fabric_trace.proofs.Frees.FreesStill.{frees_all, IsFreed}
 use Rattle.fabric_trace.proofs.Frees.FreesRead.{freed_carried}
 use Rattle.fabric_trace.proofs.Frees.Heard.{freed_count}
@@ -28,7 +8,6 @@ use Rattle.fabric_trace.proofs.Holds.HoldsStill.{IsRead}
 use Rattle.fabric_trace.proofs.Holds.HoldsRead.{read_carried}
 use Rattle.fabric_trace.proofs.Parts.Quiet.{IsQuietLine, IsQuiet}
 use Rattle.fabric_trace.proofs.Parts.Carrying.{got_lines, Carries}
-use Rattle.fabric_trace.specs.Allowance.{raised_all, got_with, freed_with, FreeAllowed, FreesAllowed}
 use Rattle.fabric_trace.proofs.Allowance.RaisedRows.{raised-append}
 use Rattle.fabric_trace.proofs.Allowance.Raising.{HaveRaised, delivered_raises}
 use Rattle.fabric_trace.proofs.Allowance.Allowances.{got_after, freed_after, heard-append, freed-append, allowed-join, says_more, heard_more}

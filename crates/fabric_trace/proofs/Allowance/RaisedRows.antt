@@ -1,16 +1,6 @@
 -- What is allowed after a symbol is no less than what it frees, row by row of the table.
-use Rattle.std.proofs.Common.{◌≡◌, ◌≢◌, inl, inr, ℕ, ◌+◌, ◌%◌, ◌<◌, ◌≤◌, ◌==◌, nat_le, ◌++◌, Bool, true, false, List, [], ◌∷◌, length, refl, sym, ap, ◌∙◌, subst, arith, if◌then◌else◌}
-use Rattle.std.proofs.lemmas.Bool.{cases_lt}
-use Rattle.std.proofs.lemmas.Bool.Decides.{eqb_tells}
-use Rattle.link_model.specs.declared.event.Event.{Event}
-use Rattle.link_model.specs.declared.event.Event.TheVariants.{Ctl, Pkt, Bad}
+use Rattle.fabric_trace.proofs.Prelude.{◌≡◌, ◌≢◌, inl, inr, ℕ, ◌+◌, ◌%◌, ◌<◌, ◌≤◌, ◌==◌, nat_le, ◌++◌, Bool, true, false, List, [], ◌∷◌, length, refl, sym, ap, ◌∙◌, subst, arith, if◌then◌else◌, cases_lt, eqb_tells, Event, Ctl, Stype0, PacketAccepted, PacketRetry, PacketNotAccepted, LinkResponse, OtherStype0, stype0, hears, accepted, retried, Outstanding, distance, is_oldest, without_oldest, from_ack, IsOutput, oldest_of, oldest_cases, raised_by, raised, raised_all}
 use Rattle.link_model.specs.Output as out
-use Rattle.link_model.specs.Output.{Stype0, PacketAccepted, PacketRetry, PacketNotAccepted, LinkResponse, OtherStype0, stype0, hears, accepted, retried}
-use Rattle.link_model.specs.Outstanding.{Outstanding, distance, is_oldest, without_oldest, from_ack}
-use Rattle.link_port.specs.States.{IsOutput}
-use Rattle.link_sound.specs.Meanings.{oldest_of}
-use Rattle.link_sound.proofs.Hearing.{oldest_cases}
-use Rattle.fabric_trace.specs.Allowance.{raised_by, raised, raised_all}
 
 -- ---- the allowance only grows
 
@@ -28,8 +18,7 @@ raised_by_more OtherStype0 n ack = omega arith
 
 pub raised_more : (e : Event) (n : ℕ) → n ≤ raised n e
 raised_more (Ctl symbol) n = raised_by_more (stype0 symbol.s0) n symbol.p0
-raised_more (Pkt ack packet) n = omega arith
-raised_more (Bad cause) n = omega arith
+raised_more _ n = omega arith
 
 pub raised_all_more : (events : List Event) (n : ℕ) → n ≤ raised_all n events
 raised_all_more [] n = omega arith
@@ -120,43 +109,19 @@ pub heard_rows : (n a : ℕ) (kind : Stype0) (output : out.Output) (ack : ℕ)
     → n + (hears kind output ack).freed ≤ raised_by kind a ack
 heard_rows n a PacketAccepted (out.Output.Ok w) ack is low bounded working =
     accepted_row n a w ack is low
-heard_rows n a PacketAccepted (out.Output.RetryStopped w) ack is low bounded working =
-    none_freed n a 0 PacketAccepted ack refl low
-heard_rows n a PacketAccepted (out.Output.ErrorStopped asked w) ack is low bounded working =
-    none_freed n a 0 PacketAccepted ack refl low
-heard_rows n a PacketAccepted out.Output.Failed ack is low bounded working =
+heard_rows n a PacketAccepted _ ack is low bounded working =
     none_freed n a 0 PacketAccepted ack refl low
 heard_rows n a PacketRetry (out.Output.Ok w) ack is low bounded working =
     none_freed n a (retried w ack).freed PacketRetry ack (retried_frees w ack) low
-heard_rows n a PacketRetry (out.Output.RetryStopped w) ack is low bounded working =
-    none_freed n a 0 PacketRetry ack refl low
-heard_rows n a PacketRetry (out.Output.ErrorStopped asked w) ack is low bounded working =
-    none_freed n a 0 PacketRetry ack refl low
-heard_rows n a PacketRetry out.Output.Failed ack is low bounded working =
-    none_freed n a 0 PacketRetry ack refl low
+heard_rows n a PacketRetry _ ack is low bounded working = none_freed n a 0 PacketRetry ack refl low
 heard_rows n a PacketNotAccepted (out.Output.Ok w) ack is low bounded working =
     none_freed n a 0 PacketNotAccepted ack refl low
-heard_rows n a PacketNotAccepted (out.Output.RetryStopped w) ack is low bounded working =
+heard_rows n a PacketNotAccepted _ ack is low bounded working =
     none_freed n a 0 PacketNotAccepted ack refl low
-heard_rows n a PacketNotAccepted (out.Output.ErrorStopped asked w) ack is low bounded working =
-    none_freed n a 0 PacketNotAccepted ack refl low
-heard_rows n a PacketNotAccepted out.Output.Failed ack is low bounded working =
-    none_freed n a 0 PacketNotAccepted ack refl low
-heard_rows n a LinkResponse (out.Output.Ok w) ack is low bounded working =
-    none_freed n a 0 LinkResponse ack refl low
-heard_rows n a LinkResponse (out.Output.RetryStopped w) ack is low bounded working =
-    none_freed n a 0 LinkResponse ack refl low
 heard_rows n a LinkResponse (out.Output.ErrorStopped true w) ack is low bounded working =
     response_by n a w ack (nat_le (distance w.oldest ack) (length w.prios)) is low bounded working
-heard_rows n a LinkResponse (out.Output.ErrorStopped false w) ack is low bounded working =
-    none_freed n a 0 LinkResponse ack refl low
-heard_rows n a LinkResponse out.Output.Failed ack is low bounded working =
+heard_rows n a LinkResponse _ ack is low bounded working =
     none_freed n a 0 LinkResponse ack refl low
 heard_rows n a OtherStype0 (out.Output.Ok w) ack is low bounded working =
     none_freed n a 0 OtherStype0 ack refl low
-heard_rows n a OtherStype0 (out.Output.RetryStopped w) ack is low bounded working =
-    none_freed n a 0 OtherStype0 ack refl low
-heard_rows n a OtherStype0 (out.Output.ErrorStopped asked w) ack is low bounded working =
-    none_freed n a 0 OtherStype0 ack refl low
-heard_rows n a OtherStype0 out.Output.Failed ack is low bounded working =
-    none_freed n a 0 OtherStype0 ack refl low
+heard_rows n a OtherStype0 _ ack is low bounded working = none_freed n a 0 OtherStype0 ack refl low

@@ -1,26 +1,6 @@
 -- A port's allowance is never below the number of the packets that it freed.
-use Rattle.std.proofs.Common.{◌≡◌, ◌≢◌, ℕ, ◌+◌, ◌%◌, ◌≤◌, ◌++◌, List, [], ◌∷◌, length, refl, ap, ◌∙◌, arith}
-use Rattle.rio_chars.specs.declared.chars.Char.{Char}
-use Rattle.link_model.specs.declared.event.Event.{Event}
-use Rattle.link_model.specs.declared.event.Event.TheVariants.{Ctl, Pkt, Bad}
+use Rattle.fabric_trace.proofs.Prelude.{◌≡◌, ◌≢◌, ℕ, ◌+◌, ◌%◌, ◌≤◌, ◌++◌, List, [], ◌∷◌, length, refl, ap, ◌∙◌, arith, Char, Event, Ctl, Pkt, Bad, stype0, hears_report, said, PortState, IsPort, IsOutput, acts, oldest_of, report_oldest, not_failed, Queues, IsFlowing, Flow, Delivered, done, Move, PortRef, raised, raised_all, Seen, port_seen, taken_from, IsLink}
 use Rattle.link_model.specs.Output as out
-use Rattle.link_model.specs.Output.{stype0, hears_report}
-use Rattle.link_model.specs.Said.{said}
-use Rattle.link_port.specs.Ports.{PortState, IsPort}
-use Rattle.link_port.specs.States.{IsOutput}
-use Rattle.link_port.specs.Steps.{acts}
-use Rattle.link_sound.specs.Meanings.{oldest_of}
-use Rattle.link_sound.proofs.Reported.{report_oldest}
-use Rattle.link_sound.proofs.Promises.{not_failed}
-use Rattle.link_machine.specs.Queues.{Queues}
-use Rattle.link_machine.proofs.Flowing.{IsFlowing}
-use Rattle.link_wires.specs.Deliveries.{Flow, Delivered, done}
-use Rattle.link_wires.specs.declared.moves.Move.{Move}
-use Rattle.fabric_script.specs.declared.ports.PortRef.{PortRef}
-use Rattle.fabric_trace.specs.Allowance.{raised, raised_all}
-use Rattle.fabric_trace.specs.Known.{Seen, port_seen}
-use Rattle.fabric_trace.specs.Fold.{taken_from}
-use Rattle.fabric_trace.specs.Links.{IsLink}
 use Rattle.fabric_trace.proofs.Links.EachEvent.{OfDelivery, IsStepwise, taken_keeps}
 use Rattle.fabric_trace.proofs.Frees.Heard.{freed_count, symbol_freed, HasFreed, done_count, done_frees, frees_begin}
 use Rattle.fabric_trace.proofs.Allowance.RaisedRows.{raised_more, raised_all_more, heard_rows}

@@ -1,27 +1,5 @@
 -- The frees of a port are acknowledged in what it got.
-use Rattle.std.proofs.Common.{◌≡◌, ℕ, suc, ◌+◌, ◌%◌, ◌<◌, ◌++◌, Bool, List, [], ◌∷◌, map, None, refl, sym, ap, ◌∙◌, subst, arith, if◌then◌else◌}
-use Rattle.rio_chars.specs.declared.chars.Char.{Char}
-use Rattle.link_model.specs.Places.{Place, place_start, place_after}
-use Rattle.link_model.specs.Said.{said}
-use Rattle.link_model.proofs.PlacesLaws.{place_after-append, place_after-none}
-use Rattle.link_sound.specs.Meanings.{oldest_of}
-use Rattle.link_watch.specs.declared.side.Side.{Side}
-use Rattle.link_watch.specs.declared.side.Side.TheVariants.{B}
-use Rattle.link_wires.specs.Deliveries.{Delivered, Through, WentUndetected, told_of, undetected}
-use Rattle.link_wires.specs.declared.moves.Move.{Move}
-use Rattle.link_wires.specs.declared.moves.Move.TheVariants.{Held, Freed}
-use Rattle.link_wires.proofs.Throughs.{through_place}
-use Rattle.link_machine.specs.Calls.{move_note}
-use Rattle.fabric_script.specs.declared.ports.PortRef.{PortRef}
-use Rattle.fabric_model.specs.Network.{same_port}
-use Rattle.fabric_model.proofs.Peers.{same_port-refl}
-use Rattle.trace_lines.specs.Lines.{Got, TraceLine, Signed}
-use Rattle.fabric_trace.specs.Views.{Half}
-use Rattle.fabric_trace.specs.Known.{Seen, port_seen, kept_of}
-use Rattle.fabric_trace.specs.Fold.{taken_from, half_after, undetected_at}
-use Rattle.trace_lines.specs.Notes.{port_at_side, lines_of}
-use Rattle.fabric_trace.specs.Frees.{IsSaid, Gotten, nothing_got, gets, completed, FreesSaid}
-use Rattle.fabric_trace.specs.Links.{IsLink}
+use Rattle.fabric_trace.proofs.Prelude.{◌≡◌, ℕ, suc, ◌+◌, ◌%◌, ◌<◌, ◌++◌, Bool, List, [], ◌∷◌, map, None, refl, sym, ap, ◌∙◌, subst, arith, if◌then◌else◌, Char, Place, place_start, place_after, said, place_after-append, place_after-none, oldest_of, Side, B, Delivered, Through, WentUndetected, told_of, undetected, Move, Held, Freed, through_place, move_note, PortRef, same_port, same_port-refl, Got, TraceLine, Signed, Half, Seen, port_seen, kept_of, taken_from, half_after, undetected_at, port_at_side, lines_of, IsSaid, Gotten, nothing_got, gets, completed, FreesSaid, IsLink}
 use Rattle.fabric_trace.proofs.Frees.Heard.{freed_count, HaveFreed, delivered_frees}
 use Rattle.fabric_trace.proofs.Frees.FreesStill.{gets_all, gets-append, frees-append, said-join, all_got, IsFreed, quiet_freed}
 use Rattle.fabric_trace.proofs.Parts.Carrying.{got_lines, Carries}

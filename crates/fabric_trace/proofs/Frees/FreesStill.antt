@@ -1,13 +1,5 @@
 -- What a port got and freed along lines, and lines in which it gets and frees nothing.
-use Rattle.std.proofs.Common.{◌≡◌, ℕ, ◌+◌, ◌%◌, ◌++◌, List, [], ◌∷◌, None, refl, sym, ap, ◌∙◌, subst, arith, if◌then◌else◌}
-use Rattle.rio_chars.specs.declared.chars.Char.{Char}
-use Rattle.link_model.specs.Places.{place_start, place_after}
-use Rattle.link_sound.specs.Meanings.{oldest_of}
-use Rattle.fabric_script.specs.declared.ports.PortRef.{PortRef}
-use Rattle.fabric_model.specs.Steps.{Hold, Free, Linked, AtNode, ByDevice}
-use Rattle.trace_lines.specs.Lines.{Sent, Got, Fired, TraceLine, Begun, Stepped, Signed, Lacked, Ended, Undetected}
-use Rattle.fabric_trace.specs.Known.{Seen}
-use Rattle.fabric_trace.specs.Frees.{Gotten, nothing_got, gets, frees_by, FreeSaid, FreesSaid}
+use Rattle.fabric_trace.proofs.Prelude.{◌≡◌, ℕ, ◌+◌, ◌%◌, ◌++◌, List, [], ◌∷◌, None, refl, sym, ap, ◌∙◌, subst, arith, if◌then◌else◌, Char, place_start, place_after, oldest_of, PortRef, Hold, Free, Linked, AtNode, ByDevice, Sent, Got, Fired, TraceLine, Begun, Stepped, Signed, Lacked, Ended, Undetected, Seen, Gotten, nothing_got, gets, frees_by, FreeSaid, FreesSaid}
 use Rattle.fabric_trace.proofs.Parts.Quiet.{IsQuietLine, IsQuiet, StaysSo}
 
 -- ---- folds

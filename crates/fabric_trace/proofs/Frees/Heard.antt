@@ -1,36 +1,8 @@
 -- The packets that a delivery frees are acknowledged by what it says.
-use Rattle.std.proofs.Common.{◌≡◌, ◌≢◌, inl, inr, ℕ, suc, ◌+◌, ◌-◌, ◌%◌, ◌<◌, ◌==◌, ◌++◌, Bool, true, false, List, [], ◌∷◌, length, map, take, Option, Some, None, option_to_list, refl, sym, ap, ◌∙◌, subst, arith, length-take, if◌then◌else◌}
-use Rattle.std.proofs.lemmas.Bool.{eqb-true, cases_lt}
-use Rattle.std.proofs.lemmas.List.{length-map}
-use Rattle.rio_packets.specs.Fields.{prio_of}
-use Rattle.rio_symbols.specs.Fields.{Fields}
+use Rattle.fabric_trace.proofs.Prelude.{◌≡◌, ◌≢◌, inl, inr, ℕ, suc, ◌+◌, ◌-◌, ◌%◌, ◌<◌, ◌==◌, ◌++◌, Bool, true, false, List, [], ◌∷◌, length, map, take, Option, Some, None, option_to_list, refl, sym, ap, ◌∙◌, subst, arith, length-take, if◌then◌else◌, eqb-true, cases_lt, length-map, prio_of, Fields, packets_of, Covers-take, map-prio_of-packets_of, Event, Ctl, Pkt, Bad, Stype0, PacketAccepted, PacketRetry, PacketNotAccepted, LinkResponse, OtherStype0, stype0, hears_report, PortState, IsPort, prios_of, IsOutput, acts, symbol_heard, oldest_of, report_oldest, Char, said, not_failed, Queues, IsFlowing, Flow, Delivered, begun, moves_of, done, EndsWithin, TakesWithin, Move, Held, Freed, PortRef, Seen, port_seen, taken_from, Acknowledges, IsSaid, IsLink}
 use Rattle.rio_symbols.specs.declared.stype0.TheConstants.{PACKET_ACCEPTED, PACKET_RETRY, PACKET_NOT_ACCEPTED, LINK_RESPONSE}
-use Rattle.link_buffers.specs.Priorities.{packets_of}
-use Rattle.link_buffers.proofs.PriorityLaws.{Covers-take, map-prio_of-packets_of}
-use Rattle.link_model.specs.declared.event.Event.{Event}
-use Rattle.link_model.specs.declared.event.Event.TheVariants.{Ctl, Pkt, Bad}
 use Rattle.link_model.specs.Output as out
-use Rattle.link_model.specs.Output.{Stype0, PacketAccepted, PacketRetry, PacketNotAccepted, LinkResponse, OtherStype0, stype0, hears, hears_report, accepted, retried, responded}
-use Rattle.link_port.specs.Ports.{PortState, IsPort}
-use Rattle.link_port.specs.States.{prios_of, IsOutput}
-use Rattle.link_port.specs.Steps.{acts, symbol_heard}
 use Rattle.link_port.proofs.HearLaws.{report_prios}
-use Rattle.link_sound.specs.Meanings.{oldest_of}
-use Rattle.link_sound.proofs.Reported.{report_oldest}
-use Rattle.rio_chars.specs.declared.chars.Char.{Char}
-use Rattle.link_model.specs.Said.{said}
-use Rattle.link_sound.proofs.Promises.{not_failed}
-use Rattle.link_machine.specs.Queues.{Queues}
-use Rattle.link_machine.proofs.Flowing.{IsFlowing}
-use Rattle.link_wires.specs.Deliveries.{Flow, Delivered, begun, moves_of, done}
-use Rattle.link_wires.specs.Kept.IsSubsequence.{EndsWithin, TakesWithin}
-use Rattle.link_wires.specs.declared.moves.Move.{Move}
-use Rattle.link_wires.specs.declared.moves.Move.TheVariants.{Held, Freed}
-use Rattle.fabric_script.specs.declared.ports.PortRef.{PortRef}
-use Rattle.fabric_trace.specs.Known.{Seen, port_seen}
-use Rattle.fabric_trace.specs.Fold.{taken_from}
-use Rattle.fabric_trace.specs.Frees.{Acknowledges, IsSaid}
-use Rattle.fabric_trace.specs.Links.{IsLink}
 use Rattle.fabric_trace.proofs.Links.EachEvent.{OfDelivery, IsStepwise, taken_keeps}
 use Rattle.fabric_trace.proofs.Holds.Coming.{none_within, within-append, within_more}
 use Rattle.fabric_trace.proofs.Frees.HeardRows.{Tells, heard_rows}
@@ -40,10 +12,8 @@ use Rattle.fabric_trace.proofs.Frees.HeardRows.{Tells, heard_rows}
 -- a symbol of a kind, by its stype0
 abbrev IsKind : ℕ → Stype0 → Type 0
 IsKind s0 PacketAccepted = s0 ≡ PACKET_ACCEPTED
-IsKind s0 PacketRetry = Unit {0}
-IsKind s0 PacketNotAccepted = Unit {0}
 IsKind s0 LinkResponse = s0 ≡ LINK_RESPONSE
-IsKind s0 OtherStype0 = Unit {0}
+IsKind s0 _ = Unit {0}
 
 kind_by : (s0 : ℕ) (a b c d : Bool) → (a ≡ true → s0 ≡ PACKET_ACCEPTED)
     → (d ≡ true → s0 ≡ LINK_RESPONSE)

@@ -1,13 +1,6 @@
 -- What a symbol frees, it tells of, row by row of the table.
-use Rattle.std.proofs.Common.{◌≡◌, ◌≢◌, inl, inr, ℕ, ◌+◌, ◌%◌, ◌<◌, ◌≤◌, nat_le, Bool, true, false, List, length, refl, sym, ap, ◌∙◌, subst, arith, if◌then◌else◌}
-use Rattle.std.proofs.lemmas.Bool.{leb-true, ltb-true, and_parts}
+use Rattle.fabric_trace.proofs.Prelude.{◌≡◌, ◌≢◌, inl, inr, ℕ, ◌+◌, ◌%◌, ◌<◌, ◌≤◌, nat_le, Bool, true, false, List, length, refl, sym, ap, ◌∙◌, subst, arith, if◌then◌else◌, leb-true, ltb-true, and_parts, Stype0, PacketAccepted, PacketRetry, PacketNotAccepted, LinkResponse, OtherStype0, hears, accepted, retried, Outstanding, distance, is_oldest, prios_of, IsOutput, oldest_of, oldest_cases, without_oldest, from_ack}
 use Rattle.link_model.specs.Output as out
-use Rattle.link_model.specs.Output.{Stype0, PacketAccepted, PacketRetry, PacketNotAccepted, LinkResponse, OtherStype0, hears, accepted, retried}
-use Rattle.link_model.specs.Outstanding.{Outstanding, distance, is_oldest}
-use Rattle.link_port.specs.States.{prios_of, IsOutput}
-use Rattle.link_sound.specs.Meanings.{oldest_of}
-use Rattle.link_sound.proofs.Hearing.{oldest_cases}
-use Rattle.link_model.specs.Outstanding.{without_oldest, from_ack}
 
 -- ---- one symbol
 

@@ -1,22 +1,6 @@
 -- Each free stands in the notes of a delivery.
-use Rattle.std.proofs.Common.{◌≡◌, ◌++◌, Bool, true, false, List, [], ◌∷◌, map, take, sym, ap, ◌∙◌, subst, if◌then◌else◌}
-use Rattle.rio_chars.specs.declared.chars.Char.{Char}
+use Rattle.fabric_trace.proofs.Prelude.{◌≡◌, ◌++◌, Bool, true, false, List, [], ◌∷◌, map, take, sym, ap, ◌∙◌, subst, if◌then◌else◌, Char, Side, A, B, told_of, bursts, answers, Move, Held, Freed, sent_notes, delivery_from, move_note, told_notes, is_silent, PortRef, same_port, TraceLine, Seen, link_at, lines_of, is_noting, FreesNoted, Part, PartBegins, PartLacks, PartEnds, PartNames, PartSteps, PartServes, PartTurns, PartTells, PartDelivers, PartFires, Made, Done, Then, tell_sends}
 use Rattle.link_watch.specs.declared.note.Note.TheVariants as Notes
-use Rattle.link_watch.specs.declared.side.Side.{Side}
-use Rattle.link_watch.specs.declared.side.Side.TheVariants.{A, B}
-use Rattle.link_wires.specs.Deliveries.{told_of}
-use Rattle.link_wires.specs.Wires.{bursts, answers}
-use Rattle.link_wires.specs.declared.moves.Move.{Move}
-use Rattle.link_wires.specs.declared.moves.Move.TheVariants.{Held, Freed}
-use Rattle.link_machine.specs.Calls.{sent_notes, delivery_from, move_note, told_notes, is_silent}
-use Rattle.fabric_script.specs.declared.ports.PortRef.{PortRef}
-use Rattle.fabric_model.specs.Network.{same_port}
-use Rattle.trace_lines.specs.Lines.{TraceLine}
-use Rattle.fabric_trace.specs.Known.{Seen, link_at}
-use Rattle.trace_lines.specs.Notes.{lines_of}
-use Rattle.fabric_trace.specs.Noted.{is_noting, FreesNoted}
-use Rattle.fabric_trace.specs.Parts.{Part, PartBegins, PartLacks, PartEnds, PartNames, PartSteps, PartServes, PartTurns, PartTells, PartDelivers, PartFires, Made, Done, Then}
-use Rattle.link_port.specs.Turns.{tell_sends}
 
 sent_noted : (c a b : PortRef) (side : Side) (chars : List Char) (now : Bool)
     → FreesNoted c now (lines_of a b (sent_notes side chars))

@@ -1,33 +1,11 @@
 -- The packets that a delivery holds come with the ackIDs that the port expects.
-use Rattle.std.proofs.Common.{◌≡◌, ◌⊎◌, inl, inr, ℕ, suc, ◌+◌, ◌%◌, ◌==◌, ◌&&◌, ◌++◌, Bool, true, false, List, [], ◌∷◌, length, map, Option, Some, None, option_to_list, refl, sym, ap, ◌∙◌, subst, arith, length-append, if◌then◌else◌}
-use Rattle.std.proofs.lemmas.Bool.Decides.{eqb_tells}
-use Rattle.std.proofs.lemmas.List.{append-nil}
-use Rattle.rio_chars.specs.declared.chars.Char.{Char}
+use Rattle.fabric_trace.proofs.Prelude.{◌≡◌, ◌⊎◌, inl, inr, ℕ, suc, ◌+◌, ◌%◌, ◌==◌, ◌&&◌, ◌++◌, Bool, true, false, List, [], ◌∷◌, length, map, Option, Some, None, option_to_list, refl, sym, ap, ◌∙◌, subst, arith, length-append, if◌then◌else◌, eqb_tells, append-nil, Char, prio_of, room_for, stored, Event, Ctl, Pkt, Bad, said, PortState, expected_of, acts, Queues, Flow, Delivered, moves_of, done, IsSubsequence, EndsWithin, TakesWithin, SkipsWithin, Move, Held, Freed, PortRef, Seen, taken_from, numbered_packets, IsLink}
 use Rattle.rio_packets.specs.CauseNumbers.{number_of}
-use Rattle.rio_packets.specs.Fields.{prio_of}
-use Rattle.link_buffers.specs.Queues.{room_for, stored}
-use Rattle.link_model.specs.declared.event.Event.{Event}
-use Rattle.link_model.specs.declared.event.Event.TheVariants.{Ctl, Pkt, Bad}
 use Rattle.link_model.specs.Input as in_half
-use Rattle.link_model.specs.Input.{Arrival, receives, packet_arrival, symbol_arrival}
+use Rattle.link_model.specs.Input.{Arrival, receives, packet_arrival}
 use Rattle.link_model.specs.Input.Arrival.{ExpectedWithRoom, ExpectedWithoutRoom, UnexpectedAck, Damaged, RestartFromRetry, LinkRequest, OtherStype1}
-use Rattle.link_model.specs.Said.{said}
-use Rattle.link_port.specs.Ports.{PortState}
-use Rattle.link_port.specs.States.{expected_of}
-use Rattle.link_port.specs.Steps.{acts}
 use Rattle.link_port.specs.Prelude.{buffer_status}
 use Rattle.link_sound.proofs.Receiving.{next_expected}
-use Rattle.link_machine.specs.Queues.{Queues}
-use Rattle.link_wires.specs.Deliveries.{Flow, Delivered, moves_of, done}
-use Rattle.link_wires.specs.Kept.{IsSubsequence}
-use Rattle.link_wires.specs.Kept.IsSubsequence.{EndsWithin, TakesWithin, SkipsWithin}
-use Rattle.link_wires.specs.declared.moves.Move.{Move}
-use Rattle.link_wires.specs.declared.moves.Move.TheVariants.{Held, Freed}
-use Rattle.fabric_script.specs.declared.ports.PortRef.{PortRef}
-use Rattle.fabric_trace.specs.Known.{Seen}
-use Rattle.fabric_trace.specs.Fold.{taken_from}
-use Rattle.fabric_trace.specs.Holds.{numbered_packets}
-use Rattle.fabric_trace.specs.Links.{IsLink}
 use Rattle.fabric_trace.proofs.Links.EachEvent.{OfDelivery, IsStepwise, taken_keeps}
 
 -- ---- subsequences and numbers

@@ -1,30 +1,5 @@
 -- The holds of a port are read in what it got.
-use Rattle.std.proofs.Common.{◌≡◌, ℕ, ◌%◌, ◌++◌, List, [], ◌∷◌, length, map, None, refl, sym, ap, ◌∙◌, subst, arith, length-append, if◌then◌else◌}
-use Rattle.std.proofs.lemmas.List.{append-nil}
-use Rattle.rio_chars.specs.declared.chars.Char.{Char}
-use Rattle.link_model.specs.declared.event.Event.{Event}
-use Rattle.link_model.specs.Places.{Place, place_start, place_after}
-use Rattle.link_model.specs.Said.{said}
-use Rattle.link_model.proofs.PlacesLaws.{place_after-append}
-use Rattle.link_port.specs.States.{expected_of}
-use Rattle.link_machine.proofs.Settling.SaidLaws.{said-append}
-use Rattle.link_watch.specs.declared.side.Side.{Side}
-use Rattle.link_watch.specs.declared.side.Side.TheVariants.{B}
-use Rattle.link_wires.specs.Deliveries.{Delivered, Through, WentUndetected, told_of, undetected}
-use Rattle.link_wires.specs.Kept.{IsSubsequence}
-use Rattle.link_wires.specs.declared.moves.Move.{Move}
-use Rattle.link_wires.specs.declared.moves.Move.TheVariants.{Held, Freed}
-use Rattle.link_wires.proofs.Throughs.{through_place}
-use Rattle.link_machine.specs.Calls.{move_note}
-use Rattle.fabric_script.specs.declared.ports.PortRef.{PortRef}
-use Rattle.fabric_model.proofs.Peers.{same_port-refl}
-use Rattle.trace_lines.specs.Lines.{TraceLine}
-use Rattle.fabric_trace.specs.Views.{Half}
-use Rattle.fabric_trace.specs.Known.{Seen, port_seen, kept_of}
-use Rattle.fabric_trace.specs.Fold.{says, taken_from, half_after, undetected_at}
-use Rattle.trace_lines.specs.Notes.{port_at_side, lines_of}
-use Rattle.fabric_trace.specs.Holds.{got, holds, numbered_packets, HoldsCame}
-use Rattle.fabric_trace.specs.Links.{IsLink}
+use Rattle.fabric_trace.proofs.Prelude.{◌≡◌, ℕ, ◌%◌, ◌++◌, List, [], ◌∷◌, length, map, None, refl, sym, ap, ◌∙◌, subst, arith, length-append, if◌then◌else◌, append-nil, Char, Event, Place, place_start, place_after, said, place_after-append, expected_of, said-append, Side, B, Delivered, Through, WentUndetected, told_of, undetected, IsSubsequence, Move, Held, Freed, through_place, move_note, PortRef, same_port-refl, TraceLine, Half, Seen, port_seen, kept_of, says, taken_from, half_after, undetected_at, port_at_side, lines_of, got, holds, numbered_packets, HoldsCame, IsLink}
 use Rattle.fabric_trace.proofs.Holds.Coming.{held_in, HaveCome, within-append, numbered-append, delivered_comes}
 use Rattle.fabric_trace.proofs.Parts.Carrying.{got_lines, Carries}
 use Rattle.fabric_trace.proofs.Holds.HoldsStill.{IsRead, quiet_read}

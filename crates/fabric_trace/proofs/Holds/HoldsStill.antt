@@ -1,16 +1,5 @@
 -- What a port got and held along lines, and lines in which it gets and holds nothing.
-use Rattle.std.proofs.Common.{◌≡◌, ℕ, ◌%◌, ◌++◌, List, [], ◌∷◌, length, None, refl, sym, ap, ◌∙◌, subst, append_assoc, if◌then◌else◌}
-use Rattle.std.proofs.lemmas.List.{append-nil}
-use Rattle.rio_chars.specs.declared.chars.Char.{Char}
-use Rattle.link_model.specs.Places.{place_start, place_after}
-use Rattle.link_port.specs.States.{expected_of}
-use Rattle.link_wires.specs.Kept.{IsSubsequence}
-use Rattle.fabric_script.specs.declared.ports.PortRef.{PortRef}
-use Rattle.fabric_model.specs.Steps.{Hold, Free, Linked, AtNode, ByDevice}
-use Rattle.trace_lines.specs.Lines.{Sent, Got, Fired, TraceLine, Begun, Stepped, Signed, Lacked, Ended, Undetected}
-use Rattle.fabric_trace.specs.Known.{Seen}
-use Rattle.fabric_trace.specs.Fold.{says}
-use Rattle.fabric_trace.specs.Holds.{got_by, got, held_by_line, holds, numbered_packets, HoldsCame}
+use Rattle.fabric_trace.proofs.Prelude.{◌≡◌, ℕ, ◌%◌, ◌++◌, List, [], ◌∷◌, length, None, refl, sym, ap, ◌∙◌, subst, append_assoc, if◌then◌else◌, append-nil, Char, place_start, place_after, expected_of, IsSubsequence, PortRef, Hold, Free, Linked, AtNode, ByDevice, Sent, Got, Fired, TraceLine, Begun, Stepped, Signed, Lacked, Ended, Undetected, Seen, says, got_by, got, held_by_line, holds, numbered_packets, HoldsCame}
 use Rattle.fabric_trace.proofs.Parts.Quiet.{IsQuietLine, IsQuiet, StaysSo}
 
 pub got-append : (q : PortRef) (xs ys : List TraceLine) → got q (xs ++ ys) ≡ got q xs ++ got q ys

@@ -1,15 +1,6 @@
 -- Lines in which no port gets anything.
-use Rattle.std.proofs.Common.{Bool, true, false, List, [], ◌∷◌, ◌++◌, map, if◌then◌else◌}
-use Rattle.rio_chars.specs.declared.chars.Char.{Char}
+use Rattle.fabric_trace.proofs.Prelude.{Bool, true, false, List, [], ◌∷◌, ◌++◌, map, if◌then◌else◌, Char, Side, A, Move, Held, Freed, sent_notes, move_note, PortRef, Got, TraceLine, Signed, lines_of}
 use Rattle.link_watch.specs.declared.note.Note.TheVariants as Notes
-use Rattle.link_watch.specs.declared.side.Side.{Side}
-use Rattle.link_watch.specs.declared.side.Side.TheVariants.{A}
-use Rattle.link_wires.specs.declared.moves.Move.{Move}
-use Rattle.link_wires.specs.declared.moves.Move.TheVariants.{Held, Freed}
-use Rattle.link_machine.specs.Calls.{sent_notes, move_note}
-use Rattle.fabric_script.specs.declared.ports.PortRef.{PortRef}
-use Rattle.trace_lines.specs.Lines.{Got, TraceLine, Signed}
-use Rattle.trace_lines.specs.Notes.{lines_of}
 
 unfoldable pub GotNone : List TraceLine → Type 0
 GotNone [] = Unit {0}

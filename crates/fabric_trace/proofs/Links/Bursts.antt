@@ -1,30 +1,9 @@
 -- What a port sends, as its wire and its output half show it.
-use Rattle.std.proofs.Common.{◌≡◌, ℕ, zero, suc, ◌<◌, ◌++◌, Bool, true, false, List, [], ◌∷◌, length, slice_get, Option, Some, None, refl, ap, ◌∙◌, cond, if◌then◌else◌, nat_lt, subst}
-use Rattle.std.proofs.lemmas.Option.{slice_get-get_or}
-use Rattle.rio_symbols.specs.Fields.{Fields}
-use Rattle.rio_packets.specs.Fields.{prio_of}
-use Rattle.link_buffers.specs.Queues.{list_at, IsOutStore}
-use Rattle.link_buffers.specs.Priorities.{highest}
-use Rattle.link_buffers.proofs.PriorityLaws.{highest_below-some, IsOutStore-lists_without}
-use Rattle.link_model.specs.declared.event.Event.{Event}
-use Rattle.link_model.specs.declared.event.Event.TheVariants.{Ctl}
+use Rattle.fabric_trace.proofs.Prelude.{◌≡◌, ℕ, zero, suc, ◌<◌, ◌++◌, Bool, true, false, List, [], ◌∷◌, length, slice_get, Option, Some, None, refl, ap, ◌∙◌, cond, if◌then◌else◌, nat_lt, subst, slice_get-get_or, Fields, prio_of, list_at, IsOutStore, highest, highest_below-some, IsOutStore-lists_without, Event, Ctl, Outstanding, with_next, next_ack, Place, status, Plain, window, PortState, IsPort, prios_of, first_has_prio, IsAnswer, AreAnswers, chars_of, controls, answers_read, turn_port, port_turned, bursts, answers, says, sends, event_leaves, symbol_leaves}
 use Rattle.link_model.specs.Output as out
-use Rattle.link_model.specs.Outstanding.{Outstanding, with_next, next_ack}
 use Rattle.link_model.specs.Reports.{has_credit}
-use Rattle.link_model.specs.Places.{Place}
-use Rattle.link_model.specs.Symbols.{status}
-use Rattle.link_model.specs.Reading.{Plain}
-use Rattle.link_model.specs.Window.{window}
-use Rattle.link_port.specs.Ports.{PortState, IsPort}
-use Rattle.link_port.specs.States.{prios_of}
 use Rattle.link_port.specs.Turns.{IsRead, standing, no_burst, symbol_burst, packet_burst, burst_of, turn_sends, turns_to, waiting_in}
-use Rattle.link_port.proofs.FirstPackets.{first_has_prio}
 use Rattle.link_port.proofs.SentReads.{none_read, status_read, standing_range}
-use Rattle.link_machine.specs.Led.{IsAnswer, AreAnswers, chars_of, controls}
-use Rattle.link_machine.proofs.Settling.AnswerLaws.{answers_read}
-use Rattle.link_sound.proofs.PortBounds.{turn_port}
-use Rattle.link_wires.specs.Wires.{port_turned, bursts, answers}
-use Rattle.fabric_trace.specs.Fold.{says, sends, event_leaves, symbol_leaves}
 
 pub sends-append : (output : out.Output) (xs ys : List Event)
     → sends output (xs ++ ys) ≡ sends (sends output xs) ys

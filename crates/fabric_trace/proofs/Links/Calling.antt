@@ -1,29 +1,7 @@
 -- What turns, a status and a time-out make of a link and of the network.
-use Rattle.std.proofs.Common.{◌≡◌, ℕ, ◌++◌, true, false, List, [], ◌∷◌, Option, Some, None, refl, sym, ap, ◌∙◌, subst, if◌then◌else◌, Bool}
-use Rattle.link_model.specs.declared.event.Event.{Event}
+use Rattle.fabric_trace.proofs.Prelude.{◌≡◌, ℕ, ◌++◌, true, false, List, [], ◌∷◌, Option, Some, None, refl, sym, ap, ◌∙◌, subst, if◌then◌else◌, Bool, Event, status, PortState, timed_out, tell_sends, standing, symbol_burst, no_burst, A, port_turned, bursts, LinkState, at_end, sent_notes, pumped, pump_notes, is_silent, first_fires, timed_out_at, time_out_notes, told_from, tell_notes, queues_of, IsSoundLink, pump_keeps, pump_moves_none, fired_keeps, fire_moves_none, told_keeps, PortRef, Network, same_port, Step, LegalFrom, ArePeers, apart_back, turned_is, turns_read, tell_read, Char, half_of, Seen, UndetectedAt, with_wire, port_seen, kept_of, wire_state, link_at, says, sends, wire_silenced, fired_from, seen, lines_of, queues_in, IsKept, IsLink}
 use Rattle.link_model.specs.Output as out
-use Rattle.link_model.specs.Symbols.{status}
-use Rattle.link_port.specs.Ports.{PortState}
-use Rattle.link_port.specs.Turns.{timed_out, tell_sends, standing, symbol_burst, no_burst}
 use Rattle.link_watch.specs.declared.note.Note.TheVariants as Notes
-use Rattle.link_watch.specs.declared.side.Side.TheVariants.{A}
-use Rattle.link_wires.specs.Wires.{port_turned, bursts}
-use Rattle.link_machine.specs.States.{LinkState, at_end}
-use Rattle.link_machine.specs.Calls.{sent_notes, pumped, pump_notes, is_silent, first_fires, timed_out_at, time_out_notes, told_from, tell_notes}
-use Rattle.link_machine.specs.Queues.{queues_of}
-use Rattle.link_machine.specs.Sound.{IsSoundLink}
-use Rattle.link_machine.proofs.Machine.{pump_keeps, pump_moves_none, fired_keeps, fire_moves_none, told_keeps}
-use Rattle.fabric_script.specs.declared.ports.PortRef.{PortRef}
-use Rattle.fabric_model.specs.Network.{Network, same_port}
-use Rattle.fabric_model.specs.Steps.{Step, LegalFrom}
-use Rattle.fabric_model.proofs.Peers.{ArePeers, apart_back}
-use Rattle.link_machine.proofs.Settling.Bursting.{turned_is, turns_read, tell_read}
-use Rattle.rio_chars.specs.declared.chars.Char.{Char}
-use Rattle.fabric_trace.specs.Views.{half_of}
-use Rattle.fabric_trace.specs.Known.{Seen, UndetectedAt, with_wire, port_seen, kept_of, wire_state, link_at}
-use Rattle.fabric_trace.specs.Fold.{says, sends, wire_silenced, fired_from, seen}
-use Rattle.trace_lines.specs.Notes.{lines_of}
-use Rattle.fabric_trace.specs.Links.{queues_in, IsKept, IsLink}
 use Rattle.fabric_trace.proofs.Links.Bursts.{turns_leave}
 use Rattle.fabric_trace.proofs.Network.Walks.{AreElsewhere, elsewhere_here}
 use Rattle.fabric_trace.proofs.Network.Viewing.{Shows, link_is, is_link}
@@ -121,9 +99,7 @@ tell_leaves : (tells : Bool) (expected buffers : ℕ) (output : out.Output)
     ≡ output
 unfolding sends
 tell_leaves true expected buffers (out.Output.Ok w) = refl
-tell_leaves true expected buffers (out.Output.RetryStopped w) = refl
-tell_leaves true expected buffers (out.Output.ErrorStopped asked w) = refl
-tell_leaves true expected buffers out.Output.Failed = refl
+tell_leaves true expected buffers _ = refl
 tell_leaves false expected buffers output = refl
 
 pub tells_call : (s : Seen) (p q : PortRef) → ArePeers s.network.links p q → IsLink s p q

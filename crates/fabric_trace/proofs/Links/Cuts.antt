@@ -1,18 +1,7 @@
 -- A delivery with an event that was not sent is the same of the characters up to the one that
 -- completed it.
-use Rattle.std.proofs.Common.{◌≡◌, ℕ, suc, ◌+◌, true, false, List, [], ◌∷◌, length, take, Option, Some, None, refl, sym, ap, ◌∙◌, subst, arith, if◌then◌else◌}
-use Rattle.std.proofs.lemmas.List.{take_all}
-use Rattle.rio_chars.specs.declared.chars.Char.{Char}
-use Rattle.link_model.specs.declared.event.Event.{Event}
-use Rattle.link_model.specs.Places.{Place, step, run, place_after}
-use Rattle.link_model.specs.Reading.{placed}
-use Rattle.link_model.proofs.PlacesLaws.{run-one}
-use Rattle.link_port.specs.Ports.{PortState}
-use Rattle.link_port.specs.Steps.{is_acted}
-use Rattle.link_wires.specs.Kept.{behind}
-use Rattle.link_wires.specs.Deliveries.{Told, Flow, Delivered, Through, WentUndetected, begun, done, met, comes, goes_on, come, ended, flows, delivered, told_of}
+use Rattle.fabric_trace.proofs.Prelude.{◌≡◌, ℕ, suc, ◌+◌, true, false, List, [], ◌∷◌, length, take, Option, Some, None, refl, sym, ap, ◌∙◌, subst, arith, if◌then◌else◌, take_all, Char, Event, Place, step, run, place_after, placed, run-one, PortState, is_acted, behind, Told, Flow, Delivered, Through, WentUndetected, begun, done, met, comes, goes_on, come, ended, flows, delivered, told_of, through_count, ended_count}
 use Rattle.link_wires.proofs.DeliveryLaws.{flows-append}
-use Rattle.link_wires.proofs.Throughs.{through_count, ended_count}
 
 -- where events completed at one place lead: on, or to an event that was not sent at that place
 abbrev IsAt : ℕ → Delivered → Type 0

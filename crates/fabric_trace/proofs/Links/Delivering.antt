@@ -1,37 +1,7 @@
 -- What a delivery makes of a link and of the network.
-use Rattle.std.proofs.Common.{◌≡◌, ℕ, ◌++◌, Bool, true, false, nat_le, List, [], length, map, take, drop, Some, None, refl, sym, ap, ◌∙◌, subst, if◌then◌else◌, arith, length-take}
-use Rattle.std.proofs.lemmas.Bool.{leb-true}
-use Rattle.rio_chars.specs.declared.chars.Char.{Char}
-use Rattle.rio_symbols.specs.Fields.{Fields}
-use Rattle.link_model.specs.declared.event.Event.{Event}
-use Rattle.link_model.specs.Said.{said}
-use Rattle.link_port.specs.Ports.{PortState, IsPort}
-use Rattle.link_machine.specs.Led.{AreAnswers, port_answers}
-use Rattle.link_machine.proofs.Settling.AnswerLaws.{port_narrow, replies_answer}
-use Rattle.link_machine.proofs.Settling.Lines.{OnFlow, IsFed, by_tables}
-use Rattle.link_watch.specs.declared.note.Note.{Note}
-use Rattle.link_watch.specs.declared.side.Side.TheVariants.{A, B}
-use Rattle.link_wires.specs.Deliveries.{Told, Flow, Delivered, Through, WentUndetected, delivered, told_of, undetected}
-use Rattle.link_wires.specs.Wires.{answers}
-use Rattle.link_wires.specs.Kept.{behind_all}
+use Rattle.fabric_trace.proofs.Prelude.{◌≡◌, ℕ, ◌++◌, Bool, true, false, nat_le, List, [], length, map, take, drop, Some, None, refl, sym, ap, ◌∙◌, subst, if◌then◌else◌, arith, length-take, leb-true, Char, Fields, Event, PortState, IsPort, AreAnswers, port_narrow, Note, A, B, Told, Flow, Delivered, Through, WentUndetected, delivered, told_of, undetected, answers, behind_all, through_count, LinkState, turned_round, at_end, sent_notes, delivery, after_delivery, first_takes, has_chars, delivery_from, delivered_from, move_note, told_notes, delivery_notes, Queues, queues_of, IsSoundLink, delivery_keeps, delivery_walks, delivery_steps, PortRef, Network, same_port, Step, after_all, LegalFrom, ArePeers, apart_back, Got, steps_of, Half, half_of, Wire, Seen, port_seen, kept_of, wire_state, link_at, says, sends, wire_sent, half_sent, taken_from, half_after, undetected_at, got_from, signed, seen, lines_of, queues_in, IsKept, IsLink}
 use Rattle.link_wires.proofs.ActedLaws.{IsFound, delivered_found}
-use Rattle.link_wires.proofs.Throughs.{through_count}
-use Rattle.link_machine.specs.States.{LinkState, turned_round, at_end}
-use Rattle.link_machine.specs.Calls.{sent_notes, delivery, after_delivery, first_takes, has_chars, delivery_from, delivered_from, move_note, told_notes, delivery_notes}
 use Rattle.link_machine.specs.Queues as link
-use Rattle.link_machine.specs.Queues.{Queues, queues_of}
-use Rattle.link_machine.specs.Sound.{IsSoundLink}
-use Rattle.link_machine.proofs.Machine.{delivery_keeps, delivery_walks, delivery_steps}
-use Rattle.fabric_script.specs.declared.ports.PortRef.{PortRef}
-use Rattle.fabric_model.specs.Network.{Network, same_port}
-use Rattle.fabric_model.specs.Steps.{Step, after_all, LegalFrom}
-use Rattle.fabric_model.proofs.Peers.{ArePeers, apart_back}
-use Rattle.trace_lines.specs.Lines.{Got, steps_of}
-use Rattle.fabric_trace.specs.Views.{Half, half_of}
-use Rattle.fabric_trace.specs.Known.{Wire, Seen, port_seen, kept_of, wire_state, link_at}
-use Rattle.fabric_trace.specs.Fold.{says, sends, wire_sent, half_sent, taken_from, half_after, undetected_at, got_from, signed, seen}
-use Rattle.trace_lines.specs.Notes.{lines_of}
-use Rattle.fabric_trace.specs.Links.{queues_in, IsKept, IsLink}
 use Rattle.fabric_trace.proofs.Links.Bursts.{answers_say, answers_leave}
 use Rattle.fabric_trace.proofs.Links.Cuts.{taken_again}
 use Rattle.fabric_trace.proofs.Network.Walks.{AreElsewhere, AreLed, net_steps, walks_led, steps_said}
@@ -39,6 +9,7 @@ use Rattle.fabric_trace.proofs.Network.Viewing.{Shows, link_is, is_link}
 use Rattle.fabric_trace.proofs.Parts.Folding.{seen-append, lines-append, wire_own, wire_other, half_own, half_other, IsSent, sent_is, sent_kept, kept_more, acted_kept, acted_left, moves_seen, network_is}
 use Rattle.fabric_trace.proofs.Links.Calling.{IsCall}
 use Rattle.fabric_trace.proofs.Links.Telling.{through_tells, lines_tell}
+use Rattle.link_machine.proofs.Settling.Replies.{delivered_answers}
 
 -- ---- what the lines leave
 
@@ -117,10 +88,9 @@ told_seen s p q chars told d peers is =
 -- what a port answers are answers
 flow_answers : (port : PortState) (kept : List Event) (chars : List Char) (flow : Flow)
     → IsPort port → delivered port kept chars ≡ Through flow → AreAnswers flow.told.replies
-unfolding port_answers
 flow_answers port kept chars flow is through =
-    let fed = subst (OnFlow (IsFed port chars)) through (by_tables port kept chars) in
-    subst AreAnswers (sym fed.1) (replies_answer port (said port.place chars) (port_narrow port is))
+    subst (λ (d : Delivered). AreAnswers (told_of d).replies) through
+    (delivered_answers port kept chars (port_narrow port is))
 
 answered_half : (half : Half) (replies : List Fields) → AreAnswers replies
     → half_sent half (answers replies).chars ≡ half

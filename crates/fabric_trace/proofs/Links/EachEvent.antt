@@ -1,26 +1,6 @@
 -- What each event of a delivery keeps is kept by the whole delivery.
-use Rattle.std.proofs.Common.{ℕ, ◌++◌, true, false, List, All, [], ◌∷◌, map, Option, Some, None, sym, subst, append_assoc, if◌then◌else◌}
-use Rattle.std.proofs.lemmas.List.{append-nil}
-use Rattle.std.proofs.lemmas.List.Elements.{All-head, All-tail}
-use Rattle.rio_chars.specs.declared.chars.Char.{Char}
-use Rattle.link_model.specs.declared.event.Event.{Event}
-use Rattle.link_model.specs.Places.{Place, run, place_after}
-use Rattle.link_model.specs.Said.{said}
-use Rattle.link_port.specs.Ports.{PortState, IsPort}
-use Rattle.link_port.specs.Steps.{is_acted}
-use Rattle.link_sound.proofs.Steps.{exchanged}
-use Rattle.link_machine.specs.Queues.{Queues, queues_between}
-use Rattle.link_machine.proofs.Flowing.{IsFlowing, AreFlowing, comes_flowing}
-use Rattle.link_machine.proofs.Arriving.{HasAckAt, run_has}
+use Rattle.fabric_trace.proofs.Prelude.{ℕ, ◌++◌, true, false, List, All, [], ◌∷◌, map, Option, Some, None, sym, subst, append_assoc, if◌then◌else◌, append-nil, All-head, All-tail, Char, Event, Place, run, place_after, said, PortState, IsPort, is_acted, exchanged, Queues, queues_between, IsFlowing, AreFlowing, comes_flowing, HasAckAt, run_has, IsSound, Flow, Delivered, Through, WentUndetected, begun, done, met, comes, goes_on, come, ended, behind, Move, PortRef, Seen, port_seen, kept_of, taken_from, IsLink}
 use Rattle.link_machine.proofs.Walking.{Stays}
-use Rattle.link_sound.specs.Sound.{IsSound}
-use Rattle.link_wires.specs.Deliveries.{Flow, Delivered, Through, WentUndetected, begun, done, met, comes, goes_on, come, ended}
-use Rattle.link_wires.specs.Kept.{behind}
-use Rattle.link_wires.specs.declared.moves.Move.{Move}
-use Rattle.fabric_script.specs.declared.ports.PortRef.{PortRef}
-use Rattle.fabric_trace.specs.Known.{Seen, port_seen, kept_of}
-use Rattle.fabric_trace.specs.Fold.{taken_from}
-use Rattle.fabric_trace.specs.Links.{IsLink}
 
 -- P of the events so far and of the flow; where an event was not sent, U of the moves before it
 abbrev pub OfDelivery : (List Event → Flow → Type 0) → (List Event → List Move → Type 0)

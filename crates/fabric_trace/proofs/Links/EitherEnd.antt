@@ -1,30 +1,12 @@
 -- What is done at either end of a link is made of parts, and leads where a link's machine says.
-use Rattle.std.proofs.Common.{◌≡◌, ℕ, ◌&&◌, ◌++◌, Bool, true, false, List, [], ◌∷◌, Some, None, refl, sym, ap, ◌∙◌, subst, if◌then◌else◌}
-use Rattle.link_model.specs.declared.event.Event.{Event}
-use Rattle.std.proofs.lemmas.List.{append-nil}
-use Rattle.link_watch.specs.declared.note.Note.{Note}
+use Rattle.fabric_trace.proofs.Prelude.{◌≡◌, ℕ, ◌&&◌, ◌++◌, Bool, true, false, List, [], ◌∷◌, Some, None, refl, sym, ap, ◌∙◌, subst, if◌then◌else◌, Event, append-nil, Note, Side, A, B, Delivered, Through, WentUndetected, bursts, LinkState, turned_round, first_takes, has_chars, delivery_from, has_none, is_silent, first_fires, time_out_notes, Act, PumpAct, TellAct, DeliverAct, Fire, Reached, At, FoundAt, reached_by, after_act, goes, act_notes, acts_notes, PortRef, ArePeers, TraceLine, Seen, link_at, seen, port_at_side, lines_of, Done, tell_sends}
 use Rattle.link_watch.specs.declared.note.Note.TheVariants as Notes
-use Rattle.link_watch.specs.declared.side.Side.{Side}
-use Rattle.link_watch.specs.declared.side.Side.TheVariants.{A, B}
-use Rattle.link_wires.specs.Deliveries.{Delivered, Through, WentUndetected}
-use Rattle.link_wires.specs.Wires.{bursts}
-use Rattle.link_machine.specs.States.{LinkState, turned_round}
-use Rattle.link_machine.specs.Calls.{first_takes, has_chars, delivery_from, has_none, is_silent, first_fires, time_out_notes}
-use Rattle.link_machine.specs.Acts.{Act, Pump as PumpAct, Tell as TellAct, Deliver as DeliverAct, Fire, Reached, At, FoundAt, reached_by, after_act, goes, act_notes, acts_notes}
 use Rattle.link_machine.proofs.Settling.Drains.{goes_found, goes_none}
 use Rattle.link_watch.specs.Sides.{other_side}
-use Rattle.fabric_script.specs.declared.ports.PortRef.{PortRef}
-use Rattle.fabric_model.proofs.Peers.{ArePeers}
-use Rattle.trace_lines.specs.Lines.{TraceLine}
-use Rattle.fabric_trace.specs.Known.{Seen, link_at}
-use Rattle.fabric_trace.specs.Fold.{seen}
-use Rattle.trace_lines.specs.Notes.{port_at_side, lines_of}
-use Rattle.fabric_trace.specs.Parts.{Done}
 use Rattle.fabric_trace.proofs.Parts.Folding.{seen-append, lines-append}
 use Rattle.fabric_trace.proofs.Parts.Keeping.{IsGood, legal_links, made_keeps}
 use Rattle.fabric_trace.proofs.Parts.Making.{AreOthers, others_here, others_on, others_round, Reaches, at_is, made-append, made_by, sent_round, delivery_round, pump_reaches, fire_reaches, deliver_reaches, tell_reaches}
 use Rattle.fabric_trace.proofs.Network.Walks.{peers_round}
-use Rattle.link_port.specs.Turns.{tell_sends}
 
 -- ---- what is done at either end
 

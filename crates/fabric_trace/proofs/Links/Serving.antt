@@ -1,35 +1,6 @@
 -- Links of other ports, and what edits and steps at nodes make of a link.
-use Rattle.std.proofs.Common.{◌≡◌, ℕ, ◌<◌, ◌==◌, ◌++◌, Bool, true, false, List, [], ◌∷◌, filter, length, drop, take, slice_set, Option, Some, None, unwrap_or, IsTrue, refl, sym, ap, ◌∙◌, subst, arith, cond, if◌then◌else◌, length-append}
-use Rattle.std.proofs.lemmas.Bool.{ltb-true}
-use Rattle.std.proofs.lemmas.List.{length-map}
-use Rattle.rio_chars.specs.declared.chars.Char.{Char}
-use Rattle.rio_packets.specs.Fields.{prio_of}
-use Rattle.rio_packets.specs.LinkForm.{Passes}
-use Rattle.link_buffers.specs.Queues.{Buffered, list_at, appended, popped}
-use Rattle.link_buffers.proofs.PriorityLaws.{Covers-take, packets_of-appended, lists_without-appended}
+use Rattle.fabric_trace.proofs.Prelude.{◌≡◌, ℕ, ◌<◌, ◌==◌, ◌++◌, Bool, true, false, List, [], ◌∷◌, filter, length, drop, take, slice_set, Option, Some, None, unwrap_or, IsTrue, refl, sym, ap, ◌∙◌, subst, arith, cond, if◌then◌else◌, length-append, ltb-true, length-map, Char, prio_of, Passes, Buffered, list_at, appended, popped, Covers-take, packets_of-appended, lists_without-appended, Event, distance, prios_of, expected_of, oldest_of, IsSound, IsTold, put_keeps, other_parts, put_port, read_port, behind_all, Edit, Queues, queues_round, round_keeps, PortRef, Registers, Item, Network, same_port, peer_in, with_lane, first_packet, to_send, room_out, behind_first, without_first, with_waiting, AreProper, ArePeers, port_is, apart_back, peer_back, same_port-refl, unlinked_apart, some_is, packets_in, lists_in, queue, Wire, Seen, with_wire, port_seen, kept_of, wire_state, link_at, changed, edited_by, queues_in, IsKept, IsLink, AreLinks}
 use Rattle.link_buffers.proofs.StoreLemmas.{IsInStore-popped}
-use Rattle.link_model.specs.declared.event.Event.{Event}
-use Rattle.link_model.specs.Outstanding.{distance}
-use Rattle.link_port.specs.States.{prios_of, expected_of}
-use Rattle.link_sound.specs.Meanings.{oldest_of}
-use Rattle.link_sound.specs.Sound.{IsSound}
-use Rattle.link_sound.specs.Told.{IsTold}
-use Rattle.link_sound.proofs.Steps.{put_keeps, other_parts}
-use Rattle.link_sound.proofs.PortBounds.{put_port, read_port}
-use Rattle.link_wires.specs.Kept.{behind_all}
-use Rattle.link_wires.specs.declared.edits.Edit.{Edit}
-use Rattle.link_machine.specs.Queues.{Queues, queues_round}
-use Rattle.link_machine.proofs.Machine.{round_keeps}
-use Rattle.fabric_script.specs.declared.ports.PortRef.{PortRef}
-use Rattle.maint_registers.specs.Devices.{Registers}
-use Rattle.fabric_model.specs.Network.{Item, Network, same_port, peer_in, with_lane, first_packet, to_send, room_out}
-use Rattle.fabric_model.specs.Steps.{behind_first, without_first, with_waiting}
-use Rattle.fabric_model.specs.Laws.Proper.{AreProper}
-use Rattle.fabric_model.proofs.Peers.{ArePeers, port_is, apart_back, peer_back, same_port-refl, unlinked_apart, some_is}
-use Rattle.fabric_trace.specs.Views.{packets_in, lists_in, queue}
-use Rattle.fabric_trace.specs.Known.{Wire, Seen, with_wire, port_seen, kept_of, wire_state, link_at}
-use Rattle.fabric_trace.specs.Fold.{changed, edited_by}
-use Rattle.fabric_trace.specs.Links.{queues_in, IsKept, IsLink, AreLinks}
 use Rattle.fabric_trace.proofs.Network.Lanes.{packets-append, behind_is, lane_at, lists_set, lane_other}
 use Rattle.fabric_trace.proofs.Links.Telling.{told_by}
 use Rattle.fabric_trace.proofs.Network.Walks.{AreSame}
@@ -215,7 +186,7 @@ edited_link s p edit a b is =
 
 -- ---- steps at nodes
 
-queue_length : (net : Network) (p : PortRef) (r : ℕ) → r < 4
+pub queue_length : (net : Network) (p : PortRef) (r : ℕ) → r < 4
     → length (list_at (lists_in (queue net p)) r) ≡ to_send net p r
 queue_length net p r few =
     let at = ap length (lane_at (queue net p) r few) in

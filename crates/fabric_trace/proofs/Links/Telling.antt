@@ -1,21 +1,7 @@
 -- No line of a trace and no character changes which ports tell, nor what was told.
-use Rattle.std.proofs.Common.{◌≡◌, ℕ, Bool, true, false, List, [], ◌∷◌, Option, Some, None, All, IfSome, refl, sym, ap, ◌∙◌, subst, if◌then◌else◌}
-use Rattle.rio_chars.specs.declared.chars.Char.{Char}
-use Rattle.link_model.specs.declared.event.Event.{Event}
-use Rattle.link_model.specs.declared.event.Event.TheVariants.{Ctl, Pkt, Bad}
+use Rattle.fabric_trace.proofs.Prelude.{◌≡◌, ℕ, Bool, true, false, List, [], ◌∷◌, Option, Some, None, All, IfSome, refl, sym, ap, ◌∙◌, subst, if◌then◌else◌, Char, Event, Ctl, Pkt, Bad, Place, run, place_after, PortState, acts, is_acted, IsTold, TellsAs, last_report, Flow, Delivered, Through, WentUndetected, begun, done, met, comes, goes_on, come, ended, delivered, behind, PortRef, Network, peer_in, TraceLine, steps_of, Seen, seen}
 use Rattle.link_model.specs.Output as out
-use Rattle.link_model.specs.Places.{Place, run, place_after}
-use Rattle.link_port.specs.Ports.{PortState}
-use Rattle.link_port.specs.Steps.{acts, is_acted}
-use Rattle.link_sound.specs.Told.{IsTold, TellsAs, last_report}
-use Rattle.link_wires.specs.Deliveries.{Flow, Delivered, Through, WentUndetected, begun, done, met, comes, goes_on, come, ended, delivered}
-use Rattle.link_wires.specs.Kept.{behind}
-use Rattle.fabric_script.specs.declared.ports.PortRef.{PortRef}
-use Rattle.fabric_model.specs.Network.{Network, peer_in}
 use Rattle.fabric_model.specs.Steps.{Hold, Free, Take, Leave, Move, Drop, Answer, Step, Linked, AtNode, ByDevice, after_hold, after, after_all}
-use Rattle.trace_lines.specs.Lines.{TraceLine, steps_of}
-use Rattle.fabric_trace.specs.Known.{Seen}
-use Rattle.fabric_trace.specs.Fold.{seen}
 use Rattle.fabric_trace.proofs.Parts.Folding.{network_is}
 
 -- ---- characters
@@ -47,8 +33,7 @@ comes_tells flow placed =
 on_tells : (tells : Bool) (more : Flow → Delivered) (d : Delivered)
     → ((flow : Flow) → TellsStill flow.port.tells (more flow)) → TellsStill tells d
     → TellsStill tells (goes_on more d)
-on_tells tells more (Through flow) next is =
-    subst (λ b. TellsStill b (more flow)) is (next flow)
+on_tells tells more (Through flow) next is = subst (λ b. TellsStill b (more flow)) is (next flow)
 on_tells tells more (WentUndetected told e) next is = tt
 
 come_tells : (events : List (ℕ × Event)) (flow : Flow)

@@ -1,27 +1,8 @@
 -- No sender fails within a delivery of a trace.
-use Rattle.std.proofs.Common.{◌≡◌, ◌++◌, Bool, true, false, List, [], ◌∷◌, map, take, None, sym, ap, ◌∙◌, subst, if◌then◌else◌}
-use Rattle.std.proofs.lemmas.List.Elements.{All-take}
-use Rattle.rio_chars.specs.declared.chars.Char.{Char}
-use Rattle.link_model.specs.Prelude.{run}
+use Rattle.fabric_trace.proofs.Prelude.{◌≡◌, ◌++◌, Bool, true, false, List, [], ◌∷◌, map, take, None, sym, ap, ◌∙◌, subst, if◌then◌else◌, All-take, Char, run, Side, A, B, told_of, bursts, answers, Move, Held, Freed, sent_notes, delivery_from, move_note, told_notes, is_silent, HasAckAt, run_has, PortRef, lines_of, seen_line, seen, Seen, port_seen, kept_of, link_at, TraceLine, Got, Signed, WorksWithin, NeverFailWithin, Part, PartBegins, PartLacks, PartEnds, PartNames, PartSteps, PartServes, PartTurns, PartTells, PartDelivers, PartFires, Made, Done, Then, tell_sends}
 use Rattle.link_watch.specs.declared.note.Note.TheVariants as Notes
-use Rattle.link_watch.specs.declared.side.Side.{Side}
-use Rattle.link_watch.specs.declared.side.Side.TheVariants.{A, B}
-use Rattle.link_wires.specs.Deliveries.{told_of}
-use Rattle.link_wires.specs.Wires.{bursts, answers}
-use Rattle.link_wires.specs.declared.moves.Move.{Move}
-use Rattle.link_wires.specs.declared.moves.Move.TheVariants.{Held, Freed}
-use Rattle.link_machine.specs.Calls.{sent_notes, delivery_from, move_note, told_notes, is_silent}
 use Rattle.link_machine.proofs.Ways.{events_work}
-use Rattle.link_machine.proofs.Arriving.{HasAckAt, run_has}
-use Rattle.fabric_script.specs.declared.ports.PortRef.{PortRef}
-use Rattle.trace_lines.specs.Notes.{lines_of}
-use Rattle.fabric_trace.specs.Fold.{seen_line, seen}
-use Rattle.fabric_trace.specs.Known.{Seen, port_seen, kept_of, link_at}
-use Rattle.trace_lines.specs.Lines.{TraceLine, Got, Signed}
-use Rattle.fabric_trace.specs.OnTheWay.{WorksWithin, NeverFailWithin}
-use Rattle.fabric_trace.specs.Parts.{Part, PartBegins, PartLacks, PartEnds, PartNames, PartSteps, PartServes, PartTurns, PartTells, PartDelivers, PartFires, Made, Done, Then}
 use Rattle.fabric_trace.proofs.Parts.Keeping.{IsGood, part_keeps}
-use Rattle.link_port.specs.Turns.{tell_sends}
 
 -- a port of a sound link
 got_works : (s : Seen) (q : PortRef) (chars : List Char) → IsGood s → s.undetected ≡ None

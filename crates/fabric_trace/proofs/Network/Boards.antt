@@ -1,28 +1,9 @@
 -- What no line of a trace changes of a network; that what is found is at a port with a link; and
 -- that an event that may
 -- happen at first may happen behind any lines.
-use Rattle.std.proofs.Common.{◌≡◌, ℕ, Bool, true, false, List, [], ◌∷◌, Option, Some, None, IsSome, length, refl, sym, ap, ◌∙◌, subst}
-use Rattle.rio_chars.specs.declared.chars.Char.{Char}
-use Rattle.rio_packets.specs.Fields.{prio_of}
-use Rattle.link_model.specs.declared.event.Event.{Event}
-use Rattle.link_wires.specs.Deliveries.{undetected}
-use Rattle.maint_packets.specs.Requests.{request_of}
-use Rattle.fabric_script.specs.declared.lines.Line.{Line}
+use Rattle.fabric_trace.proofs.Prelude.{◌≡◌, ℕ, Bool, true, false, List, [], ◌∷◌, Option, Some, None, IsSome, length, refl, sym, ap, ◌∙◌, subst, Char, prio_of, Event, undetected, request_of, Line, PortRef, Network, peer_in, switch_at, device_after, Hold, Free, Take, Leave, MoveStep, Drop, Answer, Linked, AtNode, ByDevice, Step, after, after_hold, Registers, is_switch, length-with_device, kinds_stay, switches_stay, links_stay, with_change, HasLink, IsThere, MayHappen, edit_of, taken_from, undetected_at, got_from, seen_line, seen, UndetectedAt, Seen, peer_of, TraceLine, Begun, Stepped, Signed, Lacked, Ended, Undetected, Sent, Got, Fired}
 use Rattle.fabric_script.specs.declared.lines.Line.TheVariants.{Send, Read, Write, Pump, Deliver, Alter, Insert, Erase, Timeout, Settle, Move, Collect, Send16, Read16, Write16}
-use Rattle.fabric_script.specs.declared.ports.PortRef.{PortRef}
-use Rattle.fabric_model.specs.Network.{Network, peer_in, switch_at}
-use Rattle.fabric_model.specs.Serving.{device_after}
-use Rattle.fabric_model.specs.Steps.{Hold, Free, Take, Leave, Move as MoveStep, Drop, Answer, Linked, AtNode, ByDevice, Step, after, after_hold}
-use Rattle.maint_registers.specs.Devices.{Registers, is_switch}
-use Rattle.fabric_model.proofs.Devices.{length-with_device, kinds_stay}
-use Rattle.fabric_model.proofs.Flows.{switches_stay}
-use Rattle.fabric_model.proofs.Joining.{links_stay}
 use Rattle.fabric_trace.specs.Boards.{IsSameBoard}
-use Rattle.fabric_trace.specs.Settings.{with_change}
-use Rattle.fabric_trace.specs.Events.{HasLink, IsThere, MayHappen}
-use Rattle.fabric_trace.specs.Fold.{edit_of, taken_from, undetected_at, got_from, seen_line, seen}
-use Rattle.fabric_trace.specs.Known.{UndetectedAt, Seen, peer_of}
-use Rattle.trace_lines.specs.Lines.{TraceLine, Begun, Stepped, Signed, Lacked, Ended, Undetected, Sent, Got, Fired}
 use Rattle.fabric_trace.proofs.Parts.Folding.{edited_net, got_net, fired_net, edited_found, fired_found}
 
 -- ---- how many registers there are, of which kinds, and links stay
@@ -197,5 +178,4 @@ happens_on names net next line same may =
 
 pub happens_still : (names : List (List ℕ)) (s : Seen) (lines : List TraceLine) (line : Line)
     → MayHappen names s.network line → MayHappen names (seen s lines).network line
-happens_still names s lines line may =
-    happens_on names s.network _ line (seen_board lines s) may
+happens_still names s lines line may = happens_on names s.network _ line (seen_board lines s) may

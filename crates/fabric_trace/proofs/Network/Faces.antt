@@ -1,41 +1,11 @@
 -- What a switch or an endpoint does by the lists of its ports is a step of the network that has
 -- what it needs.
-use Rattle.std.proofs.Common.{◌≡◌, inl, inr, ℕ, zero, suc, ◌+◌, ◌<◌, ◌==◌, ◌&&◌, nat_lt, Bool, true, false, List, [], ◌∷◌, filter, length, Option, Some, None, option_map, option_and_then, slice_get, refl, sym, ap, ◌∙◌, subst, arith, if◌then◌else◌, length-append}
-use Rattle.std.specs.Bool.{⊤}
-use Rattle.std.specs.List.{AllByRecursion}
-use Rattle.std.proofs.lemmas.Bool.{and_parts}
-use Rattle.std.proofs.lemmas.Bool.Decides.{nat_tests}
-use Rattle.std.proofs.lemmas.List.{length-map}
-use Rattle.rio_packets.specs.Fields.{prio_of, dest_of, is_request}
-use Rattle.rio_packets.specs.LinkForm.{Passes}
-use Rattle.link_buffers.specs.Queues.{list_at}
-use Rattle.maint_registers.specs.Devices.{Registers, is_switch}
+use Rattle.fabric_trace.proofs.Prelude.{◌≡◌, inl, inr, ℕ, zero, suc, ◌+◌, ◌<◌, ◌==◌, ◌&&◌, nat_lt, Bool, true, false, List, [], ◌∷◌, filter, length, Option, Some, None, option_map, option_and_then, slice_get, refl, sym, ap, ◌∙◌, subst, arith, if◌then◌else◌, length-append, ⊤, AllByRecursion, and_parts, nat_tests, length-map, prio_of, dest_of, is_request, Passes, list_at, Registers, is_switch, Next, Nowhere, RegisterUnit, Port, Request, is_foreign, is_at_end, to_port, next_of, request_of, response_bytes, request_answered, Moved, Dropped, Answered, Nothing, Collected, Face, face_at, head_of, has_room, answer_step, step_to, step_of, first_held, collected_of, collected_head, collected, first_step_by, greatest_first-is, PortRef, ByPriority, Item, Network, port_of, first_packet, to_send, room_out, IsEndpoint, IsSwitch, next_at, response_at, few_prio, face_in, faces_from, faces_in, lists_in, queue}
 use Rattle.maint_registers.specs.Routes.{port_named, next_port}
-use Rattle.maint_packets.specs.declared.next_hop.Next.{Next}
-use Rattle.maint_packets.specs.declared.next_hop.Next.TheVariants.{Nowhere, RegisterUnit, Port}
-use Rattle.maint_packets.specs.declared.request.Request.{Request}
-use Rattle.maint_packets.specs.NextHops.{is_foreign, is_at_end, to_port, next_of}
-use Rattle.maint_packets.specs.Requests.{request_of}
-use Rattle.maint_packets.specs.Responses.{response_bytes}
-use Rattle.maint_packets.specs.Answers.{request_answered}
 use Rattle.switch_core.specs.declared.switch.Step as switch
-use Rattle.switch_core.specs.declared.switch.Step.TheVariants.{Moved, Dropped, Answered, Nothing}
-use Rattle.switch_core.specs.declared.endpoint.Collected.{Collected}
 use Rattle.switch_core.specs.declared.endpoint.Collected.TheVariants as Collects
-use Rattle.switch_core.specs.Faces.{Face, face_at, head_of, has_room}
-use Rattle.switch_core.specs.SwitchSteps.{answer_step, step_to, step_of}
-use Rattle.switch_core.specs.EndpointSteps.{first_held, collected_of, collected_head, collected}
-use Rattle.switch_core.proofs.FirstSteps.{first_step_by}
-use Rattle.switch_core.proofs.OrderLaws.{greatest_first-is}
 use Rattle.switch_core.proofs.RequestLaws.{request_there}
-use Rattle.fabric_script.specs.declared.ports.PortRef.{PortRef}
-use Rattle.fabric_model.specs.Laws.Priorities.{ByPriority}
-use Rattle.fabric_model.specs.Network.{Item, Network, port_of, first_packet, to_send, room_out, IsEndpoint, IsSwitch}
-use Rattle.fabric_model.specs.Serving.{next_at, response_at}
 use Rattle.fabric_model.specs.Steps.{Leave, Move, Drop, Answer, AtNode, ByDevice, Needs, IsFirst}
-use Rattle.fabric_model.proofs.Nodes.{few_prio}
-use Rattle.fabric_trace.specs.Served.{face_in, faces_from, faces_in}
-use Rattle.fabric_trace.specs.Views.{lists_in, queue}
 use Rattle.fabric_trace.proofs.Network.Lanes.{first_is, lane_at, has_lane}
 
 -- ---- the lists of a port

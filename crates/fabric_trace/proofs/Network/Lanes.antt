@@ -1,13 +1,5 @@
 -- Lanes of the network as lists of packets, and what a step does to them.
-use Rattle.std.proofs.Common.{◌≡◌, ℕ, zero, suc, ◌<◌, ◌==◌, ◌&&◌, Bool, true, false, List, [], ◌∷◌, ◌++◌, filter, length, drop, slice_get, slice_set, Some, refl, ap, ◌∙◌, arith, if◌then◌else◌, length-append}
-use Rattle.std.proofs.lemmas.List.{map-append, length-map}
-use Rattle.rio_packets.specs.Fields.{prio_of}
-use Rattle.link_buffers.specs.Queues.{list_at, packet_count, of_prio}
-use Rattle.fabric_script.specs.declared.ports.PortRef.{PortRef}
-use Rattle.fabric_model.specs.Network.{Item, Lanes, same_port, with_lane, with_lent, first_packet, in_turn}
-use Rattle.fabric_model.specs.Steps.{behind_first, only_first}
-use Rattle.fabric_model.proofs.Peers.{same_port-refl}
-use Rattle.fabric_trace.specs.Views.{packets_in, lists_in}
+use Rattle.fabric_trace.proofs.Prelude.{◌≡◌, ℕ, zero, suc, ◌<◌, ◌==◌, ◌&&◌, Bool, true, false, List, [], ◌∷◌, ◌++◌, filter, length, drop, slice_get, slice_set, Some, refl, ap, ◌∙◌, arith, if◌then◌else◌, length-append, map-append, length-map, prio_of, list_at, packet_count, of_prio, PortRef, Item, Lanes, same_port, with_lane, with_lent, first_packet, in_turn, behind_first, only_first, same_port-refl, packets_in, lists_in}
 
 -- ---- items
 

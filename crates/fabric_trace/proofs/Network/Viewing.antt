@@ -1,22 +1,7 @@
 -- A port whose packets lie as the network has them is the network's view of it.
-use Rattle.std.proofs.Common.{◌≡◌, ℕ, ◌<◌, ◌==◌, List, [], ◌∷◌, ◌++◌, filter, length, take, refl, sym, ap, ◌∙◌, subst, arith}
-use Rattle.rio_packets.specs.Fields.{prio_of}
-use Rattle.link_buffers.specs.Queues.{list_at, of_prio}
-use Rattle.link_buffers.proofs.PriorityLaws.{Covers-take}
+use Rattle.fabric_trace.proofs.Prelude.{◌≡◌, ℕ, ◌<◌, ◌==◌, List, [], ◌∷◌, ◌++◌, filter, length, take, refl, sym, ap, ◌∙◌, subst, arith, prio_of, list_at, of_prio, Covers-take, distance, PortState, IsPort, prios_of, expected_of, oldest_of, Queues, queues_of, IsSoundLink, LinkState, PortRef, Network, half_of, packets_in, lists_in, queue, view, Seen, link_at, wire_state, queues_in, IsKept, IsLink}
 use Rattle.link_buffers.proofs.PriorityParts.{list-parts}
-use Rattle.link_model.specs.Outstanding.{distance}
-use Rattle.link_port.specs.Ports.{PortState, IsPort}
-use Rattle.link_port.specs.States.{prios_of, expected_of}
 use Rattle.link_sound.specs.Lent.{lent, waiting}
-use Rattle.link_sound.specs.Meanings.{oldest_of}
-use Rattle.link_machine.specs.Queues.{Queues, queues_of}
-use Rattle.link_machine.specs.Sound.{IsSoundLink}
-use Rattle.link_machine.specs.States.{LinkState}
-use Rattle.fabric_script.specs.declared.ports.PortRef.{PortRef}
-use Rattle.fabric_model.specs.Network.{Network}
-use Rattle.fabric_trace.specs.Views.{half_of, packets_in, lists_in, queue, view}
-use Rattle.fabric_trace.specs.Known.{Seen, link_at, wire_state}
-use Rattle.fabric_trace.specs.Links.{queues_in, IsKept, IsLink}
 use Rattle.fabric_trace.proofs.Network.Lanes.{packets-append, of_prio_is, lane_at}
 
 four_lists : (lists : List (List (List ℕ))) → length lists ≡ 4

@@ -1,24 +1,8 @@
 -- Steps between the queues of a link are legal steps of the network, which move nothing elsewhere.
-use Rattle.std.proofs.Common.{◌≡◌, ℕ, ◌+◌, ◌-◌, ◌<◌, false, nat_lt, List, [], ◌∷◌, ◌++◌, map, drop, slice_get, slice_set, Some, refl, sym, ap, ◌∙◌, subst}
-use Rattle.rio_packets.specs.Fields.{prio_of}
-use Rattle.link_buffers.specs.Queues.{appended, popped}
-use Rattle.link_watch.specs.declared.note.Note.{Note}
+use Rattle.fabric_trace.proofs.Prelude.{◌≡◌, ℕ, ◌+◌, ◌-◌, ◌<◌, false, nat_lt, List, [], ◌∷◌, ◌++◌, map, drop, slice_get, slice_set, Some, refl, sym, ap, ◌∙◌, subst, prio_of, appended, popped, Note, Side, A, B, Move, Held, Freed, Queues, queues_round, NeedsFirst, first_moved, NeedsAt, moved_at, Walks, PortRef, Network, same_port, with_lane, with_lent, first_packet, Hold, Free, Step, Linked, Needs, behind_first, only_first, after_hold, after, after_all, LegalFrom, ArePeers, apart_back, steps_of, packets_in, lists_in, port_at_side, lines_of, queues_in}
 use Rattle.link_watch.specs.declared.note.Note.TheVariants as Notes
-use Rattle.link_watch.specs.declared.side.Side.{Side}
-use Rattle.link_watch.specs.declared.side.Side.TheVariants.{A, B}
-use Rattle.link_wires.specs.declared.moves.Move.{Move}
-use Rattle.link_wires.specs.declared.moves.Move.TheVariants.{Held, Freed}
 use Rattle.link_machine.specs.Queues as link
-use Rattle.link_machine.specs.Queues.{Queues, queues_round, NeedsFirst, first_moved, NeedsAt, moved_at, Walks}
 use Rattle.link_machine.specs.Queues.Walks.{WalkEnds, WalkGoes}
-use Rattle.fabric_script.specs.declared.ports.PortRef.{PortRef}
-use Rattle.fabric_model.specs.Network.{Network, same_port, with_lane, with_lent, first_packet}
-use Rattle.fabric_model.specs.Steps.{Hold, Free, Step, Linked, Needs, behind_first, only_first, after_hold, after, after_all, LegalFrom}
-use Rattle.fabric_model.proofs.Peers.{ArePeers, apart_back}
-use Rattle.trace_lines.specs.Lines.{steps_of}
-use Rattle.fabric_trace.specs.Views.{packets_in, lists_in}
-use Rattle.trace_lines.specs.Notes.{port_at_side, lines_of}
-use Rattle.fabric_trace.specs.Links.{queues_in}
 use Rattle.fabric_trace.proofs.Network.Lanes.{packets-append, first_is, only_is, behind_is, lane_at, has_lane, counted, lists_set, lane_other, lent_own, lent_other}
 
 -- a port has the same lists in both networks
@@ -237,12 +221,10 @@ walks_led (WalkGoes side move needs walk) net a b is peers =
 pub steps_said : (a b : PortRef) (notes : List Note)
     → steps_of (lines_of a b notes) ≡ net_steps a b (link.note_steps notes)
 steps_said a b [] = refl
-steps_said a b (Notes.Sent side chars ∷ notes) = steps_said a b notes
-steps_said a b (Notes.Got side chars ∷ notes) = steps_said a b notes
 steps_said a b (Notes.Hold side packet ∷ notes) =
     ap (λ (steps : List Step). Linked (Hold (port_at_side a b side) packet) ∷ steps)
     (steps_said a b notes)
 steps_said a b (Notes.Free side packet ∷ notes) =
     ap (λ (steps : List Step). Linked (Free (port_at_side a b side) packet) ∷ steps)
     (steps_said a b notes)
-steps_said a b (Notes.Fire side ∷ notes) = steps_said a b notes
+steps_said a b (_ ∷ notes) = steps_said a b notes

@@ -1,24 +1,6 @@
 -- What the quiet lines of a port and the deliveries to it keep, lines that are made of parts keep.
-use Rattle.std.proofs.Common.{◌≡◌, ℕ, ◌++◌, Bool, true, false, List, [], ◌∷◌, map, take, Some, None, refl, sym, ap, ◌∙◌, subst, append_assoc, if◌then◌else◌}
-use Rattle.std.proofs.lemmas.List.{append-nil}
-use Rattle.rio_chars.specs.declared.chars.Char.{Char}
-use Rattle.link_port.specs.Turns.{tell_sends}
-use Rattle.link_watch.specs.declared.side.Side.TheVariants.{A, B}
-use Rattle.link_wires.specs.Deliveries.{Delivered, told_of, undetected}
-use Rattle.link_wires.specs.Wires.{bursts, answers}
-use Rattle.link_wires.specs.declared.moves.Move.{Move}
-use Rattle.link_machine.specs.Calls.{sent_notes, has_chars, is_silent, delivery_from, move_note, told_notes, delivery_notes}
+use Rattle.fabric_trace.proofs.Prelude.{◌≡◌, LinkState, ℕ, ◌++◌, Bool, true, false, List, [], ◌∷◌, map, take, Some, None, refl, sym, ap, ◌∙◌, subst, append_assoc, if◌then◌else◌, append-nil, Char, tell_sends, A, B, Delivered, told_of, undetected, bursts, answers, Move, sent_notes, has_chars, is_silent, delivery_from, move_note, told_notes, delivery_notes, PortRef, same_port, after_all, port_is, Got, TraceLine, Signed, Seen, peer_of, port_seen, kept_of, link_at, taken_from, half_after, undetected_at, got_from, seen, lines_of, IsLink, Part, PartBegins, PartLacks, PartEnds, PartNames, PartSteps, PartServes, PartTurns, PartTells, PartDelivers, PartFires, Made, Done, Then}
 use Rattle.link_machine.specs.Queues as link
-use Rattle.fabric_script.specs.declared.ports.PortRef.{PortRef}
-use Rattle.fabric_model.specs.Network.{same_port}
-use Rattle.fabric_model.specs.Steps.{after_all}
-use Rattle.fabric_model.proofs.Peers.{port_is}
-use Rattle.trace_lines.specs.Lines.{Got, TraceLine, Signed}
-use Rattle.fabric_trace.specs.Known.{Seen, peer_of, port_seen, kept_of, link_at}
-use Rattle.fabric_trace.specs.Fold.{taken_from, half_after, undetected_at, got_from, seen}
-use Rattle.trace_lines.specs.Notes.{lines_of}
-use Rattle.fabric_trace.specs.Links.{IsLink}
-use Rattle.fabric_trace.specs.Parts.{Part, PartBegins, PartLacks, PartEnds, PartNames, PartSteps, PartServes, PartTurns, PartTells, PartDelivers, PartFires, Made, Done, Then}
 use Rattle.fabric_trace.proofs.Links.Cuts.{taken_again}
 use Rattle.fabric_trace.proofs.Network.Walks.{net_steps}
 use Rattle.fabric_trace.proofs.Parts.Folding.{seen-append, lines-append, half_own, half_other, moves_seen}
@@ -28,6 +10,20 @@ use Rattle.fabric_trace.proofs.Parts.Quiet.{AreStill, sent_still, fired_still, I
 -- the line `got` and the moves behind it
 abbrev pub got_lines : PortRef → PortRef → List Char → List Move → List TraceLine
 got_lines p q chars moves = Signed (Got q chars) ∷ lines_of p q (map (move_note B) moves)
+
+-- what a delivery writes: these, and the answers
+pub delivery_lines : (p q : PortRef) (n : ℕ) (l : LinkState) → has_chars A n l ≡ true
+    → lines_of p q (delivery_notes A n l)
+    ≡ got_lines p q (take (told_of (delivery_from A n l)).count (take n l.wire_a.chars))
+    (told_of (delivery_from A n l)).moves
+    ++ lines_of p q (sent_notes B (answers (told_of (delivery_from A n l)).replies).chars)
+delivery_lines p q n l has =
+    let chars = take n l.wire_a.chars in
+    let told = told_of (delivery_from A n l) in
+    let replies = (answers told.replies).chars in
+    ap (λ x. lines_of p q (if x then told_notes B chars told else [])) has
+    ∙ ap (λ (x : List TraceLine). Signed (Got q (take told.count chars)) ∷ x)
+    (lines-append p q (map (move_note B) told.moves) (sent_notes B replies))
 
 -- P is said of a port: of lines, and of what is known after them. It is kept by lines in which the
 -- port gets, holds and frees nothing, and by those of a delivery to it.
@@ -127,16 +123,11 @@ carry_delivery {c} {P} k before s p q n back none link has h =
     let d = delivery_from A n l in
     let told = told_of d in
     let sent = (answers told.replies).chars in
-    let notes : delivery_notes A n l ≡ told_notes B chars told =
-    ap (λ x. if x then told_notes B chars told else []) has in
     let first = got_lines p q (take told.count chars) told.moves in
-    let lines : lines_of p q (told_notes B chars told) ≡ first ++ lines_of p q (sent_notes B sent) =
-    ap (λ (x : List TraceLine). Signed (Got q (take told.count chars)) ∷ x)
-    (lines-append p q (map (move_note B) told.moves) (sent_notes B sent)) in
     let one =
     carry_got k before s p q (take told.count chars) d none h back link
     (taken_again (port_seen s q) (kept_of (s.wires p)) chars d refl) in
-    by_lines P before s _ _ (ap (lines_of p q) notes ∙ lines)
+    by_lines P before s _ _ (delivery_lines p q n l has)
     (both_lines P before first (lines_of p q (sent_notes B sent)) s
     (carry_still k (before ++ first) (lines_of p q (sent_notes B sent)) (seen s first)
     (sent_still p q B sent) one))
@@ -152,10 +143,8 @@ carry_as {c} {P} k before lines other s is still h =
 carry_part : {c : PortRef} {P : List TraceLine → Seen → Type 0} → Carries c P
     → (before lines : List TraceLine) (s : Seen) → IsGood s → Part s lines → P before s
     → P (before ++ lines) (seen s lines)
-carry_part k before lines s good (PartBegins line is) h =
-    carry_as k before lines _ s is (tt, tt) h
-carry_part k before lines s good (PartLacks lack is) h =
-    carry_as k before lines _ s is (tt, tt) h
+carry_part k before lines s good (PartBegins line is) h = carry_as k before lines _ s is (tt, tt) h
+carry_part k before lines s good (PartLacks lack is) h = carry_as k before lines _ s is (tt, tt) h
 carry_part k before lines s good (PartEnds is) h = carry_as k before lines _ s is (tt, tt) h
 carry_part k before lines s good (PartNames number q e found is) h =
     carry_as k before lines _ s is (tt, tt) h

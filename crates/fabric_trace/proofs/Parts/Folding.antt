@@ -1,28 +1,6 @@
 -- What lines make of what is known, part by part.
-use Rattle.std.proofs.Common.{◌≡◌, ◌++◌, false, List, [], ◌∷◌, map, Option, Some, None, unwrap_or, refl, sym, ap, ◌∙◌, if◌then◌else◌}
-use Rattle.std.proofs.lemmas.List.{append-nil, map-append}
-use Rattle.rio_chars.specs.declared.chars.Char.{Char}
-use Rattle.link_model.specs.declared.event.Event.{Event}
-use Rattle.link_model.specs.Places.{run}
-use Rattle.link_watch.specs.declared.note.Note.{Note}
-use Rattle.link_watch.specs.declared.side.Side.{Side}
-use Rattle.link_wires.specs.Kept.{behind_some, behind_all}
-use Rattle.link_wires.specs.declared.edits.Edit.{Edit}
-use Rattle.link_wires.specs.declared.moves.Move.{Move}
-use Rattle.link_wires.specs.declared.moves.Move.TheVariants.{Held, Freed}
-use Rattle.link_wires.proofs.KeptLaws.{all-more, behind_all-append}
-use Rattle.link_machine.specs.Calls.{sent_notes, move_note}
+use Rattle.fabric_trace.proofs.Prelude.{◌≡◌, ◌++◌, false, List, [], ◌∷◌, map, Option, Some, None, unwrap_or, refl, sym, ap, ◌∙◌, if◌then◌else◌, append-nil, map-append, Char, Event, run, Note, Side, behind_some, behind_all, Edit, Move, Held, Freed, all-more, behind_all-append, sent_notes, move_note, PortRef, Network, same_port, after_all, same_port-refl, TraceLine, Begun, Stepped, Signed, Sign, Sent, Got, Fired, steps_of, Half, Wire, Seen, with_wire, with_half, peer_of, kept_of, edit_of, edited_by, got_from, fired_from, says, sends, wire_sent, half_sent, signed, seen_line, seen, port_at_side, line_of, lines_of, IsKept}
 use Rattle.link_machine.specs.Queues as link
-use Rattle.fabric_script.specs.declared.ports.PortRef.{PortRef}
-use Rattle.fabric_model.specs.Network.{Network, same_port}
-use Rattle.fabric_model.specs.Steps.{after_all}
-use Rattle.fabric_model.proofs.Peers.{same_port-refl}
-use Rattle.trace_lines.specs.Lines.{TraceLine, Begun, Stepped, Signed, Lacked, Ended, Undetected, Sign, Sent, Got, Fired, steps_of}
-use Rattle.fabric_trace.specs.Views.{Half}
-use Rattle.fabric_trace.specs.Known.{Wire, Seen, with_wire, with_half, peer_of, kept_of}
-use Rattle.fabric_trace.specs.Fold.{edit_of, edited_by, got_from, fired_from, says, sends, wire_sent, half_sent, signed, seen_line, seen}
-use Rattle.trace_lines.specs.Notes.{port_at_side, line_of, lines_of}
-use Rattle.fabric_trace.specs.Links.{IsKept}
 use Rattle.fabric_trace.proofs.Links.Bursts.{sends-none}
 use Rattle.fabric_trace.proofs.Network.Walks.{net_steps}
 
@@ -195,6 +173,4 @@ network_is s (Begun line ∷ lines) = network_is (edited_by s (edit_of line)) li
 network_is s (Stepped step ∷ lines) = network_is (seen_line s (Stepped step)) lines
 network_is s (Signed sign ∷ lines) = network_is (signed s sign) lines
     ∙ ap (λ (net : Network). after_all net (steps_of lines)) (signed_net s sign)
-network_is s (Lacked lack ∷ lines) = network_is s lines
-network_is s (Ended ∷ lines) = network_is s lines
-network_is s (Undetected number q e ∷ lines) = network_is s lines
+network_is s (_ ∷ lines) = network_is s lines

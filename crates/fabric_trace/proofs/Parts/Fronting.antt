@@ -1,31 +1,11 @@
 -- What is true of lines is true of each front of them.
-use Rattle.std.proofs.Common.{◌≡◌, ◌⊎◌, inl, inr, ℕ, ◌+◌, ◌++◌, Bool, true, false, List, [], ◌∷◌, length, take, refl, sym, ap, ◌∙◌, subst, append_assoc, arith, if◌then◌else◌}
-use Rattle.std.proofs.lemmas.List.{append-nil}
-use Rattle.rio_chars.specs.declared.chars.Char.{Char}
-use Rattle.link_model.specs.declared.event.Event.{Event}
+use Rattle.fabric_trace.proofs.Prelude.{◌≡◌, ◌⊎◌, inl, inr, ℕ, ◌+◌, ◌++◌, Bool, true, false, List, [], ◌∷◌, length, take, refl, sym, ap, ◌∙◌, subst, append_assoc, arith, if◌then◌else◌, append-nil, Char, Event, Side, A, B, told_of, IsSubsequence, EndsWithin, TakesWithin, SkipsWithin, bursts, answers, sent_notes, has_chars, delivery_from, told_notes, is_silent, PortRef, TraceLine, Begun, Stepped, Signed, Lacked, Ended, Undetected, Sent, Got, Fired, Seen, link_at, says, seen, lines_of, Part, PartBegins, PartLacks, PartEnds, PartNames, PartSteps, PartServes, PartTurns, PartTells, PartDelivers, PartFires, Made, Done, Then, WireChars, WireFold, on_wires, got, holds, numbered_packets, HoldsCame, Gotten, FreesSaid, gets, frees_by, tell_sends}
 use Rattle.link_watch.specs.declared.note.Note.TheVariants as Notes
-use Rattle.link_watch.specs.declared.side.Side.{Side}
-use Rattle.link_watch.specs.declared.side.Side.TheVariants.{A, B}
-use Rattle.link_wires.specs.Deliveries.{told_of}
-use Rattle.link_wires.specs.Kept.{IsSubsequence}
-use Rattle.link_wires.specs.Kept.IsSubsequence.{EndsWithin, TakesWithin, SkipsWithin}
-use Rattle.link_wires.specs.Wires.{bursts, answers}
-use Rattle.link_machine.specs.Calls.{sent_notes, has_chars, delivery_from, told_notes, is_silent}
-use Rattle.fabric_script.specs.declared.ports.PortRef.{PortRef}
-use Rattle.trace_lines.specs.Lines.{TraceLine, Begun, Stepped, Signed, Lacked, Ended, Undetected, Sent, Got, Fired}
-use Rattle.fabric_trace.specs.Known.{Seen, link_at}
-use Rattle.fabric_trace.specs.Fold.{says, seen}
-use Rattle.trace_lines.specs.Notes.{lines_of}
-use Rattle.fabric_trace.specs.Parts.{Part, PartBegins, PartLacks, PartEnds, PartNames, PartSteps, PartServes, PartTurns, PartTells, PartDelivers, PartFires, Made, Done, Then}
-use Rattle.fabric_trace.specs.Wires.{WireChars, WireFold, on_wires}
-use Rattle.fabric_trace.specs.Holds.{got, holds, numbered_packets, HoldsCame}
-use Rattle.fabric_trace.specs.Frees.{Gotten, FreesSaid, gets, frees_by}
 use Rattle.fabric_trace.proofs.Holds.Coming.{none_within, numbered-append}
 use Rattle.fabric_trace.proofs.Parts.Folding.{seen-append}
 use Rattle.fabric_trace.proofs.Holds.HoldsStill.{got-append, holds-append}
 use Rattle.fabric_trace.proofs.Parts.Making.{one_part, made-append}
 use Rattle.fabric_trace.proofs.Holds.Still.{GotNone, moves_none}
-use Rattle.link_port.specs.Turns.{tell_sends}
 
 -- ---- laws that are read from the front
 

@@ -1,51 +1,20 @@
 -- Every part of a trace is legal and keeps the links sound.
-use Rattle.std.proofs.Common.{◌≡◌, ℕ, ◌+◌, ◌<◌, ◌++◌, map, IsTrue, ◌∙◌, Bool, true, false, List, [], ◌∷◌, Option, Some, None, refl, sym, ap, subst, if◌then◌else◌}
-use Rattle.rio_chars.specs.declared.chars.Char.{Char}
-use Rattle.rio_packets.specs.Fields.{prio_of}
-use Rattle.rio_packets.specs.LinkForm.{Passes}
-use Rattle.maint_packets.specs.declared.next_hop.Next.TheVariants.{Port}
-use Rattle.maint_packets.specs.NextHops.{moved}
-use Rattle.maint_packets.specs.Requests.{request_of}
+use Rattle.fabric_trace.proofs.Prelude.{◌≡◌, ℕ, ◌+◌, ◌<◌, ◌++◌, map, IsTrue, ◌∙◌, Bool, true, false, List, [], ◌∷◌, Option, Some, None, refl, sym, ap, subst, if◌then◌else◌, Char, prio_of, Passes, Port, moved, request_of, Side, A, Edit, LinkState, sent_notes, pump_notes, is_silent, time_out_notes, has_chars, delivery_notes, tell_notes, bursts, PortRef, Network, port_of, room_out, with_device, device_after, AreProper, ByPriority, legal_joined, links_stay, AreWell, well_on, well_priority, well_passes, ArePeers, peer_back, TraceLine, Stepped, steps_of, Seen, UndetectedAt, peer_of, link_at, edit_of, edited_by, seen_line, seen, lines_of, AreLinks, packet_of, Part, PartBegins, PartLacks, PartEnds, PartNames, PartSteps, PartServes, PartTurns, PartTells, PartDelivers, PartFires, Made, Done, Then, tell_sends}
 use Rattle.link_watch.specs.declared.note.Note.TheVariants as Notes
-use Rattle.link_watch.specs.declared.side.Side.{Side}
-use Rattle.link_watch.specs.declared.side.Side.TheVariants.{A}
-use Rattle.link_wires.specs.declared.edits.Edit.{Edit}
-use Rattle.link_machine.specs.States.{LinkState}
-use Rattle.link_machine.specs.Calls.{sent_notes, pump_notes, is_silent, time_out_notes, has_chars, delivery_notes, tell_notes}
-use Rattle.link_wires.specs.Wires.{bursts}
-use Rattle.fabric_script.specs.declared.ports.PortRef.{PortRef}
-use Rattle.fabric_model.specs.Network.{Network, port_of, room_out, with_device}
-use Rattle.fabric_model.specs.Serving.{device_after}
 use Rattle.fabric_model.specs.Steps.{Take, Leave, NodeStep, Move, Drop, Answer, DeviceStep, Step, AtNode, ByDevice, Needs, IsFirst, only_first, moved_item, item_of, without_first, with_waiting, after, LegalFrom}
-use Rattle.fabric_model.specs.Laws.Proper.{AreProper}
-use Rattle.fabric_model.specs.Laws.Priorities.{ByPriority}
-use Rattle.fabric_model.proofs.Joining.{legal_joined, links_stay}
 use Rattle.fabric_model.proofs.Moving.{moves_on, named_goes, sent_by}
 use Rattle.fabric_model.proofs.Boards.{first_item}
-use Rattle.fabric_model.proofs.Lanes.{AreWell, well_on, well_priority, well_passes}
-use Rattle.fabric_model.proofs.Peers.{ArePeers, peer_back}
-use Rattle.trace_lines.specs.Lines.{TraceLine, Begun, Stepped, Signed, Lacked, Ended, Undetected, steps_of}
-use Rattle.fabric_trace.specs.Known.{Seen, UndetectedAt, peer_of, link_at}
-use Rattle.fabric_trace.specs.Fold.{edit_of, edited_by, seen_line, seen}
-use Rattle.trace_lines.specs.Notes.{lines_of}
-use Rattle.fabric_trace.specs.Links.{AreLinks}
-use Rattle.fabric_trace.specs.Parts.{packet_of, Part, PartBegins, PartLacks, PartEnds, PartNames, PartSteps, PartServes, PartTurns, PartTells, PartDelivers, PartFires, Made, Done, Then}
 use Rattle.fabric_trace.proofs.Links.Calling.{IsCall, turns_call, tells_call, fires_call}
 use Rattle.fabric_trace.proofs.Links.Delivering.{delivers_call}
 use Rattle.fabric_trace.proofs.Parts.Folding.{seen-append, edited_net}
 use Rattle.fabric_trace.proofs.Links.Serving.{apart_peer, by_pair, edited_link, with_more, fewer_links, more_links}
-use Rattle.link_port.specs.Turns.{tell_sends}
 pub use Rattle.fabric_model.proofs.Nodes.{few_prio}
 
 pub steps_of-append : (xs ys : List TraceLine) → steps_of (xs ++ ys) ≡ steps_of xs ++ steps_of ys
 steps_of-append [] ys = refl
-steps_of-append (Begun line ∷ xs) ys = steps_of-append xs ys
 steps_of-append (Stepped step ∷ xs) ys =
     ap (λ (steps : List Step). step ∷ steps) (steps_of-append xs ys)
-steps_of-append (Signed sign ∷ xs) ys = steps_of-append xs ys
-steps_of-append (Lacked lack ∷ xs) ys = steps_of-append xs ys
-steps_of-append (Ended ∷ xs) ys = steps_of-append xs ys
-steps_of-append (Undetected number q e ∷ xs) ys = steps_of-append xs ys
+steps_of-append (_ ∷ xs) ys = steps_of-append xs ys
 
 -- What stays true along a trace: all that the network holds is in its link form, in a list of its
 -- own priority; its links are proper; and they are sound while every event that was acted on was

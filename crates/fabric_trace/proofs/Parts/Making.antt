@@ -1,27 +1,6 @@
 -- Every trace of a script is made of parts.
-use Rattle.std.proofs.Common.{◌≡◌, ℕ, ◌++◌, Bool, true, false, List, [], ◌∷◌, map, Option, Some, None, take, refl, sym, ap, ◌∙◌, subst, append_assoc, if◌then◌else◌}
-use Rattle.std.proofs.lemmas.List.{append-nil}
-use Rattle.rio_chars.specs.declared.chars.Char.{Char}
-use Rattle.link_model.specs.declared.event.Event.{Event}
+use Rattle.fabric_trace.proofs.Prelude.{◌≡◌, ℕ, ◌++◌, Bool, true, false, List, [], ◌∷◌, map, Option, Some, None, take, refl, sym, ap, ◌∙◌, subst, append_assoc, if◌then◌else◌, append-nil, Char, Event, Side, A, B, Told, Delivered, Through, WentUndetected, told_of, undetected, answers, Move, Held, Freed, LinkState, turned_round, sent_notes, pumped, pump_notes, has_chars, delivery_from, delivered_from, move_note, told_notes, delivery_notes, is_silent, first_fires, timed_out_at, time_out_notes, tell_notes, told_from, DeliverAct, Reached, At, FoundAt, reached_by, after_act, PortRef, same_port, ArePeers, TraceLine, Step, Seen, UndetectedAt, link_at, undetected_at, seen, port_at_side, line_of, lines_of, Part, PartTurns, PartTells, PartDelivers, PartFires, Made, Done, Then}
 use Rattle.link_watch.specs.declared.note.Note.TheVariants as Notes
-use Rattle.link_watch.specs.declared.side.Side.{Side}
-use Rattle.link_watch.specs.declared.side.Side.TheVariants.{A, B}
-use Rattle.link_wires.specs.Deliveries.{Told, Delivered, Through, WentUndetected, told_of, undetected}
-use Rattle.link_wires.specs.Wires.{answers}
-use Rattle.link_wires.specs.declared.moves.Move.{Move}
-use Rattle.link_wires.specs.declared.moves.Move.TheVariants.{Held, Freed}
-use Rattle.link_machine.specs.States.{LinkState, turned_round}
-use Rattle.link_machine.specs.Calls.{sent_notes, pumped, pump_notes, has_chars, delivery_from, delivered_from, move_note, told_notes, delivery_notes, is_silent, first_fires, timed_out_at, time_out_notes, tell_notes, told_from}
-use Rattle.link_machine.specs.Acts.{Deliver as DeliverAct, Reached, At, FoundAt, reached_by, after_act}
-use Rattle.fabric_script.specs.declared.ports.PortRef.{PortRef}
-use Rattle.fabric_model.specs.Network.{same_port}
-use Rattle.fabric_model.proofs.Peers.{ArePeers}
-use Rattle.trace_lines.specs.Lines.{TraceLine}
-use Rattle.fabric_model.specs.Steps.{Step}
-use Rattle.fabric_trace.specs.Known.{Seen, UndetectedAt, link_at}
-use Rattle.fabric_trace.specs.Fold.{undetected_at, seen}
-use Rattle.trace_lines.specs.Notes.{port_at_side, line_of, lines_of}
-use Rattle.fabric_trace.specs.Parts.{Part, PartTurns, PartTells, PartDelivers, PartFires, Made, Done, Then}
 use Rattle.fabric_trace.proofs.Links.Calling.{IsCall, turns_call, tells_call, fires_call}
 use Rattle.fabric_trace.proofs.Links.Delivering.{delivers_call}
 use Rattle.fabric_trace.proofs.Parts.Folding.{seen-append, lines-append}

@@ -1,29 +1,7 @@
 -- Lines in which a port gets, holds and frees nothing, and what they leave of it.
-use Rattle.std.proofs.Common.{◌≡◌, ◌==◌, Bool, true, false, List, [], ◌∷◌, map, Option, Some, None, refl, sym, ap, ◌∙◌, if◌then◌else◌}
-use Rattle.rio_chars.specs.declared.chars.Char.{Char}
-use Rattle.rio_symbols.specs.declared.stype1.TheConstants.{RESTART_FROM_RETRY, LINK_REQUEST}
-use Rattle.link_model.specs.declared.event.Event.{Event}
-use Rattle.link_model.specs.declared.event.Event.TheVariants.{Ctl, Pkt, Bad}
+use Rattle.fabric_trace.proofs.Prelude.{◌≡◌, ◌==◌, Bool, true, false, List, [], ◌∷◌, map, Option, Some, None, refl, sym, ap, ◌∙◌, if◌then◌else◌, Char, RESTART_FROM_RETRY, LINK_REQUEST, Event, Ctl, Pkt, Bad, Outstanding, from_ack, timed_out, oldest_of, Side, A, Edit, Move, Held, Freed, sent_notes, move_note, PortRef, same_port, Hold, Free, Linked, AtNode, ByDevice, port_is, Sent, Got, Fired, TraceLine, Begun, Stepped, Signed, Lacked, Ended, Undetected, Half, half_of, Seen, with_half, peer_of, port_seen, edit_of, edited_by, event_leaves, sends, says, half_sent, fired_from, signed, seen_line, seen, port_at_side, lines_of}
 use Rattle.link_model.specs.Output as out
-use Rattle.link_model.specs.Outstanding.{Outstanding, from_ack}
-use Rattle.link_port.specs.Turns.{timed_out}
-use Rattle.link_sound.specs.Meanings.{oldest_of}
 use Rattle.link_watch.specs.declared.note.Note.TheVariants as Notes
-use Rattle.link_watch.specs.declared.side.Side.{Side}
-use Rattle.link_watch.specs.declared.side.Side.TheVariants.{A}
-use Rattle.link_wires.specs.declared.edits.Edit.{Edit}
-use Rattle.link_wires.specs.declared.moves.Move.{Move}
-use Rattle.link_wires.specs.declared.moves.Move.TheVariants.{Held, Freed}
-use Rattle.link_machine.specs.Calls.{sent_notes, move_note}
-use Rattle.fabric_script.specs.declared.ports.PortRef.{PortRef}
-use Rattle.fabric_model.specs.Network.{same_port}
-use Rattle.fabric_model.specs.Steps.{Hold, Free, Linked, AtNode, ByDevice}
-use Rattle.fabric_model.proofs.Peers.{port_is}
-use Rattle.trace_lines.specs.Lines.{Sent, Got, Fired, TraceLine, Begun, Stepped, Signed, Lacked, Ended, Undetected}
-use Rattle.fabric_trace.specs.Views.{Half, half_of}
-use Rattle.fabric_trace.specs.Known.{Seen, with_half, peer_of, port_seen}
-use Rattle.fabric_trace.specs.Fold.{edit_of, edited_by, event_leaves, sends, says, half_sent, fired_from, signed, seen_line, seen}
-use Rattle.trace_lines.specs.Notes.{port_at_side, lines_of}
 
 -- ---- lines with no step at a link, in which no port gets anything
 

@@ -1,21 +1,5 @@
 -- A link that was to settle is at rest when the next event begins.
-use Rattle.std.proofs.Common.{◌≡◌, ◌++◌, ℕ, List, [], ◌∷◌, Option, Some, None, refl, sym, subst}
-use Rattle.link_machine.specs.Rest.{IsSettled}
-use Rattle.fabric_script.specs.Lines.{is_event}
-use Rattle.fabric_script.specs.declared.ports.PortRef.{PortRef}
-use Rattle.fabric_script.specs.declared.lines.Line.{Line}
-use Rattle.fabric_script.specs.declared.lines.Line.TheVariants.{Settle}
-use Rattle.fabric_script.specs.declared.lines.Numbered.{Numbered}
-use Rattle.fabric_model.specs.Network.{link_in}
-use Rattle.fabric_model.proofs.Peers.{link_peers}
-use Rattle.trace_lines.specs.Lines.{TraceLine, Begun, Stepped, Signed, Lacked, Ended, Undetected}
-use Rattle.fabric_trace.specs.Known.{UndetectedAt, Seen, link_at}
-use Rattle.fabric_trace.specs.Fold.{seen_line, seen}
-use Rattle.fabric_trace.specs.Blocks.{IsSettle, WithLink, IsBlock}
-use Rattle.fabric_trace.specs.Rounds.{Follows, NamesNothing}
-use Rattle.fabric_trace.specs.Runs.{BlockThen, Names, RunsFrom, BlocksFrom}
-use Rattle.fabric_trace.specs.Parts.{PartBegins, PartEnds, PartNames, Made, Done, Then}
-use Rattle.fabric_trace.specs.Settled.{settled_by, under_way, RestsAt, Settled}
+use Rattle.fabric_trace.proofs.Prelude.{◌≡◌, ◌++◌, ℕ, List, [], ◌∷◌, Option, Some, None, refl, sym, subst, IsSettled, is_event, PortRef, Line, Settle, Numbered, link_in, link_peers, TraceLine, Begun, Stepped, Signed, Lacked, UndetectedAt, Seen, link_at, seen_line, seen, IsSettle, WithLink, IsBlock, Follows, NamesNothing, BlockThen, Names, RunsFrom, BlocksFrom, PartBegins, PartEnds, PartNames, Made, Done, Then, settled_by, under_way, RestsAt, Settled}
 use Rattle.fabric_trace.proofs.Parts.Keeping.{IsGood, legal_links, made_keeps}
 use Rattle.fabric_trace.proofs.Parts.Making.{one_part, made-append}
 use Rattle.fabric_trace.proofs.Rounds.Blocks.{by_test}
@@ -29,15 +13,13 @@ settled_within : (block rest : List TraceLine) (s : Seen) (port : Option PortRef
     → IsWithinBlock block → Settled (seen s block) port rest → Settled s port (block ++ rest)
 unfolding IsWithinBlock
 settled_within [] rest s port within more = more
-settled_within (Begun line ∷ block) rest s port within more = absurd within
 settled_within (Stepped step ∷ block) rest s port within more =
     (tt, settled_within block rest (seen_line s (Stepped step)) port within more)
 settled_within (Signed sign ∷ block) rest s port within more =
     (tt, settled_within block rest (seen_line s (Signed sign)) port within more)
 settled_within (Lacked lack ∷ block) rest s port within more =
     (tt, settled_within block rest s port within more)
-settled_within (Ended ∷ block) rest s port within more = absurd within
-settled_within (Undetected number q e ∷ block) rest s port within more = absurd within
+settled_within (_ ∷ block) rest s port within more = absurd within
 
 -- what an event that settles leaves
 settle_rests : (s : Seen) (port : PortRef) (found : Option (PortRef × PortRef))

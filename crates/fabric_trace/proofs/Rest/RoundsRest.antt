@@ -1,13 +1,5 @@
 -- Within a run, each link is at rest when it has settled.
-use Rattle.std.proofs.Common.{◌≡◌, ℕ, List, None}
-use Rattle.fabric_model.specs.Network.{Network}
-use Rattle.trace_lines.specs.Lines.{TraceLine}
-use Rattle.fabric_trace.specs.Fold.{seen}
-use Rattle.fabric_trace.specs.Blocks.{IsSettle}
-use Rattle.fabric_trace.specs.Rounds.{Rounds, SettlesTo}
-use Rattle.fabric_trace.specs.Runs.{begins}
-use Rattle.fabric_trace.specs.Parts.{Made}
-use Rattle.fabric_trace.specs.SetUps.{IsSetUp}
+use Rattle.fabric_trace.proofs.Prelude.{◌≡◌, ℕ, List, None, Network, TraceLine, seen, IsSettle, Rounds, SettlesTo, begins, Made, IsSetUp}
 use Rattle.fabric_trace.proofs.Parts.Keeping.{made_keeps}
 use Rattle.fabric_trace.proofs.Rounds.Blocks.{rounds_come}
 use Rattle.fabric_trace.proofs.Rounds.Running.{link_made, move_made}

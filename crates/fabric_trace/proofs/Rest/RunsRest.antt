@@ -1,21 +1,5 @@
 -- In each trace of a script links are at rest when they have settled.
-use Rattle.std.proofs.Common.{◌≡◌, Bool, true, false, List, [], ◌∷◌, Option, Some, None, MatchBool, refl}
-use Rattle.fabric_script.specs.Lines.{is_event}
-use Rattle.fabric_script.specs.declared.ports.PortRef.{PortRef}
-use Rattle.fabric_script.specs.declared.lines.Line.{Line}
-use Rattle.fabric_script.specs.declared.lines.Line.TheVariants.{Settle, Run}
-use Rattle.fabric_script.specs.declared.lines.Numbered.{Numbered}
-use Rattle.fabric_model.specs.Network.{link_in}
-use Rattle.fabric_model.proofs.Peers.{link_peers}
-use Rattle.fabric_trace.specs.AtRest.{IsBlockAtRest}
-use Rattle.fabric_trace.specs.Blocks.{IsSettle, WithLink, IsBlock}
-use Rattle.fabric_trace.specs.Fold.{seen}
-use Rattle.fabric_trace.specs.Known.{UndetectedAt, Seen}
-use Rattle.trace_lines.specs.Lines.{TraceLine, Begun}
-use Rattle.fabric_trace.specs.Parts.{PartBegins, Made, Then}
-use Rattle.fabric_trace.specs.Rounds.{Follows, NamesNothing, SettlesTo}
-use Rattle.fabric_trace.specs.Runs.{bare, set_up_all, start, EventThen, BlockThen, Names, RunsBy, RunsFrom, Runs, BlocksBy, BlocksFrom, BeginsBy, Begins}
-use Rattle.fabric_trace.specs.SetUps.{MaySetUpAll}
+use Rattle.fabric_trace.proofs.Prelude.{◌≡◌, Bool, true, false, List, [], ◌∷◌, Option, Some, None, MatchBool, refl, is_event, PortRef, Line, Settle, Run, Numbered, link_in, link_peers, IsBlockAtRest, IsSettle, WithLink, IsBlock, seen, UndetectedAt, Seen, TraceLine, Begun, PartBegins, Made, Then, Follows, NamesNothing, SettlesTo, bare, set_up_all, start, EventThen, BlockThen, Names, RunsBy, RunsFrom, Runs, BlocksBy, BlocksFrom, BeginsBy, Begins, MaySetUpAll}
 use Rattle.fabric_trace.proofs.Parts.Keeping.{IsGood, made_keeps}
 use Rattle.fabric_trace.proofs.Rounds.Blocks.{rounds_come}
 use Rattle.fabric_trace.proofs.Rounds.Running.{block_made, link_made, move_made}

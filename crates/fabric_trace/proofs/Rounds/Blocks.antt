@@ -1,18 +1,5 @@
 -- Rounds are made of parts, and in them each link is what is shown of a link that settles.
-use Rattle.std.proofs.Common.{◌≡◌, ℕ, zero, suc, Bool, true, false, List, [], ◌∷◌, Option, Some, None, MatchBool, refl, ap, ◌∙◌}
-use Rattle.std.specs.List.{AllByRecursion}
-use Rattle.maint_registers.specs.Devices.{Registers, is_switch}
-use Rattle.fabric_script.specs.declared.ports.PortRef.{PortRef}
-use Rattle.fabric_model.specs.Network.{link_in}
-use Rattle.fabric_model.specs.Steps.{ByDevice}
-use Rattle.fabric_model.specs.Laws.Proper.{AreProper}
-use Rattle.fabric_model.proofs.Peers.{same_port-refl, unlinked_apart, ArePeers, link_peers}
-use Rattle.trace_lines.specs.Lines.{TraceLine, Stepped, steps_of}
-use Rattle.fabric_trace.specs.Known.{UndetectedAt, Seen}
-use Rattle.fabric_trace.specs.Fold.{seen}
-use Rattle.fabric_trace.specs.Served.{IsMove}
-use Rattle.fabric_trace.specs.Rounds.{Follows, NamesNothing, Joined, AtLink, SettleAll, ServesAll, ServeRests, ServeGoes, ServeNodes, Round, Rounds}
-use Rattle.fabric_trace.specs.Parts.{Made, Done}
+use Rattle.fabric_trace.proofs.Prelude.{◌≡◌, ℕ, zero, suc, Bool, true, false, List, [], ◌∷◌, Option, Some, None, MatchBool, refl, ap, ◌∙◌, AllByRecursion, Registers, is_switch, PortRef, link_in, ByDevice, AreProper, same_port-refl, unlinked_apart, ArePeers, link_peers, TraceLine, Stepped, steps_of, UndetectedAt, Seen, seen, IsMove, Follows, NamesNothing, Joined, AtLink, SettleAll, ServesAll, ServeRests, ServeGoes, ServeNodes, Round, Rounds, Made, Done}
 use Rattle.fabric_trace.proofs.Parts.Keeping.{IsGood, made_keeps, legal_links}
 use Rattle.fabric_trace.proofs.Parts.Making.{made-append, made_by}
 

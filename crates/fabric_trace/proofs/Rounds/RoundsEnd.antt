@@ -1,27 +1,7 @@
 -- The steps of a switch end: each leaves one packet fewer in what its ports have received.
-use Rattle.std.proofs.Common.{◌≡◌, ℕ, ◌+◌, ◌<◌, ◌≤◌, arith, Bool, true, false, List, [], ◌∷◌, Option, Some, None, sym, subst, if◌then◌else◌}
-use Rattle.std.specs.Bool.{⊤}
-use Rattle.rio_packets.specs.Fields.{prio_of}
-use Rattle.maint_registers.specs.Devices.{Registers}
-use Rattle.maint_packets.specs.declared.next_hop.Next.{Next}
-use Rattle.maint_packets.specs.declared.next_hop.Next.TheVariants.{Nowhere, RegisterUnit, Port}
-use Rattle.maint_packets.specs.declared.request.Request.{Request}
-use Rattle.maint_packets.specs.NextHops.{next_of}
-use Rattle.maint_packets.specs.Requests.{request_of}
-use Rattle.maint_packets.specs.Responses.{response_bytes}
-use Rattle.maint_packets.specs.Answers.{request_answered}
+use Rattle.fabric_trace.proofs.Prelude.{◌≡◌, ℕ, ◌+◌, ◌<◌, ◌≤◌, arith, Bool, true, false, List, [], ◌∷◌, Option, Some, None, sym, subst, if◌then◌else◌, ⊤, prio_of, Registers, Next, Nowhere, RegisterUnit, Port, Request, next_of, request_of, response_bytes, request_answered, Moved, Dropped, Answered, Nothing, Face, face_at, has_room, answer_step, step_to, step_of, first_step_by, PortRef, packets_at, step_empties, few_prio, Stepped, Seen, faces_in, step_lines, ResponseHasForm, IsMove}
 use Rattle.switch_core.specs.declared.switch.Step as switch
-use Rattle.switch_core.specs.declared.switch.Step.TheVariants.{Moved, Dropped, Answered, Nothing}
-use Rattle.switch_core.specs.Faces.{Face, face_at, has_room}
-use Rattle.switch_core.specs.SwitchSteps.{answer_step, step_to, step_of}
-use Rattle.switch_core.proofs.FirstSteps.{first_step_by}
-use Rattle.fabric_script.specs.declared.ports.PortRef.{PortRef}
 use Rattle.fabric_model.specs.Steps.{DeviceStep, Move, Drop, Answer, ByDevice, after}
-use Rattle.fabric_model.proofs.Emptying.{packets_at, step_empties}
-use Rattle.fabric_model.proofs.Nodes.{few_prio}
-use Rattle.trace_lines.specs.Lines.{Stepped}
-use Rattle.fabric_trace.specs.Known.{Seen}
-use Rattle.fabric_trace.specs.Served.{faces_in, step_lines, ResponseHasForm, IsMove}
 use Rattle.fabric_trace.proofs.Network.Faces.{StepNeeds, step_needs}
 use Rattle.fabric_trace.proofs.Parts.Keeping.{IsGood, good_by_priority, passes_first}
 

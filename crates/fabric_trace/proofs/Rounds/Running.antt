@@ -1,36 +1,8 @@
 -- Blocks and runs are made of parts; what a script sets up is good.
-use Rattle.std.proofs.Common.{◌≡◌, ℕ, Bool, true, false, List, [], ◌∷◌, Option, Some, None, refl, ap, if◌then◌else◌}
-use Rattle.rio_packets.specs.Fields.{prio_of}
-use Rattle.rio_packets.specs.LinkForm.{Passes}
-use Rattle.rio_packets.proofs.FormLaws.{Passes-from_form}
-use Rattle.link_watch.specs.declared.side.Side.TheVariants.{A}
-use Rattle.link_wires.specs.Wires.{fits}
-use Rattle.link_wires.specs.declared.edits.Edit.{Edit}
-use Rattle.link_machine.specs.Calls.{has_chars, delivery_notes, is_silent, time_out_notes}
-use Rattle.fabric_script.specs.Lines.{is_event}
+use Rattle.fabric_trace.proofs.Prelude.{◌≡◌, ℕ, Bool, true, false, List, [], ◌∷◌, Option, Some, None, refl, ap, if◌then◌else◌, prio_of, Passes, Passes-from_form, A, fits, Edit, has_chars, delivery_notes, is_silent, time_out_notes, is_event, Moved, Dropped, Answered, Nothing, Collected, step_of, collected, PortRef, Line, Numbered, IsEndpoint, link_in, port_of, room_out, Take, Leave, MoveOn, Drop, Answer, AtNode, ArePeers, link_peers, few_prio, TraceLine, Begun, Stepped, Lacked, Full, Empty, Short, Early, NoStep, Seen, UndetectedAt, peer_of, link_at, edit_of, edited_by, seen, face_in, faces_in, step_lines, ResponseHasForm, IsMove, collect_lines, HasResponseForm, IsCollect, lines_of, take_lines, SendsBody, pumps, delivers, time_out_lines, edits, IsSettle, WithPeer, WithLink, IsBlock, Follows, Rounds, BlockThen, Names, RunsFrom, PartBegins, PartLacks, PartEnds, PartNames, PartSteps, PartServes, PartTurns, PartDelivers, PartFires, Made, Done, Then}
 use Rattle.switch_core.specs.declared.switch.Step as switch
-use Rattle.switch_core.specs.declared.switch.Step.TheVariants.{Moved, Dropped, Answered, Nothing}
-use Rattle.switch_core.specs.declared.endpoint.Collected.{Collected}
 use Rattle.switch_core.specs.declared.endpoint.Collected.TheVariants as Collects
-use Rattle.switch_core.specs.SwitchSteps.{step_of}
-use Rattle.switch_core.specs.EndpointSteps.{collected}
-use Rattle.fabric_script.specs.declared.ports.PortRef.{PortRef}
-use Rattle.fabric_script.specs.declared.lines.Line.{Line}
-use Rattle.fabric_script.specs.declared.lines.Line.TheVariants.{Endpoint, Switch, Link, Buffers, Route, Default, Lock, Large, Send, Read, Write, Pump, Deliver, Alter, Insert, Erase, Timeout, Settle, Move, Collect, Run, Send16, Read16, Write16, Credits}
-use Rattle.fabric_script.specs.declared.lines.Numbered.{Numbered}
-use Rattle.fabric_model.specs.Network.{IsEndpoint, link_in, port_of, room_out}
-use Rattle.fabric_model.specs.Steps.{Take, Leave, Move as MoveOn, Drop, Answer, AtNode}
-use Rattle.fabric_model.proofs.Peers.{ArePeers, link_peers}
-use Rattle.fabric_model.proofs.Nodes.{few_prio}
-use Rattle.trace_lines.specs.Lines.{TraceLine, Begun, Stepped, Lacked, Full, Empty, Short, Early, NoStep}
-use Rattle.fabric_trace.specs.Known.{Seen, UndetectedAt, peer_of, link_at}
-use Rattle.fabric_trace.specs.Fold.{edit_of, edited_by, seen}
-use Rattle.fabric_trace.specs.Served.{face_in, faces_in, step_lines, ResponseHasForm, IsMove, collect_lines, HasResponseForm, IsCollect}
-use Rattle.trace_lines.specs.Notes.{lines_of}
-use Rattle.fabric_trace.specs.Blocks.{take_lines, SendsBody, pumps, delivers, time_out_lines, edits, IsSettle, WithPeer, WithLink, IsBlock}
-use Rattle.fabric_trace.specs.Rounds.{Follows, Rounds}
-use Rattle.fabric_trace.specs.Runs.{BlockThen, Names, RunsFrom}
-use Rattle.fabric_trace.specs.Parts.{PartBegins, PartLacks, PartEnds, PartNames, PartSteps, PartServes, PartTurns, PartDelivers, PartFires, Made, Done, Then}
+use Rattle.fabric_script.specs.declared.lines.Line.TheVariants.{Send, Read, Write, Pump, Deliver, Alter, Insert, Erase, Timeout, Settle, Move, Collect, Run, Send16, Read16, Write16}
 use Rattle.fabric_trace.proofs.Network.Faces.{StepNeeds, step_needs, CollectNeeds, collect_needs}
 use Rattle.fabric_trace.proofs.Parts.Keeping.{IsGood, good_by_priority, made_keeps}
 use Rattle.fabric_trace.proofs.Parts.Making.{one_part, made-append, made_by}
@@ -164,15 +136,6 @@ rounds_made s n block good none rounds =
 
 pub block_made : (line : Line) (s : Seen) (block : List TraceLine) → IsGood s → s.undetected ≡ None
     → IsBlock s line block → Made (edited_by s (edit_of line)) block
-block_made (Endpoint name id) s block good none is = absurd is
-block_made (Switch name ports) s block good none is = absurd is
-block_made (Link a b) s block good none is = absurd is
-block_made (Buffers port n) s block good none is = absurd is
-block_made (Route node id p) s block good none is = absurd is
-block_made (Default node p) s block good none is = absurd is
-block_made (Lock node id) s block good none is = absurd is
-block_made (Large node id) s block good none is = absurd is
-block_made (Credits port) s block good none is = absurd is
 block_made (Send node prio ftype dest hex) s block good none is = sends_made s node _ block is
 block_made (Read node prio dest hop tid offset) s block good none is = sends_made s node _ block is
 block_made (Write node prio dest hop tid offset value) s block good none is =
@@ -202,6 +165,7 @@ block_made (Settle port) s block good none is =
 block_made (Move node) s block good none is = move_made s node block good is
 block_made (Collect node) s block good none is = collect_made s node block good is
 block_made (Run n) s block good none is = rounds_made s n block good none is
+block_made _ s block good none is = absurd is
 
 -- ---- runs
 

@@ -1,32 +1,9 @@
 -- The lines of a block are no lines of events.
-use Rattle.std.proofs.Common.{◌≡◌, ◌++◌, ℕ, zero, suc, true, false, List, [], ◌∷◌, Option, Some, None, sym, subst, if◌then◌else◌}
-use Rattle.link_machine.specs.Acts.{At, acts_notes}
-use Rattle.link_watch.specs.declared.note.Note.{Note}
+use Rattle.fabric_trace.proofs.Prelude.{◌≡◌, ◌++◌, ℕ, zero, suc, true, false, List, [], ◌∷◌, Option, Some, None, sym, subst, if◌then◌else◌, At, acts_notes, Note, A, fits, Edit, has_chars, pump_notes, delivery_notes, is_silent, time_out_notes, prio_of, Moved, Collected, step_of, collected, Registers, is_switch, PortRef, Line, link_in, room_out, port_of, Take, AtNode, TraceLine, Begun, Stepped, Signed, Lacked, Ended, Undetected, Full, Short, Early, UndetectedAt, Seen, peer_of, link_at, edit_of, seen, face_in, faces_in, step_lines, collect_lines, lines_of, take_lines, pumps, delivers, time_out_lines, edits, IsSettle, WithPeer, WithLink, IsBlock, Follows, NamesNothing, Joined, SettleAll, ServesAll, ServeRests, ServeGoes, ServeNodes, Round, Rounds}
 use Rattle.link_watch.specs.declared.note.Note.TheVariants as Notes
-use Rattle.link_watch.specs.declared.side.Side.TheVariants.{A}
-use Rattle.link_wires.specs.Wires.{fits}
-use Rattle.link_wires.specs.declared.edits.Edit.{Edit}
-use Rattle.link_machine.specs.Calls.{has_chars, pump_notes, delivery_notes, is_silent, time_out_notes}
-use Rattle.rio_packets.specs.Fields.{prio_of}
 use Rattle.switch_core.specs.declared.switch.Step as switch
-use Rattle.switch_core.specs.declared.switch.Step.TheVariants.{Moved, Dropped, Answered, Nothing}
-use Rattle.switch_core.specs.declared.endpoint.Collected.{Collected}
 use Rattle.switch_core.specs.declared.endpoint.Collected.TheVariants as Collects
-use Rattle.switch_core.specs.SwitchSteps.{step_of}
-use Rattle.switch_core.specs.EndpointSteps.{collected}
-use Rattle.maint_registers.specs.Devices.{Registers, is_switch}
-use Rattle.fabric_script.specs.declared.ports.PortRef.{PortRef}
-use Rattle.fabric_script.specs.declared.lines.Line.{Line}
-use Rattle.fabric_script.specs.declared.lines.Line.TheVariants.{Endpoint, Switch, Link, Buffers, Route, Default, Lock, Large, Send, Read, Write, Pump, Deliver, Alter, Insert, Erase, Timeout, Settle, Move, Collect, Run, Send16, Read16, Write16, Credits}
-use Rattle.fabric_model.specs.Network.{link_in, room_out, port_of}
-use Rattle.fabric_model.specs.Steps.{Take, AtNode}
-use Rattle.trace_lines.specs.Lines.{TraceLine, Begun, Stepped, Signed, Lacked, Ended, Undetected, Full, Short, Early}
-use Rattle.fabric_trace.specs.Known.{UndetectedAt, Seen, peer_of, link_at}
-use Rattle.fabric_trace.specs.Fold.{edit_of, seen}
-use Rattle.fabric_trace.specs.Served.{face_in, faces_in, step_lines, collect_lines}
-use Rattle.trace_lines.specs.Notes.{lines_of}
-use Rattle.fabric_trace.specs.Blocks.{take_lines, pumps, delivers, time_out_lines, edits, IsSettle, WithPeer, WithLink, IsBlock}
-use Rattle.fabric_trace.specs.Rounds.{Follows, NamesNothing, Joined, SettleAll, ServesAll, ServeRests, ServeGoes, ServeNodes, Round, Rounds}
+use Rattle.fabric_script.specs.declared.lines.Line.TheVariants.{Send, Read, Write, Pump, Deliver, Alter, Insert, Erase, Timeout, Settle, Move, Collect, Run, Send16, Read16, Write16}
 use Rattle.fabric_trace.proofs.Rounds.Blocks.{by_test}
 
 unfoldable pub IsWithinBlock : List TraceLine → Type 0
@@ -62,16 +39,12 @@ takes_within s node packet =
 step_within : (node : ℕ) (step : switch.Step) → IsWithinBlock (step_lines node step)
 unfolding IsWithinBlock
 step_within node (Moved from to packet) = tt
-step_within node (Dropped from packet) = tt
-step_within node (Answered port request response) = tt
-step_within node Nothing = tt
+step_within node _ = tt
 
 collected_within : (node : ℕ) (what : Collected) → IsWithinBlock (collect_lines node what)
 unfolding IsWithinBlock
 collected_within node (Collects.Left packet) = tt
-collected_within node (Collects.Answered request response) = tt
-collected_within node Collects.Empty = tt
-collected_within node Collects.Full = tt
+collected_within node _ = tt
 
 delivers_within : (s : Seen) (p : PortRef) (n : ℕ) (q : PortRef) → IsWithinBlock (delivers s p n q)
 unfolding IsWithinBlock
@@ -114,12 +87,10 @@ within-append : (xs ys : List TraceLine) → IsWithinBlock xs → IsWithinBlock 
     → IsWithinBlock (xs ++ ys)
 unfolding IsWithinBlock
 within-append [] ys first rest = rest
-within-append (Begun line ∷ xs) ys first rest = absurd first
 within-append (Stepped step ∷ xs) ys first rest = within-append xs ys first rest
 within-append (Signed sign ∷ xs) ys first rest = within-append xs ys first rest
 within-append (Lacked lack ∷ xs) ys first rest = within-append xs ys first rest
-within-append (Ended ∷ xs) ys first rest = absurd first
-within-append (Undetected number q e ∷ xs) ys first rest = absurd first
+within-append (_ ∷ xs) ys first rest = absurd first
 
 follows_within : (found : Option UndetectedAt) (More : List TraceLine → Type 0)
     (rest : List TraceLine)
@@ -178,15 +149,6 @@ rounds_within (suc n) s block is =
 
 pub block_within : (s : Seen) (line : Line) (block : List TraceLine) → IsBlock s line block
     → IsWithinBlock block
-block_within s (Endpoint name id) block is = absurd is
-block_within s (Switch name ports) block is = absurd is
-block_within s (Link a b) block is = absurd is
-block_within s (Buffers port n) block is = absurd is
-block_within s (Route node id p) block is = absurd is
-block_within s (Default node p) block is = absurd is
-block_within s (Lock node id) block is = absurd is
-block_within s (Large node id) block is = absurd is
-block_within s (Credits port) block is = absurd is
 block_within s (Send node prio ftype dest hex) block is =
     within_by is.lines (takes_within s node is.packet)
 block_within s (Read node prio dest hop tid offset) block is =
@@ -219,3 +181,4 @@ block_within s (Collect node) block is =
     within_by is.lines (collected_within node
     (collected is.device (face_in s.network (port_of node))))
 block_within s (Run n) block is = rounds_within n s block is
+block_within s _ block is = absurd is

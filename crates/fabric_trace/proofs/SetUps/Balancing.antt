@@ -1,14 +1,7 @@
 -- What a trace took stands at ports of nodes, has left or was dropped.
-use Rattle.std.proofs.Common.{◌≡◌, ℕ, ◌+◌, List}
-use Rattle.fabric_script.specs.Scripts.{ScriptPasses}
-use Rattle.fabric_script.specs.declared.lines.Numbered.{Numbered}
-use Rattle.fabric_model.specs.Laws.Nodes.{StandAtNodes, all_ports}
+use Rattle.fabric_trace.proofs.Prelude.{◌≡◌, ℕ, ◌+◌, List, ScriptPasses, Numbered, StandAtNodes, all_ports, all_at_nodes, seen, TraceLine, steps_of, bare, set_up_all, start, Runs}
 use Rattle.fabric_model.specs.Laws.Stock.{stock, takes_by, leaves_by, drops_by, steps_in}
-use Rattle.fabric_model.proofs.Nodes.{all_at_nodes}
 use Rattle.fabric_model.proofs.Stocks.{taken_balance}
-use Rattle.fabric_trace.specs.Fold.{seen}
-use Rattle.trace_lines.specs.Lines.{TraceLine, steps_of}
-use Rattle.fabric_trace.specs.Runs.{bare, set_up_all, start, Runs}
 use Rattle.fabric_trace.proofs.SetUps.Happening.{may_set_up}
 use Rattle.fabric_trace.proofs.SetUps.Joins.{scripts_join}
 use Rattle.fabric_trace.proofs.SetUps.Starting.{set_up_bare, legal, made}

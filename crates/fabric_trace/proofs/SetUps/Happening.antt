@@ -1,28 +1,13 @@
 -- What a script that passes gives: its lines of set-up may stand behind each other, and its events
 -- may happen.
-use Rattle.std.proofs.Common.{◌≡◌, ℕ, ◌%◌, ◌<◌, ◌≤◌, zero, suc, nat_lt, nat_le, ◌==◌, Bool, true, false, not, ◌&&◌, ◌||◌, List, [], ◌∷◌, ◌++◌, Option, Some, None, map, get_or, length, All, is_some, refl, sym, ap, ◌∙◌, subst, arith}
-use Rattle.std.proofs.lemmas.Bool.{and_parts, or_parts, eqb-true, true≢false, false≢true, not-false}
-use Rattle.std.proofs.lemmas.Bool.Decides.{nat_tests}
-use Rattle.std.proofs.lemmas.List.Elements.{All-nil, All-cons}
-use Rattle.std.proofs.lemmas.List.{map-append}
+use Rattle.fabric_trace.proofs.Prelude.{◌≡◌, ℕ, ◌%◌, ◌<◌, ◌≤◌, zero, suc, nat_lt, nat_le, ◌==◌, Bool, true, false, not, ◌&&◌, ◌||◌, List, [], ◌∷◌, ◌++◌, Option, Some, None, map, get_or, length, All, is_some, refl, sym, ap, ◌∙◌, subst, arith, and_parts, or_parts, eqb-true, true≢false, false≢true, not-false, nat_tests, All-nil, All-cons, map-append, PortRef, Line, Numbered, is_event, new_name, Known, of_script, nothing, known_after, node_ports, ports_of, same_port, is_linked, MayBe, IsFree, PassesFrom, ScriptPasses, Network, peer_in, bare, set_up, set_up_all, MaySetUp, MaySetUpAll, IsDataLength, IsInRange, HasLink, IsThere, MayHappen, IsNodePort, ArePorts, counts_after, counts_after_all, port_counts}
 use Rattle.std.specs.List.{slice_get}
 use Rattle.rio_packets.specs.Making.{most_rest}
-use Rattle.fabric_script.specs.declared.ports.PortRef.{PortRef}
-use Rattle.fabric_script.specs.declared.lines.Line.{Line}
 use Rattle.fabric_script.specs.declared.lines.Line.TheVariants.{Endpoint, Switch, Link, Buffers, Route, Default, Lock, Large, Send, Read, Write, Pump, Deliver, Alter, Insert, Erase, Timeout, Settle, Move, Collect, Run, Send16, Read16, Write16, Credits}
-use Rattle.fabric_script.specs.declared.lines.Numbered.{Numbered}
 use Rattle.fabric_script.specs.declared.reasons.Reason.TheVariants.{PortTaken, BadLength, WrongKind, OutOfPlace, NotLinked}
-use Rattle.fabric_script.specs.Lines.{is_event, new_name}
-use Rattle.fabric_script.specs.Known.{Known, of_script, nothing, known_after, node_ports, ports_of, same_port, is_linked}
 use Rattle.fabric_script.specs.Refusals.{is_bad_length, out_of_place_in}
-use Rattle.fabric_script.specs.Reading.{MayBe, IsFree}
-use Rattle.fabric_script.specs.Scripts.{PassesFrom, ScriptPasses}
 use Rattle.fabric_script.proofs.PrintLaws.{named_all}
-use Rattle.fabric_model.specs.Network.{Network, peer_in}
-use Rattle.fabric_trace.specs.Runs.{bare, set_up, set_up_all}
-use Rattle.fabric_trace.specs.SetUps.{MaySetUp, MaySetUpAll}
 use Rattle.fabric_trace.proofs.SetUps.SettingUp.{set_up-event}
-use Rattle.fabric_trace.specs.Events.{IsDataLength, IsInRange, HasLink, IsThere, MayHappen, IsNodePort, ArePorts, counts_after, counts_after_all, port_counts}
 use Rattle.fabric_trace.proofs.SetUps.KnownNetworks.{KnowsNetwork, knows-after, endpoint_at, switch_is_at, device_at, knows_bare}
 
 -- ---- links

@@ -1,22 +1,5 @@
 -- The links of a script that passes join ports of nodes, and each endpoint has its port.
-use Rattle.std.proofs.Common.{◌≡◌, ℕ, zero, suc, ◌<◌, Bool, true, false, List, [], ◌∷◌, ◌++◌, map, Some, option_map, slice_get, get_or, if◌then◌else◌, refl, sym, ap, ◌∙◌, subst, arith, append-nil}
-use Rattle.std.specs.List.{AllByRecursion}
-use Rattle.std.proofs.lemmas.List.{map-append}
-use Rattle.maint_registers.specs.Devices.{Registers, is_switch}
-use Rattle.fabric_script.specs.declared.ports.PortRef.{PortRef}
-use Rattle.fabric_script.specs.declared.lines.Line.{Line}
-use Rattle.fabric_script.specs.declared.lines.Line.TheVariants.{Endpoint, Switch, Link}
-use Rattle.fabric_script.specs.declared.lines.Numbered.{Numbered}
-use Rattle.fabric_script.specs.Known.{Known, nothing, known_after, nodes_after, links_after, node_ports, ports_of}
-use Rattle.fabric_script.specs.Lines.{new_name}
-use Rattle.fabric_script.specs.Reading.{MayBe}
-use Rattle.fabric_script.specs.Scripts.{PassesFrom, ScriptPasses}
-use Rattle.fabric_model.specs.Network.{Network, bare, same_port, peer_in}
-use Rattle.fabric_model.specs.Laws.Nodes.{HasPort, IsPortOf, JoinsNodes}
-use Rattle.fabric_model.proofs.Lists.{all-append, all_weaker}
-use Rattle.fabric_model.proofs.Nodes.{count_ports}
-use Rattle.fabric_model.proofs.Peers.{port_is}
-use Rattle.fabric_trace.specs.Settings.{set_up, set_up_all}
+use Rattle.fabric_trace.proofs.Prelude.{◌≡◌, ℕ, zero, suc, ◌<◌, Bool, true, false, List, [], ◌∷◌, ◌++◌, map, Some, option_map, slice_get, get_or, if◌then◌else◌, refl, sym, ap, ◌∙◌, subst, arith, append-nil, AllByRecursion, map-append, Registers, is_switch, PortRef, Line, Endpoint, Switch, Link, Numbered, Known, nothing, known_after, nodes_after, links_after, node_ports, ports_of, new_name, MayBe, PassesFrom, ScriptPasses, Network, bare, same_port, peer_in, HasPort, IsPortOf, JoinsNodes, all-append, all_weaker, count_ports, port_is, set_up, set_up_all}
 use Rattle.fabric_trace.proofs.SetUps.Happening.{count_at}
 use Rattle.fabric_trace.proofs.SetUps.SettingUp.{made_by, set_up-links, set_up-map}
 

@@ -1,7 +1,5 @@
 -- A device of a kind among others.
-use Rattle.std.proofs.Common.{◌≡◌, ℕ, Bool, zero, suc, ◌<◌, List, [], ◌∷◌, option_map, Some, length, get_or, slice_get, ap, ◌∙◌, arith}
-use Rattle.std.proofs.lemmas.Option.{same_Some}
-use Rattle.maint_registers.specs.Devices.{Registers, is_switch}
+use Rattle.fabric_trace.proofs.Prelude.{◌≡◌, ℕ, Bool, zero, suc, ◌<◌, List, [], ◌∷◌, option_map, Some, length, get_or, slice_get, ap, ◌∙◌, arith, same_Some, Registers, is_switch}
 
 pub record IsKindThere (switch : Bool) (devices : List Registers) (node : ℕ) : Type 0 where
   pub within : node < length devices

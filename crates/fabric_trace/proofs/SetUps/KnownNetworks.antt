@@ -1,16 +1,7 @@
 -- What is known of earlier lines of a script is so of the network that they set up.
-use Rattle.std.proofs.Common.{◌≡◌, ℕ, ◌<◌, zero, suc, Bool, false, not, List, [], ◌∷◌, ◌++◌, Option, Some, map, length, refl, sym, ap, ◌∙◌, arith, append-nil}
-use Rattle.std.proofs.lemmas.Bool.{not-false}
-use Rattle.std.proofs.lemmas.List.{length-map, map-append}
-use Rattle.std.proofs.lemmas.Option.{slice_get-map}
+use Rattle.fabric_trace.proofs.Prelude.{◌≡◌, ℕ, ◌<◌, zero, suc, Bool, false, not, List, [], ◌∷◌, ◌++◌, Option, Some, map, length, refl, sym, ap, ◌∙◌, arith, append-nil, not-false, length-map, map-append, slice_get-map, Line, Endpoint, Switch, Known, known_after, nodes_after, links_after, node_is_switch, is_known_switch, nothing_in, is_switch, Network, IsEndpoint, IsSwitch, switch_at, bare, set_up}
 use Rattle.std.specs.List.{slice_get}
-use Rattle.fabric_script.specs.declared.lines.Line.{Line}
-use Rattle.fabric_script.specs.declared.lines.Line.TheVariants.{Endpoint, Switch}
-use Rattle.fabric_script.specs.Known.{Known, known_after, nodes_after, links_after, node_is_switch, is_known_switch, nothing_in}
-use Rattle.maint_registers.specs.Devices.{is_switch}
-use Rattle.fabric_model.specs.Network.{Network, IsEndpoint, IsSwitch, switch_at}
 use Rattle.fabric_script.proofs.KnownLaws.{count-after}
-use Rattle.fabric_trace.specs.Runs.{bare, set_up}
 use Rattle.fabric_trace.proofs.SetUps.SettingUp.{set_up-links, made_by, set_up-kinds}
 use Rattle.fabric_script.specs.declared.known.Mode.{Mode}
 

@@ -1,16 +1,5 @@
 -- What lines of set-up make of the devices and the links of a network.
-use Rattle.std.proofs.Common.{◌≡◌, ℕ, ◌+◌, ◌<◌, true, false, List, [], ◌∷◌, ◌++◌, length, map, take, drop, get_or, refl, sym, ap, ◌∙◌, append-nil, take-append-drop}
-use Rattle.std.proofs.lemmas.Bool.{false≢true}
-use Rattle.std.proofs.lemmas.List.{map-append, drop_more}
-use Rattle.maint_registers.specs.Devices.{Registers, is_switch, new_endpoint, new_switch, with_link}
-use Rattle.fabric_script.specs.declared.lines.Line.{Line}
-use Rattle.fabric_script.specs.declared.lines.Line.TheVariants.{Endpoint, Switch, Link, Buffers, Route, Default, Lock, Large, Credits}
-use Rattle.fabric_script.specs.Known.{links_after}
-use Rattle.fabric_script.specs.Lines.{is_event}
-use Rattle.fabric_script.specs.declared.lines.Numbered.{Numbered}
-use Rattle.fabric_model.specs.Network.{Network}
-use Rattle.fabric_model.proofs.Devices.{map-with_device}
-use Rattle.fabric_trace.specs.Settings.{routed, defaulted, held_by, large_set, with_end, set_up, set_up_all}
+use Rattle.fabric_trace.proofs.Prelude.{◌≡◌, ℕ, ◌+◌, ◌<◌, true, false, List, [], ◌∷◌, ◌++◌, length, map, take, drop, get_or, refl, sym, ap, ◌∙◌, append-nil, take-append-drop, false≢true, map-append, drop_more, Registers, is_switch, new_endpoint, new_switch, with_link, Line, Endpoint, Switch, Link, Buffers, Route, Default, Lock, Large, Credits, links_after, is_event, Numbered, Network, map-with_device, routed, defaulted, held_by, large_set, with_end, set_up, set_up_all}
 
 pub set_up-links : (net : Network) (line : Line)
     → (set_up net line).links ≡ links_after net.links line

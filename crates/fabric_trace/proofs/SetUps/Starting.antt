@@ -1,65 +1,24 @@
 -- What the lines of set-up give, and the laws of runs from there.
-use Rattle.std.proofs.Common.{◌≡◌, ◌≢◌, ◌↔◌, ℕ, ◌++◌, Bool, true, false, List, [], ◌∷◌, Some, None, refl, sym, ap, ◌∙◌, subst, arith, if◌then◌else◌}
-use Rattle.std.specs.List.{AllByRecursion}
-use Rattle.rio_chars.specs.declared.chars.Char.{Char}
+use Rattle.fabric_trace.proofs.Prelude.{◌≡◌, ◌≢◌, ◌↔◌, ℕ, ◌++◌, Bool, true, false, List, [], ◌∷◌, Some, None, refl, sym, ap, ◌∙◌, subst, arith, if◌then◌else◌, AllByRecursion, Char, new_port, link, empty_wires, new_sound, none_failed, Reached, At, FoundAt, OnState, goes, acts_notes, IsSettled, IsSoundLink, Registers, new_endpoint, new_switch, with_link, IsWithin, PortRef, Line, Endpoint, Switch, Link, Buffers, Route, Default, Lock, Large, Credits, undetected, Numbered, Network, same_port, with_device, Step, LegalFrom, all-append, well_begun, in_order, ArePeers, AreProper-append, TraceLine, steps_of, packets_in, Seen, peer_of, port_seen, link_at, says, taken_from, seen, lines_of, IsSettle, bare, set_up, set_up_all, begins, start, Runs, IsLink, AreLinks, Made, routed, defaulted, held_by, with_node, with_change, with_end, large_set, IsSetUp, MaySetUp, MaySetUpAll, place_start, place_after-none, EndsAs, nothing_got, FreesSaid, HoldsCame, FreesAllowed, ActsOnSent, WireFold, legal_parts}
 use Rattle.link_model.specs.Output as out
-use Rattle.link_port.specs.Ports.{new_port}
 use Rattle.link_sound.specs.Histories.{AreBuffers}
-use Rattle.link_machine.specs.States.{link, empty_wires}
-use Rattle.link_machine.proofs.Machine.{new_sound, none_failed}
-use Rattle.link_machine.specs.Acts.{Reached, At, FoundAt, OnState, goes, acts_notes}
-use Rattle.link_machine.specs.Rest.{IsSettled}
 use Rattle.link_machine.proofs.Settling.Settled.{settling_rests}
-use Rattle.link_machine.specs.Sound.{IsSoundLink}
-use Rattle.maint_registers.specs.Devices.{Registers, new_endpoint, new_switch, with_link}
-use Rattle.maint_registers.specs.Within.{IsWithin}
 use Rattle.maint_registers.proofs.WithinLaws.{new_endpoint_within, new_switch_within, lock_within, route_within, default_within, links_within, large_within}
-use Rattle.fabric_script.specs.declared.ports.PortRef.{PortRef}
-use Rattle.fabric_script.specs.declared.lines.Line.{Line}
-use Rattle.fabric_script.specs.declared.lines.Line.TheVariants.{Endpoint, Switch, Link, Buffers, Route, Default, Lock, Large, Credits}
-use Rattle.link_wires.specs.Deliveries.{undetected}
-use Rattle.fabric_script.specs.declared.lines.Numbered.{Numbered}
-use Rattle.fabric_model.specs.Network.{Network, same_port, with_device}
-use Rattle.fabric_model.specs.Steps.{Step, LegalFrom}
 use Rattle.fabric_model.specs.Laws.Lawful.{Lawful}
-use Rattle.fabric_model.proofs.Lists.{all-append}
 use Rattle.fabric_model.proofs.Forms.{AreWithin-with}
-use Rattle.fabric_model.proofs.Lanes.{well_begun}
 use Rattle.fabric_model.proofs.Freeing.{freed_after_held}
 use Rattle.fabric_model.proofs.Holding.{holding_exactly}
 use Rattle.fabric_model.proofs.Leaving.{once, unchanged}
 use Rattle.fabric_model.proofs.Tables.{by_tables}
-use Rattle.fabric_model.proofs.Flows.{in_order}
-use Rattle.fabric_model.proofs.Peers.{ArePeers, AreProper-append}
-use Rattle.trace_lines.specs.Lines.{TraceLine, steps_of}
-use Rattle.fabric_trace.specs.Views.{packets_in}
-use Rattle.fabric_trace.specs.Known.{Seen, peer_of, port_seen, link_at}
-use Rattle.fabric_trace.specs.Fold.{says, taken_from, seen}
-use Rattle.trace_lines.specs.Notes.{lines_of}
-use Rattle.fabric_trace.specs.Blocks.{IsSettle}
-use Rattle.fabric_trace.specs.Runs.{bare, set_up, set_up_all, begins, start, Runs}
-use Rattle.fabric_trace.specs.Links.{IsLink, AreLinks}
-use Rattle.fabric_trace.specs.Parts.{Made}
-use Rattle.fabric_trace.specs.Settings.{routed, defaulted, held_by, with_node, with_change, with_end, large_set}
-use Rattle.fabric_trace.specs.SetUps.{IsSetUp, MaySetUp, MaySetUpAll}
-use Rattle.link_model.specs.Places.{place_start}
-use Rattle.link_model.proofs.PlacesLaws.{place_after-none}
-use Rattle.fabric_trace.specs.Ends.{EndsAs}
-use Rattle.fabric_trace.specs.Frees.{nothing_got, FreesSaid}
 use Rattle.fabric_trace.proofs.Frees.FreesRead.{freed_carried, start_freed}
-use Rattle.fabric_trace.specs.Holds.{HoldsCame}
 use Rattle.fabric_trace.proofs.Holds.Coming.{none_within}
 use Rattle.fabric_trace.proofs.Traces.Ending.{runs_end}
 use Rattle.fabric_trace.proofs.Holds.HoldsStill.{IsRead}
 use Rattle.fabric_trace.proofs.Holds.HoldsRead.{read_carried}
-use Rattle.fabric_trace.specs.Allowance.{FreesAllowed}
-use Rattle.fabric_trace.specs.Faithful.{ActsOnSent}
-use Rattle.fabric_trace.specs.Wires.{WireFold}
 use Rattle.fabric_trace.proofs.Allowance.Allowing.{counted_carried, start_raised}
 use Rattle.fabric_trace.proofs.Parts.Carrying.{carry_made}
 use Rattle.fabric_trace.proofs.Shown.Faith.{begins_kept, lines_keep, sent_exactly}
 use Rattle.fabric_trace.proofs.Shown.Wiring.{made_fold}
-use Rattle.fabric_model.proofs.Joining.{legal_parts}
 use Rattle.fabric_trace.proofs.Parts.Folding.{seen-append, network_is}
 use Rattle.fabric_trace.proofs.Parts.Keeping.{steps_of-append, IsGood, good_peers, made_keeps}
 use Rattle.fabric_trace.proofs.Parts.Making.{Reaches}

@@ -1,46 +1,15 @@
 -- No sender fails, and what is found not to be sent is the first such event.
-use Rattle.std.proofs.Common.{◌≡◌, ◌≢◌, ℕ, ◌==◌, ◌++◌, Bool, true, false, List, [], ◌∷◌, map, Option, Some, None, take, refl, sym, ap, ◌∙◌, subst, if◌then◌else◌}
-use Rattle.std.proofs.lemmas.Bool.{false≢true}
-use Rattle.rio_chars.specs.declared.chars.Char.{Char}
-use Rattle.rio_packets.specs.Fields.{prio_of}
-use Rattle.rio_symbols.specs.declared.stype1.TheConstants.{RESTART_FROM_RETRY, LINK_REQUEST}
-use Rattle.link_model.specs.declared.event.Event.{Event}
-use Rattle.link_model.specs.declared.event.Event.TheVariants.{Ctl, Pkt, Bad}
+use Rattle.fabric_trace.proofs.Prelude.{◌≡◌, ◌≢◌, ℕ, ◌==◌, ◌++◌, Bool, true, false, List, [], ◌∷◌, map, Option, Some, None, take, refl, sym, ap, ◌∙◌, subst, if◌then◌else◌, false≢true, Char, prio_of, RESTART_FROM_RETRY, LINK_REQUEST, Event, Ctl, Pkt, Bad, from_ack, timed_out, tell_sends, Side, A, B, Delivered, Through, WentUndetected, told_of, undetected, bursts, answers, Edit, Move, Held, Freed, sent_notes, pump_notes, has_chars, delivery_from, move_note, told_notes, delivery_notes, tell_notes, none_failed, PortRef, same_port, peer_in, AtNode, ByDevice, port_is, TraceLine, Begun, Stepped, Signed, Lacked, Ended, Undetected, Sent, Got, Fired, steps_of, Half, half_of, Seen, with_half, peer_of, port_seen, link_at, edit_of, edited_by, symbol_leaves, packet_leaves, event_leaves, sends, says, half_sent, taken_from, half_after, undetected_at, got_from, fired_from, signed, seen_line, seen, lines_of, Part, PartBegins, PartLacks, PartEnds, PartNames, PartSteps, PartServes, PartTurns, PartTells, PartDelivers, PartFires, Made, Done, Then, FindsFirst, NoneFailed, NeverFail}
 use Rattle.link_model.specs.Output as out
-use Rattle.link_model.specs.Outstanding.{from_ack}
-use Rattle.link_port.specs.Turns.{timed_out, tell_sends}
 use Rattle.link_watch.specs.declared.note.Note.TheVariants as Notes
-use Rattle.link_watch.specs.declared.side.Side.{Side}
-use Rattle.link_watch.specs.declared.side.Side.TheVariants.{A, B}
-use Rattle.link_wires.specs.Deliveries.{Delivered, Through, WentUndetected, told_of, undetected}
-use Rattle.link_wires.specs.Wires.{bursts, answers}
-use Rattle.link_wires.specs.declared.edits.Edit.{Edit}
-use Rattle.link_wires.specs.declared.moves.Move.{Move}
-use Rattle.link_wires.specs.declared.moves.Move.TheVariants.{Held, Freed}
-use Rattle.link_machine.specs.Calls.{sent_notes, pump_notes, has_chars, delivery_from, move_note, told_notes, delivery_notes, tell_notes}
-use Rattle.link_machine.proofs.Machine.{none_failed}
-use Rattle.fabric_script.specs.declared.ports.PortRef.{PortRef}
-use Rattle.fabric_model.specs.Network.{same_port, peer_in}
-use Rattle.fabric_model.specs.Steps.{AtNode, ByDevice}
-use Rattle.fabric_model.proofs.Peers.{port_is}
-use Rattle.trace_lines.specs.Lines.{TraceLine, Begun, Stepped, Signed, Lacked, Ended, Undetected, Sent, Got, Fired, steps_of}
-use Rattle.fabric_trace.specs.Views.{Half, half_of}
-use Rattle.fabric_trace.specs.Known.{Seen, with_half, peer_of, port_seen, link_at}
-use Rattle.fabric_trace.specs.Fold.{edit_of, edited_by, symbol_leaves, packet_leaves, event_leaves, sends, says, half_sent, taken_from, half_after, undetected_at, got_from, fired_from, signed, seen_line, seen}
-use Rattle.trace_lines.specs.Notes.{lines_of}
-use Rattle.fabric_trace.specs.Parts.{Part, PartBegins, PartLacks, PartEnds, PartNames, PartSteps, PartServes, PartTurns, PartTells, PartDelivers, PartFires, Made, Done, Then}
-use Rattle.fabric_trace.specs.Firsts.{FindsFirst}
-use Rattle.fabric_trace.specs.Working.{NoneFailed, NeverFail}
 use Rattle.fabric_trace.proofs.Parts.Folding.{seen-append, half_own, edited_found}
 use Rattle.fabric_trace.proofs.Parts.Keeping.{IsGood, good_peers, legal_links, part_keeps}
 
 -- ---- a sender that sends does not fail, and one that has failed stays so
 
 abbrev has_failed : out.Output → Bool
-has_failed (out.Output.Ok w) = false
-has_failed (out.Output.RetryStopped w) = false
-has_failed (out.Output.ErrorStopped asked w) = false
 has_failed out.Output.Failed = true
+has_failed _ = false
 
 not_failed : (output : out.Output) → output ≢ out.Output.Failed → has_failed output ≡ false
 not_failed (out.Output.Ok w) h = refl

@@ -1,26 +1,6 @@
 -- What a port acted on was sent where a trace goes on, and was not where it names an event.
-use Rattle.std.proofs.Common.{◌≡◌, ◌↔◌, ℕ, true, false, List, [], ◌∷◌, length, drop, Option, Some, None, refl, sym, ap, ◌∙◌, if◌then◌else◌}
-use Rattle.std.proofs.lemmas.List.{append-nil}
-use Rattle.rio_chars.specs.declared.chars.Char.{Char}
-use Rattle.link_model.specs.declared.event.Event.{Event}
-use Rattle.link_model.specs.Places.{Place, run, place_after}
-use Rattle.link_port.specs.Ports.{PortState}
-use Rattle.link_port.specs.Steps.{is_acted}
-use Rattle.link_wires.specs.Deliveries.{Told, Flow, Delivered, Through, WentUndetected, begun, done, met, comes, goes_on, come, ended, delivered, told_of, undetected}
-use Rattle.link_wires.specs.Kept.{behind, behind_some, behind_all}
-use Rattle.link_wires.specs.declared.edits.Edit.{Edit}
+use Rattle.fabric_trace.proofs.Prelude.{◌≡◌, ◌↔◌, ℕ, true, false, List, [], ◌∷◌, length, drop, Option, Some, None, refl, sym, ap, ◌∙◌, if◌then◌else◌, append-nil, Char, Event, Place, run, place_after, PortState, is_acted, Told, Flow, Delivered, Through, WentUndetected, begun, done, met, comes, goes_on, come, ended, delivered, told_of, undetected, behind, behind_some, behind_all, Edit, all_then, PortRef, Network, same_port, Sent, Got, Fired, TraceLine, Begun, Stepped, Signed, Lacked, Ended, Undetected, Wire, Seen, with_wire, peer_of, port_seen, kept_of, edit_of, edited_by, taken_from, undetected_at, got_from, wire_silenced, fired_from, signed, seen_line, seen, IsKept, ActsOnSent, trace_goes_on, names_undetected, IsFaithful, FaithfulLine, Faithful, FindsFirst, begins, under_way, Settled}
 use Rattle.link_wires.proofs.Exact.{delivered_exact}
-use Rattle.link_wires.proofs.KeptLaws.{all_then}
-use Rattle.fabric_script.specs.declared.ports.PortRef.{PortRef}
-use Rattle.fabric_model.specs.Network.{Network, same_port}
-use Rattle.trace_lines.specs.Lines.{Sent, Got, Fired, TraceLine, Begun, Stepped, Signed, Lacked, Ended, Undetected}
-use Rattle.fabric_trace.specs.Known.{Wire, Seen, with_wire, peer_of, port_seen, kept_of}
-use Rattle.fabric_trace.specs.Fold.{edit_of, edited_by, taken_from, undetected_at, got_from, wire_silenced, fired_from, signed, seen_line, seen}
-use Rattle.fabric_trace.specs.Links.{IsKept}
-use Rattle.fabric_trace.specs.Faithful.{ActsOnSent, trace_goes_on, names_undetected, IsFaithful, FaithfulLine, Faithful}
-use Rattle.fabric_trace.specs.Firsts.{FindsFirst}
-use Rattle.fabric_trace.specs.Runs.{begins}
-use Rattle.fabric_trace.specs.Settled.{under_way, Settled}
 use Rattle.fabric_trace.proofs.Parts.Folding.{sent_kept, kept_is, acted_kept, fired_found}
 
 -- ---- what a delivery leaves, also where an event was not sent

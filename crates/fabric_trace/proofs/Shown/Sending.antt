@@ -1,59 +1,15 @@
 -- What a port sends it has to send or has lent, and a time-out fires where both wires are empty: at
 -- each line of a trace.
-use Rattle.std.proofs.Common.{◌≡◌, inl, inr, ℕ, zero, suc, ◌<◌, ◌==◌, nat_lt, ◌++◌, Bool, true, false, List, [], ◌∷◌, map, take, filter, length, Contains, slice_get, Option, Some, None, option_to_list, refl, sym, ap, ◌∙◌, subst, if◌then◌else◌}
-use Rattle.std.specs.List.{AllByRecursion}
-use Rattle.std.proofs.lemmas.Bool.{and_parts}
-use Rattle.std.proofs.lemmas.List.Elements.{Contains-append_left, Contains-append_right, Contains-append_cases}
-use Rattle.std.proofs.lemmas.Option.{slice_get_within, get_or_from_slice_get}
-use Rattle.rio_chars.specs.declared.chars.Char.{Char}
-use Rattle.rio_packets.specs.Fields.{prio_of}
-use Rattle.rio_symbols.specs.Fields.{Fields}
-use Rattle.link_buffers.specs.Queues.{list_at, IsOutStore}
-use Rattle.link_buffers.specs.Priorities.{lists_without, count_of, highest}
-use Rattle.link_buffers.proofs.PriorityLaws.{IsOutStore-lists_without}
+use Rattle.fabric_trace.proofs.Prelude.{◌≡◌, inl, inr, ℕ, zero, suc, ◌<◌, ◌==◌, nat_lt, ◌++◌, Bool, true, false, List, [], ◌∷◌, map, take, filter, length, Contains, slice_get, Option, Some, None, refl, sym, ap, ◌∙◌, subst, if◌then◌else◌, AllByRecursion, and_parts, Contains-append_left, Contains-append_right, Contains-append_cases, slice_get_within, get_or_from_slice_get, Char, prio_of, Fields, list_at, IsOutStore, lists_without, count_of, highest, IsOutStore-lists_without, Event, Ctl, Pkt, Bad, Outstanding, next_ack, status, window, PortState, IsPort, prios_of, standing, no_burst, symbol_burst, packet_burst, burst_of, turn_sends, turns_to, tell_sends, first_has_prio, port_narrow, turns_read, tell_read, turn_port, Side, A, B, told_of, bursts, answers, Move, Held, Freed, sent_notes, has_chars, has_none, is_silent, delivery_from, move_note, delivery_notes, pump_notes, tell_notes, time_out_notes, PortRef, Item, Network, all-append, Got, Fired, TraceLine, Signed, packets_in, lists_in, queue, Seen, peer_of, port_seen, kept_of, link_at, says, seen_line, seen, port_at_side, line_of, lines_of, Part, PartBegins, PartLacks, PartEnds, PartNames, PartSteps, PartServes, PartTurns, PartTells, PartDelivers, PartFires, Made, Done, Then, HasEvent, IsOwned, AreOwned}
 use Rattle.link_buffers.proofs.PriorityLists.{slice_get-lists_without}
-use Rattle.link_model.specs.declared.event.Event.{Event}
-use Rattle.link_model.specs.declared.event.Event.TheVariants.{Ctl, Pkt, Bad}
 use Rattle.link_model.specs.Output as out
-use Rattle.link_model.specs.Outstanding.{Outstanding, next_ack}
-use Rattle.link_model.specs.Places.{run}
-use Rattle.link_model.specs.Symbols.{status}
-use Rattle.link_model.specs.Window.{window}
-use Rattle.link_port.specs.Ports.{PortState, IsPort}
-use Rattle.link_port.specs.States.{prios_of}
-use Rattle.link_port.specs.Steps.{acts, is_acted}
-use Rattle.link_port.specs.Turns.{standing, no_burst, symbol_burst, packet_burst, burst_of, turn_sends, turns_to, tell_sends}
-use Rattle.link_port.proofs.AnswerLaws.{reply_answers}
-use Rattle.link_port.proofs.FirstPackets.{first_has_prio}
-use Rattle.link_port.specs.Answers.{IsReply}
-use Rattle.link_machine.specs.Led.{AreAnswers}
-use Rattle.link_machine.proofs.Settling.AnswerLaws.{IsNarrow, port_narrow, acts_narrow, AreAnswers-append}
-use Rattle.link_machine.proofs.Settling.Bursting.{turns_read, tell_read}
 use Rattle.link_machine.proofs.Settling.Calming.{empty_chars}
-use Rattle.link_sound.proofs.PortBounds.{turn_port}
 use Rattle.link_watch.specs.declared.note.Note.TheVariants as Notes
-use Rattle.link_watch.specs.declared.side.Side.{Side}
-use Rattle.link_watch.specs.declared.side.Side.TheVariants.{A, B}
-use Rattle.link_wires.specs.Deliveries.{Flow, Delivered, Through, WentUndetected, begun, done, met, comes, goes_on, come, ended, delivered, told_of}
-use Rattle.link_wires.specs.Kept.{behind}
-use Rattle.link_wires.specs.Wires.{bursts, answers}
-use Rattle.link_wires.specs.declared.moves.Move.{Move}
-use Rattle.link_wires.specs.declared.moves.Move.TheVariants.{Held, Freed}
-use Rattle.link_machine.specs.Calls.{sent_notes, has_chars, has_none, is_silent, delivery_from, move_note, told_notes, delivery_notes, pump_notes, tell_notes, time_out_notes}
-use Rattle.fabric_script.specs.declared.ports.PortRef.{PortRef}
-use Rattle.fabric_model.specs.Network.{Item, Network}
-use Rattle.fabric_model.proofs.Lists.{all-append}
-use Rattle.trace_lines.specs.Lines.{Got, Fired, TraceLine, Signed}
-use Rattle.fabric_trace.specs.Views.{packets_in, lists_in, queue}
-use Rattle.fabric_trace.specs.Known.{Seen, peer_of, port_seen, kept_of, link_at}
-use Rattle.fabric_trace.specs.Fold.{says, seen_line, seen}
-use Rattle.trace_lines.specs.Notes.{port_at_side, line_of, lines_of}
-use Rattle.fabric_trace.specs.Parts.{Part, PartBegins, PartLacks, PartEnds, PartNames, PartSteps, PartServes, PartTurns, PartTells, PartDelivers, PartFires, Made, Done, Then}
 use Rattle.fabric_trace.proofs.Links.Bursts.{startable_has, answers_say}
-use Rattle.fabric_trace.proofs.Parts.Folding.{lines-append}
 use Rattle.fabric_trace.proofs.Parts.Keeping.{IsGood, part_keeps}
 use Rattle.fabric_trace.proofs.Network.Lanes.{packets-append, lane_at}
-use Rattle.fabric_trace.specs.Owned.{HasEvent, IsOwned, AreOwned}
+use Rattle.link_machine.proofs.Settling.Replies.{delivered_answers}
+use Rattle.fabric_trace.proofs.Parts.Carrying.{delivery_lines}
 
 -- ---- along lines
 
@@ -76,10 +32,9 @@ owned_at (x ∷ xs) ys line s all = owned_at xs ys line (seen_line s x) all.1
 
 -- the packet of an event stands in the list of its priority
 abbrev IsQueued : List (List (List ℕ)) → Event → Type 0
-IsQueued lists (Ctl symbol) = Unit {0}
 IsQueued lists (Pkt ack packet) =
     (prio_of packet < 4) × Contains (list_at lists (prio_of packet)) packet
-IsQueued lists (Bad cause) = Unit {0}
+IsQueued lists _ = Unit {0}
 
 get_contains : (packets : List (List ℕ)) (k : ℕ) (packet : List ℕ)
     → slice_get packets k ≡ Some packet → Contains packets packet
@@ -202,71 +157,6 @@ controls_there : (net : Network) (p : PortRef) (replies : List Fields)
 controls_there net p [] = tt
 controls_there net p (symbol ∷ replies) = (tt, controls_there net p replies)
 
-replied : (reply : Option Fields) → IsReply reply → AreAnswers (option_to_list reply)
-unfolding AreAnswers
-replied None is = tt
-replied (Some symbol) is = (is, tt)
-
-no_answers : AreAnswers []
-unfolding AreAnswers
-no_answers = tt
-
--- what was answered so far are answers
-record AnswersSo (flow : Flow) : Type 0 where
-  pub are : AreAnswers flow.told.replies
-  pub narrow : IsNarrow flow.port
-
-abbrev AnswersAll : Delivered → Type 0
-AnswersAll (Through flow) = AnswersSo flow
-AnswersAll (WentUndetected told e) = AreAnswers told.replies
-
-done_answers : (e : Event) (acted kept : List Event) (flow : Flow) → AnswersSo flow
-    → AnswersSo (done e acted kept flow)
-done_answers e acted kept flow h = record {
-  are =
-      AreAnswers-append flow.told.replies (option_to_list (acts flow.port e).reply) h.are
-      (replied (acts flow.port e).reply (reply_answers flow.port e h.narrow.0 h.narrow.1));
-  narrow = acts_narrow flow.port e h.narrow;
-}
-
-met_answers : (at : ℕ) (e : Event) (kept : Option (List Event)) (flow : Flow) → AnswersSo flow
-    → AnswersAll (met at e kept flow)
-met_answers at e None flow h = h.are
-met_answers at e (Some kept) flow h = done_answers e (e ∷ []) kept flow h
-
-comes_answers : (flow : Flow) (placed : ℕ × Event) → AnswersSo flow → AnswersAll (comes flow placed)
-comes_answers flow placed h =
-    elim (is_acted flow.port placed.1) as (λ t. AnswersAll
-    (if t then met placed.0 placed.1 (behind placed.1 flow.kept) flow else Through
-    (done placed.1 [] flow.kept flow))) [
-      | true ↦ met_answers placed.0 placed.1 (behind placed.1 flow.kept) flow h
-      | false ↦ done_answers placed.1 [] flow.kept flow h
-    ]
-
-on_answers : (more : Flow → Delivered) (d : Delivered)
-    → ((f : Flow) → AnswersSo f → AnswersAll (more f)) → AnswersAll d → AnswersAll (goes_on more d)
-on_answers more (Through f) next h = next f h
-on_answers more (WentUndetected told e) next h = h
-
-come_answers : (events : List (ℕ × Event)) (flow : Flow) → AnswersSo flow
-    → AnswersAll (come events flow)
-unfolding come
-come_answers [] flow h = h
-come_answers (placed ∷ events) flow h =
-    on_answers (come events) (comes flow placed) (come_answers events) (comes_answers flow placed h)
-
-told_answers : (place : _) (count : ℕ) (d : Delivered) → AnswersAll d
-    → AreAnswers (told_of (ended place count d)).replies
-told_answers place count (Through flow) h = h.are
-told_answers place count (WentUndetected told e) h = h
-
-delivered_answers : (port : PortState) (kept : List Event) (chars : List Char)
-    → IsNarrow port → AreAnswers (told_of (delivered port kept chars)).replies
-delivered_answers port kept chars narrow =
-    told_answers _ _ (come (run port.place 0 chars) (begun port kept))
-    (come_answers (run port.place 0 chars) (begun port kept)
-    (record { are = no_answers; narrow = narrow }))
-
 -- ---- lines
 
 sent_owned : (s : Seen) (a b : PortRef) (side : Side) (chars : List Char)
@@ -314,19 +204,13 @@ delivery_owned s p q n is has =
     let chars = take n (s.wires p).chars in
     let told = told_of (delivery_from A n l) in
     let sent = (answers told.replies).chars in
-    let notes : delivery_notes A n l ≡ told_notes B chars told =
-    ap (λ x. if x then told_notes B chars told else []) has in
     let moves = lines_of p q (map (move_note B) told.moves) in
     let got = Signed (Got q (take told.count chars)) in
-    let lines : lines_of p q (delivery_notes A n l) ≡ got
-    ∷ (moves ++ lines_of p q (sent_notes B sent)) =
-    ap (lines_of p q) notes ∙ ap (λ (x : List TraceLine). got ∷ x)
-    (lines-append p q (map (move_note B) told.moves) (sent_notes B sent)) in
     let are =
     delivered_answers (port_seen s q) (kept_of (s.wires p)) chars (port_narrow (port_seen s q) is)
     in
     let t = seen (seen_line s got) moves in
-    subst (AreOwned s) (sym lines) (
+    subst (AreOwned s) (sym (delivery_lines p q n l has)) (
       tt,
       owned-append moves (lines_of p q (sent_notes B sent)) (seen_line s got)
           (moves_owned (seen_line s got) p q B told.moves)

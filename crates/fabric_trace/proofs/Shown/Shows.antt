@@ -1,12 +1,5 @@
 -- All laws of a trace of a script, and of each front of one.
-use Rattle.std.proofs.Common.{◌++◌, inl, inr, false, List, [], None, refl, sym, subst}
-use Rattle.std.proofs.lemmas.List.{append-nil}
-use Rattle.fabric_script.specs.declared.lines.Numbered.{Numbered}
-use Rattle.fabric_trace.specs.AtRest.{GoesAtRest}
-use Rattle.trace_lines.specs.Lines.{TraceLine, steps_of}
-use Rattle.fabric_trace.specs.Frees.{nothing_got}
-use Rattle.fabric_trace.specs.Runs.{bare, set_up_all, start, Runs, Begins}
-use Rattle.fabric_trace.specs.SetUps.{MaySetUpAll}
+use Rattle.fabric_trace.proofs.Prelude.{◌++◌, inl, inr, false, List, [], None, refl, sym, subst, append-nil, Numbered, GoesAtRest, TraceLine, steps_of, nothing_got, bare, set_up_all, start, Runs, Begins, MaySetUpAll}
 use Rattle.fabric_trace.specs.Shown.{Shown}
 use Rattle.fabric_trace.proofs.Allowance.Allowing.{allowed_front}
 use Rattle.fabric_trace.proofs.Shown.Failing.{made_works, never_front, first_front}

@@ -1,28 +1,8 @@
 -- The characters that a port got stood on its peer's wire.
-use Rattle.std.proofs.Common.{◌≡◌, ℕ, ◌++◌, Bool, true, false, List, [], ◌∷◌, length, map, take, drop, Option, Some, None, refl, sym, ap, ◌∙◌, subst, append_assoc, if◌then◌else◌}
-use Rattle.std.proofs.lemmas.List.{take-append-drop}
-use Rattle.rio_chars.specs.declared.chars.Char.{Char}
-use Rattle.link_watch.specs.declared.note.Note.{Note}
-use Rattle.link_watch.specs.declared.side.Side.TheVariants.{A, B}
-use Rattle.link_wires.specs.Deliveries.{told_of}
-use Rattle.link_wires.specs.Wires.{bursts, answers}
-use Rattle.link_wires.specs.declared.edits.Edit.{Edit}
-use Rattle.link_machine.specs.Calls.{sent_notes, has_chars, is_silent, delivery_from, move_note, told_notes, delivery_notes, pump_notes, time_out_notes, tell_notes}
-use Rattle.fabric_script.specs.declared.ports.PortRef.{PortRef}
-use Rattle.fabric_model.specs.Network.{Network, same_port, peer_in}
-use Rattle.fabric_model.specs.Steps.{after_all}
-use Rattle.fabric_model.proofs.Peers.{peer_back, port_is}
-use Rattle.fabric_model.proofs.Joining.{links_stay}
-use Rattle.trace_lines.specs.Lines.{Sign, Sent, Got, Fired, TraceLine, Begun, Stepped, Signed, Lacked, Ended, Undetected, steps_of}
-use Rattle.fabric_trace.specs.Known.{Wire, Seen, with_wire, peer_of, link_at}
-use Rattle.fabric_trace.specs.Fold.{edit_of, changed, edited_by, wire_sent, taken_from, got_from, wire_silenced, fired_from, signed, seen_line, seen}
-use Rattle.trace_lines.specs.Notes.{lines_of}
-use Rattle.fabric_trace.specs.Parts.{Part, PartBegins, PartLacks, PartEnds, PartNames, PartSteps, PartServes, PartTurns, PartTells, PartDelivers, PartFires, Made, Done, Then}
-use Rattle.fabric_trace.specs.Wires.{WireChars, with_chars, edited_chars, taken_chars, signed_chars, on_wires, WireFold}
+use Rattle.fabric_trace.proofs.Prelude.{◌≡◌, ℕ, ◌++◌, Bool, true, false, List, [], ◌∷◌, length, map, take, drop, Option, Some, None, refl, sym, ap, ◌∙◌, subst, append_assoc, if◌then◌else◌, take-append-drop, Char, Note, A, B, told_of, bursts, answers, Edit, sent_notes, has_chars, is_silent, delivery_from, move_note, told_notes, delivery_notes, pump_notes, time_out_notes, tell_notes, PortRef, Network, same_port, peer_in, after_all, peer_back, port_is, links_stay, Sign, Sent, Got, Fired, TraceLine, Begun, Stepped, Signed, Lacked, Ended, Undetected, steps_of, Wire, Seen, with_wire, peer_of, link_at, edit_of, changed, edited_by, wire_sent, taken_from, got_from, wire_silenced, fired_from, signed, seen_line, seen, lines_of, Part, PartBegins, PartLacks, PartEnds, PartNames, PartSteps, PartServes, PartTurns, PartTells, PartDelivers, PartFires, Made, Done, Then, WireChars, with_chars, edited_chars, taken_chars, signed_chars, on_wires, WireFold, tell_sends}
 use Rattle.fabric_trace.proofs.Parts.Folding.{network_is}
 use Rattle.fabric_trace.proofs.Parts.Keeping.{IsGood, legal_links, part_keeps}
 use Rattle.fabric_trace.proofs.Holds.Still.{GotNone, sent_none, moves_none, fired_none}
-use Rattle.link_port.specs.Turns.{tell_sends}
 
 -- ---- the characters of the fold
 
@@ -84,11 +64,8 @@ signed_is s (Fired p) = fired_is s (peer_of s p) p
 pub line_is : (s : Seen) (line : TraceLine)
     → chars_of (seen_line s line) ≡ on_wires s.network.links (chars_of s) line
 line_is s (Begun line) = edited_is s (edit_of line)
-line_is s (Stepped step) = refl
 line_is s (Signed sign) = signed_is s sign
-line_is s (Lacked lack) = refl
-line_is s Ended = refl
-line_is s (Undetected number q e) = refl
+line_is s _ = refl
 
 -- ---- links stay
 

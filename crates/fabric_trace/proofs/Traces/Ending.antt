@@ -1,14 +1,5 @@
 -- How traces end.
-use Rattle.std.proofs.Common.{◌≡◌, ℕ, List, [], ◌∷◌, ◌++◌, Option, Some, None, refl, sym, ap, ◌∙◌, append_assoc}
-use Rattle.fabric_script.specs.Lines.{is_event}
-use Rattle.fabric_script.specs.declared.lines.Line.{Line}
-use Rattle.fabric_script.specs.declared.lines.Numbered.{Numbered}
-use Rattle.trace_lines.specs.Lines.{TraceLine, Begun, Ended, Undetected}
-use Rattle.fabric_trace.specs.Known.{UndetectedAt, Seen}
-use Rattle.fabric_trace.specs.Fold.{seen}
-use Rattle.fabric_trace.specs.Ends.{EndsAs, Whole, EndsNaming}
-use Rattle.fabric_trace.specs.Rounds.{Follows}
-use Rattle.fabric_trace.specs.Runs.{BlockThen, Names, RunsFrom}
+use Rattle.fabric_trace.proofs.Prelude.{◌≡◌, ℕ, List, [], ◌∷◌, ◌++◌, Option, Some, None, refl, sym, ap, ◌∙◌, append_assoc, is_event, Line, Numbered, TraceLine, Begun, Ended, Undetected, UndetectedAt, Seen, seen, EndsAs, Whole, EndsNaming, Follows, BlockThen, Names, RunsFrom}
 use Rattle.fabric_trace.proofs.Parts.Folding.{seen-append}
 use Rattle.fabric_trace.proofs.Rounds.Blocks.{by_test}
 

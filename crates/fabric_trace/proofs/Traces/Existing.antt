@@ -1,33 +1,11 @@
 -- From each state that a fabric can be in, a run of so many rounds has a block. Each part of a
 -- round
 -- has one: links settle, the steps of a switch end, and nothing follows an event that was not sent.
-use Rattle.std.proofs.Common.{◌≡◌, ℕ, zero, suc, ◌+◌, ◌<◌, Bool, true, false, List, [], ◌∷◌, ◌++◌, Option, Some, None, MatchBool, option_map, slice_get, arith, refl, ap, ◌∙◌}
-use Rattle.std.specs.Bool.{⊤}
-use Rattle.link_machine.specs.Acts.{At, acts_notes}
+use Rattle.fabric_trace.proofs.Prelude.{◌≡◌, ℕ, zero, suc, ◌+◌, ◌<◌, Bool, true, false, List, [], ◌∷◌, ◌++◌, Option, Some, None, MatchBool, option_map, slice_get, arith, refl, ap, ◌∙◌, ⊤, At, acts_notes, Registers, is_switch, Moved, Dropped, Answered, Nothing, PortRef, Network, IsSwitch, switch_at, link_in, IsFormed, packets_at, switches_stay, well_by, ArePeers, link_peers, lines_of, IsSettle, seen_line, seen, UndetectedAt, Seen, link_at, TraceLine, Stepped, steps_of, Made, Done, IsReady, Follows, NamesNothing, Joined, SettleAll, ServesAll, ServeRests, ServeGoes, ServeNodes, Round, Rounds, begins, step_lines, IsMove, IsSetUp}
 use Rattle.link_machine.proofs.Settling.Ends.{settling_can}
-use Rattle.maint_registers.specs.Devices.{Registers, is_switch}
 use Rattle.switch_core.specs.declared.switch.Step as switch
-use Rattle.switch_core.specs.declared.switch.Step.TheVariants.{Moved, Dropped, Answered, Nothing}
-use Rattle.fabric_script.specs.declared.ports.PortRef.{PortRef}
-use Rattle.fabric_model.specs.Network.{Network, IsSwitch, switch_at, link_in}
 use Rattle.fabric_model.specs.Steps.{DeviceStep, Move, Drop, Answer, Step, ByDevice, after, LegalFrom}
-use Rattle.fabric_model.specs.Laws.Forms.{IsFormed}
-use Rattle.fabric_model.proofs.Emptying.{packets_at}
-use Rattle.fabric_model.proofs.Flows.{switches_stay}
 use Rattle.fabric_model.proofs.Forms.{device_at, stays_formed, empty_formed}
-use Rattle.fabric_model.proofs.Lanes.{well_by}
-use Rattle.fabric_model.proofs.Peers.{ArePeers, link_peers}
-use Rattle.trace_lines.specs.Notes.{lines_of}
-use Rattle.fabric_trace.specs.Blocks.{IsSettle}
-use Rattle.fabric_trace.specs.Fold.{seen_line, seen}
-use Rattle.fabric_trace.specs.Known.{UndetectedAt, Seen, link_at}
-use Rattle.trace_lines.specs.Lines.{TraceLine, Stepped, steps_of}
-use Rattle.fabric_trace.specs.Parts.{Made, Done}
-use Rattle.fabric_trace.specs.Ready.{IsReady}
-use Rattle.fabric_trace.specs.Rounds.{Follows, NamesNothing, Joined, SettleAll, ServesAll, ServeRests, ServeGoes, ServeNodes, Round, Rounds}
-use Rattle.fabric_trace.specs.Runs.{begins}
-use Rattle.fabric_trace.specs.Served.{step_lines, IsMove}
-use Rattle.fabric_trace.specs.SetUps.{IsSetUp}
 use Rattle.fabric_trace.proofs.Traces.Forming.{move_exists}
 use Rattle.fabric_trace.proofs.Parts.Keeping.{IsGood, good_by_priority, made_keeps, legal_links}
 use Rattle.fabric_trace.proofs.Parts.Making.{made-append}

@@ -1,29 +1,8 @@
 -- What a switch makes of a packet is in its link form if all that the network holds is: so each
 -- switch has a move.
-use Rattle.std.proofs.Common.{◌≡◌, ℕ, ◌<◌, true, List, Option, Some, None, option_map, slice_get, arith, refl, sym, ap, ◌∙◌, subst}
-use Rattle.rio_packets.specs.Fields.{prio_of}
-use Rattle.rio_packets.specs.LinkForm.{Passes}
-use Rattle.maint_registers.specs.Devices.{Registers, is_switch}
-use Rattle.maint_registers.specs.Within.{IsWithin}
-use Rattle.maint_packets.specs.declared.next_hop.Next.{Next}
-use Rattle.maint_packets.specs.declared.next_hop.Next.TheVariants.{Nowhere, RegisterUnit, Port}
-use Rattle.maint_packets.specs.declared.request.Request.{Request}
-use Rattle.maint_packets.specs.NextHops.{next_of}
-use Rattle.maint_packets.specs.Requests.{request_of}
-use Rattle.maint_packets.specs.Responses.{response_bytes}
-use Rattle.maint_packets.specs.Answers.{request_answered}
-use Rattle.maint_packets.proofs.AnswerLaws.{responses_pass}
+use Rattle.fabric_trace.proofs.Prelude.{◌≡◌, ℕ, ◌<◌, true, List, Option, Some, None, option_map, slice_get, arith, refl, sym, ap, ◌∙◌, subst, prio_of, Passes, Registers, is_switch, IsWithin, Next, Nowhere, RegisterUnit, Port, Request, next_of, request_of, response_bytes, request_answered, responses_pass, Moved, Dropped, Answered, Face, face_at, head_of, has_room, answer_step, step_to, step_of, first_step_by, PortRef, Network, IsSwitch, IsFormed, Seen, face_in, faces_in, step_lines, ResponseHasForm, IsMove}
 use Rattle.switch_core.specs.declared.switch.Step as switch
-use Rattle.switch_core.specs.declared.switch.Step.TheVariants.{Moved, Dropped, Answered}
-use Rattle.switch_core.specs.Faces.{Face, face_at, head_of, has_room}
-use Rattle.switch_core.specs.SwitchSteps.{answer_step, step_to, step_of}
-use Rattle.switch_core.proofs.FirstSteps.{first_step_by}
-use Rattle.fabric_script.specs.declared.ports.PortRef.{PortRef}
-use Rattle.fabric_model.specs.Network.{Network, IsSwitch}
-use Rattle.fabric_model.specs.Laws.Forms.{IsFormed}
 use Rattle.fabric_model.proofs.Forms.{device_at}
-use Rattle.fabric_trace.specs.Known.{Seen}
-use Rattle.fabric_trace.specs.Served.{face_in, faces_in, step_lines, ResponseHasForm, IsMove}
 use Rattle.fabric_trace.proofs.Network.Faces.{head_held, face_is, if_some}
 use Rattle.fabric_trace.proofs.Parts.Keeping.{IsGood, good_by_priority, passes_first}
 

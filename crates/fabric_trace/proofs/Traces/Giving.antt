@@ -1,23 +1,9 @@
 -- A packet that a line gives to an endpoint can be made, so that the line has a block.
-use Rattle.std.proofs.Common.{◌≡◌, ℕ, ◌%◌, ◌^◌, ◌<◌, ◌≤◌, Bool, true, false, List, Option, Some, None, option_map, slice_get, unwrap_or, length, All, arith, refl, if◌then◌else◌}
-use Rattle.std.proofs.lemmas.Bool.{true≢false}
-use Rattle.std.proofs.lemmas.List.Elements.{All-from_recursion}
-use Rattle.rio_packets.specs.Fields.{body_of}
-use Rattle.rio_packets.specs.LinkForm.{IsBody}
+use Rattle.fabric_trace.proofs.Prelude.{◌≡◌, ℕ, ◌%◌, ◌^◌, ◌<◌, ◌≤◌, Bool, true, false, List, Option, Some, None, option_map, slice_get, unwrap_or, length, All, arith, refl, if◌then◌else◌, true≢false, All-from_recursion, body_of, IsBody, LinkForm-made, Registers, IsWithin, names_second, in_half, Network, sender_id, id_of, IsEndpoint, IsFormed, take_lines, SendsBody, id_limit, FitsSend, FitsRequest, Seen, TraceLine}
 use Rattle.rio_packets.specs.Making.{made, most_rest}
-use Rattle.rio_packets.proofs.FormLaws.{LinkForm-made}
 use Rattle.rio_packets.proofs.MakingLaws.{IsBody-body_of}
-use Rattle.maint_registers.specs.Devices.{Registers}
-use Rattle.maint_registers.specs.Within.{IsWithin}
 use Rattle.maint_packets.specs.Layout.{behind_ids}
-use Rattle.maint_packets.specs.Requests.{names_second, in_half}
-use Rattle.fabric_model.specs.Network.{Network, sender_id, id_of, IsEndpoint}
-use Rattle.fabric_model.specs.Laws.Forms.{IsFormed}
 use Rattle.fabric_model.proofs.Forms.{device_at}
-use Rattle.fabric_trace.specs.Blocks.{take_lines, SendsBody}
-use Rattle.fabric_trace.specs.Events.{id_limit, FitsSend, FitsRequest}
-use Rattle.fabric_trace.specs.Known.{Seen}
-use Rattle.trace_lines.specs.Lines.{TraceLine}
 
 -- ---- packets
 

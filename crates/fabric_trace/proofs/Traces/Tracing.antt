@@ -1,44 +1,9 @@
 -- Each script that passes has a trace: each of its events has a block in the state that the blocks
 -- before it lead to.
-use Rattle.std.proofs.Common.{◌≡◌, ℕ, Bool, true, false, List, [], ◌∷◌, ◌++◌, Option, Some, None, MatchBool, option_map, is_some, slice_get, arith, refl, ap, ◌∙◌, if◌then◌else◌}
-use Rattle.std.specs.Bool.{⊤}
-use Rattle.std.specs.List.{AllByRecursion}
-use Rattle.std.proofs.lemmas.List.Elements.{recursion_from_All}
-use Rattle.rio_packets.specs.Fields.{prio_of}
-use Rattle.rio_packets.specs.LinkForm.{Passes}
-use Rattle.maint_registers.specs.Devices.{Registers, is_switch}
-use Rattle.maint_registers.specs.Within.{IsWithin}
-use Rattle.maint_packets.specs.declared.request.Request.{Request}
-use Rattle.maint_packets.specs.Requests.{request_of}
-use Rattle.maint_packets.specs.Responses.{response_bytes}
-use Rattle.maint_packets.specs.Answers.{request_answered}
-use Rattle.maint_packets.proofs.AnswerLaws.{responses_pass}
+use Rattle.fabric_trace.proofs.Prelude.{◌≡◌, ℕ, Bool, true, false, List, [], ◌∷◌, ◌++◌, Option, Some, None, MatchBool, option_map, is_some, slice_get, arith, refl, ap, ◌∙◌, if◌then◌else◌, ⊤, AllByRecursion, recursion_from_All, prio_of, Passes, Registers, is_switch, IsWithin, Request, request_of, response_bytes, request_answered, responses_pass, head_of, has_room, first_held, collected_of, collected_head, collected, greatest_first-is, PortRef, Line, Numbered, is_event, new_name, Known, nothing, known_after, MayBe, PassesFrom, ScriptPasses, Network, same_port, port_of, peer_in, link_in, id_of, switch_at, IsEndpoint, IsFormed, link_peers, pumps, delivers, time_out_lines, edits, IsSettle, WithPeer, WithLink, IsBlock, FitsPacket, IsInRange, IsThere, MayHappen, edit_of, seen, UndetectedAt, Seen, peer_of, TraceLine, Begun, Ended, Undetected, steps_of, PartBegins, Made, Then, IsReady, Follows, bare, set_up_all, begins, BlockThen, Names, RunsFrom, Runs, face_in, step_lines, collect_lines, HasResponseForm, IsCollect}
 use Rattle.switch_core.specs.declared.endpoint.Collected.TheVariants as Collects
-use Rattle.switch_core.specs.Faces.{head_of, has_room}
-use Rattle.switch_core.specs.EndpointSteps.{first_held, collected_of, collected_head, collected}
-use Rattle.switch_core.proofs.OrderLaws.{greatest_first-is}
-use Rattle.fabric_script.specs.declared.ports.PortRef.{PortRef}
-use Rattle.fabric_script.specs.declared.lines.Line.{Line}
-use Rattle.fabric_script.specs.declared.lines.Line.TheVariants.{Endpoint, Switch, Link, Buffers, Route, Default, Lock, Large, Send, Read, Write, Pump, Deliver, Alter, Insert, Erase, Timeout, Settle, Move, Collect, Run, Send16, Read16, Write16, Credits}
-use Rattle.fabric_script.specs.declared.lines.Numbered.{Numbered}
-use Rattle.fabric_script.specs.Lines.{is_event, new_name}
-use Rattle.fabric_script.specs.Known.{Known, nothing, known_after}
-use Rattle.fabric_script.specs.Reading.{MayBe}
-use Rattle.fabric_script.specs.Scripts.{PassesFrom, ScriptPasses}
-use Rattle.fabric_model.specs.Network.{Network, same_port, port_of, peer_in, link_in, id_of, switch_at, IsEndpoint}
-use Rattle.fabric_model.specs.Laws.Forms.{IsFormed}
+use Rattle.fabric_script.specs.declared.lines.Line.TheVariants.{Send, Read, Write, Pump, Deliver, Alter, Insert, Erase, Timeout, Settle, Move, Collect, Run, Send16, Read16, Write16}
 use Rattle.fabric_model.proofs.Forms.{device_at}
-use Rattle.fabric_model.proofs.Peers.{link_peers}
-use Rattle.fabric_trace.specs.Blocks.{pumps, delivers, time_out_lines, edits, IsSettle, WithPeer, WithLink, IsBlock}
-use Rattle.fabric_trace.specs.Events.{FitsPacket, IsInRange, IsThere, MayHappen}
-use Rattle.fabric_trace.specs.Fold.{edit_of, seen}
-use Rattle.fabric_trace.specs.Known.{UndetectedAt, Seen, peer_of}
-use Rattle.trace_lines.specs.Lines.{TraceLine, Begun, Ended, Undetected, steps_of}
-use Rattle.fabric_trace.specs.Parts.{PartBegins, Made, Then}
-use Rattle.fabric_trace.specs.Ready.{IsReady}
-use Rattle.fabric_trace.specs.Rounds.{Follows}
-use Rattle.fabric_trace.specs.Runs.{bare, set_up_all, begins, BlockThen, Names, RunsFrom, Runs}
-use Rattle.fabric_trace.specs.Served.{face_in, step_lines, collect_lines, HasResponseForm, IsCollect}
 use Rattle.fabric_trace.proofs.Traces.Existing.{good_of, ready_begun, ready_on, settle_exists, switches_along, rounds_exist}
 use Rattle.fabric_trace.proofs.Network.Faces.{head_held}
 use Rattle.fabric_trace.proofs.Traces.Forming.{StandsAt, move_exists}
@@ -141,15 +106,6 @@ collect_exists s node ready endpoint =
 
 pub block_exists : (line : Line) (s : Seen) → IsReady s → s.undetected ≡ None → is_event line ≡ true
     → FitsPacket line → IsThere s.network line → (block : List TraceLine) × IsBlock s line block
-block_exists (Endpoint name id) s ready none event say there = absurd cc
-block_exists (Switch name ports) s ready none event say there = absurd cc
-block_exists (Link a b) s ready none event say there = absurd cc
-block_exists (Buffers port n) s ready none event say there = absurd cc
-block_exists (Route node id p) s ready none event say there = absurd cc
-block_exists (Default node p) s ready none event say there = absurd cc
-block_exists (Lock node id) s ready none event say there = absurd cc
-block_exists (Large node id) s ready none event say there = absurd cc
-block_exists (Credits port) s ready none event say there = absurd cc
 block_exists (Send node prio ftype dest hex) s ready none event say there =
     sends_exist s node _ there
     (send_body false prio ftype dest (id_of s.network node false) hex say
@@ -194,6 +150,7 @@ block_exists (Move node) s ready none event say there = let own =
 block_exists (Collect node) s ready none event say there = collect_exists s node ready there
 block_exists (Run n) s ready none event say there = let own =
     rounds_exist n s ready none in (own.lines, own.is)
+block_exists _ s ready none event say there = absurd cc
 
 -- ---- what an event names stays there
 

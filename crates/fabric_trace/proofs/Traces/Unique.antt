@@ -1,27 +1,8 @@
 -- A script has at most one trace: each part of a run determines its lines.
-use Rattle.std.proofs.Common.{◌≡◌, ℕ, zero, suc, Bool, true, false, List, [], ◌∷◌, ◌++◌, Option, Some, None, MatchBool, slice_get, sym, ap, ◌∙◌, subst, append_assoc}
-use Rattle.rio_packets.proofs.FormLaws.{LinkForm-one}
-use Rattle.link_machine.specs.Acts.{At, acts_notes}
+use Rattle.fabric_trace.proofs.Prelude.{◌≡◌, ℕ, zero, suc, Bool, true, false, List, [], ◌∷◌, ◌++◌, Option, Some, None, MatchBool, slice_get, sym, ap, ◌∙◌, subst, append_assoc, LinkForm-one, At, acts_notes, Registers, is_switch, step_of, collected, is_event, PortRef, Line, Numbered, Network, link_in, port_of, ByDevice, NoStep, TraceLine, Begun, Stepped, Lacked, UndetectedAt, Seen, peer_of, link_at, seen_line, seen, face_in, faces_in, step_lines, IsMove, collect_lines, IsCollect, lines_of, take_lines, SendsBody, pumps, delivers, time_out_lines, IsSettle, WithPeer, WithLink, IsBlock, Follows, NamesNothing, Joined, SettleAll, ServesAll, ServeRests, ServeGoes, ServeNodes, Round, Rounds, start, BlockThen, Names, RunsFrom, Runs, BlocksFrom, Begins}
 use Rattle.link_machine.proofs.Settling.OneWay.{AtMostOne, match_one, settles_one}
-use Rattle.maint_registers.specs.Devices.{Registers, is_switch}
-use Rattle.switch_core.specs.SwitchSteps.{step_of}
-use Rattle.switch_core.specs.EndpointSteps.{collected}
-use Rattle.fabric_script.specs.Lines.{is_event}
-use Rattle.fabric_script.specs.declared.ports.PortRef.{PortRef}
-use Rattle.fabric_script.specs.declared.lines.Line.{Line}
-use Rattle.fabric_script.specs.declared.lines.Line.TheVariants.{Endpoint, Switch, Link, Buffers, Route, Default, Lock, Large, Send, Read, Write, Pump, Deliver, Alter, Insert, Erase, Timeout, Settle, Move, Collect, Run, Send16, Read16, Write16, Credits}
-use Rattle.fabric_script.specs.declared.lines.Numbered.{Numbered}
-use Rattle.fabric_model.specs.Network.{Network, link_in, port_of}
-use Rattle.fabric_model.specs.Steps.{ByDevice}
+use Rattle.fabric_script.specs.declared.lines.Line.TheVariants.{Send, Read, Write, Pump, Deliver, Alter, Insert, Erase, Timeout, Settle, Move, Collect, Run, Send16, Read16, Write16}
 use Rattle.fabric_model.specs.Laws.Freeing.{IsFront}
-use Rattle.trace_lines.specs.Lines.{NoStep, TraceLine, Begun, Stepped, Lacked}
-use Rattle.fabric_trace.specs.Known.{UndetectedAt, Seen, peer_of, link_at}
-use Rattle.fabric_trace.specs.Fold.{seen_line, seen}
-use Rattle.fabric_trace.specs.Served.{face_in, faces_in, step_lines, IsMove, collect_lines, IsCollect}
-use Rattle.trace_lines.specs.Notes.{lines_of}
-use Rattle.fabric_trace.specs.Blocks.{take_lines, SendsBody, pumps, delivers, time_out_lines, IsSettle, WithPeer, WithLink, IsBlock}
-use Rattle.fabric_trace.specs.Rounds.{Follows, NamesNothing, Joined, SettleAll, ServesAll, ServeRests, ServeGoes, ServeNodes, Round, Rounds}
-use Rattle.fabric_trace.specs.Runs.{start, BlockThen, Names, RunsFrom, Runs, BlocksFrom, Begins}
 
 -- ---- blocks
 
@@ -127,15 +108,6 @@ rounds_one (suc n) s x y f g =
     joined_one s (Round IsSettle s) (Rounds IsSettle n) (round_one s) (rounds_one n) x y f g
 
 pub block_one : (line : Line) (s : Seen) → AtMostOne (IsBlock s line)
-block_one (Endpoint name id) s x y f g = absurd f
-block_one (Switch name ports) s x y f g = absurd f
-block_one (Link a b) s x y f g = absurd f
-block_one (Buffers port n) s x y f g = absurd f
-block_one (Route node id p) s x y f g = absurd f
-block_one (Default node p) s x y f g = absurd f
-block_one (Lock node id) s x y f g = absurd f
-block_one (Large node id) s x y f g = absurd f
-block_one (Credits port) s x y f g = absurd f
 block_one (Send node prio ftype dest hex) s x y f g = send_one s node _ x y f g
 block_one (Read node prio dest hop tid offset) s x y f g = send_one s node _ x y f g
 block_one (Write node prio dest hop tid offset value) s x y f g = send_one s node _ x y f g
@@ -153,6 +125,7 @@ block_one (Settle port) s x y f g =
 block_one (Move node) s x y f g = move_one s.network node x y f g
 block_one (Collect node) s x y f g = collect_one s.network node x y f g
 block_one (Run n) s x y f g = rounds_one n s x y f g
+block_one _ s x y f g = absurd f
 
 -- ---- runs
 

@@ -1,33 +1,8 @@
 -- The runs of one packet and of one status are traces of their scripts.
-use Rattle.std.proofs.Common.{◌<◌, true, [], ◌∷◌, arith, refl, false}
-use Rattle.std.proofs.lemmas.List.Elements.{All-from_recursion}
-use Rattle.crc_division.specs.Bits.{bits, number}
-use Rattle.crc_division.specs.Division.{division_steps, complemented}
-use Rattle.rio_symbols.specs.Crc5.{field_bits, crc5_message, crc5_of, crc5_value}
-use Rattle.rio_symbols.specs.Spelling.{symbol_bytes, spelled, is_spelling}
-use Rattle.link_buffers.specs.Priorities.{highest_below}
-use Rattle.link_model.specs.Events.{packet_event}
-use Rattle.link_model.specs.Places.{run, place_after}
-use Rattle.link_model.specs.ReadingKinds.{kind}
+use Rattle.fabric_trace.proofs.Prelude.{◌<◌, true, [], ◌∷◌, arith, refl, false, All-from_recursion, bits, number, division_steps, complemented, field_bits, crc5_message, crc5_of, crc5_value, symbol_bytes, spelled, is_spelling, highest_below, packet_event, run, place_after, kind, window, come, port_turned, bursts, new_endpoint, greatest_first, carried, body_of, IsBody, LinkForm, fed, shifted, shifted_times, LinkForm-made, packet, Hold, Free, Take, Leave, Linked, AtNode, sends, Sent, Got, Stepped, Signed, Runs, near, far, packet_chars, accepted_chars, packet_script, packet_trace, status_chars, telling_script, telling_trace}
 use Rattle.link_model.specs.ReadingSpelt.{symbol_chars_of, bytes_with_ack, packet_chars_of}
-use Rattle.link_model.specs.Window.{window}
 use Rattle.link_port.specs.Acts.{replies}
-use Rattle.link_wires.specs.Deliveries.{come}
-use Rattle.link_wires.specs.Wires.{port_turned, bursts}
-use Rattle.maint_registers.specs.Devices.{new_endpoint}
-use Rattle.switch_core.specs.Order.{greatest_first}
-use Rattle.rio_packets.specs.Carries.{carried}
-use Rattle.rio_packets.specs.Fields.{body_of}
-use Rattle.rio_packets.specs.LinkForm.{IsBody, LinkForm}
 use Rattle.rio_packets.specs.Making.{with_crc, with_more}
-use Rattle.rio_packets.specs.Register.{fed, shifted, shifted_times}
-use Rattle.rio_packets.proofs.FormLaws.{LinkForm-made}
-use Rattle.fabric_model.specs.Laws.Examples.{packet}
-use Rattle.fabric_model.specs.Steps.{Hold, Free, Take, Leave, Linked, AtNode}
-use Rattle.fabric_trace.specs.Fold.{sends}
-use Rattle.trace_lines.specs.Lines.{Sent, Got, Stepped, Signed}
-use Rattle.fabric_trace.specs.Runs.{Runs}
-use Rattle.fabric_trace.specs.Examples.{near, far, packet_chars, accepted_chars, packet_script, packet_trace, status_chars, telling_script, telling_trace}
 
 body : IsBody (body_of 0 15 false 2 1 (0xca ∷ 0xfe ∷ 0x00 ∷ 0x01 ∷ []))
 body = record {

@@ -1,56 +1,5 @@
 -- Small runs are traces of their scripts, and the laws fail of lines that they must not allow.
-use Rattle.std.proofs.Common.{◌≡◌, ◌≢◌, ℕ, true, false, Contains, Option, List, [], None, ◌∷◌, ◌++◌, Some, refl, sym, subst, if◌then◌else◌, inl, inr, drop, arith, ap, ◌∙◌, append-nil, append_assoc}
-use Rattle.rio_chars.specs.declared.chars.Char.{Char}
-use Rattle.link_model.specs.declared.event.Event.{Event}
-use Rattle.link_machine.specs.Rest.{IsSettled}
-use Rattle.link_buffers.specs.Priorities.{highest_below}
-use Rattle.link_wires.specs.Kept.{IsSubsequence}
-use Rattle.link_wires.specs.Kept.IsSubsequence.{EndsWithin, TakesWithin, SkipsWithin}
-use Rattle.link_wires.specs.Deliveries.{come}
-use Rattle.link_wires.specs.Wires.{port_turned, bursts}
-use Rattle.link_model.specs.ReadingKinds.{kind}
-use Rattle.link_model.specs.Window.{window}
-use Rattle.link_model.specs.Places.{run, place_after}
-use Rattle.link_model.specs.Events.{packet_event}
-use Rattle.rio_packets.specs.Carries.{carried}
-use Rattle.rio_packets.specs.Register.{fed, shifted, shifted_times}
-use Rattle.crc_division.specs.Bits.{bits, number}
-use Rattle.crc_division.specs.Division.{division_steps, complemented}
-use Rattle.rio_symbols.specs.Crc5.{field_bits, crc5_message, crc5_of, crc5_value}
-use Rattle.rio_symbols.specs.Spelling.{spelled, is_spelling}
-use Rattle.maint_registers.specs.Devices.{new_endpoint, new_switch}
-use Rattle.maint_packets.specs.declared.next_hop.Next.TheVariants.{Port}
-use Rattle.switch_core.specs.Order.{greatest_first, least_first}
-use Rattle.fabric_model.specs.Network.{Network, same_port, link_in}
-use Rattle.fabric_model.specs.Laws.Examples.{packet}
-use Rattle.fabric_model.specs.Serving.{next_at}
-use Rattle.fabric_model.specs.Steps.{LegalFrom}
-use Rattle.trace_lines.specs.Lines.{TraceLine, Empty, Short, Early, NoStep, Fired, Signed, Lacked, steps_of}
-use Rattle.fabric_trace.specs.Known.{UndetectedAt, Seen, link_at}
-use Rattle.fabric_trace.specs.Fold.{says, sends, seen}
-use Rattle.fabric_trace.specs.Runs.{bare, begins, Runs}
-use Rattle.fabric_trace.specs.Allowance.{FreesAllowed}
-use Rattle.fabric_trace.specs.AtRest.{IsBlockAtRest}
-use Rattle.fabric_trace.specs.Blocks.{IsSettle, WithLink}
-use Rattle.fabric_trace.specs.Faithful.{Faithful}
-use Rattle.fabric_trace.specs.Noted.{FreesNoted}
-use Rattle.fabric_trace.specs.OnTheWay.{NeverFailWithin}
-use Rattle.fabric_trace.specs.Owned.{AreOwned}
-use Rattle.fabric_trace.specs.Rounds.{SettlesTo, SettleAll}
-use Rattle.fabric_script.specs.declared.lines.Line.TheVariants.{Settle, Run}
-use Rattle.fabric_script.specs.declared.ports.PortRef.{PortRef}
-use Rattle.fabric_trace.specs.Firsts.{FindsFirst}
-use Rattle.fabric_trace.specs.Settled.{Settled}
-use Rattle.fabric_trace.specs.Working.{NeverFail}
-use Rattle.rio_symbols.specs.Fields.{Fields}
-use Rattle.link_model.specs.declared.event.Event.TheVariants.{Ctl, Pkt, Bad}
-use Rattle.link_model.specs.Symbols.{packet_accepted}
-use Rattle.fabric_trace.specs.Frees.{Acknowledges, Gotten, nothing_got, completed, FreesSaid}
-use Rattle.fabric_trace.specs.Holds.{HoldsCame}
-use Rattle.fabric_trace.specs.Served.{IsMove}
-use Rattle.fabric_trace.specs.SetUps.{MaySetUpAll}
-use Rattle.fabric_trace.specs.Wires.{WireFold}
-use Rattle.fabric_trace.specs.Examples.{near, far, pair_network, idle_script, idle_trace, accepted_chars, switch_script, switch_trace, two_held, dropped_at, moved_to, joined_with_itself, held_from_nowhere, held_in_wrong_order, frees_once, freed_twice, freed_later, accepted_in_pieces, accepted_before, got_from_nowhere, got_another, got_behind_a_find, sent_from_nowhere, fires_once, still_under_way, moving, acted_from_nowhere, named_though_sent, not_settled, not_settled_yet, goes_on_with, named_at, found_before, fails_in_a_delivery, fails_in_a_run}
+use Rattle.fabric_trace.proofs.Prelude.{◌≡◌, ◌≢◌, ℕ, true, false, Contains, Option, List, [], None, ◌∷◌, ◌++◌, Some, refl, sym, subst, if◌then◌else◌, inl, inr, drop, arith, ap, ◌∙◌, append-nil, append_assoc, Char, Event, IsSettled, highest_below, IsSubsequence, EndsWithin, TakesWithin, SkipsWithin, come, port_turned, bursts, kind, window, run, place_after, packet_event, carried, fed, shifted, shifted_times, bits, number, division_steps, complemented, field_bits, crc5_message, crc5_of, crc5_value, spelled, is_spelling, new_endpoint, new_switch, Port, greatest_first, least_first, Network, same_port, link_in, packet, next_at, LegalFrom, TraceLine, Empty, Short, Early, NoStep, Fired, Signed, Lacked, steps_of, UndetectedAt, Seen, link_at, says, sends, seen, bare, begins, Runs, FreesAllowed, IsBlockAtRest, IsSettle, WithLink, Faithful, FreesNoted, NeverFailWithin, AreOwned, SettlesTo, SettleAll, Settle, Run, PortRef, FindsFirst, Settled, NeverFail, Fields, Ctl, Pkt, Bad, packet_accepted, Acknowledges, Gotten, nothing_got, completed, FreesSaid, HoldsCame, IsMove, MaySetUpAll, WireFold, near, far, pair_network, idle_script, idle_trace, accepted_chars, switch_script, switch_trace, two_held, dropped_at, moved_to, joined_with_itself, held_from_nowhere, held_in_wrong_order, frees_once, freed_twice, freed_later, accepted_in_pieces, accepted_before, got_from_nowhere, got_another, got_behind_a_find, sent_from_nowhere, fires_once, still_under_way, moving, acted_from_nowhere, named_though_sent, not_settled, not_settled_yet, goes_on_with, named_at, found_before, fails_in_a_delivery, fails_in_a_run}
 use Rattle.fabric_trace.proofs.Parts.Folding.{says_none}
 
 pub idle_runs : Runs idle_script idle_trace
@@ -154,8 +103,7 @@ wrong_order chars first second apart EndsWithin is said = absurd cc
 wrong_order chars first second apart (TakesWithin e rest) is said =
     let same : Pkt 0 second ≡ Pkt 0 first = cc in
     apart (cc same)
-wrong_order chars first second apart (SkipsWithin x rest) is said =
-    later rest is (ap (drop 1) said)
+wrong_order chars first second apart (SkipsWithin x rest) is said = later rest is (ap (drop 1) said)
   where
     later : {xs ys : List Event} → IsSubsequence xs ys → xs ≡ Pkt 0 second ∷ Pkt 1 first ∷ []
         → ys ≡ Pkt 1 second ∷ [] → ⊥

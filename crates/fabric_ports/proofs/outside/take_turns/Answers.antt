@@ -1,6 +1,9 @@
 use Rattle.std.proofs.Common.{◌≡◌, ◌-◌, suc, arith}
-use Rattle.fabric_ports.proofs.OutsidePorts.{turning_more, turning_stops, turning_done}
+use Rattle.fabric_ports.proofs.OutsidePorts.{turning_begins, turning_more, turning_stops, turning_done}
 use Rattle.fabric_ports.proofs.outside.take_turns.Goals as goal
+
+pub loop-left-init : goal.loop-left-init
+loop-left-init g c = turning_begins _ _ _ _
 
 pub loop-left-preserved : goal.loop-left-preserved
 loop-left-preserved g c =

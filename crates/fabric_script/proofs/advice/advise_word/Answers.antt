@@ -17,16 +17,16 @@ loop-i-init c =
 
 pub returns-then-not-is_spelled : goal.returns-then-not-is_spelled
 returns-then-not-is_spelled c =
-    misspelled_at c.args.text.now c.args.form c.kinds-kind-items.result.now c.loop-i.i
-    c.loop-i.words.words c.word-in-loop-i.result.now c.requires.form c.requires.count
-    c.kinds-kind-items.ensures.kinds c.loop-i-test.true c.loop-i.invariant
-    c.word-in-loop-i.ensures.word (c.is_spelled.ensures (search rules))
+    misspelled_at c.args.text.now c.args.form c.fields-field-items.result.now c.loop-i.i
+    c.loop-i.words.words c.word-in-loop-i.result.now c.kind-kind.result c.requires.form c.requires.count
+    c.fields-field-items.ensures.fields c.loop-i-test.true c.loop-i.invariant
+    c.word-in-loop-i.ensures.word c.kind-kind.ensures (c.is_spelled.ensures (search rules))
 
 pub loop-i-preserved : goal.loop-i-preserved
 loop-i-preserved c =
     subst (λ left. IsBehind (words_of c.args.text.now) (c.loop-i.i + 1 + 1) left.words)
     (sym c.word-in-loop-i.ensures.rest)
     (behind_word (words_of c.args.text.now) (c.loop-i.i + 1) c.loop-i.words
-    (some_left c.args.text.now c.args.form c.kinds-kind-items.result.now c.loop-i.i
-    c.loop-i.words.words c.requires.count c.kinds-kind-items.ensures.kinds c.loop-i-test.true
+    (some_left c.args.text.now c.args.form c.fields-field-items.result.now c.loop-i.i
+    c.loop-i.words.words c.requires.count c.fields-field-items.ensures.fields c.loop-i-test.true
     c.loop-i.invariant) c.loop-i.invariant)

@@ -27,7 +27,7 @@ returns-in-Left g c = λ s shows sent by.
       forms = c.show_form.ensures;
     }) (has_both c.args.self.now (port_of c.args.node)
     c.endpoint_collect.new.registers c.endpoint_collect.new.port c.place-place.ensures.place
-    c.from.ensures (c.deref.ensures.value, c.wake_ports.ensures))
+    c.from.ensures (c.deref.ensures.value, c.wake_port.ensures))
     refl c.write_leave.ensures
 
 pub returns-in-Answered : goal.returns-in-Answered
@@ -47,7 +47,7 @@ returns-in-Answered g c = λ s shows sent by.
       forms = (c.show_form-in-Answered.ensures, c.show_form-in-Answered-2.ensures);
     }) (has_both c.args.self.now (port_of c.args.node)
     c.endpoint_collect.new.registers c.endpoint_collect.new.port c.place-place.ensures.place
-    c.from.ensures (c.deref.ensures.value, c.wake_ports.ensures))
+    c.from.ensures (c.deref.ensures.value, c.wake_port.ensures))
     refl c.write_answer.ensures
 
 pub returns-in-Empty : goal.returns-in-Empty
@@ -64,7 +64,7 @@ returns-in-Empty g c = λ s shows sent by. did_collect Collects.Empty shows sent
       forms = tt;
     }) (has_both c.args.self.now (port_of c.args.node)
     c.endpoint_collect.new.registers c.endpoint_collect.new.port c.place-place.ensures.place
-    c.from.ensures (c.deref.ensures.value, c.wake_ports.ensures))
+    c.from.ensures (c.deref.ensures.value, c.wake_port.ensures))
     refl c.write_lack.ensures
 
 pub returns-in-Full : goal.returns-in-Full
@@ -81,5 +81,5 @@ returns-in-Full g c = λ s shows sent by. did_collect Collects.Full shows sent c
       forms = tt;
     }) (has_both c.args.self.now (port_of c.args.node)
     c.endpoint_collect.new.registers c.endpoint_collect.new.port c.place-place.ensures.place
-    c.from.ensures (c.deref.ensures.value, c.wake_ports.ensures))
+    c.from.ensures (c.deref.ensures.value, c.wake_port.ensures))
     refl c.write_lack-in-Full.ensures

@@ -48,5 +48,5 @@ returns g c = λ s shows sent.
     shows sent room few c.requires.endpoint at
     (has_port c.args.self.now (port_of c.args.node) c.args.node
     c.out_put.new.self c.place-place.ensures.place c.requires.endpoint.stands
-    (c.deref.ensures.value, c.wake_ports.ensures))
+    (c.deref.ensures.value, c.wake_port.ensures))
     c.out_put.ensures.alike c.out_put.ensures.queued c.out_put.ensures.received c.write_take.ensures

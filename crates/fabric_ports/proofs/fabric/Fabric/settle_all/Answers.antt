@@ -7,17 +7,18 @@ use Rattle.fabric_ports.proofs.fabric.Fabric.settle_all.Goals as goal
 
 pub index-requires : goal.index-requires
 index-requires g c =
-    let within = cable_after c.loop-place.invariant c.requires.stands c.loop-place.place
+    let within = cable_after (λ from lines stands. still_ran c.is_still.ensures.shows
+    (c.loop-place.invariant from lines stands)) c.requires.stands c.loop-place.place
     (omega (arith, c.len-place-end.ensures, c.loop-place-test.true)) in search rules
 
 pub settle_link-requires-clause-linked : goal.settle_link-requires-clause-linked
 settle_link-requires-clause-linked g c =
     let known = c.requires.stands in
     let ran = c.loop-place.invariant known.0 known.1 known.2 in
-    let within = cables_within c.loop-place.place known.2 ran.ends.1
+    let now = still_stands c.is_still.ensures.shows ran.ends.1 in
+    let within = cables_within c.loop-place.place known.2 now
     (omega (arith, c.len-place-end.ensures, c.loop-place-test.true)) in
-    is_linked (still_stands c.is_still.ensures.shows ran.ends.1)
-    (next_link c.loop-place.place c.index.result.now ran.ends.1 c.index.ensures within)
+    is_linked now (next_link c.loop-place.place c.index.result.now now c.index.ensures within)
 
 pub settle_link-requires-clause-named : goal.settle_link-requires-clause-named
 settle_link-requires-clause-named g c =
@@ -29,22 +30,22 @@ returns-in_err-settle_link g c =
     rw (err_is c.from_residual.result c.in_err-settle_link.field-0.0 c.from_residual.ensures.1)
     (λ from lines stands.
     (let ran = c.loop-place.invariant from lines stands in
-    let within = cables_within c.loop-place.place stands ran.ends.1
+    let now = still_stands c.is_still.ensures.shows ran.ends.1 in
+    let within = cables_within c.loop-place.place stands now
     (omega (arith, c.len-place-end.ensures, c.loop-place-test.true)) in
     settled_short stands
-    (next_link c.loop-place.place c.index.result.now ran.ends.1 c.index.ensures within) ran
-    (c.in_err-settle_link.ensures from (lines ++ ran.block)
-    (still_stands c.is_still.ensures.shows ran.ends.1))))
+    (next_link c.loop-place.place c.index.result.now now c.index.ensures within) ran
+    (c.in_err-settle_link.ensures from (lines ++ ran.block) now)))
 
 pub loop-place-preserved : goal.loop-place-preserved
 loop-place-preserved g c = λ from lines stands.
     let ran = c.loop-place.invariant from lines stands in
-    let within = cables_within c.loop-place.place stands ran.ends.1
+    let now = still_stands c.is_still.ensures.shows ran.ends.1 in
+    let within = cables_within c.loop-place.place stands now
     (omega (arith, c.len-place-end.ensures, c.loop-place-test.true)) in
     settled_more stands
-    (next_link c.loop-place.place c.index.result.now ran.ends.1 c.index.ensures within) ran
-    (c.in_ok-settle_link.ensures from (lines ++ ran.block)
-    (still_stands c.is_still.ensures.shows ran.ends.1))
+    (next_link c.loop-place.place c.index.result.now now c.index.ensures within) ran
+    (c.in_ok-settle_link.ensures from (lines ++ ran.block) now)
 
 pub loop-place-preserved-then-is_still : goal.loop-place-preserved-then-is_still
 loop-place-preserved-then-is_still g c = λ from lines stands.

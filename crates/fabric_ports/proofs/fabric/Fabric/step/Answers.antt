@@ -1,4 +1,4 @@
-use Rattle.std.proofs.Common.{◌<◌, List, length, rules, subst, ap, ◌∙◌, arith}
+use Rattle.std.proofs.Common.{◌<◌, List, length, Some, None, rules, refl, subst, ap, ◌∙◌, arith}
 use Rattle.std.proofs.lemmas.Option.{slice_get_within}
 use Rattle.link_port.specs.Ports.{PortState}
 use Rattle.fabric_ports.specs.Idling.{IsMarkedAt}
@@ -6,7 +6,7 @@ use Rattle.fabric_ports.proofs.DeviceLaws.{switch_read}
 use Rattle.fabric_ports.proofs.IdleLaws.{with_switch_mark, marks_of_devices, marked_read, unmarked_read}
 use Rattle.fabric_ports.proofs.NodeLaws.{device_read}
 use Rattle.fabric_ports.proofs.Rows.{as_many_firsts}
-use Rattle.fabric_ports.proofs.StepEnds.{did_rest, row_read, woke_row, did_switch}
+use Rattle.fabric_ports.proofs.StepEnds.{did_rest, row_read, woke_passed, passed_within, did_switch}
 use Rattle.fabric_ports.proofs.fabric.Fabric.step.Goals as goal
 
 pub returns-then-index : goal.returns-then-index
@@ -50,35 +50,36 @@ index_mut-requires g c =
     let at = slice_get_within c.args.self.now.devices.items c.args.node c.requires.switch.device
     c.requires.switch.stands in
     let many = marks_of_devices c.requires.shown.1 in
-    let same = c.from-then-not-step_from.ensures in
-    let here : c.from-then-not-step_from.result < length c.args.self.now.idle.switches.items =
+    let same = c.from-in_default.ensures in
+    let here : c.from-in_default.result < length c.args.self.now.idle.switches.items =
     omega (arith, at, many, same) in
     search rules
 
-pub wake_ports-requires : goal.wake_ports-requires
-wake_ports-requires g c =
+pub wake_going-requires : goal.wake_going-requires
+wake_going-requires g c = λ place passed.
     let row = row_read c.requires.shown.1 (device_read c.args.self.now.devices.items
     c.requires.switch.stands c.from-3.ensures c.index_mut-registers.ensures.value) c.from-2.ensures
     c.index-first.ensures in
+    let within = passed_within c.args.self.now c.index-first.result.now row.1
+    c.deref_mut.ensures.value c.in-Some.ensures.goes place passed in
     omega (
       arith,
       row.1,
-      c.from-count.ensures,
-      c.ports.ensures.value,
+      within,
       c.args.self.now.ports.ok.0,
       c.len.ensures,
       c.if-prove.false,
     )
 
-pub returns-then-not-step_from : goal.returns-then-not-step_from
-returns-then-not-step_from g c = λ s shows sent by.
+pub returns-in_default : goal.returns-in_default
+returns-in_default g c = λ s shows sent by.
     let stands = device_read c.args.self.now.devices.items c.requires.switch.stands
     c.from-3.ensures c.index_mut-registers.ensures.value in
     let row = row_read shows stands c.from-2.ensures c.index-first.ensures in
-    did_switch c.args.node _ shows sent by (switch_read c.requires.switch stands) stands
-    c.from-3.ensures row.0 row.1 c.deref_mut.ensures.value c.step_from.ensures.made
-    c.step_from.ensures.wrote c.if-not-step_from.true
-    (ap (with_switch_mark c.args.self.now.idle) c.from-then-not-step_from.ensures)
+    did_switch c.args.node None _ shows sent by (switch_read c.requires.switch stands) stands
+    c.from-3.ensures row.0 row.1 c.deref_mut.ensures.value c.in_default.ensures.made
+    c.in_default.ensures.going c.in_default.ensures.wrote refl
+    (ap (with_switch_mark c.args.self.now.idle) c.from-in_default.ensures)
 
 pub returns : goal.returns
 returns g c = λ s shows sent by.
@@ -90,12 +91,11 @@ returns g c = λ s shows sent by.
     let unmarked = unmarked_read c.args.self.now.idle.switches.items c.from.result
     c.index.result.now (omega (arith, at, marks_of_devices shows, c.from.ensures)) c.index.ensures
     c.if-index.false in
-    did_switch c.args.node c.wake_ports.new.self shows sent by
+    did_switch c.args.node (Some c.in-Some.going) c.wake_going.new.self shows sent by
     (switch_read c.requires.switch stands) stands c.from-3.ensures row.0 row.1
-    c.deref_mut.ensures.value c.step_from.ensures.made c.step_from.ensures.wrote
-    c.if-not-step_from.false (
+    c.deref_mut.ensures.value c.in-Some.ensures.made c.in-Some.ensures.going
+    c.in-Some.ensures.wrote refl (
       subst (λ n. ¬ IsMarkedAt c.args.self.now.idle.switches.items n) c.from.ensures unmarked,
-      woke_row c.args.self.now c.index-first.result.now c.wake_ports.new.self
-          c.deref.ensures.value (c.from-count.ensures ∙ c.ports.ensures.value)
-          c.wake_ports.ensures,
+      woke_passed c.args.self.now c.index-first.result.now c.in-Some.going c.wake_going.new.self
+          c.deref.ensures.value c.wake_going.ensures,
     )

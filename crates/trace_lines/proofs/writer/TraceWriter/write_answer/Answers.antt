@@ -8,6 +8,6 @@ pub returns : goal.returns
 returns g c =
     let port = Writes-then _ _ (Writes-then _ _ c.write.ensures c.write_port.ensures)
     c.write-2.ensures in
-    Adds-line _ refl refl
+    Adds-line _ refl refl refl
     (Writes-packet _ _ c.args.response.now port (rw c.bytes.ensures.value at c.write_hex.ensures)
     c.write_packet.ensures)

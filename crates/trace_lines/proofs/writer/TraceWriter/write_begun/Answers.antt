@@ -5,5 +5,5 @@ use Rattle.trace_lines.proofs.writer.TraceWriter.write_begun.Goals as goal
 
 pub returns : goal.returns
 returns g c =
-    Adds-line _ refl refl
+    Adds-line _ refl refl refl
     (Writes-then _ _ (Writes-then _ _ c.write.ensures c.write_line.ensures) c.write-2.ensures)

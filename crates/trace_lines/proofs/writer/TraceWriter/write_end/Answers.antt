@@ -4,4 +4,4 @@ use Rattle.trace_lines.proofs.writer.TraceWriter.write_end.Goals as goal
 
 pub returns : goal.returns
 returns g c =
-    Adds-line _ refl refl c.write.ensures
+    Adds-line _ refl refl refl c.write.ensures

@@ -5,6 +5,6 @@ use Rattle.trace_lines.proofs.writer.TraceWriter.write_hold.Goals as goal
 
 pub returns : goal.returns
 returns g c =
-    Adds-line _ refl refl
+    Adds-line _ refl refl refl
     (Writes-packet _ _ c.args.packet.now c.write.ensures c.write_port.ensures
     c.write_packet.ensures)

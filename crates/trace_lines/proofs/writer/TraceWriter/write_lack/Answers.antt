@@ -5,5 +5,5 @@ use Rattle.trace_lines.proofs.writer.TraceWriter.write_lack.Goals as goal
 
 pub returns : goal.returns
 returns g c =
-    Adds-line _ refl refl
+    Adds-line _ refl refl refl
     (Writes-then _ _ (rw c.lack_text.ensures at c.write.ensures) c.write-2.ensures)

@@ -8,5 +8,5 @@ pub returns : goal.returns
 returns g c =
     let from = Writes-then _ _ (Writes-then _ _ c.write.ensures c.write_port.ensures)
     c.write-2.ensures in
-    Adds-line _ refl refl
+    Adds-line _ refl refl refl
     (Writes-packet _ _ c.args.packet.now from c.write_port-2.ensures c.write_packet.ensures)

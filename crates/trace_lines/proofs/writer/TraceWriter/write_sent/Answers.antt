@@ -5,7 +5,7 @@ use Rattle.trace_lines.proofs.writer.TraceWriter.write_sent.Goals as goal
 
 pub returns : goal.returns
 returns g c =
-    Adds-line _ refl refl
+    Adds-line _ refl refl refl
     (Writes-then _ _
     (Writes-then _ _ (Writes-then _ _ c.write.ensures c.write_port.ensures) c.write_chars.ensures)
     c.write-2.ensures)

@@ -9,7 +9,7 @@ returns g c =
     Writes-then _ _
     (Writes-then _ _ (Writes-then _ _ c.write.ensures c.write_decimal.ensures)
     c.write-2.ensures) c.write_port.ensures in
-    Adds-line _ refl refl
+    Adds-line _ refl refl refl
     (Writes-then _ _
     (Writes-then _ _ (Writes-then _ _ port c.write-3.ensures) c.write_event.ensures)
     c.write-4.ensures)

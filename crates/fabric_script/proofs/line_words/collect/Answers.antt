@@ -1,6 +1,0 @@
-use Rattle.std.proofs.Common.{refl}
-use Rattle.fabric_script.specs.Words.{NoMore, More}
-use Rattle.fabric_script.proofs.line_words.collect.Goals as goal
-
-pub returns : goal.returns
-returns c = record { is = refl; next = tt; takes = More c.node-node.ensures NoMore }
