@@ -1,13 +1,5 @@
 -- What is kept of a port is what the port is, and nothing is due.
-use Rattle.std.proofs.Common.{◌≡◌, []}
-use Rattle.fabric_script.specs.declared.ports.PortRef.{PortRef}
-use Rattle.fabric_trace.specs.Known.{Seen, port_seen}
-use Rattle.link_buffers.specs.Queues.{packet_count}
-use Rattle.link_model.specs.Places.{place_start}
-use Rattle.link_port.specs.Ports.{PortState}
-use Rattle.trace_reactions.specs.InputHalves.{InputKept}
-use Rattle.trace_reactions.specs.Judging.{ReactionsKept}
-use Rattle.trace_reactions.specs.PortsKept.{PortKept}
+use Rattle.answered_traces.proofs.Prelude.{◌≡◌, [], PortRef, Seen, port_seen, packet_count, place_start, PortState, InputKept, ReactionsKept, PortKept}
 
 -- the input half of a port, of which every reaction was sent
 abbrev pub half_kept : PortState → InputKept

@@ -1,3 +1,4 @@
+mod Prelude
 pub mod Following
 pub mod Ports
 pub mod PortCalls

@@ -1,31 +1,12 @@
 -- What is done at a link: what is sent was due, and what is kept of its ports stays what they are.
-use Rattle.std.proofs.Common.{◌≡◌, ℕ, ◌++◌, true, false, List, [], ◌∷◌, map, take, Option, Some, None, refl, sym, ap, ◌∙◌, subst, if◌then◌else◌}
-use Rattle.rio_chars.specs.declared.chars.Char.{Char}
-use Rattle.link_model.specs.declared.event.Event.{Event}
-use Rattle.link_port.specs.Turns.{tell_sends}
-use Rattle.link_machine.specs.Calls.{sent_notes, pumped, pump_notes, told_from, tell_notes, after_delivery, first_takes, has_chars, delivery_from, delivered_from, move_note, told_notes, delivery_notes, is_silent, first_fires, timed_out_at, time_out_notes}
+use Rattle.answered_traces.proofs.Prelude.{◌≡◌, ℕ, ◌++◌, true, false, List, [], ◌∷◌, take, Option, Some, None, refl, sym, ap, ◌∙◌, subst, if◌then◌else◌, Char, Event, tell_sends, sent_notes, pumped, pump_notes, told_from, tell_notes, after_delivery, first_takes, has_chars, delivery_from, delivered_from, delivery_notes, is_silent, first_fires, timed_out_at, time_out_notes, Delivered, Through, WentUndetected, told_of, undetected, bursts, answers, Move, PortRef, same_port, ArePeers, apart_back, Got, Fired, TraceLine, Signed, lines_of, undetected_at, seen, Seen, UndetectedAt, peer_of, port_seen, kept_of, link_at, Untouched, IsGood, good_peers, after_line, after_lines, LinesReact, ReactionsKept, AreDue, PortKept, after_got, after_sending}
 use Rattle.link_machine.specs.States.{LinkState, turned_round, at_end}
 use Rattle.link_watch.specs.declared.note.Note.TheVariants as Notes
 use Rattle.link_watch.specs.declared.side.Side.TheVariants.{A, B}
-use Rattle.link_wires.specs.Deliveries.{Delivered, Through, WentUndetected, told_of, undetected}
-use Rattle.link_wires.specs.Wires.{bursts, answers}
-use Rattle.link_wires.specs.declared.moves.Move.{Move}
-use Rattle.fabric_script.specs.declared.ports.PortRef.{PortRef}
-use Rattle.fabric_model.specs.Network.{same_port}
 use Rattle.fabric_model.specs.Steps.{Step}
-use Rattle.fabric_model.proofs.Peers.{ArePeers, apart_back}
-use Rattle.trace_lines.specs.Lines.{Got, Fired, TraceLine, Signed}
-use Rattle.trace_lines.specs.Notes.{lines_of}
-use Rattle.fabric_trace.specs.Fold.{undetected_at, seen}
-use Rattle.fabric_trace.specs.Known.{Seen, UndetectedAt, peer_of, port_seen, kept_of, link_at}
 use Rattle.fabric_trace.proofs.Links.Calling.{IsCall, turns_call, tells_call, fires_call}
 use Rattle.fabric_trace.proofs.Links.Delivering.{delivers_call}
-use Rattle.fabric_trace.proofs.Links.Serving.{Untouched}
-use Rattle.fabric_trace.proofs.Parts.Carrying.{got_lines}
-use Rattle.fabric_trace.proofs.Parts.Folding.{lines-append}
-use Rattle.fabric_trace.proofs.Parts.Keeping.{IsGood, good_peers}
-use Rattle.trace_reactions.specs.Judging.{after_line, after_lines, LinesReact, ReactionsKept}
-use Rattle.trace_reactions.specs.PortsKept.{AreDue, PortKept, after_got, after_sending}
+use Rattle.fabric_trace.proofs.Parts.Carrying.{got_lines, delivery_lines}
 use Rattle.answered_traces.proofs.Following.{KeepsPortAs, KeepsSeen}
 use Rattle.answered_traces.proofs.PortCalls.{turns_keep, tells_keep, time_out_keeps, delivery_due, delivery_keeps}
 use Rattle.answered_traces.proofs.PartsKept.{lines_after, react_both, StaysKept, stays_by, keeps_on, BecomesAt, changed_own, changed_other, by_two_ports, sending_reacts, sending_becomes, moves_react}
@@ -41,19 +22,6 @@ call_untouched call c x y = record {
 }
 
 -- ---- the lines of a delivery
-
-delivery_lines : (p q : PortRef) (n : ℕ) (l : LinkState) → has_chars A n l ≡ true
-    → lines_of p q (delivery_notes A n l)
-    ≡ got_lines p q (take (told_of (delivery_from A n l)).count (take n l.wire_a.chars))
-    (told_of (delivery_from A n l)).moves
-    ++ lines_of p q (sent_notes B (answers (told_of (delivery_from A n l)).replies).chars)
-delivery_lines p q n l has =
-    let chars = take n l.wire_a.chars in
-    let told = told_of (delivery_from A n l) in
-    let replies = (answers told.replies).chars in
-    ap (λ x. lines_of p q (if x then told_notes B chars told else [])) has
-    ∙ ap (λ (x : List TraceLine). Signed (Got q (take told.count chars)) ∷ x)
-    (lines-append p q (map (move_note B) told.moves) (sent_notes B replies))
 
 -- the reactions of its answers are due
 delivery_reacts : (kept : ReactionsKept) (p q : PortRef) (front : List Char) (moves : List Move)

@@ -1,24 +1,7 @@
 -- What is kept of all ports, where one or two of them act.
-use Rattle.std.proofs.Common.{◌≡◌, ◌++◌, Bool, true, false, List, [], ◌∷◌, map, None, refl, sym, ap, ◌∙◌, subst, if◌then◌else◌}
-use Rattle.rio_chars.specs.declared.chars.Char.{Char}
-use Rattle.link_buffers.specs.Queues.{packet_count}
-use Rattle.link_port.specs.Ports.{PortState}
-use Rattle.link_machine.specs.Calls.{sent_notes, move_note}
+use Rattle.answered_traces.proofs.Prelude.{◌≡◌, ◌++◌, Bool, true, false, List, [], ◌∷◌, map, None, refl, sym, ap, ◌∙◌, subst, if◌then◌else◌, Char, packet_count, PortState, sent_notes, move_note, Move, PortRef, same_port, port_is, same_port-refl, apart_back, TraceLine, port_at_side, lines_of, seen, Seen, port_seen, Half, lists_in, Untouched, seen-append, after_line, after_lines, LinesReact, ReactionsKept, with_port_kept, AreDue, PortKept, after_sending}
 use Rattle.link_watch.specs.declared.side.Side.{Side}
-use Rattle.link_wires.specs.declared.moves.Move.{Move}
 use Rattle.link_wires.specs.declared.moves.Move.TheVariants.{Held, Freed}
-use Rattle.fabric_script.specs.declared.ports.PortRef.{PortRef}
-use Rattle.fabric_model.specs.Network.{same_port}
-use Rattle.fabric_model.proofs.Peers.{port_is, same_port-refl, apart_back}
-use Rattle.trace_lines.specs.Lines.{TraceLine}
-use Rattle.trace_lines.specs.Notes.{port_at_side, lines_of}
-use Rattle.fabric_trace.specs.Fold.{seen}
-use Rattle.fabric_trace.specs.Known.{Seen, port_seen}
-use Rattle.fabric_trace.specs.Views.{Half, lists_in}
-use Rattle.fabric_trace.proofs.Links.Serving.{Untouched}
-use Rattle.fabric_trace.proofs.Parts.Folding.{seen-append}
-use Rattle.trace_reactions.specs.Judging.{after_line, after_lines, LinesReact, ReactionsKept, with_port_kept}
-use Rattle.trace_reactions.specs.PortsKept.{AreDue, PortKept, after_sending}
 use Rattle.answered_traces.proofs.Following.{half_kept, KeepsPortAs, KeepsSeen}
 use Rattle.answered_traces.proofs.PortCalls.{sending_none}
 

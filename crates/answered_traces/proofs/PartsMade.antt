@@ -1,24 +1,10 @@
 -- Each part of a trace sends what was due, and what is kept of each port stays what the port is.
-use Rattle.std.proofs.Common.{◌≡◌, ℕ, suc, ◌<◌, Bool, true, false, List, [], length, drop, slice_set, Option, Some, None, refl, sym, ap, ◌∙◌, subst, arith}
-use Rattle.rio_packets.specs.Fields.{prio_of}
-use Rattle.link_buffers.specs.Queues.{list_at, packet_count, popped}
-use Rattle.link_buffers.proofs.QueueLemmas.{packet_count-popped}
-use Rattle.link_wires.specs.declared.edits.Edit.{Edit}
-use Rattle.fabric_script.specs.declared.ports.PortRef.{PortRef}
-use Rattle.fabric_model.specs.Network.{Item, Network, same_port, port_of, with_lane}
+use Rattle.answered_traces.proofs.Prelude.{◌≡◌, ℕ, suc, ◌<◌, Bool, true, false, List, [], length, drop, slice_set, Option, Some, None, refl, sym, ap, ◌∙◌, subst, arith, prio_of, list_at, packet_count, popped, packet_count-popped, PortRef, Item, Network, same_port, port_of, with_lane, port_is, TraceLine, Stepped, edit_of, edited_by, seen_line, Seen, port_seen, packets_in, lists_in, edited_found, IsGood, few_prio, passes_first, part_keeps, after_line, after_lines, ReactionsKept, with_port_kept, gives}
+use Rattle.rio_chars.specs.declared.edit.Edit.{Edit}
 use Rattle.fabric_model.specs.Steps.{Take, Leave, NodeStep, Move, Drop, Answer, DeviceStep, AtNode, ByDevice, Needs, IsFirst, behind_first, without_first}
 use Rattle.fabric_model.proofs.Boards.{first_item}
-use Rattle.fabric_model.proofs.Peers.{port_is}
-use Rattle.trace_lines.specs.Lines.{TraceLine, Stepped}
-use Rattle.fabric_trace.specs.Fold.{edit_of, edited_by, seen_line}
-use Rattle.fabric_trace.specs.Known.{Seen, port_seen}
 use Rattle.fabric_trace.specs.Parts.{packet_of, Part, PartBegins, PartLacks, PartEnds, PartNames, PartSteps, PartServes, PartTurns, PartTells, PartDelivers, PartFires, Made, Done, Then}
-use Rattle.fabric_trace.specs.Views.{packets_in, lists_in}
 use Rattle.fabric_trace.proofs.Network.Lanes.{behind_is, lane_at, lists_set, lane_other}
-use Rattle.fabric_trace.proofs.Parts.Folding.{edited_found}
-use Rattle.fabric_trace.proofs.Parts.Keeping.{IsGood, few_prio, passes_first, part_keeps}
-use Rattle.trace_reactions.specs.Judging.{after_line, after_lines, ReactionsKept, with_port_kept}
-use Rattle.trace_reactions.specs.PortsKept.{gives}
 use Rattle.answered_traces.proofs.Following.{KeepsSeen}
 use Rattle.answered_traces.proofs.PartsCalled.{turns_stay, tells_stay, fires_stay, delivers_stay}
 use Rattle.answered_traces.proofs.PartsKept.{KeepsAt, StaysKept, stays_by, stays_both, same_keeps, keeps_on, changed_own, changed_other}

@@ -1,22 +1,9 @@
 -- What a port does at its link follows what the judge of reactions keeps of it.
-use Rattle.std.proofs.Common.{◌≡◌, ℕ, suc, ◌-◌, ◌++◌, Bool, List, [], length, take, drop, refl, sym, ap, ◌∙◌, subst, arith}
+use Rattle.answered_traces.proofs.Prelude.{◌≡◌, ℕ, suc, ◌-◌, ◌++◌, Bool, List, [], length, take, drop, refl, sym, ap, ◌∙◌, subst, arith, Char, packet_count, Event, Place, place_after, place_start, run, said, IsPort, PortState, new_port, Burst, IsRead, timed_out, tell_sends, Delivered, Flow, Through, delivered, told_of, answers, bursts, port_turned, Reaction, InputKept, after_events, AreDue, PortKept, after_got, after_sending, gives, reactions_sent, unheard_port, reactions_in}
 use Rattle.std.proofs.lemmas.List.{drop_all}
-use Rattle.rio_chars.specs.declared.chars.Char.{Char}
-use Rattle.link_buffers.specs.Queues.{packet_count}
-use Rattle.link_model.specs.declared.event.Event.{Event}
-use Rattle.link_model.specs.Places.{Place, place_after, place_start, run}
-use Rattle.link_model.specs.Said.{said}
-use Rattle.link_port.specs.Ports.{IsPort, PortState, new_port}
-use Rattle.link_port.specs.Turns.{Burst, IsRead, timed_out, tell_sends}
 use Rattle.link_machine.proofs.Settling.Bursting.{answers_are_read, tell_read, turned_is, turns_read}
-use Rattle.link_wires.specs.Deliveries.{Delivered, Flow, Through, delivered, told_of}
-use Rattle.link_wires.specs.Wires.{answers, bursts, port_turned}
 use Rattle.link_wires.proofs.Throughs.{through_place}
 use Rattle.fabric_trace.proofs.Links.Cuts.{taken_again}
-use Rattle.trace_reactions.specs.declared.reactions.Reaction.{Reaction}
-use Rattle.trace_reactions.specs.InputHalves.{InputKept, after_events}
-use Rattle.trace_reactions.specs.PortsKept.{AreDue, PortKept, after_got, after_sending, gives, reactions_sent, unheard_port}
-use Rattle.trace_reactions.specs.Reactions.{reactions_in}
 use Rattle.answered_traces.proofs.Following.{KeepsPortAs}
 use Rattle.answered_traces.proofs.Ports.OneEvent.{half_owing}
 use Rattle.answered_traces.proofs.Ports.Owing.{Owes, OwesAll, delivered_owes, due_of_delivery, reactions_told}

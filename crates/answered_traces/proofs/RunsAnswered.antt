@@ -1,26 +1,15 @@
 -- The texts of a trace of a script are answered, and nothing is due after it.
-use Rattle.std.proofs.Common.{◌≡◌, ℕ, ◌++◌, List, [], ◌∷◌, drop, None, refl, sym, ap, ◌∙◌, subst}
-use Rattle.link_model.specs.declared.event.Event.{Event}
-use Rattle.fabric_script.specs.declared.lines.Numbered.{Numbered}
-use Rattle.fabric_script.specs.declared.ports.PortRef.{PortRef}
+use Rattle.answered_traces.proofs.Prelude.{◌≡◌, ℕ, ◌++◌, List, [], ◌∷◌, drop, None, refl, sym, ap, ◌∙◌, subst, Event, Numbered, PortRef, TraceLine, Ended, Undetected, seen, Seen, bare, set_up_all, start, Runs, seen-append, InputKept, after_lines, reactions_before, ReactionsKept, LinesAreNumbered}
 use Rattle.fabric_script.specs.Known.{Known, IsOrderly, nothing, of_script}
 use Rattle.fabric_script.specs.Scripts.{ScriptPasses}
 use Rattle.fabric_script.specs.SetUps.{SetUpLines}
 use Rattle.fabric_script.proofs.KnownLaws.{nothing-orderly}
-use Rattle.trace_lines.specs.Lines.{TraceLine, Ended, Undetected}
 use Rattle.fabric_trace.specs.Ends.{EndsAs, Whole, EndsNaming}
-use Rattle.fabric_trace.specs.Fold.{seen}
-use Rattle.fabric_trace.specs.Known.{Seen}
-use Rattle.fabric_trace.specs.Runs.{bare, set_up_all, start, Runs}
-use Rattle.fabric_trace.proofs.Parts.Folding.{seen-append}
 use Rattle.fabric_trace.proofs.SetUps.Happening.{may_set_up}
 use Rattle.fabric_trace.proofs.SetUps.Starting.{set_up_bare, good_start, made, ends_as}
 use Rattle.trace_check.specs.Lawful.{SpellAll}
 use Rattle.trace_check.proofs.Exclusive.{same_line}
-use Rattle.trace_reactions.specs.InputHalves.{InputKept}
 use Rattle.trace_reactions.specs.Judged.{AreAnswered, TextsSpell}
-use Rattle.trace_reactions.specs.Judging.{after_lines, reactions_before, ReactionsKept}
-use Rattle.lawful_traces.specs.Knowing.{LinesAreNumbered}
 use Rattle.lawful_traces.specs.Texts.{trace_texts}
 use Rattle.lawful_traces.proofs.Ending.{runs_close}
 use Rattle.lawful_traces.proofs.Events.{names_orderly}
@@ -64,11 +53,9 @@ some_lines (x ∷ lines) line is = absurd cc
 ends_once : (front other : List TraceLine) (number : ℕ) (q : PortRef) (e : Event)
     → front ++ Ended ∷ [] ≡ other ++ Undetected number q e ∷ [] → ⊥
 ends_once [] [] number q e is = absurd cc
-ends_once [] (y ∷ other) number q e is =
-    some_lines other (Undetected number q e) (ap (drop 1) is)
+ends_once [] (y ∷ other) number q e is = some_lines other (Undetected number q e) (ap (drop 1) is)
 ends_once (x ∷ front) [] number q e is = some_lines front Ended (sym (ap (drop 1) is))
-ends_once (x ∷ front) (y ∷ other) number q e is =
-    ends_once front other number q e (ap (drop 1) is)
+ends_once (x ∷ front) (y ∷ other) number q e is = ends_once front other number q e (ap (drop 1) is)
 
 -- so every event that was acted on was sent
 ended_none : (s : Seen) (front lines : List TraceLine) → lines ≡ front ++ Ended ∷ []

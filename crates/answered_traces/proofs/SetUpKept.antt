@@ -1,21 +1,11 @@
 -- Before the first line, what is kept of each port is what the set-up lines make of it.
-use Rattle.std.proofs.Common.{◌≡◌, ℕ, Bool, true, false, List, [], ◌∷◌, refl, sym, ap, ◌∙◌, if◌then◌else◌}
+use Rattle.answered_traces.proofs.Prelude.{◌≡◌, ℕ, Bool, true, false, List, [], ◌∷◌, refl, sym, ap, ◌∙◌, if◌then◌else◌, packet_count, InputOk, Numbered, PortRef, Network, same_port, port_is, apart_back, bare, set_up, set_up_all, start, packets_in, lists_in, lines_of_set_up, buffers_by, buffers_after, reactions_before}
 use Rattle.std.proofs.lemmas.Bool.{false≢true}
-use Rattle.link_buffers.specs.Queues.{packet_count}
-use Rattle.link_model.specs.Input.{InputOk}
 use Rattle.fabric_script.specs.declared.lines.Line.{Line}
 use Rattle.fabric_script.specs.declared.lines.Line.TheVariants.{Buffers}
-use Rattle.fabric_script.specs.declared.lines.Numbered.{Numbered}
-use Rattle.fabric_script.specs.declared.ports.PortRef.{PortRef}
 use Rattle.fabric_script.specs.Lines.{is_event}
-use Rattle.fabric_model.specs.Network.{Network, same_port}
-use Rattle.fabric_model.proofs.Peers.{port_is, apart_back}
-use Rattle.fabric_trace.specs.Runs.{bare, set_up, set_up_all, start}
 use Rattle.fabric_trace.specs.SetUps.{IsSetUp}
-use Rattle.fabric_trace.specs.Views.{packets_in, lists_in}
-use Rattle.lawful_traces.specs.Knowing.{lines_of_set_up}
 use Rattle.lawful_traces.proofs.Inputs.{same_set_up}
-use Rattle.trace_reactions.specs.Judging.{buffers_by, buffers_after, reactions_before}
 use Rattle.answered_traces.proofs.Following.{KeepsSeen}
 
 -- ---- buffers

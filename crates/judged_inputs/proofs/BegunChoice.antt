@@ -1,15 +1,11 @@
 -- A text is the line of an event, or none.
-use Rattle.std.proofs.Common.{◌≡◌, ℕ, ◌==◌, Bool, true, false, not, List, [], ◌∷◌, codes, refl, sym, ap, ◌∙◌, subst, inl, inr, if◌then◌else◌}
-use Rattle.std.specs.List.{onto_first}
+use Rattle.judged_inputs.proofs.Prelude.{◌≡◌, ℕ, ◌==◌, Bool, true, false, not, List, [], ◌∷◌, codes, refl, sym, ap, ◌∙◌, subst, inl, inr, if◌then◌else◌, onto_first, Known, IsOrderly, one_event, is_event, line_words, new_name, words_of, Decided, same_or_not}
 use Rattle.fabric_script.specs.declared.lines.Line.{Line}
 use Rattle.fabric_script.specs.declared.lines.Line.TheVariants.{Endpoint, Switch}
 use Rattle.fabric_script.specs.declared.reasons.Reason.TheVariants.{OutOfPlace}
-use Rattle.fabric_script.specs.Known.{Known, IsOrderly, one_event}
-use Rattle.fabric_script.specs.Lines.{is_event, line_words, new_name, words_of}
 use Rattle.fabric_script.specs.Reading.{MayBe, IsFree, Spells, new_name_in}
 use Rattle.fabric_script.specs.Refusals.{out_of_place_in}
 use Rattle.fabric_script.proofs.ReadLaws.{spelled_no_hit}
-use Rattle.script_law.proofs.Choosing.{Decided, same_or_not}
 use Rattle.script_law.proofs.LineChoice.{spelled_or_hit}
 
 -- ---- what stands behind the first space

@@ -1,13 +1,8 @@
 -- Both, one of two, all of a list, an option and a front: each holds, or does not.
-use Rattle.std.proofs.Common.{◌≡◌, ℕ, ◌<◌, ◌++◌, Bool, true, false, List, [], ◌∷◌, Contains, Option, Some, None, IsSome, refl, ap, ◌⊎◌, inl, inr, arith}
+use Rattle.judged_inputs.proofs.Prelude.{◌≡◌, ℕ, ◌<◌, ◌++◌, Bool, true, false, List, [], ◌∷◌, Contains, Option, Some, None, IsSome, refl, ap, ◌⊎◌, inl, inr, arith, AllByRecursion, cases_lt, cases_eq, Char, named_is_there, Decided}
 use Rattle.std.specs.Bool.{Decides}
-use Rattle.std.specs.List.{AllByRecursion}
-use Rattle.std.proofs.lemmas.Bool.{cases_lt, cases_eq}
 use Rattle.std.proofs.lemmas.Bool.Decides.{not_from_Decides}
-use Rattle.rio_chars.specs.declared.chars.Char.{Char}
 use Rattle.rio_chars.specs.declared.chars.Char.TheVariants.{Data, Special, Invalid}
-use Rattle.fabric_script.proofs.Exclusion.{named_is_there}
-use Rattle.script_law.proofs.Choosing.{Decided}
 use Rattle.script_law.proofs.NodeWords.{node_or_none}
 
 -- the same said in other words
@@ -98,12 +93,9 @@ char_or_not (Special a) (Special b) = elim (number_or_not a b) [
   | inr other ↦ inr (λ e. other cc)
 ]
 char_or_not Invalid Invalid = inl refl
-char_or_not (Data a) (Special b) = inr (λ e. cc)
-char_or_not (Data a) Invalid = inr (λ e. cc)
-char_or_not (Special a) (Data b) = inr (λ e. cc)
-char_or_not (Special a) Invalid = inr (λ e. cc)
-char_or_not Invalid (Data b) = inr (λ e. cc)
-char_or_not Invalid (Special b) = inr (λ e. cc)
+char_or_not _ Invalid = inr (λ e. cc)
+char_or_not _ (Data b) = inr (λ e. cc)
+char_or_not _ (Special b) = inr (λ e. cc)
 
 -- the first characters are these
 abbrev pub BeginsWith : List Char → List Char → Type 0

@@ -1,26 +1,15 @@
 -- No reason hits a line, or one is the least that does.
-use Rattle.std.proofs.Common.{◌≡◌, ◌<◌, ◌%◌, Bool, true, false, List, [], ◌∷◌, length, Option, Some, None, refl, ap, ◌∙◌, ◌⊎◌, inl, inr, arith}
-use Rattle.rio_packets.specs.Fields.{prio_of}
-use Rattle.rio_chars.specs.declared.chars.Char.{Char}
-use Rattle.link_model.specs.declared.event.Event.{Event}
-use Rattle.link_model.specs.declared.event.Event.TheVariants.{Ctl, Pkt, Bad}
+use Rattle.judged_inputs.proofs.Prelude.{◌≡◌, ◌<◌, ◌%◌, Bool, true, false, List, [], ◌∷◌, length, Option, Some, None, refl, ap, ◌∙◌, ◌⊎◌, inl, inr, arith, prio_of, Char, Event, Ctl, Pkt, Bad, PortRef, Network, peer_in, Hold, Free, Linked, Sent, Got, Fired, TraceLine, Begun, Stepped, Signed, freed, net_after, unheld, EditFits, BothAreEmpty, OnWires, LineIsStep, HoldHasCome, IsAllowed, SendMayBe, LinePasses, Fault, OffWire, NoSuchStep, NotCome, NotAllowed, NotThere, fault_number, Spares, Decided, both_or_not}
 use Rattle.link_wires.specs.Kept.{behind, behind_some}
 use Rattle.link_wires.specs.Wires.{fits}
-use Rattle.link_wires.specs.declared.edits.Edit.{Edit}
-use Rattle.fabric_script.specs.declared.ports.PortRef.{PortRef}
-use Rattle.fabric_model.specs.Network.{Network, peer_in}
-use Rattle.fabric_model.specs.Steps.{Hold, Free, Linked}
-use Rattle.trace_lines.specs.Lines.{Sent, Got, Fired, TraceLine, Begun, Stepped, Signed}
+use Rattle.rio_chars.specs.declared.edit.Edit.{Edit}
 use Rattle.fabric_trace.specs.Fold.{edit_of, says}
 use Rattle.fabric_trace.specs.Wires.{WireChars, IsFrontOf}
 use Rattle.fabric_trace.specs.Holds.{got, holds}
 use Rattle.fabric_trace.specs.Allowance.{allowance}
 use Rattle.fabric_trace.specs.Owned.{HasEvent}
 use Rattle.fabric_trace.specs.Views.{packets_in}
-use Rattle.trace_check.specs.Checks.{freed, net_after, unheld, EditFits, BothAreEmpty, OnWires, LineIsStep, HoldHasCome, IsAllowed, SendMayBe, LinePasses}
-use Rattle.trace_check.specs.Lawful.{Fault, OffWire, NoSuchStep, NotCome, NotAllowed, NotThere, fault_number, Spares}
 use Rattle.trace_check.specs.Wires.{are_short, wires_after}
-use Rattle.script_law.proofs.Choosing.{Decided, both_or_not}
 use Rattle.judged_inputs.proofs.Choices.{one_or_not, true_or_not, less_or_not, all_or_not, contains_or_not, empty_or_not, some_or_not, begins_or_not}
 use Rattle.judged_inputs.proofs.NeedChoice.{needs_or_not}
 

@@ -1,16 +1,9 @@
 -- Each input of a check is lawful, or unlawful at a line, or refused.
-use Rattle.std.proofs.Common.{◌≡◌, ℕ, ◌+◌, ◌++◌, true, List, [], ◌∷◌, length, refl, ap, subst, append-nil, append_assoc, ◌⊎◌, inl, inr}
-use Rattle.std.proofs.lemmas.Bool.{cases_Bool}
+use Rattle.judged_inputs.proofs.Prelude.{◌≡◌, ℕ, ◌+◌, ◌++◌, true, List, [], ◌∷◌, length, refl, ap, subst, append-nil, append_assoc, ◌⊎◌, inl, inr, cases_Bool, Known, IsOrderly, one_event, Network, TraceLine, steps_of, SpellsLine, LinePasses, as_behind, is_last, BehindLast, HitsLine, HitsNext, IsLawful, IsUnlawful, PassFront, SpellFront, SpellsNone, fault_number}
 use Rattle.fabric_script.specs.declared.lines.Numbered.{Numbered}
-use Rattle.fabric_script.specs.Known.{Known, IsOrderly, one_event}
-use Rattle.fabric_model.specs.Network.{Network}
 use Rattle.script_input.specs.Inputs.{IsInput, set_up_texts, texts_of}
 use Rattle.script_input.proofs.InputOnce.{accepted_orderly}
-use Rattle.trace_lines.specs.Lines.{TraceLine, steps_of}
-use Rattle.trace_lines.specs.Words.{SpellsLine}
 use Rattle.fabric_trace.specs.Runs.{bare, set_up_all}
-use Rattle.trace_check.specs.Checks.{LinePasses}
-use Rattle.trace_check.specs.Lawful.{as_behind, is_last, BehindLast, HitsLine, HitsNext, IsLawful, IsUnlawful, PassFront, SpellFront, SpellsNone, fault_number}
 use Rattle.trace_check.proofs.Fronts.{pass_more}
 use Rattle.trace_check.proofs.StopLaws.{front_more, spell_all}
 use Rattle.script_law.proofs.Inputs.{input_or_refused}

@@ -1,3 +1,4 @@
+mod Prelude
 pub mod Choices
 pub mod WordChoice
 pub mod RowChoice

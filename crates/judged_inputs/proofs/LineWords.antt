@@ -1,22 +1,6 @@
 -- Words are those of a step, a sign, a lack or an end of a trace, or of none.
-use Rattle.std.proofs.Common.{◌≡◌, ◌≢◌, ℕ, ◌<◌, ◌^◌, List, [], ◌∷◌, map, codes, ◌⊎◌, inl, inr}
-use Rattle.std.specs.List.{AllByRecursion}
-use Rattle.std.specs.Fmt.{decimal}
-use Rattle.rio_chars.specs.CharText.{char_text_of, HasByte}
-use Rattle.rio_chars.specs.HexText.{hex_of}
-use Rattle.rio_chars.specs.declared.chars.Char.{Char}
-use Rattle.rio_packets.specs.LinkForm.{Passes}
+use Rattle.judged_inputs.proofs.Prelude.{◌≡◌, ◌≢◌, ℕ, ◌<◌, ◌^◌, List, [], ◌∷◌, map, codes, ◌⊎◌, inl, inr, AllByRecursion, decimal, char_text_of, HasByte, hex_of, Char, Passes, Event, Ctl, Pkt, Bad, PortRef, name_of, port_text, Known, IsOrderly, Hold, Free, Take, Leave, Move, Drop, Answer, Step, Linked, AtNode, ByDevice, Lack, Full, Empty, Short, Early, NoStep, Sign, Sent, Got, Fired, step_words, sign_words, lack_words, event_words, IsScriptPort, IsEnd, IsNode, StepFits, SignFits, EventFits, Decided}
 use Rattle.rio_symbols.specs.Fields.{Fields}
-use Rattle.link_model.specs.declared.event.Event.{Event}
-use Rattle.link_model.specs.declared.event.Event.TheVariants.{Ctl, Pkt, Bad}
-use Rattle.fabric_script.specs.declared.ports.PortRef.{PortRef}
-use Rattle.fabric_script.specs.Names.{name_of}
-use Rattle.fabric_script.specs.Texts.{port_text}
-use Rattle.fabric_script.specs.Known.{Known, IsOrderly}
-use Rattle.fabric_model.specs.Steps.{Hold, Free, Take, Leave, Move, Drop, Answer, Step, Linked, AtNode, ByDevice}
-use Rattle.trace_lines.specs.Lines.{Lack, Full, Empty, Short, Early, NoStep, Sign, Sent, Got, Fired}
-use Rattle.trace_lines.specs.Words.{step_words, sign_words, lack_words, event_words, IsScriptPort, IsEnd, IsNode, StepFits, SignFits, EventFits}
-use Rattle.script_law.proofs.Choosing.{Decided}
 use Rattle.judged_inputs.proofs.Choices.{as_well, one_or_not}
 use Rattle.judged_inputs.proofs.WordChoice.{number_word, node_word, port_word, end_word, packet_word}
 use Rattle.judged_inputs.proofs.RowChoice.{SaysRow, no_word, word_then, keyword_then, some_chars_or_none}
@@ -163,8 +147,7 @@ module _ (known : Known) (orderly : IsOrderly known) where
 
       from : (step : Step) → words ≡ step_words known.names step → StepFits known step
           → OneStep words
-      from (Linked (Hold q packet)) e fits =
-          inl ((q, (packet, tt)), e, (fits.0, (fits.1, tt)))
+      from (Linked (Hold q packet)) e fits = inl ((q, (packet, tt)), e, (fits.0, (fits.1, tt)))
       from (Linked (Free p packet)) e fits =
           inr (inl ((p, (packet, tt)), e, (fits.0, (fits.1, tt))))
       from (AtNode (Take n packet)) e fits =

@@ -1,13 +1,8 @@
 -- A step has what it needs, or has not.
-use Rattle.std.proofs.Common.{◌≡◌, ℕ, false, List, Option, Some, None, refl, ap, subst, inl, inr}
-use Rattle.rio_packets.specs.Fields.{prio_of, is_request}
+use Rattle.judged_inputs.proofs.Prelude.{◌≡◌, ℕ, false, List, Option, Some, None, refl, ap, subst, inl, inr, prio_of, is_request, PortRef, Network, port_of, peer_in, first_packet, room_in, room_out, IsEndpoint, switch_at, Hold, Free, Take, Leave, Move, Drop, Answer, Step, Linked, AtNode, ByDevice, IsFirst, Needs, Decided, both_or_not, same_or_not}
 use Rattle.maint_packets.specs.declared.next_hop.Next.{Next}
 use Rattle.maint_packets.specs.declared.next_hop.Next.TheVariants.{Nowhere, RegisterUnit, Port}
-use Rattle.fabric_script.specs.declared.ports.PortRef.{PortRef}
-use Rattle.fabric_model.specs.Network.{Network, port_of, peer_in, first_packet, room_in, room_out, IsEndpoint, switch_at}
 use Rattle.fabric_model.specs.Serving.{next_at, response_at}
-use Rattle.fabric_model.specs.Steps.{Hold, Free, Take, Leave, Move, Drop, Answer, Step, Linked, AtNode, ByDevice, IsFirst, Needs}
-use Rattle.script_law.proofs.Choosing.{Decided, both_or_not, same_or_not}
 use Rattle.judged_inputs.proofs.Choices.{as_well, one_or_not, true_or_not, false_or_not, bool_or_not, number_or_not, is_or_not}
 use Rattle.judged_inputs.proofs.WordChoice.{passes_or_not}
 

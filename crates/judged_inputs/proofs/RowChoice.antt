@@ -1,10 +1,5 @@
 -- Words are those of one thing of a kind, or of none: one word after the other.
-use Rattle.std.proofs.Common.{◌≡◌, ◌≢◌, ℕ, List, [], ◌∷◌, map, refl, ap, ◌∙◌, inl, inr}
-use Rattle.std.specs.List.{AllByRecursion}
-use Rattle.rio_chars.specs.CharText.{char_text_of, HasByte}
-use Rattle.rio_chars.specs.declared.chars.Char.{Char}
-use Rattle.fabric_script.specs.Known.{Known, IsOrderly}
-use Rattle.script_law.proofs.Choosing.{Decided, same_or_not}
+use Rattle.judged_inputs.proofs.Prelude.{◌≡◌, ◌≢◌, ℕ, List, [], ◌∷◌, map, refl, ap, ◌∙◌, inl, inr, AllByRecursion, char_text_of, HasByte, Char, Known, IsOrderly, Decided, same_or_not}
 use Rattle.judged_inputs.proofs.WordChoice.{SaysOne, char_word}
 
 -- the words are those of one that fits

@@ -1,10 +1,5 @@
 -- A text spells a line of a trace, or none.
-use Rattle.std.proofs.Common.{◌≡◌, ℕ, List, [], ◌∷◌, codes, ◌⊎◌, inl, inr}
-use Rattle.fabric_script.specs.Known.{Known, IsOrderly, one_event}
-use Rattle.fabric_script.specs.Lines.{words_of}
-use Rattle.trace_lines.specs.Lines.{TraceLine, Begun, Stepped, Signed, Lacked, Ended, Undetected}
-use Rattle.trace_lines.specs.Words.{trace_words, LineFits, SpellsLine}
-use Rattle.script_law.proofs.Choosing.{Decided}
+use Rattle.judged_inputs.proofs.Prelude.{◌≡◌, ℕ, List, [], ◌∷◌, codes, ◌⊎◌, inl, inr, Known, IsOrderly, one_event, words_of, TraceLine, Begun, Stepped, Signed, Lacked, Ended, Undetected, trace_words, LineFits, SpellsLine, Decided}
 use Rattle.judged_inputs.proofs.Choices.{as_well, one_or_not}
 use Rattle.judged_inputs.proofs.RowChoice.{SaysRow}
 use Rattle.judged_inputs.proofs.BegunChoice.{SaysBegun, begun_or_none}

@@ -1,21 +1,11 @@
 -- A word is the text of one thing of a kind, or of none.
-use Rattle.std.proofs.Common.{◌≡◌, ℕ, ◌<◌, true, List, [], ◌∷◌, length, refl, sym, ◌∙◌, subst, inl, inr, arith}
-use Rattle.std.specs.Fmt.{decimal}
-use Rattle.rio_chars.specs.HexText.{hex_of}
-use Rattle.rio_chars.specs.CharText.{char_text_of, HasByte}
+use Rattle.judged_inputs.proofs.Prelude.{◌≡◌, ℕ, ◌<◌, true, List, [], ◌∷◌, length, refl, sym, ◌∙◌, subst, inl, inr, arith, decimal, hex_of, char_text_of, HasByte, Passes, PortRef, name_of, port_text, hex_text, Known, IsOrderly, is_linked, no_hit, IsScriptPort, IsEnd, IsNode, Decided, same_or_not, first_or_none}
 use Rattle.rio_packets.specs.Carries.{passes}
-use Rattle.rio_packets.specs.LinkForm.{Passes}
 use Rattle.rio_packets.proofs.CarriesLaws.{decides_passes}
-use Rattle.fabric_script.specs.declared.ports.PortRef.{PortRef}
-use Rattle.fabric_script.specs.Forms.{Port, Hex, Character}
-use Rattle.fabric_script.specs.Names.{name_of}
-use Rattle.fabric_script.specs.Texts.{PortValue, Bytes, Code, port_text, hex_text}
-use Rattle.fabric_script.specs.Known.{Known, IsOrderly, is_linked}
-use Rattle.fabric_script.proofs.Exclusion.{no_hit}
+use Rattle.fabric_script.specs.declared.fields.Field.TheVariants.{Port, Hex, Character}
+use Rattle.fabric_script.specs.declared.values.Value.TheVariants.{Port as PortValue, Bytes, Code}
 use Rattle.fabric_script.proofs.HexWords.{hex_text-injective}
 use Rattle.fabric_script.proofs.LineLaws.{same_value}
-use Rattle.trace_lines.specs.Words.{IsScriptPort, IsEnd, IsNode}
-use Rattle.script_law.proofs.Choosing.{Decided, same_or_not, first_or_none}
 use Rattle.script_law.proofs.PortWords.{port_or_hit}
 use Rattle.script_law.proofs.HexWords.{hex_or_hit, character_or_hit}
 use Rattle.judged_inputs.proofs.Choices.{by_test, true_or_not}

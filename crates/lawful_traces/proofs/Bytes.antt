@@ -1,39 +1,22 @@
 -- Each character that a port sends is a byte, and what a port finds that was not sent can be told.
-use Rattle.std.proofs.Common.{◌≡◌, ℕ, suc, ◌<◌, ◌++◌, Bool, true, false, nat_lt, List, [], ◌∷◌, All, length, Option, Some, None, if◌then◌else◌, refl, subst, arith}
-use Rattle.std.specs.List.{AllByRecursion, flat_map}
+use Rattle.lawful_traces.proofs.Prelude.{◌≡◌, ℕ, suc, ◌<◌, ◌++◌, Bool, true, false, nat_lt, List, [], ◌∷◌, All, length, Option, Some, None, if◌then◌else◌, refl, subst, arith, AllByRecursion, flat_map, Char, HasByte, Fields, InRange, Passes, Event, packet_or_cause, packet_event, Place, byte_added, outside, symbol_taken, finished, step_by, step, run, delimiter_char, data_chars, symbol_chars_of, bytes_with_ack, packet_chars_of, PortState, is_acted, AreAnswers, Flow, Delivered, Through, WentUndetected, begun, done, met, comes, goes_on, come, ended, delivered, undetected, behind, answers, all-append, EventFits}
 use Rattle.std.proofs.lemmas.List.Elements.{All-head, All-tail}
-use Rattle.rio_chars.specs.declared.chars.Char.{Char}
-use Rattle.rio_chars.specs.CharText.{HasByte}
 use Rattle.rio_symbols.specs.declared.characters.Delimiter.{Delimiter}
 use Rattle.rio_symbols.specs.declared.characters.Delimiter.TheVariants.{Sc, Pd}
 use Rattle.rio_symbols.specs.Delimiters.{allowed, delimiter_of}
-use Rattle.rio_symbols.specs.Fields.{Fields, InRange}
 use Rattle.rio_symbols.specs.Spelling.{symbol_bytes, spelled}
 use Rattle.rio_symbols.proofs.SpellingLaws.{spells_own, spelled_some}
 use Rattle.rio_packets.specs.Carries.{carried}
-use Rattle.rio_packets.specs.LinkForm.{Passes}
 use Rattle.rio_packets.specs.declared.cause.Cause.{Cause}
 use Rattle.rio_packets.proofs.CarriesLaws.{Carries-from_carried}
 use Rattle.rio_packets.proofs.FormLaws.{Passes-from_form}
-use Rattle.link_model.specs.declared.event.Event.{Event}
 use Rattle.link_model.specs.declared.event.Event.TheVariants.{Ctl, Pkt, Bad}
-use Rattle.link_model.specs.declared.reading_kinds.Kind.{Kind}
-use Rattle.link_model.specs.declared.reading_kinds.Kind.TheVariants.{Byte, Opens, Idle, Stray}
+use Rattle.link_model.specs.declared.reading_kinds.CharKind.{CharKind}
+use Rattle.link_model.specs.declared.reading_kinds.CharKind.TheVariants.{Byte, Opens, Idle, Stray}
 use Rattle.link_model.specs.declared.reading_kinds.Pending.{Pending}
 use Rattle.link_model.specs.declared.reading_kinds.Pending.TheVariants.{Nothing, Opened, One, Two}
-use Rattle.link_model.specs.Events.{packet_or_cause, packet_event}
-use Rattle.link_model.specs.Places.{Place, byte_added, outside, symbol_taken, finished, step_by, step, run}
 use Rattle.link_model.specs.Reading.{Text, Plain, Skipped, Within, packet_ended, ends_packet, told, placed}
 use Rattle.link_model.specs.ReadingKinds.{kind}
-use Rattle.link_model.specs.ReadingSpelt.{delimiter_char, data_chars, symbol_chars_of, bytes_with_ack, packet_chars_of}
-use Rattle.link_port.specs.Ports.{PortState}
-use Rattle.link_port.specs.Steps.{is_acted}
-use Rattle.link_machine.specs.Led.{AreAnswers}
-use Rattle.link_wires.specs.Deliveries.{Flow, Delivered, Through, WentUndetected, begun, done, met, comes, goes_on, come, ended, delivered, undetected}
-use Rattle.link_wires.specs.Kept.{behind}
-use Rattle.link_wires.specs.Wires.{answers}
-use Rattle.fabric_model.proofs.Lists.{all-append}
-use Rattle.trace_lines.specs.Words.{EventFits}
 
 -- each character is a byte
 abbrev pub AreBytesOf : List Char → Type 0
@@ -120,7 +103,7 @@ told_is_read text symbol range = by (ends_packet symbol.s1)
         (range, tt)
     by false = (range, tt)
 
-abbrev GivesRead : Text → Pending → Kind → Type 0
+abbrev GivesRead : Text → Pending → CharKind → Type 0
 GivesRead text pending k = AllByRecursion EventIsRead (step_by text pending k).gives
 
 finished_is_read : (text : Text) (d : Delimiter) (x y z : ℕ) (found : Option Fields)
@@ -137,20 +120,19 @@ added_is_read : (bytes : List ℕ) (byte : ℕ) (b : Bool)
 added_is_read bytes byte true = tt
 added_is_read bytes byte false = (tt, tt)
 
-outside_is_read : (text : Text) (k : Kind) → AllByRecursion EventIsRead (outside text k).gives
+outside_is_read : (text : Text) (k : CharKind) → AllByRecursion EventIsRead (outside text k).gives
 outside_is_read text (Opens d) = tt
 outside_is_read Plain Idle = tt
 outside_is_read Skipped Idle = tt
 outside_is_read (Within bytes) Idle = (tt, tt)
 outside_is_read Plain (Byte byte) = (tt, tt)
 outside_is_read Skipped (Byte byte) = tt
-outside_is_read (Within bytes) (Byte byte) =
-    added_is_read bytes byte (nat_lt (length bytes) 276)
+outside_is_read (Within bytes) (Byte byte) = added_is_read bytes byte (nat_lt (length bytes) 276)
 outside_is_read Plain Stray = (tt, tt)
 outside_is_read Skipped Stray = tt
 outside_is_read (Within bytes) Stray = (tt, tt)
 
-gives_read : (text : Text) (pending : Pending) (k : Kind) → GivesRead text pending k
+gives_read : (text : Text) (pending : Pending) (k : CharKind) → GivesRead text pending k
 gives_read text Nothing k = outside_is_read text k
 gives_read text (Opened d) (Byte x) = tt
 gives_read text (Opened d) (Opens e) = (tt, tt)

@@ -1,19 +1,5 @@
 -- In a trace of a script each event line is one of the script, and only the last line ends it.
-use Rattle.std.proofs.Common.{◌≡◌, ◌≢◌, ℕ, ◌<◌, ◌^◌, ◌++◌, Bool, true, false, List, [], ◌∷◌, Option, Some, None, refl, sym, ◌∙◌, subst, MatchBool}
-use Rattle.std.specs.List.{AllByRecursion}
-use Rattle.fabric_script.specs.declared.lines.Numbered.{Numbered}
-use Rattle.fabric_script.specs.Known.{Known, of_script, one_event, known_after}
-use Rattle.fabric_script.specs.Lines.{is_event, new_name}
-use Rattle.fabric_script.specs.Reading.{MayBe, IsFree}
-use Rattle.fabric_script.specs.Scripts.{PassesFrom}
-use Rattle.trace_lines.specs.Lines.{Got, Sent, Fired, TraceLine, Begun, Stepped, Signed, Lacked, Ended, Undetected}
-use Rattle.fabric_trace.specs.Blocks.{IsBlock}
-use Rattle.fabric_trace.specs.Fold.{seen}
-use Rattle.fabric_trace.specs.Known.{UndetectedAt, Seen}
-use Rattle.fabric_trace.specs.Rounds.{Follows}
-use Rattle.fabric_trace.specs.Runs.{EventThen, Names, RunsFrom}
-use Rattle.trace_check.specs.Lawful.{is_last}
-use Rattle.lawful_traces.specs.Knowing.{nodes_all, links_all, LinesAreNumbered}
+use Rattle.lawful_traces.proofs.Prelude.{◌≡◌, ◌≢◌, ℕ, ◌<◌, ◌^◌, ◌++◌, Bool, true, false, List, [], ◌∷◌, Option, Some, None, refl, sym, ◌∙◌, subst, MatchBool, AllByRecursion, Numbered, Known, of_script, one_event, known_after, is_event, new_name, MayBe, IsFree, PassesFrom, Got, Sent, Fired, TraceLine, Begun, Stepped, Signed, Lacked, Undetected, IsBlock, seen, UndetectedAt, Seen, Follows, EventThen, Names, RunsFrom, is_last, nodes_all, links_all, LinesAreNumbered}
 use Rattle.lawful_traces.proofs.Events.{event_fits, begun_by, names_stay, nodes_stay, links_stay, stays_all}
 use Rattle.lawful_traces.proofs.Gots.{AllGotSome}
 use Rattle.lawful_traces.proofs.GotsInBlocks.{block_some}
@@ -21,8 +7,7 @@ use Rattle.lawful_traces.proofs.GotsInBlocks.{block_some}
 -- An event may stand alone, what a port got is not empty, and the number of a script's line fits 32
 -- bits.
 abbrev pub IsFromScript : Known → TraceLine → Type 0
-IsFromScript known (Begun line) =
-    MayBe known (new_name known.names line) line × IsFree known line
+IsFromScript known (Begun line) = MayBe known (new_name known.names line) line × IsFree known line
 IsFromScript known (Signed (Got q chars)) = chars ≢ []
 IsFromScript known (Undetected number q e) = number < 2 ^ 32
 IsFromScript known _ = Unit {0}
@@ -43,7 +28,6 @@ cons_closes known line (next ∷ rest) from more closes = (from, more, closes)
 pub within_closes : (known : Known) (xs ys : List TraceLine) → AllGotSome xs → Closes known ys
     → Closes known (xs ++ ys)
 within_closes known [] ys some closes = closes
-within_closes known (Begun line ∷ xs) ys some closes = absurd some.0
 within_closes known (Stepped step ∷ xs) ys some closes =
     cons_closes known (Stepped step) (xs ++ ys) tt refl
     (within_closes known xs ys some.1 closes)
@@ -59,15 +43,13 @@ within_closes known (Signed (Fired p) ∷ xs) ys some closes =
 within_closes known (Lacked lack ∷ xs) ys some closes =
     cons_closes known (Lacked lack) (xs ++ ys) tt refl
     (within_closes known xs ys some.1 closes)
-within_closes known (Ended ∷ xs) ys some closes = absurd some.0
-within_closes known (Undetected number q e ∷ xs) ys some closes = absurd some.0
+within_closes known (_ ∷ xs) ys some closes = absurd some.0
 
 pub closes_all : (known : Known) (lines : List TraceLine) → Closes known lines
     → AllByRecursion (IsFromScript known) lines
 closes_all known [] closes = absurd closes
 closes_all known (line ∷ []) closes = (closes.0, tt)
-closes_all known (line ∷ next ∷ rest) closes =
-    (closes.0, closes_all known (next ∷ rest) closes.2)
+closes_all known (line ∷ next ∷ rest) closes = (closes.0, closes_all known (next ∷ rest) closes.2)
 
 -- ---- of a script
 

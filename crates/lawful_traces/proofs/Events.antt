@@ -1,19 +1,8 @@
 -- An event of a script may stand alone, by what is known of the script.
-use Rattle.std.proofs.Common.{◌≡◌, ℕ, Bool, true, false, not, ◌&&◌, ◌||◌, List, [], ◌∷◌, refl, sym, ap, ◌∙◌, subst}
+use Rattle.lawful_traces.proofs.Prelude.{◌≡◌, ℕ, Bool, true, false, not, ◌&&◌, ◌||◌, List, [], ◌∷◌, refl, sym, ap, ◌∙◌, subst, Node, Line, Endpoint, Switch, Link, Large, Numbered, PortRef, Known, IsOrderly, of_script, one_event, known_after, names_after, nodes_after, links_after, is_event, new_name, MayBe, IsFree, PassesFrom, orderly-after, nodes_all, links_all}
 use Rattle.fabric_script.specs.declared.known.Mode.{Mode}
-use Rattle.fabric_script.specs.declared.known.Node.{Node}
-use Rattle.fabric_script.specs.declared.lines.Line.{Line}
-use Rattle.fabric_script.specs.declared.lines.Line.TheVariants.{Endpoint, Switch, Link, Large}
-use Rattle.fabric_script.specs.declared.lines.Numbered.{Numbered}
-use Rattle.fabric_script.specs.declared.ports.PortRef.{PortRef}
 use Rattle.fabric_script.specs.declared.reasons.Reason.TheVariants.{UnknownLine, BadNumber, BadName, NameTaken, UnknownNode, PortOutside, PortTaken, IdTaken, BadHex, BadLength, WrongKind, OutOfPlace, NotLinked, TooMuchWork}
-use Rattle.fabric_script.specs.Known.{Known, IsOrderly, of_script, one_event, known_after, names_after, nodes_after, links_after}
-use Rattle.fabric_script.specs.Lines.{is_event, new_name}
-use Rattle.fabric_script.specs.Reading.{MayBe, IsFree}
 use Rattle.fabric_script.specs.Refusals.{id_is_taken, out_of_place_in}
-use Rattle.fabric_script.specs.Scripts.{PassesFrom}
-use Rattle.fabric_script.proofs.KnownLaws.{orderly-after}
-use Rattle.lawful_traces.specs.Knowing.{nodes_all, links_all}
 
 -- ---- one event
 

@@ -1,32 +1,12 @@
 -- A port gets some characters wherever notes of a link say that it got any.
-use Rattle.std.proofs.Common.{◌≡◌, ◌≢◌, ℕ, zero, suc, ◌≤◌, Bool, true, false, not, nat_le, List, [], ◌∷◌, map, take, length, Option, Some, None, if◌then◌else◌, refl, sym, subst, arith, MatchBool}
-use Rattle.std.specs.List.{AllByRecursion}
+use Rattle.lawful_traces.proofs.Prelude.{◌≡◌, ◌≢◌, ℕ, zero, suc, ◌≤◌, Bool, true, false, not, nat_le, List, [], ◌∷◌, map, take, length, Option, Some, None, if◌then◌else◌, refl, sym, subst, arith, MatchBool, AllByRecursion, Char, Event, Place, run, PortState, is_acted, tell_sends, Side, A, B, Told, Flow, Delivered, Through, WentUndetected, begun, done, met, comes, goes_on, come, ended, delivered, told_of, behind, bursts, answers, Move, Held, Freed, Act, Pump, Tell, Deliver, Fire, Reached, At, FoundAt, after_act, goes, act_notes, acts_notes, sent_notes, delivery_from, move_note, told_notes, delivery_notes, has_chars, has_none, is_silent, PortRef, all-append, Got, TraceLine, Signed, Begun, Ended, Undetected, line_of, lines_of}
 use Rattle.std.proofs.lemmas.Bool.Decides.{nat_tests}
-use Rattle.rio_chars.specs.declared.chars.Char.{Char}
-use Rattle.link_model.specs.declared.event.Event.{Event}
-use Rattle.link_model.specs.Places.{Place, run}
-use Rattle.link_port.specs.Ports.{PortState}
-use Rattle.link_port.specs.Steps.{is_acted}
-use Rattle.link_port.specs.Turns.{tell_sends}
 use Rattle.link_watch.specs.declared.note.Note.{Note}
 use Rattle.link_watch.specs.declared.note.Note.TheVariants as Notes
-use Rattle.link_watch.specs.declared.side.Side.{Side}
-use Rattle.link_watch.specs.declared.side.Side.TheVariants.{A, B}
 use Rattle.link_watch.specs.Sides.{other_side}
-use Rattle.link_wires.specs.Deliveries.{Told, Flow, Delivered, Through, WentUndetected, begun, done, met, comes, goes_on, come, ended, delivered, told_of}
-use Rattle.link_wires.specs.Kept.{behind}
-use Rattle.link_wires.specs.Wires.{bursts, answers}
-use Rattle.link_wires.specs.declared.moves.Move.{Move}
-use Rattle.link_wires.specs.declared.moves.Move.TheVariants.{Held, Freed}
-use Rattle.link_machine.specs.Acts.{Act, Pump, Tell, Deliver, Fire, Reached, At, FoundAt, after_act, goes, act_notes, acts_notes}
-use Rattle.link_machine.specs.Calls.{sent_notes, delivery_from, move_note, told_notes, delivery_notes, has_chars, has_none, is_silent}
 use Rattle.link_machine.specs.Schedules.{NextOf, WhereOf, LoopOf, LoopRests, LoopGoesOn, LoopLeaves}
 use Rattle.link_machine.specs.Settling.{SchedulePart, of_end, first_has_chars, all_chars, Empties, Drains, TakesTurn, Restarts, TimesOut, Requests, Recovers, Tells, SendsAll, Settles}
 use Rattle.link_machine.specs.States.{LinkState, from_end}
-use Rattle.fabric_script.specs.declared.ports.PortRef.{PortRef}
-use Rattle.fabric_model.proofs.Lists.{all-append}
-use Rattle.trace_lines.specs.Lines.{Got, TraceLine, Signed, Begun, Ended, Undetected}
-use Rattle.trace_lines.specs.Notes.{line_of, lines_of}
 
 -- A line within the block of an event: it begins no event and ends no trace. What a port got is not
 -- empty.

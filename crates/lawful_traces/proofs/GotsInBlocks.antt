@@ -1,34 +1,12 @@
 -- A port gets some characters wherever a block of an event says that it got any.
-use Rattle.std.proofs.Common.{◌≡◌, ℕ, zero, suc, ◌≤◌, Bool, true, false, List, [], ◌∷◌, Option, Some, None, if◌then◌else◌, sym, subst}
-use Rattle.rio_packets.specs.Fields.{prio_of}
-use Rattle.maint_registers.specs.Devices.{Registers, is_switch}
-use Rattle.link_watch.specs.declared.side.Side.TheVariants.{A}
-use Rattle.link_wires.specs.Wires.{fits, bursts}
-use Rattle.link_wires.specs.declared.edits.Edit.{Edit}
-use Rattle.link_machine.specs.Acts.{At, acts_notes}
-use Rattle.link_machine.specs.Calls.{pump_notes, delivery_notes, has_chars, is_silent, time_out_notes}
+use Rattle.lawful_traces.proofs.Prelude.{◌≡◌, ℕ, zero, suc, ◌≤◌, Bool, true, false, List, [], ◌∷◌, Option, Some, None, if◌then◌else◌, sym, subst, prio_of, Registers, is_switch, A, fits, bursts, Edit, At, acts_notes, pump_notes, delivery_notes, has_chars, is_silent, time_out_notes, Known, MayBe, Line, Send, Read, Write, Pumps, Delivers, Alter, Insert, Erase, Timeout, Settle, MoveOn, Collect, Run, Send16, Read16, Write16, PortRef, link_in, room_out, port_of, Take, AtNode, all-append, Full, Short, Early, TraceLine, Stepped, Lacked, lines_of, take_lines, pumps, delivers, time_out_lines, edits, IsSettle, WithPeer, WithLink, IsBlock, edit_of, seen, UndetectedAt, Seen, peer_of, link_at, Follows, NamesNothing, Joined, SettleAll, ServesAll, ServeRests, ServeGoes, ServeNodes, Round, Rounds, by_test}
 use Rattle.switch_core.specs.EndpointSteps.{collected}
 use Rattle.switch_core.specs.SwitchSteps.{step_of}
 use Rattle.switch_core.specs.declared.endpoint.Collected.{Collected}
 use Rattle.switch_core.specs.declared.endpoint.Collected.TheVariants as Collects
 use Rattle.switch_core.specs.declared.switch.Step as switch
 use Rattle.switch_core.specs.declared.switch.Step.TheVariants.{Moved, Dropped, Answered, Nothing}
-use Rattle.fabric_script.specs.Known.{Known}
-use Rattle.fabric_script.specs.Reading.{MayBe}
-use Rattle.fabric_script.specs.declared.lines.Line.{Line}
-use Rattle.fabric_script.specs.declared.lines.Line.TheVariants.{Endpoint, Switch, Link, Buffers, Route, Default, Lock, Large, Send, Read, Write, Pump as Pumps, Deliver as Delivers, Alter, Insert, Erase, Timeout, Settle, Move as MoveOn, Collect, Run, Send16, Read16, Write16, Credits}
-use Rattle.fabric_script.specs.declared.ports.PortRef.{PortRef}
-use Rattle.fabric_model.specs.Network.{link_in, room_out, port_of}
-use Rattle.fabric_model.specs.Steps.{Take, AtNode}
-use Rattle.fabric_model.proofs.Lists.{all-append}
-use Rattle.trace_lines.specs.Lines.{Full, Short, Early, TraceLine, Stepped, Lacked}
-use Rattle.trace_lines.specs.Notes.{lines_of}
-use Rattle.fabric_trace.specs.Blocks.{take_lines, pumps, delivers, time_out_lines, edits, IsSettle, WithPeer, WithLink, IsBlock}
-use Rattle.fabric_trace.specs.Fold.{edit_of, seen}
-use Rattle.fabric_trace.specs.Known.{UndetectedAt, Seen, peer_of, link_at}
-use Rattle.fabric_trace.specs.Rounds.{Follows, NamesNothing, Joined, SettleAll, ServesAll, ServeRests, ServeGoes, ServeNodes, Round, Rounds}
 use Rattle.fabric_trace.specs.Served.{face_in, faces_in, step_lines, collect_lines}
-use Rattle.fabric_trace.proofs.Rounds.Blocks.{by_test}
 use Rattle.lawful_traces.proofs.Gots.{GotsSome, AllGotSome, lines_some, sent_some, fired_some, delivery_some, acts_some, settles_some}
 
 -- ---- blocks
@@ -52,9 +30,7 @@ step_some node Nothing = (tt, tt)
 
 pub collected_some : (node : ℕ) (what : Collected) → AllGotSome (collect_lines node what)
 collected_some node (Collects.Left packet) = (tt, tt)
-collected_some node (Collects.Answered request response) = (tt, tt)
-collected_some node Collects.Empty = (tt, tt)
-collected_some node Collects.Full = (tt, tt)
+collected_some node _ = (tt, tt)
 
 delivers_some : (s : Seen) (p : PortRef) (n : ℕ) (q : PortRef) → 1 ≤ n
     → AllGotSome (delivers s p n q)
@@ -151,15 +127,6 @@ rounds_some (suc n) s block is =
 
 pub block_some : (known : Known) (new : List ℕ) (s : Seen) (line : Line) (block : List TraceLine)
     → MayBe known new line → IsBlock s line block → AllGotSome block
-block_some known new s (Endpoint name id) block may is = absurd is
-block_some known new s (Switch name ports) block may is = absurd is
-block_some known new s (Link a b) block may is = absurd is
-block_some known new s (Buffers port n) block may is = absurd is
-block_some known new s (Route node id p) block may is = absurd is
-block_some known new s (Default node p) block may is = absurd is
-block_some known new s (Lock node id) block may is = absurd is
-block_some known new s (Large node id) block may is = absurd is
-block_some known new s (Credits port) block may is = absurd is
 block_some known new s (Send node prio ftype dest hex) block may is =
     some_by is.lines (takes_some s node is.packet)
 block_some known new s (Read node prio dest hop tid offset) block may is =
@@ -195,3 +162,4 @@ block_some known new s (Collect node) block may is =
     some_by is.lines (collected_some node
     (collected is.device (face_in s.network (port_of node))))
 block_some known new s (Run n) block may is = rounds_some n s block is
+block_some known new s _ block may is = absurd is

@@ -1,21 +1,7 @@
 -- An input of the set-up lines of a script, with the texts of its trace behind them, is lawful.
-use Rattle.std.proofs.Common.{◌≡◌, ℕ, suc, Bool, true, false, List, [], ◌∷◌, length, if◌then◌else◌, refl, sym, ap, ◌∙◌, subst}
-use Rattle.fabric_script.specs.declared.lines.Line.{Line}
-use Rattle.fabric_script.specs.declared.lines.Numbered.{Numbered}
-use Rattle.fabric_script.specs.Known.{Known, known_after, nodes_after, links_after, nothing_in, of_set_up}
-use Rattle.fabric_script.specs.Lines.{is_event}
-use Rattle.fabric_script.specs.Reading.{new_name_in}
-use Rattle.fabric_script.specs.Scripts.{is_skipped, pieces_of, SpellsFrom}
-use Rattle.fabric_model.specs.Network.{Network}
-use Rattle.trace_lines.specs.Lines.{steps_of}
-use Rattle.fabric_trace.specs.Runs.{bare, set_up, set_up_all}
-use Rattle.fabric_trace.proofs.Rounds.Blocks.{by_test}
-use Rattle.fabric_trace.proofs.SetUps.SettingUp.{set_up-event}
+use Rattle.lawful_traces.proofs.Prelude.{◌≡◌, ℕ, suc, Bool, true, false, List, [], ◌∷◌, length, if◌then◌else◌, refl, sym, ap, ◌∙◌, subst, Line, Numbered, Known, known_after, nodes_after, links_after, nothing_in, of_set_up, is_event, new_name_in, is_skipped, pieces_of, SpellsFrom, Network, steps_of, bare, set_up, set_up_all, by_test, set_up-event, IsLawful, KnowsScript, nodes_all, links_all, lines_of_set_up, trace_texts, InputsOfTracesAreLawful}
 use Rattle.script_input.specs.Inputs.{IsInput, set_up_bytes}
-use Rattle.trace_check.specs.Lawful.{IsLawful}
 use Rattle.trace_check.specs.Outcomes.{HasLawful}
-use Rattle.lawful_traces.specs.Knowing.{KnowsScript, nodes_all, links_all, lines_of_set_up}
-use Rattle.lawful_traces.specs.Texts.{trace_texts, InputsOfTracesAreLawful}
 use Rattle.lawful_traces.proofs.Events.{nodes_stay, links_stay}
 use Rattle.lawful_traces.proofs.Spelling.{traces_are_lawful}
 

@@ -1,3 +1,4 @@
+mod Prelude
 pub mod Ports
 pub mod Bytes
 pub mod Events

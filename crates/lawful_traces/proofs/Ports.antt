@@ -1,31 +1,9 @@
 -- What is known of a script is so of the network that it sets up: nodes, ports and links.
-use Rattle.std.proofs.Common.{◌≡◌, ℕ, zero, suc, ◌<◌, Bool, true, false, List, [], ◌∷◌, ◌++◌, map, length, Some, option_map, slice_get, get_or, if◌then◌else◌, refl, sym, ap, ◌∙◌, subst, arith, append-nil}
-use Rattle.std.specs.List.{AllByRecursion}
+use Rattle.lawful_traces.proofs.Prelude.{◌≡◌, ℕ, zero, suc, ◌<◌, Bool, true, false, List, [], ◌∷◌, ◌++◌, map, length, Some, option_map, slice_get, get_or, if◌then◌else◌, refl, sym, ap, ◌∙◌, subst, arith, append-nil, AllByRecursion, Registers, is_switch, Node, PortRef, Line, Endpoint, Switch, Numbered, Known, nothing, known_after, nodes_after, node_ports, is_linked, new_name, PassesFrom, ScriptPasses, count-after, Network, bare, same_port, peer_in, IsEndpoint, Step, after, HasPort, IsPortOf, count_ports, port_before, set_up, set_up_all, count_at, may_set_up, scripts_join, made_by, set_up-links, set_up-map, set_up_bare, IsScriptPort, IsEnd, nodes_all, links_all, KnowsScript}
 use Rattle.std.proofs.lemmas.List.{map-append, length-map}
-use Rattle.maint_registers.specs.Devices.{Registers, is_switch}
 use Rattle.maint_registers.specs.Within.{IsWithin}
-use Rattle.fabric_script.specs.declared.known.Node.{Node}
-use Rattle.fabric_script.specs.declared.ports.PortRef.{PortRef}
-use Rattle.fabric_script.specs.declared.lines.Line.{Line}
-use Rattle.fabric_script.specs.declared.lines.Line.TheVariants.{Endpoint, Switch}
-use Rattle.fabric_script.specs.declared.lines.Numbered.{Numbered}
-use Rattle.fabric_script.specs.Known.{Known, nothing, known_after, nodes_after, node_ports, is_linked}
-use Rattle.fabric_script.specs.Lines.{new_name}
-use Rattle.fabric_script.specs.Scripts.{PassesFrom, ScriptPasses}
-use Rattle.fabric_script.proofs.KnownLaws.{count-after}
-use Rattle.fabric_model.specs.Network.{Network, bare, same_port, peer_in, IsEndpoint}
-use Rattle.fabric_model.specs.Steps.{Step, after}
-use Rattle.fabric_model.specs.Laws.Nodes.{HasPort, IsPortOf}
 use Rattle.fabric_model.proofs.Flows.{switches_stay}
 use Rattle.fabric_model.proofs.Joining.{links_stay}
-use Rattle.fabric_model.proofs.Nodes.{count_ports, port_before}
-use Rattle.fabric_trace.specs.Settings.{set_up, set_up_all}
-use Rattle.fabric_trace.proofs.SetUps.Happening.{count_at, may_set_up}
-use Rattle.fabric_trace.proofs.SetUps.Joins.{scripts_join}
-use Rattle.fabric_trace.proofs.SetUps.SettingUp.{made_by, set_up-links, set_up-map}
-use Rattle.fabric_trace.proofs.SetUps.Starting.{set_up_bare}
-use Rattle.trace_lines.specs.Words.{IsScriptPort, IsEnd}
-use Rattle.lawful_traces.specs.Knowing.{nodes_all, links_all, KnowsScript}
 
 -- what a check knows of the network that lines of a trace lead to
 pub record KnowsNet (known : Known) (net : Network) : Type 0 where
@@ -51,10 +29,8 @@ counts_of nodes = map (λ node. node_ports (Some node)) nodes
 
 counts_made : (nodes : List Node) (line : Line)
     → counts_of nodes ++ map count_ports (made_by line) ≡ counts_of (nodes_after nodes line)
-counts_made nodes (Endpoint name id) =
-    sym (map-append (λ node. node_ports (Some node)) nodes _)
-counts_made nodes (Switch name ports) =
-    sym (map-append (λ node. node_ports (Some node)) nodes _)
+counts_made nodes (Endpoint name id) = sym (map-append (λ node. node_ports (Some node)) nodes _)
+counts_made nodes (Switch name ports) = sym (map-append (λ node. node_ports (Some node)) nodes _)
 counts_made nodes _ = append-nil _
 
 counted_all : (script : List Numbered) (nodes : List Node) (net : Network)

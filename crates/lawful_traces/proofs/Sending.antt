@@ -1,57 +1,26 @@
 -- What ports do at their links: they have links, and send characters that are bytes; and what is
 -- found that was not sent can be told.
-use Rattle.std.proofs.Common.{◌≡◌, ◌≢◌, ℕ, zero, suc, ◌<◌, ◌++◌, Bool, true, false, List, [], ◌∷◌, map, take, length, nat_lt, slice_get, option_to_list, Option, Some, None, if◌then◌else◌, refl, sym, ap, ◌∙◌, subst, arith}
-use Rattle.std.specs.List.{AllByRecursion}
-use Rattle.rio_chars.specs.declared.chars.Char.{Char}
-use Rattle.rio_chars.specs.CharText.{HasByte}
-use Rattle.rio_symbols.specs.Fields.{Fields, InRange}
-use Rattle.rio_packets.specs.LinkForm.{Passes}
+use Rattle.lawful_traces.proofs.Prelude.{◌≡◌, ◌≢◌, ℕ, zero, suc, ◌<◌, Bool, true, false, List, [], ◌∷◌, map, take, length, nat_lt, slice_get, Option, Some, None, if◌then◌else◌, refl, sym, ap, ◌∙◌, subst, arith, AllByRecursion, Char, HasByte, InRange, Passes, Event, PortState, IsPort, standing, no_burst, symbol_burst, packet_burst, burst_of, port_turn, turns_to, turn_sends, tell_sends, waiting_in, sent_notes, has_chars, delivery_from, move_note, delivery_notes, time_out_notes, Side, A, B, told_of, undetected, bursts, answers, Move, Held, Freed, Known, PortRef, peer_in, Hold, Free, Linked, all-append, Sent, Got, Fired, TraceLine, Begun, Stepped, Signed, Lacked, Ended, Undetected, port_at_side, lines_of, IsEnd, EventFits, UndetectedAt, Seen, peer_of, port_seen, kept_of, link_at, edit_of, edited_by, taken_from, undetected_at, got_from, fired_from, seen_line, seen, Part, PartBegins, PartLacks, PartEnds, PartNames, PartSteps, PartServes, PartTurns, PartTells, PartDelivers, PartFires, Made, Done, Then}
 use Rattle.link_buffers.specs.Queues.{list_at, IsOutStore}
 use Rattle.link_buffers.specs.Priorities.{highest}
 use Rattle.link_buffers.proofs.QueueLemmas.{Passes-at}
 use Rattle.link_buffers.proofs.PriorityLaws.{IsOutStore-lists_without}
-use Rattle.link_model.specs.declared.event.Event.{Event}
 use Rattle.link_model.specs.Prelude.{Sends, Output, Outstanding, turns, window}
 use Rattle.link_model.specs.Output.{started, unstarted, startable}
-use Rattle.link_model.specs.Places.{run}
 use Rattle.link_model.specs.Symbols.{status_with, status, start_of_packet, end_of_packet, restart_from_retry, link_request}
-use Rattle.link_port.specs.Answers.{IsReply}
 use Rattle.link_port.specs.Bursts.{IsStanding}
-use Rattle.link_port.specs.Ports.{PortState, IsPort}
 use Rattle.link_port.specs.States.{prios_of}
-use Rattle.link_port.specs.Steps.{acts, is_acted}
-use Rattle.link_port.specs.Turns.{standing, no_burst, symbol_burst, packet_burst, burst_of, port_turn, turns_to, turn_sends, tell_sends, waiting_in}
-use Rattle.link_port.proofs.AnswerLaws.{reply_answers}
 use Rattle.link_port.proofs.SentReads.{InRanges, standing_range}
 use Rattle.link_sound.proofs.PortBounds.{turn_port}
-use Rattle.link_machine.specs.Led.{AreAnswers}
-use Rattle.link_machine.specs.Calls.{sent_notes, has_chars, delivery_from, move_note, told_notes, delivery_notes, time_out_notes}
-use Rattle.link_machine.proofs.Settling.AnswerLaws.{IsNarrow, port_narrow, acts_narrow, AreAnswers-append}
+use Rattle.link_machine.proofs.Settling.AnswerLaws.{port_narrow}
 use Rattle.link_watch.specs.declared.note.Note.TheVariants as Notes
-use Rattle.link_watch.specs.declared.side.Side.{Side}
-use Rattle.link_watch.specs.declared.side.Side.TheVariants.{A, B}
-use Rattle.link_wires.specs.Deliveries.{Flow, Delivered, Through, WentUndetected, begun, done, met, comes, goes_on, come, ended, delivered, told_of, undetected}
-use Rattle.link_wires.specs.Kept.{behind}
-use Rattle.link_wires.specs.Wires.{bursts, answers}
-use Rattle.link_wires.specs.declared.moves.Move.{Move}
-use Rattle.link_wires.specs.declared.moves.Move.TheVariants.{Held, Freed}
-use Rattle.fabric_script.specs.Known.{Known}
-use Rattle.fabric_script.specs.declared.ports.PortRef.{PortRef}
-use Rattle.fabric_model.specs.Network.{peer_in}
-use Rattle.fabric_model.specs.Steps.{Hold, Free, Linked}
-use Rattle.fabric_model.proofs.Lists.{all-append}
 use Rattle.fabric_model.proofs.Peers.{peer_back}
-use Rattle.trace_lines.specs.Lines.{Sent, Got, Fired, TraceLine, Begun, Stepped, Signed, Lacked, Ended, Undetected}
-use Rattle.trace_lines.specs.Notes.{port_at_side, lines_of}
-use Rattle.trace_lines.specs.Words.{IsEnd, EventFits}
-use Rattle.fabric_trace.specs.Known.{UndetectedAt, Seen, peer_of, port_seen, kept_of, link_at}
-use Rattle.fabric_trace.specs.Fold.{edit_of, edited_by, taken_from, undetected_at, got_from, fired_from, seen_line, seen}
-use Rattle.fabric_trace.specs.Parts.{Part, PartBegins, PartLacks, PartEnds, PartNames, PartSteps, PartServes, PartTurns, PartTells, PartDelivers, PartFires, Made, Done, Then}
 use Rattle.fabric_trace.proofs.Links.Bursts.{startable_has}
-use Rattle.fabric_trace.proofs.Parts.Folding.{lines-append}
 use Rattle.fabric_trace.proofs.Parts.Keeping.{IsGood, part_keeps}
 use Rattle.fabric_trace.proofs.Shown.Wiring.{seen_links}
 use Rattle.lawful_traces.proofs.Bytes.{AreBytesOf, symbol_is_bytes, packet_is_bytes, answers_are_bytes, undetected_fits}
+use Rattle.link_machine.proofs.Settling.Replies.{delivered_answers}
+use Rattle.fabric_trace.proofs.Parts.Carrying.{delivery_lines}
 
 -- ---- what a port sends are bytes
 
@@ -129,75 +98,6 @@ tell_bytes port is = by port.tells
         (status_range (standing port) 7 0 (standing_range port is) (omega arith) (omega arith))
     by false = tt
 
--- ---- what a port answers
-
-replied : (reply : Option Fields) → IsReply reply → AreAnswers (option_to_list reply)
-unfolding AreAnswers
-replied None is = tt
-replied (Some symbol) is = (is, tt)
-
-no_answers : AreAnswers []
-unfolding AreAnswers
-no_answers = tt
-
--- what was answered so far are answers
-record AnswersSo (flow : Flow) : Type 0 where
-  are : AreAnswers flow.told.replies
-  narrow : IsNarrow flow.port
-
-abbrev AnswersAll : Delivered → Type 0
-AnswersAll (Through flow) = AnswersSo flow
-AnswersAll (WentUndetected told e) = AreAnswers told.replies
-
-done_answers : (e : Event) (acted kept : List Event) (flow : Flow) → AnswersSo flow
-    → AnswersSo (done e acted kept flow)
-done_answers e acted kept flow so = record {
-  are = AreAnswers-append flow.told.replies (option_to_list (acts flow.port e).reply) so.are
-      (replied (acts flow.port e).reply (reply_answers flow.port e so.narrow.0 so.narrow.1));
-  narrow = acts_narrow flow.port e so.narrow;
-}
-
-met_answers : (at : ℕ) (e : Event) (kept : Option (List Event)) (flow : Flow) → AnswersSo flow
-    → AnswersAll (met at e kept flow)
-met_answers at e None flow so = so.are
-met_answers at e (Some kept) flow so = done_answers e (e ∷ []) kept flow so
-
-comes_answers : (flow : Flow) (event : ℕ × Event) → AnswersSo flow
-    → AnswersAll (comes flow event)
-comes_answers flow event so = by (is_acted flow.port event.1)
-  where
-    by : (b : Bool) → AnswersAll (if b
-        then met event.0 event.1 (behind event.1 flow.kept) flow
-        else Through (done event.1 [] flow.kept flow))
-    by true = met_answers event.0 event.1 (behind event.1 flow.kept) flow so
-    by false = done_answers event.1 [] flow.kept flow so
-
-on_answers : (more : Flow → Delivered) (d : Delivered)
-    → ((flow : Flow) → AnswersSo flow → AnswersAll (more flow)) → AnswersAll d
-    → AnswersAll (goes_on more d)
-on_answers more (Through flow) next so = next flow so
-on_answers more (WentUndetected told e) next so = so
-
-come_answers : (events : List (ℕ × Event)) (flow : Flow) → AnswersSo flow
-    → AnswersAll (come events flow)
-unfolding come
-come_answers [] flow so = so
-come_answers (event ∷ events) flow so =
-    on_answers (come events) (comes flow event) (come_answers events)
-    (comes_answers flow event so)
-
-told_answers : (place : _) (count : ℕ) (d : Delivered) → AnswersAll d
-    → AreAnswers (told_of (ended place count d)).replies
-told_answers place count (Through flow) so = so.are
-told_answers place count (WentUndetected told e) so = so
-
-delivered_answers : (port : PortState) (kept : List Event) (chars : List Char)
-    → IsNarrow port → AreAnswers (told_of (delivered port kept chars)).replies
-delivered_answers port kept chars narrow =
-    told_answers _ _ (come (run port.place 0 chars) (begun port kept))
-    (come_answers (run port.place 0 chars) (begun port kept)
-    (record { are = no_answers; narrow = narrow }))
-
 -- ---- lines
 
 -- What is so of the lines of links: their ports have links, what is sent are some characters, all
@@ -240,18 +140,11 @@ module _ (known : Known) where
       let chars = take n (s.wires p).chars in
       let told = told_of (delivery_from A n l) in
       let sent = (answers told.replies).chars in
-      let notes : delivery_notes A n l ≡ told_notes B chars told =
-      ap (λ x. if x then told_notes B chars told else []) has in
       let moves = lines_of p q (map (move_note B) told.moves) in
-      let got = Signed (Got q (take told.count chars)) in
-      let lines : lines_of p q (delivery_notes A n l) ≡ got
-      ∷ (moves ++ lines_of p q (sent_notes B sent)) =
-      ap (lines_of p q) notes ∙ ap (λ (x : List TraceLine). got ∷ x)
-      (lines-append p q (map (move_note B) told.moves) (sent_notes B sent)) in
       let are =
       delivered_answers (port_seen s q) (kept_of (s.wires p)) chars
       (port_narrow (port_seen s q) is) in
-      subst AllAtLinks (sym lines) (
+      subst AllAtLinks (sym (delivery_lines p q n l has)) (
         end,
         all-append (IsAtLinks known) moves (lines_of p q (sent_notes B sent))
             (moves_at_links p q B told.moves end)
@@ -283,8 +176,7 @@ module _ (known : Known) where
 
   line_so : (s : Seen) (line : TraceLine) → IsAtLinks known line → FoundIsSo known s.undetected
       → FoundIsSo known (seen_line s line).undetected
-  line_so s (Begun line) at so =
-      subst (FoundIsSo known) (sym (edited_same s (edit_of line))) so
+  line_so s (Begun line) at so = subst (FoundIsSo known) (sym (edited_same s (edit_of line))) so
   line_so s (Stepped step) at so = so
   line_so s (Signed (Sent p chars)) at so = so
   line_so s (Signed (Got q chars)) at so = got_so s (peer_of s q) q chars at so
@@ -297,8 +189,7 @@ module _ (known : Known) where
   lines_so : (lines : List TraceLine) (s : Seen) → AllAtLinks lines
       → FoundIsSo known s.undetected → FoundIsSo known (seen s lines).undetected
   lines_so [] s at so = so
-  lines_so (line ∷ lines) s at so =
-      lines_so lines (seen_line s line) at.1 (line_so s line at.0 so)
+  lines_so (line ∷ lines) s at so = lines_so lines (seen_line s line) at.1 (line_so s line at.0 so)
 
   -- ---- parts
 

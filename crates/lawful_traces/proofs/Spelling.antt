@@ -1,28 +1,9 @@
 -- The texts of a trace spell its lines, and so are lawful.
-use Rattle.std.proofs.Common.{ℕ, List, [], ◌∷◌, refl, sym, subst}
-use Rattle.std.specs.List.{AllByRecursion}
-use Rattle.fabric_script.specs.declared.lines.Numbered.{Numbered}
-use Rattle.fabric_script.specs.Known.{Known, IsOrderly, nothing, of_script}
-use Rattle.fabric_script.specs.Scripts.{ScriptPasses}
-use Rattle.fabric_script.proofs.KnownLaws.{nothing-orderly}
-use Rattle.fabric_model.specs.Network.{Network}
-use Rattle.fabric_model.specs.Steps.{Hold, Free, Linked, AtNode, ByDevice}
-use Rattle.fabric_model.proofs.Lanes.{well_begun}
-use Rattle.fabric_model.proofs.Nodes.{empty_stands}
-use Rattle.trace_lines.specs.Lines.{Sent, Got, Fired, TraceLine, Begun, Stepped, Signed, Lacked, Ended, Undetected}
+use Rattle.lawful_traces.proofs.Prelude.{ℕ, List, [], ◌∷◌, refl, sym, subst, AllByRecursion, Numbered, Known, IsOrderly, nothing, of_script, ScriptPasses, nothing-orderly, Network, Hold, Free, Linked, AtNode, ByDevice, well_begun, empty_stands, Sent, Got, Fired, TraceLine, Begun, Stepped, Signed, Lacked, Ended, Undetected, LineFits, SpellsLine, Made, bare, set_up_all, begins, start, may_set_up, scripts_join, set_up_bare, good_start, legal, made, wires_fold, SpellAll, KnowsScript, trace_texts, TracesAreLawful}
 use Rattle.trace_lines.specs.Text.{trace_line_text}
-use Rattle.trace_lines.specs.Words.{LineFits, SpellsLine}
 use Rattle.trace_lines.proofs.PrintedWords.{printed_words}
-use Rattle.fabric_trace.specs.Parts.{Made}
-use Rattle.fabric_trace.specs.Runs.{bare, set_up_all, begins, start}
 use Rattle.fabric_trace.specs.SetUps.{IsSetUp}
-use Rattle.fabric_trace.proofs.SetUps.Happening.{may_set_up}
-use Rattle.fabric_trace.proofs.SetUps.Joins.{scripts_join}
-use Rattle.fabric_trace.proofs.SetUps.Starting.{set_up_bare, good_start, legal, made, wires_fold}
-use Rattle.trace_check.specs.Lawful.{SpellAll}
 use Rattle.trace_check.proofs.Lawful.{runs_pass}
-use Rattle.lawful_traces.specs.Knowing.{KnowsScript}
-use Rattle.lawful_traces.specs.Texts.{trace_texts, TracesAreLawful}
 use Rattle.lawful_traces.proofs.Ending.{IsFromScript, Closes, closes_all, runs_close}
 use Rattle.lawful_traces.proofs.Events.{names_orderly}
 use Rattle.lawful_traces.proofs.Ports.{knows_net}

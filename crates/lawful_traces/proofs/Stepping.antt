@@ -1,19 +1,7 @@
 -- The steps of a trace are at ports and nodes of its script, and their packets are in link form.
-use Rattle.std.proofs.Common.{◌≡◌, ℕ, ◌++◌, Bool, true, false, List, [], ◌∷◌, slice_get, Option, Some, None, if◌then◌else◌, refl, sym, subst}
-use Rattle.std.specs.List.{AllByRecursion}
-use Rattle.rio_packets.specs.Fields.{prio_of}
-use Rattle.rio_packets.specs.LinkForm.{Passes}
-use Rattle.fabric_script.specs.Known.{Known}
-use Rattle.fabric_script.specs.declared.ports.PortRef.{PortRef}
-use Rattle.fabric_model.specs.Network.{Item, Network, same_port, first_packet, peer_in}
+use Rattle.lawful_traces.proofs.Prelude.{◌≡◌, ℕ, ◌++◌, Bool, true, false, List, [], ◌∷◌, slice_get, Option, Some, None, if◌then◌else◌, refl, sym, subst, AllByRecursion, prio_of, Passes, Known, PortRef, Item, Network, same_port, first_packet, peer_in, HasPort, IsPortOf, IsSpot, JoinsNodes, StandAtNodes, AreWell, well_on, well_passes, all-append, first_of_all, next_there, joins_on, stands_on, TraceLine, Begun, Stepped, Signed, Lacked, Ended, Undetected, steps_of, StepFits}
 use Rattle.fabric_model.specs.Steps.{Hold, Free, Take, Leave, Move, Drop, Answer, Step, Linked, AtNode, ByDevice, Needs, behind_first, only_first, after_hold, after, LegalFrom}
 use Rattle.fabric_model.specs.Laws.Holding.{WaitingAt}
-use Rattle.fabric_model.specs.Laws.Nodes.{HasPort, IsPortOf, IsSpot, JoinsNodes, StandAtNodes}
-use Rattle.fabric_model.proofs.Lanes.{AreWell, well_on, well_passes}
-use Rattle.fabric_model.proofs.Lists.{all-append}
-use Rattle.fabric_model.proofs.Nodes.{first_of_all, next_there, joins_on, stands_on}
-use Rattle.trace_lines.specs.Lines.{TraceLine, Begun, Stepped, Signed, Lacked, Ended, Undetected, steps_of}
-use Rattle.trace_lines.specs.Words.{StepFits}
 use Rattle.lawful_traces.proofs.Ports.{KnowsNet, knows_on}
 
 -- what is so of a step: of the steps of links their packets alone

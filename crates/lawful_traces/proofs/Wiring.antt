@@ -1,22 +1,7 @@
 -- What ports get are bytes, since what is sent and what edits put on wires are.
-use Rattle.std.proofs.Common.{ℕ, zero, suc, ◌+◌, ◌++◌, Bool, true, false, List, [], ◌∷◌, take, drop, length, Option, Some, None, if◌then◌else◌, subst}
+use Rattle.lawful_traces.proofs.Prelude.{ℕ, zero, suc, ◌+◌, ◌++◌, Bool, true, false, List, [], ◌∷◌, take, drop, length, Option, Some, None, if◌then◌else◌, subst, AllByRecursion, Char, HasByte, fits, edited, Edit, Known, new_name, MayBe, Line, Alter, Erase, Insert, PortRef, same_port, peer_in, all-append, all-parts, Sent, Got, Fired, TraceLine, Begun, Stepped, Signed, Lacked, Ended, Undetected, edit_of, changed}
 use Rattle.std.specs.Prelude.{slice_set}
-use Rattle.std.specs.List.{AllByRecursion}
-use Rattle.rio_chars.specs.declared.chars.Char.{Char}
-use Rattle.rio_chars.specs.CharText.{HasByte}
-use Rattle.link_wires.specs.Wires.{fits, edited}
-use Rattle.link_wires.specs.declared.edits.Edit.{Edit}
-use Rattle.link_wires.specs.declared.edits.Edit.TheVariants as Edits
-use Rattle.fabric_script.specs.Known.{Known}
-use Rattle.fabric_script.specs.Lines.{new_name}
-use Rattle.fabric_script.specs.Reading.{MayBe}
-use Rattle.fabric_script.specs.declared.lines.Line.{Line}
-use Rattle.fabric_script.specs.declared.lines.Line.TheVariants.{Alter, Erase, Insert}
-use Rattle.fabric_script.specs.declared.ports.PortRef.{PortRef}
-use Rattle.fabric_model.specs.Network.{same_port, peer_in}
-use Rattle.fabric_model.proofs.Lists.{all-append, all-parts}
-use Rattle.trace_lines.specs.Lines.{Sent, Got, Fired, TraceLine, Begun, Stepped, Signed, Lacked, Ended, Undetected}
-use Rattle.fabric_trace.specs.Fold.{edit_of, changed}
+use Rattle.rio_chars.specs.declared.edit.Edit.TheVariants as Edits
 use Rattle.fabric_trace.specs.Wires.{WireChars, with_chars, edited_chars, taken_chars, on_wires, StoodThere, WireFold}
 use Rattle.lawful_traces.proofs.Bytes.{AreBytesOf}
 use Rattle.lawful_traces.proofs.Ending.{IsFromScript}

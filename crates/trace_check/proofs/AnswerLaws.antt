@@ -1,7 +1,7 @@
 -- What is answered of a line, by what it changes.
 use Rattle.std.proofs.Common.{◌≡◌, ℕ, ◌+◌, ◌<◌, ◌++◌, Bool, true, false, List, [], ◌∷◌, length, Option, Some, None, inr, option_map, refl, sym, subst}
 use Rattle.link_wires.specs.Wires.{fits}
-use Rattle.link_wires.specs.declared.edits.Edit.{Edit}
+use Rattle.rio_chars.specs.declared.edit.Edit.{Edit}
 use Rattle.rio_chars.specs.declared.chars.Char.{Char}
 use Rattle.fabric_script.specs.declared.lines.Line.{Line}
 use Rattle.fabric_script.specs.declared.ports.PortRef.{PortRef}

@@ -119,7 +119,8 @@ none_some rest is = absurd cc
 unlike : (turn : ℕ) (packet : List ℕ) (came kept : List Come) (a b : Option (List Come))
     → ServesHolds turn came kept → behind_packet turn packet came ≡ a
     → behind_packet turn packet kept ≡ b
-    → LeavesAlike (next_turn turn) (option_and_then (λ l. Some l) a) (option_and_then (λ l. Some l) b)
+    → LeavesAlike (next_turn turn) (option_and_then (λ l. Some l) a)
+    (option_and_then (λ l. Some l) b)
 unlike turn packet came kept a b h came_is kept_is =
     subst (λ (o : Option (List Come)). LeavesAlike (next_turn turn)
     (option_and_then (λ l. Some l) a) (option_and_then (λ l. Some l) o)) kept_is
@@ -341,7 +342,8 @@ serves-without turn came kept c covers h (packet ∷ packets) =
         (found_same (Pkt c.0 c.1) (Pkt turn packet) same) in
         let packet_is = bytes-same c.0 turn c.1 packet
         (found_same (Pkt c.0 c.1) (Pkt turn packet) same) in
-        absurd (no_some (subst IsSome none (subst (λ n. IsSome (behind_packet n packet kept)) turn_is
+        absurd (no_some (subst IsSome none
+        (subst (λ n. IsSome (behind_packet n packet kept)) turn_is
         (subst (λ p. IsSome (behind_packet c.0 p kept)) packet_is
         (covers [] kept refl (sym turn_is))))))
 

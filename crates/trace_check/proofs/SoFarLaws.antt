@@ -1,6 +1,6 @@
 -- Lines that a checker has taken are lawful so far.
 use Rattle.std.proofs.Common.{◌≡◌, ◌++◌, ℕ, true, false, codes, List, [], ◌∷◌, Option, Some, None, refl, sym, subst}
-use Rattle.link_wires.specs.declared.edits.Edit.{Edit}
+use Rattle.rio_chars.specs.declared.edit.Edit.{Edit}
 use Rattle.fabric_script.specs.declared.lines.Line.{Line}
 use Rattle.fabric_script.specs.declared.ports.PortRef.{PortRef}
 use Rattle.fabric_script.specs.Known.{IsOrderly}

@@ -5,7 +5,7 @@ use Rattle.link_model.specs.declared.event.Event.{Event}
 use Rattle.link_model.specs.declared.event.Event.TheVariants.{Pkt}
 use Rattle.link_wires.specs.Kept.{behind, behind_some, behind_all}
 use Rattle.link_wires.specs.Wires.{fits}
-use Rattle.link_wires.specs.declared.edits.Edit.{Edit}
+use Rattle.rio_chars.specs.declared.edit.Edit.{Edit}
 use Rattle.fabric_script.specs.declared.ports.PortRef.{PortRef}
 use Rattle.fabric_model.specs.Network.{Network, peer_in}
 use Rattle.fabric_model.specs.Steps.{Hold, Free, Linked, Needs, after_all}

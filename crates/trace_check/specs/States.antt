@@ -1,6 +1,6 @@
 -- What is reached behind lines of a trace, and what is answered of the next one.
 use Rattle.std.specs.Prelude.{◌≡◌, ◌↔◌, ℕ, ◌<◌, Bool, IsTrue, List, [], ◌∷◌, Option, Some, None, if◌then◌else◌}
-use Rattle.link_wires.specs.declared.edits.Edit.{Edit}
+use Rattle.rio_chars.specs.declared.edit.Edit.{Edit}
 use Rattle.fabric_script.specs.declared.ports.PortRef.{PortRef}
 use Rattle.fabric_model.specs.Network.{Network, same_port}
 use Rattle.fabric_model.specs.Steps.{Free, Hold, Linked}

@@ -21,7 +21,7 @@ ghost use Rattle.trace_lines.specs.Words.{SpellsLine};
 
 use crate::reader::Reader;
 use crate::reading::{Verdict, read_lines};
-use crate::state::{State, edit_of};
+use crate::state::State;
 use crate::unmet::Unmet;
 use arrayvec::ArrayVec;
 use fabric_script::{Line, PortRef, ScriptEnd, SetUp, read_set_up};
@@ -140,7 +140,7 @@ impl State {
     {
         match line {
             TraceLine::Begun(line) => self.on_wire(line),
-            TraceLine::Stepped(step) => self.expected_step(step),
+            TraceLine::Stepped(step) => self.expected_step(step.get()),
             TraceLine::Sent(port, chars) => self.waiting(*port, chars.as_slice()),
             TraceLine::Got(port, _) => Some(self.front_to(*port)),
             TraceLine::Fired(port) => Some(self.on_link(*port)),
@@ -178,7 +178,7 @@ impl State {
             → IsEditIn r.nodes (edit_of line.now) → IsSo r (Begun line.now) e) }
         ensures some { IsSome (edit_of line.now) → IsSome result }
     {
-        let (port, _) = edit_of(line)?;
+        let (port, _) = line.wire_edit()?;
         Some(Expected::OnWire(self.chars_on(port)))
     }
 

@@ -6,15 +6,15 @@ ghost use Rattle.fabric_trace.specs.Fold.{changed};
 ghost use Rattle.rio_chars.specs.declared.chars.Char.{Char as AChar};
 
 use arrayvec::ArrayVec;
-use link_wires::{Edit, Edited, Queue};
-use rio_chars::Char;
+use link_wires::{Chars, Edited};
+use rio_chars::{Char, Edit};
 use std::alloc::{AllocError, Global};
 use std::marker::Model;
 
 /// Characters, first in first out.
 #[derive(Drop)]
 pub(crate) struct CharQueue {
-    chars: Queue<Char>,
+    chars: Chars,
 }
 
 impl Model for CharQueue {
@@ -32,7 +32,7 @@ impl CharQueue {
         ensures { result ≡ [] }
     {
         CharQueue {
-            chars: Queue::new(alloc),
+            chars: Chars::new(alloc),
         }
     }
 
@@ -55,10 +55,10 @@ impl CharQueue {
     pub(crate) fn front(&self) -> ArrayVec<Char, 8>
         ensures { result.items ≡ take 8 self.now }
     {
-        let chars = self.chars.as_slice();
+        let chars = &self.chars;
         let mut front = ArrayVec::new();
         for i in 0..chars.len().min(8) {
-            front.push(chars[i]);
+            front.push(chars.at(i));
         }
         front
     }
@@ -79,7 +79,7 @@ impl CharQueue {
         ensures other { result ≡ false
             → (behind : List AChar) → self.old ≡ front.now ++ behind → ⊥ }
     {
-        if !starts_with(self.chars.as_slice(), front) {
+        if !starts_with(&self.chars, front) {
             return false;
         }
         self.chars.skip(front.len());
@@ -101,7 +101,7 @@ impl CharQueue {
 }
 
 /// Whether characters stand at the front of others.
-fn starts_with(chars: &[Char], front: &[Char]) -> bool
+fn starts_with(chars: &Chars, front: &[Char]) -> bool
     ensures stands { IsTrue result → (behind : List AChar) × (chars.now ≡ front.now ++ behind) }
     ensures other { result ≡ false
         → (behind : List AChar) → chars.now ≡ front.now ++ behind → ⊥ }
@@ -110,7 +110,7 @@ fn starts_with(chars: &[Char], front: &[Char]) -> bool
         return false;
     }
     for (i, c) in front.iter().enumerate() {
-        if chars[i] != *c {
+        if chars.at(i) != *c {
             return false;
         }
     }

@@ -83,9 +83,9 @@ impl Reader {
                 }
                 self.state.edit(&line)
             }
-            TraceLine::Stepped(step) => {
+            TraceLine::Stepped(boxed) => {
                 self.steps += 1;
-                self.state.step(&step)
+                self.state.step(boxed.get())
             }
             TraceLine::Sent(port, chars) => self.state.sent(port, chars),
             TraceLine::Got(port, chars) => self.state.got(port, chars.as_slice()),

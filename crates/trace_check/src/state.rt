@@ -24,7 +24,6 @@ use crate::places::place_of;
 use crate::queue::CharQueue;
 use crate::unmet::Unmet;
 use fabric_script::{Line, PortRef, SetUp};
-use link_wires::Edit;
 use rio_chars::Char;
 use rio_packets::Packet;
 use std::alloc::{AllocError, Global};
@@ -84,7 +83,7 @@ impl State {
             → IsEditIn r.nodes (edit_of line.now)
             → Checks r (Begun line.now) false self.new fault) }
     {
-        let Some((port, edit)) = edit_of(line) else {
+        let Some((port, edit)) = line.wire_edit() else {
             return Ok(None);
         };
         let place = place_of(port);
@@ -250,36 +249,6 @@ impl State {
     {
         let place = place_of(port);
         place < self.hearings.len() && self.hearings[place].free()
-    }
-}
-
-/// The change that an event line makes of the wire of a port.
-pub(crate) fn edit_of(line: &Line) -> Option<(PortRef, Edit)>
-    ensures { result ≡ edit_of line.now }
-{
-    match line {
-        Line::Alter { port, place, ch } => Some((
-            *port,
-            Edit::Alter {
-                place: *place,
-                ch: *ch,
-            },
-        )),
-        Line::Erase { port, place, n } => Some((
-            *port,
-            Edit::Erase {
-                place: *place,
-                count: *n,
-            },
-        )),
-        Line::Insert { port, place, ch } => Some((
-            *port,
-            Edit::Insert {
-                place: *place,
-                ch: *ch,
-            },
-        )),
-        _ => None,
     }
 }
 

@@ -40,7 +40,8 @@ reactions_before lines = reactions_with (λ p. buffers_after 8 p lines)
 -- ---- a line
 
 -- one port becomes another
-abbrev pub with_port_kept : (PortRef → PortKept) → PortRef → (PortKept → PortKept) → PortRef → PortKept
+abbrev pub with_port_kept : (PortRef → PortKept) → PortRef → (PortKept → PortKept) → PortRef
+    → PortKept
 with_port_kept ports p after q = if same_port p q then after (ports q) else ports q
 
 -- the port from which a step takes a packet that it holds

@@ -119,7 +119,7 @@ impl Reactions {
             }
             TraceLine::Sent(port, chars) => self.sent(alloc, *port, chars.as_slice()),
             TraceLine::Stepped(step) => {
-                if let Some(port) = gone_from(step) {
+                if let Some(port) = gone_from(step.get()) {
                     self.gone(alloc, port)?;
                 }
                 Ok(())

@@ -1,32 +1,14 @@
 -- What one event does in a port, as the judge of reactions sees it.
-use Rattle.std.proofs.Common.{◌≡◌, ℕ, suc, ◌+◌, ◌<◌, ◌==◌, ◌&&◌, ◌++◌, Bool, true, false, List, [], ◌∷◌, length, length-set, Option, Some, None, if◌then◌else◌, refl, sym, ap, ◌∙◌, subst, arith}
-use Rattle.std.specs.List.{AllByRecursion}
-use Rattle.rio_chars.specs.declared.chars.Char.{Char}
+use Rattle.answered_traces.proofs.Prelude.{◌≡◌, ℕ, suc, ◌+◌, ◌<◌, ◌==◌, ◌&&◌, ◌++◌, Bool, true, false, List, [], ◌∷◌, length, length-set, Option, Some, None, if◌then◌else◌, refl, sym, ap, ◌∙◌, subst, arith, AllByRecursion, Char, prio_of, all-append, few_prio, Buffered, list_at, packet_count, room_for, stored, packet_count-appended, Event, Ctl, Pkt, Bad, packet_event, packet_or_cause, Damaged, ExpectedWithRoom, ExpectedWithoutRoom, Input, InputErrorStopped, InputOk, InputRetryStopped, LinkRequest, OtherStype1, Received, RestartFromRetry, UnexpectedAck, packet_arrival, receives, AreGiven, Place, run, step, given, PortState, acts, arrived, damaged, obeyed, Reaction, InputKept, after_entry, after_one_event, expected_ack_of, reply_due}
 use Rattle.rio_packets.specs.Carries.{carried}
-use Rattle.rio_packets.specs.Fields.{prio_of}
 use Rattle.rio_packets.specs.CauseNumbers.{number_of}
 use Rattle.rio_packets.specs.declared.cause.Cause.{Cause}
 use Rattle.rio_packets.proofs.CarriesLaws.{Carries-from_carried}
 use Rattle.rio_packets.proofs.FormLaws.{Passes-from_form}
-use Rattle.fabric_model.proofs.Lists.{all-append}
-use Rattle.fabric_model.proofs.Nodes.{few_prio}
-use Rattle.link_buffers.specs.Queues.{Buffered, list_at, packet_count, room_for, stored}
-use Rattle.link_buffers.proofs.QueueLemmas.{packet_count-appended}
-use Rattle.link_model.specs.declared.event.Event.{Event}
-use Rattle.link_model.specs.declared.event.Event.TheVariants.{Ctl, Pkt, Bad}
-use Rattle.link_model.specs.Events.{packet_event, packet_or_cause}
-use Rattle.link_model.specs.Input.{Damaged, ExpectedWithRoom, ExpectedWithoutRoom, Input, InputErrorStopped, InputOk, InputRetryStopped, LinkRequest, OtherStype1, Received, RestartFromRetry, UnexpectedAck, packet_arrival, receives}
-use Rattle.link_model.specs.Places.{AreGiven, Place, run, step}
 use Rattle.link_model.specs.Reading.{placed}
 use Rattle.link_model.specs.Reports.{untold}
-use Rattle.link_model.proofs.PlacesLaws.{given}
-use Rattle.link_port.specs.Ports.{PortState}
 use Rattle.link_port.specs.States.{expected_of}
-use Rattle.link_port.specs.Steps.{acts, arrived, damaged, obeyed}
 use Rattle.link_receiver.specs.Status.{buffer_status}
-use Rattle.trace_reactions.specs.declared.reactions.Reaction.{Reaction}
-use Rattle.trace_reactions.specs.InputHalves.{InputKept, after_entry, after_one_event, expected_ack_of}
-use Rattle.trace_reactions.specs.Reactions.{reply_due}
 use Rattle.answered_traces.proofs.Following.{half_kept}
 
 -- ---- packets that are read
@@ -150,9 +132,8 @@ stored_lists false store packet = refl
 -- a port has as many lists as before
 pub act_lists : (port : PortState) (e : Event)
     → length (acts port e).port.received.lists ≡ length port.received.lists
-act_lists port (Ctl symbol) = refl
 act_lists port (Pkt ack packet) = stored_lists (arrived port ack packet).held port.received packet
-act_lists port (Bad cause) = refl
+act_lists port _ = refl
 
 -- ---- one event
 

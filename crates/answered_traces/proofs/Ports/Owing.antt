@@ -1,26 +1,12 @@
 -- What a port has told of a delivery is due at the judge of reactions, which has seen the same
 -- events.
-use Rattle.std.proofs.Common.{◌≡◌, ℕ, ◌++◌, Bool, true, false, List, [], ◌∷◌, length, Option, Some, None, option_to_list, if◌then◌else◌, refl, sym, ap, ◌∙◌, append-nil, append_assoc}
-use Rattle.std.specs.List.{AllByRecursion}
-use Rattle.rio_chars.specs.declared.chars.Char.{Char}
+use Rattle.answered_traces.proofs.Prelude.{◌≡◌, ℕ, ◌++◌, Bool, true, false, List, [], ◌∷◌, length, Option, Some, None, option_to_list, if◌then◌else◌, refl, sym, ap, ◌∙◌, append-nil, append_assoc, AllByRecursion, Char, Event, receives, Place, run, place_after, said, events_of, IsPort, PortState, acts, is_acted, Delivered, Flow, Through, WentUndetected, begun, come, comes, delivered, done, ended, goes_on, met, told_of, answers, Reaction, InputKept, after_events, after_one_event, arrival_of, reaction_of, reactions_in, reactions_of, reply_due}
 use Rattle.rio_symbols.specs.Fields.{Fields}
-use Rattle.link_model.specs.declared.event.Event.{Event}
-use Rattle.link_model.specs.Input.{receives}
-use Rattle.link_model.specs.Places.{Place, run, place_after}
-use Rattle.link_model.specs.Said.{said}
-use Rattle.link_model.proofs.PlacesLaws.{events_of}
 use Rattle.link_port.specs.Answers.{IsReply}
-use Rattle.link_port.specs.Ports.{IsPort, PortState}
-use Rattle.link_port.specs.Steps.{acts, is_acted}
 use Rattle.link_port.proofs.AnswerLaws.{reply_answers}
 use Rattle.link_machine.specs.Led.{AreAnswers}
 use Rattle.link_machine.proofs.Settling.AnswerLaws.{AreAnswers-append, IsNarrow, acts_narrow, port_narrow}
-use Rattle.link_wires.specs.Deliveries.{Delivered, Flow, Through, WentUndetected, begun, come, comes, delivered, done, ended, goes_on, met, told_of}
 use Rattle.link_wires.specs.Kept.{behind}
-use Rattle.link_wires.specs.Wires.{answers}
-use Rattle.trace_reactions.specs.declared.reactions.Reaction.{Reaction}
-use Rattle.trace_reactions.specs.InputHalves.{InputKept, after_events, after_one_event, arrival_of}
-use Rattle.trace_reactions.specs.Reactions.{reaction_of, reactions_in, reactions_of, reply_due}
 use Rattle.answered_traces.proofs.Following.{half_kept}
 use Rattle.answered_traces.proofs.Ports.OneEvent.{HasFewPrio, PlacedHasFewPrio, act_lists, half_owing, one_event, run_few}
 

@@ -1,22 +1,12 @@
 -- What a port sends in turns, or as it tells its free buffers, is no reaction.
-use Rattle.std.proofs.Common.{◌≡◌, ℕ, zero, suc, Bool, true, false, List, [], ◌∷◌, Option, Some, None, slice_get, ◌++◌, if◌then◌else◌, refl, ap, ◌∙◌}
-use Rattle.std.specs.List.{AllByRecursion}
-use Rattle.fabric_model.proofs.Lists.{all-append}
-use Rattle.link_buffers.specs.Queues.{list_at}
-use Rattle.link_model.specs.declared.event.Event.{Event}
-use Rattle.link_model.specs.declared.event.Event.TheVariants.{Ctl, Pkt, Bad}
+use Rattle.answered_traces.proofs.Prelude.{◌≡◌, ℕ, zero, suc, Bool, true, false, List, [], ◌∷◌, Option, Some, None, slice_get, ◌++◌, if◌then◌else◌, refl, ap, ◌∙◌, AllByRecursion, all-append, list_at, Event, Ctl, Pkt, Bad, PortState, no_burst, symbol_burst, packet_burst, burst_of, port_turn, standing, turn_sends, turns_to, tell_sends, waiting_in, bursts, reaction_of, reactions_in, reactions_of}
 use Rattle.link_model.specs.Output.{Sends}
 use Rattle.link_model.specs.Symbols.{status}
-use Rattle.link_port.specs.Ports.{PortState}
-use Rattle.link_port.specs.Turns.{no_burst, symbol_burst, packet_burst, burst_of, port_turn, standing, turn_sends, turns_to, tell_sends, waiting_in}
-use Rattle.link_wires.specs.Wires.{bursts}
-use Rattle.trace_reactions.specs.Reactions.{reaction_of, reactions_in, reactions_of}
 
 -- an event says no reaction
 abbrev IsSilent : Event → Type 0
 IsSilent (Ctl symbol) = reaction_of symbol ≡ None
-IsSilent (Pkt ack packet) = Unit {0}
-IsSilent (Bad cause) = Unit {0}
+IsSilent _ = Unit {0}
 
 abbrev AreSilent : List Event → Type 0
 AreSilent events = AllByRecursion IsSilent events

@@ -4,7 +4,7 @@ use Rattle.trace_check.proofs.reader.Reader.check.Goals as goal
 
 pub returns-in-Stepped-clause-checked : goal.returns-in-Stepped-clause-checked
 returns-in-Stepped-clause-checked c =
-    rw c.in-Stepped.is
+    rw (c.in-Stepped.is, sym c.get.ensures)
     (if_ok_map c.step.result c.step.ensures
     (λ fault checks r is within. checks r c.args.short is within))
 

@@ -12,7 +12,8 @@ pub returns : goal.returns
 returns c = λ r is within.
     let port = c.in-Some.port in
     let edit = c.in-Some.edit in
-    let some : Some (port, edit) ≡ edit_of c.args.line.now = sym c.in-Some.is ∙ c.edit_of.ensures in
+    let some : Some (port, edit) ≡ edit_of c.args.line.now =
+    sym c.in-Some.is ∙ c.wire_edit.ensures.edit in
     let in_port : IsIn r.nodes port = subst (IsEditIn r.nodes) (sym some) within in
     let place = c.place_of-place.result in
     let here = c.place_of-place.ensures in

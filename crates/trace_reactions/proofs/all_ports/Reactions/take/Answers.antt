@@ -1,7 +1,8 @@
-use Rattle.std.proofs.Common.{List, Option, IfOk, sym, ◌∙◌, subst}
+use Rattle.std.proofs.Common.{List, Option, IfOk, sym, ap, ◌∙◌, subst}
 use Rattle.rio_chars.specs.declared.chars.Char.{Char}
 use Rattle.fabric_script.specs.declared.ports.PortRef.{PortRef}
-use Rattle.trace_reactions.specs.Judging.{after_gone, KeepsPorts, KeepsReactions, ReactionsKept, with_port_kept}
+use Rattle.trace_lines.specs.Reads.{step_read}
+use Rattle.trace_reactions.specs.Judging.{after_gone, gone_from, KeepsPorts, KeepsReactions, ReactionsKept, with_port_kept}
 use Rattle.trace_reactions.specs.PortsKept.{AreDue, after_got}
 use Rattle.trace_reactions.proofs.all_ports.Reactions.take.Goals as goal
 
@@ -30,7 +31,8 @@ pub returns-in_ok-gone-in-Stepped-clause-taken : goal.returns-in_ok-gone-in-Step
 returns-in_ok-gone-in-Stepped-clause-taken c = λ kept has.
     rw c.in-Stepped.is record {
       ports = subst (λ (o : Option PortRef). KeepsPorts (after_gone kept.ports o) c.gone.new.self)
-          (sym c.in-Some.is ∙ c.gone_from.ensures)
+          (sym c.in-Some.is ∙ c.gone_from.ensures
+          ∙ ap (λ s. gone_from (step_read s)) c.get.ensures)
           (c.in_ok-gone-in-Stepped.ensures.kept kept.ports has.ports);
       answered = c.gone.ensures.answered ∙ has.answered;
     }
